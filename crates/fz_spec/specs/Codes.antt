@@ -1,0 +1,18 @@
+-- Why a text is refused: the codes as numbers and as text.
+use Rattle.std.specs.Prelude.{ℕ, List, codes}
+use Rattle.fz_spec.specs.declared.code.Code.{Code}
+use Rattle.fz_spec.specs.declared.code.Code.TheVariants.{E01, E02, E03, E04, E11}
+
+abbrev pub code_number : Code → ℕ
+code_number E01 = 1
+code_number E02 = 2
+code_number E03 = 3
+code_number E04 = 4
+code_number E11 = 11
+
+abbrev pub code_text : Code → List ℕ
+code_text E01 = codes "E01"
+code_text E02 = codes "E02"
+code_text E03 = codes "E03"
+code_text E04 = codes "E04"
+code_text E11 = codes "E11"

@@ -1,0 +1,11 @@
+pub mod Limits
+pub mod Instance
+pub mod Codes
+pub mod Places
+pub mod Tokens
+pub mod Grammar
+pub mod Reads
+pub mod Words
+pub mod Run
+pub mod Laws
+pub mod Examples

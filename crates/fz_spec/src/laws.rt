@@ -1,0 +1,32 @@
+//! Laws that the definitions keep: each is the clause of a function that does nothing, so that the clause is proved.
+ghost use Rattle.fz_spec.specs.Laws.{TokensAreOne, SpellingIsOne, ReadingIsOne, SatisfyingIsDeclared, NothingListed, ClosingIsOne};
+
+/// A text has one list of tokens at most.
+pub fn tokens_are_one()
+    ensures { TokensAreOne }
+{}
+
+/// Tokens spell one program at most.
+pub fn spelling_is_one()
+    ensures { SpellingIsOne }
+{}
+
+/// A text is read in one way at most: it has one model, or one code, line and column.
+pub fn reading_is_one()
+    ensures { ReadingIsOne }
+{}
+
+/// An assignment that satisfies a model has one number for each variable, each in its declared set.
+pub fn satisfying_is_declared()
+    ensures { SatisfyingIsDeclared }
+{}
+
+/// The empty list is the list of a model's satisfying assignments exactly where there is none.
+pub fn nothing_listed()
+    ensures { NothingListed }
+{}
+
+/// What is printed determines the closing line, and so whether a solution was found.
+pub fn closing_is_one()
+    ensures { ClosingIsOne }
+{}

@@ -1,0 +1,11 @@
+//! The numbers of the codes, as in their names.
+use crate::code::Code;
+
+#[test]
+fn numbers_of_codes(rt: HostRuntime) {
+    assert_eq!(rt; Code::E01.number(), 1);
+    assert_eq!(rt; Code::E02.number(), 2);
+    assert_eq!(rt; Code::E03.number(), 3);
+    assert_eq!(rt; Code::E04.number(), 4);
+    assert_eq!(rt; Code::E11.number(), 11);
+}
