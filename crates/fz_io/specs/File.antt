@@ -1,0 +1,30 @@
+-- What a source of files reads from.
+use Rattle.std.specs.Prelude.{ℕ, Option, Some, List, [], IsTrue, IsFalse, bytes_eq, codes}
+use Rattle.std.specs.Io.Buffered.{reader_remaining}
+use Rattle.fz_io.specs.declared.file.FileSource.{FileSource}
+use Rattle.fz_io.specs.declared.file.Opened.{Opened}
+use Rattle.fz_io.specs.declared.file.Opened.TheVariants.{Nothing, File, Input}
+
+-- the bytes left, where the file or the input tells them; none where nothing is opened
+abbrev pub opened_left : {F I : Type 0} → (F → Option (List ℕ)) → (I → Option (List ℕ)) → Opened F I → Option (List ℕ)
+opened_left of_file of_input Nothing = Some []
+opened_left of_file of_input (File f) = reader_remaining of_file f
+opened_left of_file of_input (Input i) = reader_remaining of_input i
+
+-- what is opened for a name: standard input for `-`, and else a file
+abbrev pub IsOpenedFor : {F I : Type 0} → List ℕ → Opened F I → Type 0
+IsOpenedFor name Nothing = ⊥
+IsOpenedFor name (File f) = IsFalse (bytes_eq name (codes "-"))
+IsOpenedFor name (Input i) = IsTrue (bytes_eq name (codes "-"))
+
+-- what the source reads from
+abbrev pub file_opened : {R F D I : Type 0} → FileSource R F D I → Opened F I
+file_opened s = s.opened
+
+-- the bytes that the source has left, where the file or the input tells them
+abbrev pub file_left : {R F D I : Type 0} → (F → Option (List ℕ)) → (I → Option (List ℕ)) → FileSource R F D I → Option (List ℕ)
+file_left of_file of_input s = opened_left of_file of_input s.opened
+
+-- how often a call of the source failed
+abbrev pub file_faults : {R F D I : Type 0} → FileSource R F D I → ℕ
+file_faults s = s.faults

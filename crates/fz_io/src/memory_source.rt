@@ -1,0 +1,81 @@
+//! A source in memory, some of whose calls fail.
+ghost use Rattle.std.specs.Prelude.{◌≡◌, ℕ, ◌-◌, ◌^◌, ◌<◌, ◌≤◌, ◌↔◌, ◌⊎◌, [], None, Some, IsErr, IfOk, OnOk, OnErr, length};
+ghost use Rattle.fz_io.specs.Outside.{HasCause, Reads};
+ghost use Rattle.fz_io.specs.Texts.{text_of};
+ghost use Rattle.fz_io.specs.Calls.{FailsNext, Counts};
+ghost use Rattle.fz_io.specs.Memory.{source_texts, source_left, source_faults, source_calls};
+
+use crate::calls::Calls;
+use crate::outside::{Failed, Source};
+use crate::texts::{NamedText, Texts};
+
+/// Named texts in memory. The listed calls fail, and so does selecting a name that no text has.
+#[derive(Drop)]
+pub struct MemSource {
+    texts: Texts,
+    calls: Calls,
+}
+
+impl MemSource {
+    /// No text is selected yet. Of two texts of one name the first counts. `fails` has the numbers of the calls that
+    /// fail, counted from 1 over all calls of the source.
+    pub fn new(texts: Vec<NamedText>, fails: Vec<u64>) -> MemSource
+        ensures texts { source_texts result ≡ text_of texts.items }
+        ensures left { source_left result ≡ Some [] }
+        ensures faults { source_faults result ≡ 0 }
+        ensures made { (source_calls result).made ≡ 0 }
+        ensures fails { (source_calls result).fails ≡ fails }
+    {
+        MemSource {
+            texts: Texts::new(texts),
+            calls: Calls::new(fails),
+        }
+    }
+
+    /// How often a call has failed.
+    pub fn fault_count(&self) -> u64
+        ensures { result ≡ source_faults self.now }
+    {
+        self.calls.fault_count()
+    }
+}
+
+impl Source for MemSource {
+    ghost texts = { source_texts };
+
+    ghost left = { source_left };
+
+    ghost faults = { source_faults };
+
+    fn select(&mut self, name: &str) -> Result<(), Failed>
+        requires { source_faults self.old < 2 ^ 64 - 1 }
+        ensures left { OnOk result (source_left self.new ≡ source_texts self.old name.now) }
+        ensures stays { OnErr result (source_left self.new ≡ source_left self.old) }
+        ensures texts { source_texts self.new ≡ source_texts self.old }
+        ensures cause { HasCause (source_faults self.old) (source_faults self.new) result }
+        ensures fails { IsErr result ↔ (FailsNext (source_calls self.old) ⊎ (source_texts self.old name.now ≡ None)) }
+        ensures counts { Counts (source_calls self.old) (source_calls self.new) }
+    {
+        self.calls.begin()?;
+        if self.texts.select(name) {
+            Ok(())
+        } else {
+            Err(self.calls.fault())
+        }
+    }
+
+    fn read(&mut self, buf: &mut [u8]) -> Result<usize, Failed>
+        requires faults { source_faults self.old < 2 ^ 64 - 1 }
+        requires room { 0 < length buf.old }
+        ensures within { IfOk result (λ n. n ≤ length buf.old) }
+        ensures moves { IfOk result (λ n. Reads n (source_left self.old) (source_left self.new) buf.new) }
+        ensures stays { OnErr result (source_left self.new ≡ source_left self.old) }
+        ensures texts { source_texts self.new ≡ source_texts self.old }
+        ensures cause { HasCause (source_faults self.old) (source_faults self.new) result }
+        ensures fails { IsErr result ↔ FailsNext (source_calls self.old) }
+        ensures counts { Counts (source_calls self.old) (source_calls self.new) }
+    {
+        self.calls.begin()?;
+        Ok(self.texts.read(buf))
+    }
+}
