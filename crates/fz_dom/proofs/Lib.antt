@@ -1,0 +1,3 @@
+pub mod Ranges
+pub mod Kept
+pub mod Merging
