@@ -1,0 +1,71 @@
+//! The reading of items.
+ghost use Rattle.std.specs.Prelude.{◌≡◌, ◌≤◌, IfOk, MatchOption, MatchResult, length, []};
+ghost use Rattle.fz_spec.specs.Reads.{IsProgramText, place_of};
+ghost use Rattle.fz_spec.specs.Grammar.{solve_pieces};
+ghost use Rattle.fz_lex.specs.Lexed.{IsPlaceOf};
+ghost use Rattle.fz_parse.specs.Parsed.{HasSyntaxFault, method_of};
+ghost use Rattle.fz_parse.specs.Steps.{rest, BreaksIn, Spans};
+
+use crate::declaration::declaration;
+use crate::fault::SyntaxFault;
+use crate::items::Items;
+use crate::steps::{is_word, sign, word};
+use crate::tree::{Item, Method};
+use fz_lex::Tokens;
+use fz_spec::code::Code;
+use fz_spec::sign::Sign;
+use std::alloc::{AllocError, Global};
+
+/// The items that the tokens spell, or the place where the syntax is at fault.
+pub fn parse<'a>(
+    alloc: Global,
+    tokens: &'a Tokens<'a>,
+) -> Result<Result<Items<'a>, SyntaxFault>, AllocError>
+    ensures { IfOk result (λ found. MatchResult found
+        (λ items. (items.text ≡ tokens.now.text) × IsProgramText items.text items.program)
+        (HasSyntaxFault tokens.now)) }
+{
+    let mut items = Vec::new(alloc);
+    let mut next = 0;
+    'items: while is_word(tokens, next, b"var") {
+        next += 1;
+        match declaration(alloc, tokens, &mut next)? {
+            Some(declaration) => items.push(Item::Declare(declaration))?,
+            None => return Ok(Err(fault_at(tokens, next))),
+        }
+    }
+    match solve(tokens, &mut next) {
+        Some(method) => Ok(Ok(Items::new(tokens.text(), items, method))),
+        None => Ok(Err(fault_at(tokens, next))),
+    }
+}
+
+/// Takes the solve item, behind which the text ends. Without it the next token is the first that does not fit.
+fn solve(tokens: &Tokens, next: &mut usize) -> Option<Method>
+    requires { next.old ≤ length tokens.now.tokens }
+    ensures taken { MatchOption result (BreaksIn solve_pieces (rest tokens.now next.old) (rest tokens.now next.new))
+        (λ method. Spans (solve_pieces (method_of method)) (rest tokens.now next.old) []) }
+    ensures within { next.new ≤ length tokens.now.tokens }
+{
+    word(tokens, next, b"solve")?;
+    word(tokens, next, b"satisfy")?;
+    sign(tokens, next, Sign::Semicolon)?;
+    if *next < tokens.len() {
+        return None;
+    }
+    Some(Method::Satisfy)
+}
+
+/// The fault at the token of this number, from 0, or at the end of the text.
+fn fault_at(tokens: &Tokens, index: usize) -> SyntaxFault
+    requires { index ≤ length tokens.now.tokens }
+    ensures code { result.code ≡ Code.E03 }
+    ensures placed { IsPlaceOf tokens.now.text (place_of tokens.now.text (rest tokens.now index)) result.line result.column }
+{
+    let place = tokens.place(index);
+    SyntaxFault {
+        code: Code::E03,
+        line: place.line,
+        column: place.column,
+    }
+}
