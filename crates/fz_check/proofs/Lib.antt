@@ -1,0 +1,4 @@
+pub mod Annotations
+pub mod Done
+pub mod Turn
+pub mod Words

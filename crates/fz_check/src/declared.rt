@@ -1,0 +1,72 @@
+//! What a declaration adds to a model.
+ghost use Rattle.std.specs.Prelude.{◌≡◌, IfOk, map};
+ghost use Rattle.std.specs.List.{AllByRecursion, list_any};
+ghost use Rattle.fz_spec.specs.declared.kind.Kind.TheVariants.{Int};
+ghost use Rattle.fz_spec.specs.Instance.{Scalar};
+ghost use Rattle.fz_spec.specs.Reads.{is_output, name_of, variable_of};
+ghost use Rattle.fz_spec.specs.Grammar.{Declare};
+ghost use Rattle.fz_lex.specs.Lexed.{token_of};
+ghost use Rattle.fz_model.specs.Kept.{IsVariable};
+ghost use Rattle.fz_parse.specs.declared.tree.Item.TheVariants as tree;
+ghost use Rattle.fz_parse.specs.Parsed.{AnnotationHasLeaf, annotation_of, declaration_of, HasLeaves, IsLeaf};
+
+use crate::leaf::{name, value};
+use fz_dom::Dom;
+use fz_lex::Token;
+use fz_model::output::Output;
+use fz_model::text::Text;
+use fz_model::variable::Variable;
+use fz_parse::{Annotation, Declaration, Item, Items};
+use fz_spec::kind::Kind;
+use std::alloc::{AllocError, Global};
+
+/// The declaration that an item is.
+pub(crate) fn declaration(item: &Item) -> &Declaration
+    ensures { item.now ≡ tree.Declare result.now }
+{
+    let Item::Declare(declaration) = item;
+    declaration
+}
+
+/// The variable that is declared: its set is the numbers from `low` up to `high`, none where `low` is above `high`.
+pub(crate) fn variable(
+    alloc: Global,
+    items: &Items<'_>,
+    declaration: &Declaration,
+) -> Result<Variable, AllocError>
+    requires { HasLeaves items.now.text declaration.now }
+    ensures variable { IfOk result (λ v. v ≡ variable_of (Declare (declaration_of items.now.text declaration.now))) }
+    ensures kept { IfOk result IsVariable }
+{
+    let low = value(declaration.low);
+    let high = value(declaration.high);
+    let set = Dom::from_ranges(alloc, &[(low, high)])?;
+    Ok(Variable::new(Kind::Int, set))
+}
+
+/// Whether one of the annotations is `output_var`.
+pub(crate) fn is_output(items: &Items<'_>, annotations: &[Annotation]) -> bool
+    requires { AllByRecursion (AnnotationHasLeaf items.now.text) annotations.now }
+    ensures { result ≡ list_any is_output (map (annotation_of items.now.text) annotations.now) }
+{
+    for annotation in annotations {
+        if name(items, annotation.name) == "output_var" {
+            return true;
+        }
+    }
+    false
+}
+
+/// The output item of the variable of this name and number.
+pub(crate) fn output(
+    alloc: Global,
+    items: &Items<'_>,
+    leaf: Token,
+    number: u32,
+) -> Result<Output, AllocError>
+    requires { IsLeaf items.now.text leaf }
+    ensures { IfOk result (λ o. o ≡ Scalar (name_of (token_of items.now.text leaf)) Int number) }
+{
+    let name = String::from_str(alloc, name(items, leaf))?;
+    Ok(Output::new(Text::new(name), Kind::Int, number))
+}
