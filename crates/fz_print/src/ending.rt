@@ -1,0 +1,10 @@
+//! How a search ends.
+
+/// How a search ends.
+#[derive(Clone, Copy, Debug, PartialEq, Eq)]
+pub enum Ending {
+    /// All that was asked for is printed.
+    Complete,
+    /// No assignment satisfies.
+    Unsatisfiable,
+}

@@ -1,0 +1,10 @@
+//! What a run prints, byte for byte: a block for a solution, the line behind the blocks, and the text of a refusal
+//! (MiniZinc Handbook, "Output").
+#![tactic(auto)]
+
+pub mod block;
+pub mod ending;
+pub mod refusal;
+#[cfg(test)]
+mod tests;
+pub mod trailer;
