@@ -1,0 +1,57 @@
+-- What is read of a text that is too long, and the text.
+use Rattle.std.proofs.Common.{◌≡◌, ◌∙◌, ℕ, ◌+◌, ◌≤◌, ◌<◌, List, [], ◌∷◌, ◌++◌, zero, suc, ap, sym, refl, length, take, drop, subst, inl, inr, arith, length-take, min, take-append-drop, reverse, count_by, take_while}
+use Rattle.std.proofs.lemmas.Bool.{cases_lt}
+use Rattle.std.proofs.lemmas.List.{take_all}
+use Rattle.std.proofs.Math.Nat.{suc-add}
+use Rattle.fz_spec.specs.declared.code.Code.{Code}
+use Rattle.fz_spec.specs.declared.code.Code.TheVariants.{E01, E02, E03, E04, E11}
+use Rattle.fz_spec.specs.Codes.{code_number}
+use Rattle.fz_spec.specs.Places.{line_of, column_of, is_line_end, is_in_line}
+use Rattle.fz_spec.specs.Instance.{Instance}
+use Rattle.fz_spec.specs.Tokens as language
+use Rattle.fz_spec.specs.Grammar.{Program}
+use Rattle.fz_spec.specs.Reads.{TEXT_LIMIT, IsShort, Reads, Reading, Accepted, Refused, IsAccepted, IsRefused, IsRefusedAt, IsUnlexed, IsUnspelt, IsWrong, IsProgramText, HasBrokenRule, place_of, AllKeep, model_of}
+use Rattle.fz_lex.specs.Lexed.{LexedText, IsLexed, HasFirstFault, IsPlaceOf}
+use Rattle.fz_lex.specs.declared.fault.LexFault.{LexFault}
+use Rattle.fz_parse.specs.Parsed.{ParsedText, HasSyntaxFault}
+use Rattle.fz_parse.specs.declared.fault.SyntaxFault.{SyntaxFault}
+use Rattle.fz_check.specs.Checked.{HasCheckFault}
+use Rattle.fz_check.specs.declared.fault.CheckFault.{CheckFault}
+use Rattle.fz_print.specs.declared.refusal.Refusal.{Refusal}
+use Rattle.fzn.specs.Ends.{IsRefusal}
+
+-- the first bytes of a text, one more than the limit, are read as the text
+front_is_long : (text : List ℕ) → TEXT_LIMIT < length text → IsShort (take (TEXT_LIMIT + 1) text) → ⊥
+front_is_long text long short = omega (arith, length-take (TEXT_LIMIT + 1) text)
+
+take_take : (n m : ℕ) (xs : List ℕ) → take n (take (n + m) xs) ≡ take n xs
+take_take zero m xs = refl
+take_take (suc n) m [] = rw suc-add refl
+take_take (suc n) m (x ∷ xs) = rw suc-add (ap (λ u. x ∷ u) (take_take n m xs))
+
+-- what stands before the limit
+front_before : (text : List ℕ) → take TEXT_LIMIT (take (TEXT_LIMIT + 1) text) ≡ take TEXT_LIMIT text
+front_before text = take_take TEXT_LIMIT 1 text
+
+refused_front : (text : List ℕ) (code : Code) (line column at : ℕ) → TEXT_LIMIT < length text → IsRefusedAt (take (TEXT_LIMIT + 1) text) code at → line ≡ line_of (take (TEXT_LIMIT + 1) text) at
+    → column ≡ column_of (take (TEXT_LIMIT + 1) text) at → IsRefused text code line column
+refused_front text E01 line column at long h l c = absurd (front_is_long text long h.0)
+refused_front text E02 line column at long h l c = absurd (front_is_long text long h.0)
+refused_front text E03 line column at long h l c = absurd (front_is_long text long h.short)
+refused_front text E04 line column at long h l c = absurd (front_is_long text long h.1.short)
+refused_front text E11 line column at long h l c = elim h [
+  | inl over ↦ record {
+    at = TEXT_LIMIT;
+    refused = inl (long, refl);
+    line_is = l ∙ ap (line_of (take (TEXT_LIMIT + 1) text)) over.1 ∙ ap (λ u. count_by is_line_end u + 1) (front_before text);
+    column_is = c ∙ ap (column_of (take (TEXT_LIMIT + 1) text)) over.1 ∙ ap (λ u. length (take_while is_in_line (reverse u)) + 1) (front_before text);
+  }
+  | inr w ↦ absurd (front_is_long text long w.1.short)
+]
+
+read_of_long : (text : List ℕ) (r : Reading) → TEXT_LIMIT < length text → Reads (take (TEXT_LIMIT + 1) text) r → Reads text r
+read_of_long text (Accepted m) long h = absurd (front_is_long text long h.spelt.short)
+read_of_long text (Refused code line column) long h = refused_front text code line column h.at long h.refused h.line_is h.column_is
+
+pub read_of_front : (text : List ℕ) (r : Reading) → Reads (take (TEXT_LIMIT + 1) text) r → Reads text r
+read_of_front text r h = elim (cases_lt TEXT_LIMIT (length text)) [ inl long ↦ read_of_long text r long h | inr short ↦ subst (λ (t : List ℕ). Reads t r) (take_all (TEXT_LIMIT + 1) text (omega arith)) h ]

@@ -1,0 +1,14 @@
+use Rattle.std.proofs.lemmas.Result.{on_err_weaker}
+use Rattle.fz_spec.specs.Run.{blocks, closing}
+use Rattle.fz_io.specs.Outside.{with_more}
+use Rattle.fzn.proofs.Fronts.{front_more, front_after, whenever}
+use Rattle.fzn.proofs.printer.print_solutions.Goals as goal
+
+pub returns-in_err-put_blocks-clause-front : goal.returns-in_err-put_blocks-clause-front
+returns-in_err-put_blocks-clause-front g c =
+    whenever c.from_residual.result (front_more (blocks c.args.model.now c.args.found.now) (closing c.args.found.now) _ _ c.in_err-put_blocks.ensures.front)
+
+pub returns-clause-front : goal.returns-clause-front
+returns-clause-front g c =
+    on_err_weaker c.put_closing.result
+    (λ front. front_after (blocks c.args.model.now c.args.found.now) (closing c.args.found.now) (g.S.Sink.taken c.args.sink.now) _ (rw c.in_ok-put_blocks.ensures.taken at front)) c.put_closing.ensures.front

@@ -1,0 +1,124 @@
+//! Printing, a piece at a time.
+ghost use Rattle.std.specs.Prelude.{◌≡◌, ◌<◌, ◌^◌, ◌-◌, ◌++◌, OnOk, OnErr, IfErr, MatchResult};
+ghost use Rattle.std.specs.List.{AllByRecursion};
+ghost use Rattle.fz_spec.specs.Instance.{AreDeclared};
+ghost use Rattle.fz_spec.specs.Run.{block, blocks, closing};
+ghost use Rattle.fz_io.specs.Outside.{with_more};
+ghost use Rattle.fz_print.specs.Refusal.{text_of};
+ghost use Rattle.fzn.specs.Ends.{TakesFront, HasStopCause};
+
+use fz_io::outside::Sink;
+use fz_io::whole::put_all;
+use fz_model::assignment::Assignment;
+use fz_model::model::Model;
+use fz_print::block::block;
+use fz_print::ending::Ending;
+use fz_print::refusal::Refusal;
+use fz_print::trailer::{refusal, trailer};
+use std::alloc::Global;
+
+/// Why printing stopped.
+#[derive(Clone, Copy, Debug, PartialEq, Eq)]
+pub(crate) enum Stop {
+    Memory,
+    Fault,
+}
+
+/// Prints a block for each assignment, and the closing line.
+pub(crate) fn print_solutions<S: Sink>(
+    alloc: Global,
+    sink: &mut S,
+    model: &Model,
+    found: &[Assignment],
+) -> Result<(), Stop>
+    requires faults { S.faults sink.old < 2 ^ 64 - 1 }
+    requires declared { AllByRecursion (AreDeclared model.now.variables) found.now }
+    ensures taken { OnOk result (S.taken sink.new ≡ with_more (S.taken sink.old) (blocks model.now found.now ++ closing found.now)) }
+    ensures front { OnErr result (TakesFront (blocks model.now found.now ++ closing found.now) (S.taken sink.old) (S.taken sink.new)) }
+    ensures cause { HasStopCause (S.faults sink.old) (S.faults sink.new) result }
+{
+    put_blocks(alloc, sink, model, found)?;
+    put_closing(alloc, sink, found)
+}
+
+fn put_blocks<S: Sink>(
+    alloc: Global,
+    sink: &mut S,
+    model: &Model,
+    found: &[Assignment],
+) -> Result<(), Stop>
+    requires faults { S.faults sink.old < 2 ^ 64 - 1 }
+    requires declared { AllByRecursion (AreDeclared model.now.variables) found.now }
+    ensures taken { OnOk result (S.taken sink.new ≡ with_more (S.taken sink.old) (blocks model.now found.now)) }
+    ensures front { OnErr result (TakesFront (blocks model.now found.now) (S.taken sink.old) (S.taken sink.new)) }
+    ensures cause { HasStopCause (S.faults sink.old) (S.faults sink.new) result }
+{
+    for assignment in found {
+        put_block(alloc, sink, model, assignment)?;
+    }
+    Ok(())
+}
+
+fn put_block<S: Sink>(
+    alloc: Global,
+    sink: &mut S,
+    model: &Model,
+    assignment: &Assignment,
+) -> Result<(), Stop>
+    requires faults { S.faults sink.old < 2 ^ 64 - 1 }
+    requires declared { AreDeclared model.now.variables assignment.now }
+    ensures taken { OnOk result (S.taken sink.new ≡ with_more (S.taken sink.old) (block model.now assignment.now)) }
+    ensures front { OnErr result (TakesFront (block model.now assignment.now) (S.taken sink.old) (S.taken sink.new)) }
+    ensures cause { HasStopCause (S.faults sink.old) (S.faults sink.new) result }
+{
+    match block(alloc, model, assignment) {
+        Ok(text) => put(sink, &text),
+        Err(_) => Err(Stop::Memory),
+    }
+}
+
+fn put_closing<S: Sink>(alloc: Global, sink: &mut S, found: &[Assignment]) -> Result<(), Stop>
+    requires { S.faults sink.old < 2 ^ 64 - 1 }
+    ensures taken { OnOk result (S.taken sink.new ≡ with_more (S.taken sink.old) (closing found.now)) }
+    ensures front { OnErr result (TakesFront (closing found.now) (S.taken sink.old) (S.taken sink.new)) }
+    ensures cause { HasStopCause (S.faults sink.old) (S.faults sink.new) result }
+{
+    let ending = if found.is_empty() {
+        Ending::Unsatisfiable
+    } else {
+        Ending::Complete
+    };
+    match trailer(alloc, ending) {
+        Ok(text) => put(sink, &text),
+        Err(_) => Err(Stop::Memory),
+    }
+}
+
+/// Prints the two lines of a refusal.
+pub(crate) fn print_refusal<S: Sink>(
+    alloc: Global,
+    sink: &mut S,
+    refused: &Refusal,
+) -> Result<(), Stop>
+    requires { S.faults sink.old < 2 ^ 64 - 1 }
+    ensures taken { OnOk result (S.taken sink.new ≡ with_more (S.taken sink.old) (text_of refused.now)) }
+    ensures front { OnErr result (TakesFront (text_of refused.now) (S.taken sink.old) (S.taken sink.new)) }
+    ensures cause { HasStopCause (S.faults sink.old) (S.faults sink.new) result }
+{
+    match refusal(alloc, refused) {
+        Ok(text) => put(sink, &text),
+        Err(_) => Err(Stop::Memory),
+    }
+}
+
+fn put<S: Sink>(sink: &mut S, piece: &[u8]) -> Result<(), Stop>
+    requires { S.faults sink.old < 2 ^ 64 - 1 }
+    ensures taken { OnOk result (S.taken sink.new ≡ with_more (S.taken sink.old) piece.now) }
+    ensures front { OnErr result (TakesFront piece.now (S.taken sink.old) (S.taken sink.new)) }
+    ensures cause { HasStopCause (S.faults sink.old) (S.faults sink.new) result }
+{
+    match put_all(sink, piece) {
+        Ok(()) => Ok(()),
+        Err(_) => Err(Stop::Fault),
+    }
+}

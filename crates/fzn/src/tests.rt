@@ -1,0 +1,248 @@
+//! Whole runs over a source and a sink in memory. Blocks may come in any order, so a text is compared by its blocks in sorted order.
+
+use crate::{Status, fzn};
+use fz_io::gate::NoGate;
+use fz_io::memory_sink::MemSink;
+use fz_io::memory_source::MemSource;
+use fz_io::texts::NamedText;
+use fz_print::refusal::Refusal;
+use std::alloc::{AllocError, Global};
+use std::process::Abort;
+use std::test::Fail;
+
+/// What a run leaves.
+#[derive(Drop)]
+struct Outcome {
+    status: Status,
+    printed: Vec<u8>,
+    flushed: usize,
+    source_faults: u64,
+}
+
+fn strings(alloc: Global, words: &[&str]) -> Result<Vec<String>, AllocError> {
+    let mut strings = Vec::new(alloc);
+    for word in words {
+        strings.push(String::from_str(alloc, word)?)?;
+    }
+    Ok(strings)
+}
+
+/// A run over one text, which stands under the names `-` and `m.fzn`, with the calls of these numbers failing.
+fn run_failing(
+    alloc: Global,
+    text: &[u8],
+    words: &[&str],
+    source_fails: &[u64],
+    sink_fails: &[u64],
+) -> Result<Outcome, AllocError> {
+    let mut texts = Vec::new(alloc);
+    for name in ["-", "m.fzn"] {
+        texts.push(NamedText {
+            name: String::from_str(alloc, name)?,
+            bytes: Vec::from_slice(alloc, text)?,
+        })?;
+    }
+    let mut source = MemSource::new(texts, Vec::from_slice(alloc, source_fails)?);
+    let mut sink = MemSink::new(alloc, Vec::from_slice(alloc, sink_fails)?);
+    let words = strings(alloc, words)?;
+    let status = fzn(&(), alloc, &words, &mut source, &mut sink, &NoGate);
+    Ok(Outcome {
+        status,
+        printed: Vec::from_slice(alloc, sink.bytes())?,
+        flushed: sink.flushed_count(),
+        source_faults: source.fault_count(),
+    })
+}
+
+fn run(alloc: Global, text: &str, words: &[&str]) -> Result<Outcome, AllocError> {
+    run_failing(alloc, text.as_bytes(), words, &[], &[])
+}
+
+/// The pieces between lines of ten dashes, in order.
+fn blocks_of(alloc: Global, printed: &[u8]) -> Result<Vec<String>, Fail> {
+    let text = std::str::from_utf8(printed)?;
+    let mut blocks = Vec::new(alloc);
+    for block in text.split("----------\n") {
+        blocks.push(String::from_str(alloc, block)?)?;
+    }
+    blocks.sort()?;
+    Ok(blocks)
+}
+
+const THREE_VALUES: &str = "var 1..3: x :: output_var; solve satisfy;";
+
+#[test]
+fn all_solutions_are_printed(rt: HostRuntime) -> Result<(), Fail> {
+    let alloc = rt.alloc();
+    let rows = [
+        (
+            THREE_VALUES,
+            "x = 1;\n----------\nx = 2;\n----------\nx = 3;\n----------\n==========\n",
+        ),
+        ("solve satisfy;", "----------\n==========\n"),
+        ("var 3..1: x; solve satisfy;", "=====UNSATISFIABLE=====\n"),
+        (
+            "var 1..2: x :: output_var; var 1..2: y; solve satisfy;",
+            "x = 1;\n----------\nx = 1;\n----------\nx = 2;\n----------\nx = 2;\n----------\n==========\n",
+        ),
+    ];
+    for (text, printed) in rows {
+        let outcome = run(alloc, text, &["-a"])?;
+        assert_eq!(rt; outcome.status, Status::Done, "{text}");
+        assert_eq!(rt; outcome.flushed, printed.len(), "{text}");
+        let got = blocks_of(alloc, &outcome.printed)?;
+        let wanted = blocks_of(alloc, printed.as_bytes())?;
+        assert_eq!(rt; got, wanted, "{text}");
+    }
+    Ok(())
+}
+
+/// Runs with `-a` on a text that is refused in line 1, and compares the status and the text.
+fn expect_refusal(
+    rt: &impl Abort,
+    alloc: Global,
+    text: &[u8],
+    column: u32,
+    code: u8,
+) -> Result<(), Fail> {
+    let outcome = run_failing(alloc, text, &["-a"], &[], &[])?;
+    let refusal = Refusal {
+        code,
+        line: 1,
+        column,
+    };
+    assert_eq!(rt; outcome.status, Status::Refused(refusal));
+    let zero = if code < 10 { "0" } else { "" };
+    let printed = format!(in alloc; "% line 1, column {column}: E{zero}{code}\n=====ERROR=====\n")?;
+    assert_eq!(rt; outcome.printed.as_slice(), printed.as_bytes());
+    assert_eq!(rt; outcome.flushed, printed.len());
+    Ok(())
+}
+
+#[test]
+fn refusals_have_the_first_code_and_its_place(rt: HostRuntime) -> Result<(), Fail> {
+    let rows = [
+        ("var 1..2147483647: x; solve satisfy;", 8, 2),
+        ("solve satisfy", 14, 3),
+        ("", 1, 3),
+        ("var 1..2: x solve satisfy;", 13, 3),
+        ("solve satisfy; var 1..2: x;", 16, 3),
+        ("var float: f; solve satisfy;", 5, 3),
+        ("constraint int_ne(x,1); solve satisfy;", 1, 3),
+        ("var 1..2: x; #", 14, 1),
+        ("var 1..2: x; var 1..2: x; solve satisfy;", 24, 4),
+    ];
+    for (text, column, code) in rows {
+        expect_refusal(&rt, rt.alloc(), text.as_bytes(), column, code)?;
+    }
+    Ok(())
+}
+
+#[test]
+fn a_refusal_in_a_later_line_has_its_line(rt: HostRuntime) -> Result<(), Fail> {
+    let outcome = run(rt.alloc(), "var 1..2: x;\n\r\n\t x", &["-a"])?;
+    let refusal = Refusal {
+        code: 3,
+        line: 3,
+        column: 3,
+    };
+    assert_eq!(rt; outcome.status, Status::Refused(refusal));
+    Ok(())
+}
+
+#[test]
+fn a_text_over_the_limit_is_refused_at_its_first_byte_over_it(rt: HostRuntime) -> Result<(), Fail> {
+    let blanks = vec![in rt.alloc(); b' '; 67_108_865]?;
+    expect_refusal(&rt, rt.alloc(), &blanks, 67_108_865, 11)
+}
+
+#[test]
+fn the_first_variable_over_the_limit_is_refused_at_its_name(rt: HostRuntime) -> Result<(), Fail> {
+    let alloc = rt.alloc();
+    let mut text = String::with_capacity(alloc, 32_000_000)?;
+    for number in 0..1_000_001 {
+        let declaration = format!(in alloc; "var 1..1: x{number};")?;
+        text.push_str(&declaration)?;
+    }
+    text.push_str("solve satisfy;")?;
+    // A million declarations of 12 bytes and a number, whose digits are 5,888,890; then ten bytes before the name.
+    expect_refusal(&rt, alloc, text.as_bytes(), 12_000_000 + 5_888_890 + 11, 11)
+}
+
+#[test]
+fn a_failing_sink_has_taken_a_front(rt: HostRuntime) -> Result<(), Fail> {
+    let alloc = rt.alloc();
+    let text = THREE_VALUES.as_bytes();
+    let second_write = run_failing(alloc, text, &["-a"], &[], &[2])?;
+    assert_eq!(rt; second_write.status, Status::SinkFault);
+    assert_eq!(rt;
+        blocks_of(alloc, &second_write.printed)?.len(),
+        2,
+        "one block, and nothing behind it"
+    );
+    assert_eq!(rt; second_write.printed.len(), "x = 1;\n----------\n".len());
+    let flush = run_failing(alloc, text, &["-a"], &[], &[5])?;
+    assert_eq!(rt; flush.status, Status::SinkFault);
+    assert_eq!(rt; flush.printed.len(), 65, "the whole text");
+    assert_eq!(rt; flush.flushed, 0);
+    Ok(())
+}
+
+#[test]
+fn a_failing_source_prints_nothing(rt: HostRuntime) -> Result<(), Fail> {
+    let alloc = rt.alloc();
+    let first_read = run_failing(alloc, THREE_VALUES.as_bytes(), &["-a"], &[2], &[])?;
+    assert_eq!(rt; first_read.status, Status::SourceFault);
+    assert_eq!(rt; first_read.printed.len(), 0);
+    let no_such_file = run(alloc, THREE_VALUES, &["-a", "none.fzn"])?;
+    assert_eq!(rt; no_such_file.status, Status::SourceFault);
+    assert_eq!(rt; no_such_file.printed.len(), 0);
+    Ok(())
+}
+
+#[test]
+fn the_words_are_one_flag_and_at_most_one_file(rt: HostRuntime) -> Result<(), Fail> {
+    let alloc = rt.alloc();
+    let accepted: [&[&str]; 4] = [&["-a"], &["-a", "-"], &["m.fzn", "-a"], &["-a", "m.fzn"]];
+    for words in accepted {
+        let outcome = run(alloc, "solve satisfy;", words)?;
+        assert_eq!(rt; outcome.status, Status::Done);
+    }
+    // The first call of the source or the sink would fail, and none is made.
+    let refused: [&[&str]; 7] = [
+        &[],
+        &["-a", "-a"],
+        &["-z"],
+        &["m.fzn"],
+        &["-a", "-z"],
+        &["-a", "m.fzn", "m.fzn"],
+        &["--a"],
+    ];
+    for words in refused {
+        let outcome = run_failing(alloc, b"solve satisfy;", words, &[1], &[1])?;
+        assert_eq!(rt; outcome.status, Status::Usage);
+        assert_eq!(rt; outcome.source_faults, 0);
+        assert_eq!(rt; outcome.printed.len(), 0);
+    }
+    Ok(())
+}
+
+#[test]
+fn each_status_has_its_number(rt: HostRuntime) {
+    let refusal = Refusal {
+        code: 3,
+        line: 1,
+        column: 1,
+    };
+    let numbers = [
+        (Status::Done, 0),
+        (Status::Refused(refusal), 1),
+        (Status::Usage, 2),
+        (Status::SourceFault, 3),
+        (Status::SinkFault, 4),
+        (Status::NoMemory, 5),
+    ];
+    for (status, number) in numbers {
+        assert_eq!(rt; status.code(), number);
+    }
+}
