@@ -6,6 +6,8 @@ pub mod checker;
 mod declared;
 pub mod fault;
 mod leaf;
+#[cfg(test)]
+mod tests;
 
 pub use checker::check;
 pub use fault::CheckFault;

@@ -28,24 +28,25 @@ pub record Spans (pieces : List Piece) (old new : List Token) : Type 0 where
   pub are : old ≡ between ++ new
   pub fit : AllFit pieces between
 
--- nothing is taken, since no piece of these kinds fits the first token, or there is none
+-- nothing is taken: there is no token, or the first does not fit the piece
 pub record Misses (x : Piece) (old new : List Token) : Type 0 where
   pub same : new ≡ old
   pub none : Begins x old → ⊥
 
+-- nothing is taken: there is no token, or the first is no leaf of this kind
 pub record MissesEach (x : Token → Piece) (old new : List Token) : Type 0 where
   pub same : new ≡ old
   pub none : (leaf : Token) → Begins (x leaf) old → ⊥
 
--- these tokens go on as the others do: with the same first token, or none
+-- the second list goes on as the first does: with the same token, or with none where the first has none
 abbrev pub GoOnAs : List Token → List Token → Type 0
 GoOnAs [] [] = Unit {0}
 GoOnAs (t ∷ ts) (u ∷ us) = t ≡ u
 GoOnAs [] (u ∷ us) = ⊥
 GoOnAs (t ∷ ts) [] = ⊥
 
--- What may follow is a list of pieces for each `a`. None of them goes on as the tokens that are left behind, and one
--- of them begins with the tokens before those.
+-- The tokens break off where `new` begins. What may follow is a list of pieces for each `a`: the tokens before that place begin
+-- one of these lists, and none of the lists goes on behind them as `new` does.
 pub record BreaksIn {A : Type 0} (follow : A → List Piece) (old new : List Token) : Type 0 where
   pub before : List Token
   pub are : old ≡ before ++ new
