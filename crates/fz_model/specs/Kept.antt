@@ -1,5 +1,5 @@
 -- What the types keep.
-use Rattle.std.specs.Prelude.{◌≡◌, ℕ, ℤ, pos, ◌≤◌, ◌<◌, List, [], ◌∷◌, length, slice_get, Some, option_map}
+use Rattle.std.specs.Prelude.{◌≡◌, ℤ, pos, ◌≤◌, List, [], ◌∷◌, length, slice_get, Some, option_map}
 use Rattle.std.specs.List.{AllByRecursion}
 use Rattle.fz_spec.specs.declared.kind.Kind.{Kind}
 use Rattle.fz_spec.specs.declared.kind.Kind.TheVariants.{Bool, Int}

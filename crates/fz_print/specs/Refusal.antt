@@ -1,4 +1,4 @@
-use Rattle.std.specs.Prelude.{ℕ, List, ◌∷◌, ◌++◌, codes, decimal, nat_lt, if◌then◌else◌}
+use Rattle.std.specs.Prelude.{ℕ, List, ◌++◌, codes, decimal, nat_lt, if◌then◌else◌}
 use Rattle.fz_print.specs.declared.refusal.Refusal.{Refusal}
 
 -- a letter and two digits

@@ -1,5 +1,5 @@
 -- Fronts of texts, as a sink takes them.
-use Rattle.std.proofs.Common.{◌≡◌, ◌∙◌, ℕ, ◌+◌, ◌≤◌, ◌<◌, List, [], ◌∷◌, ◌++◌, Option, None, Some, IfSome, Result, Ok, Err, OnErr, ap, sym, refl, suc, length, take, drop, get_or, append_assoc, append-nil, arith}
+use Rattle.std.proofs.Common.{◌≡◌, ◌∙◌, ℕ, ◌+◌, ◌≤◌, ◌<◌, List, [], ◌∷◌, ◌++◌, Option, None, Some, Result, Ok, Err, OnErr, ap, sym, refl, suc, length, take, drop, get_or, append_assoc, append-nil, arith}
 use Rattle.std.specs.Prelude.{flat_map}
 use Rattle.std.proofs.lemmas.List.{take-append-drop, take_all}
 use Rattle.std.proofs.lemmas.List.Concat.{flat_map-append}

@@ -1,14 +1,14 @@
 -- What the answers of a run say of its text.
-use Rattle.std.proofs.Common.{◌≡◌, ◌∙◌, ◌≢◌, ℕ, ℤ, ◌+◌, ◌<◌, List, [], ◌∷◌, ◌++◌, Option, None, Some, IfSome, ap, sym, refl, subst, inl, inr, append_assoc, append-nil, arith, codes, decimal, ◌⊎◌, unwrap_or, take}
+use Rattle.std.proofs.Common.{◌≡◌, ◌∙◌, ◌≢◌, ℕ, ◌+◌, List, [], ◌++◌, Option, None, Some, IfSome, ap, sym, refl, subst, inl, inr, append_assoc, append-nil, arith, codes, decimal, ◌⊎◌, unwrap_or, take}
 use Rattle.std.specs.Fmt.{digits}
 use Rattle.fz_spec.specs.declared.code.Code.{Code}
 use Rattle.fz_spec.specs.declared.code.Code.TheVariants.{E01, E02, E03, E04, E11}
 use Rattle.fz_spec.specs.Codes.{code_number, code_text}
-use Rattle.fz_spec.specs.Instance.{Instance, Lists}
+use Rattle.fz_spec.specs.Instance.{Instance}
 use Rattle.fz_spec.specs.Reads.{Reads, Reading, TEXT_LIMIT}
 use Rattle.fz_spec.specs.Reads as reads
 use Rattle.fz_spec.specs.Run.{refusal_text, blocks, closing}
-use Rattle.fz_spec.specs.Words.{All, Asked, Options}
+use Rattle.fz_spec.specs.Words.{All, Options}
 use Rattle.fz_spec.proofs.ReadingLaws.{one_reading}
 use Rattle.fz_io.specs.Outside.{with_more}
 use Rattle.fz_print.specs.declared.refusal.Refusal.{Refusal}

@@ -1,24 +1,12 @@
 -- What is read of a text that is too long, and the text.
-use Rattle.std.proofs.Common.{◌≡◌, ◌∙◌, ℕ, ◌+◌, ◌≤◌, ◌<◌, List, [], ◌∷◌, ◌++◌, zero, suc, ap, sym, refl, length, take, drop, subst, inl, inr, arith, length-take, min, take-append-drop, reverse, count_by, take_while}
+use Rattle.std.proofs.Common.{◌≡◌, ◌∙◌, ℕ, ◌+◌, ◌<◌, List, [], ◌∷◌, zero, suc, ap, refl, length, take, subst, inl, inr, arith, length-take, reverse, count_by, take_while}
 use Rattle.std.proofs.lemmas.Bool.{cases_lt}
 use Rattle.std.proofs.lemmas.List.{take_all}
 use Rattle.std.proofs.Math.Nat.{suc-add}
 use Rattle.fz_spec.specs.declared.code.Code.{Code}
 use Rattle.fz_spec.specs.declared.code.Code.TheVariants.{E01, E02, E03, E04, E11}
-use Rattle.fz_spec.specs.Codes.{code_number}
 use Rattle.fz_spec.specs.Places.{line_of, column_of, is_line_end, is_in_line}
-use Rattle.fz_spec.specs.Instance.{Instance}
-use Rattle.fz_spec.specs.Tokens as language
-use Rattle.fz_spec.specs.Grammar.{Program}
-use Rattle.fz_spec.specs.Reads.{TEXT_LIMIT, IsShort, Reads, Reading, Accepted, Refused, IsAccepted, IsRefused, IsRefusedAt, IsUnlexed, IsUnspelt, IsWrong, IsProgramText, HasBrokenRule, place_of, AllKeep, model_of}
-use Rattle.fz_lex.specs.Lexed.{LexedText, IsLexed, HasFirstFault, IsPlaceOf}
-use Rattle.fz_lex.specs.declared.fault.LexFault.{LexFault}
-use Rattle.fz_parse.specs.Parsed.{ParsedText, HasSyntaxFault}
-use Rattle.fz_parse.specs.declared.fault.SyntaxFault.{SyntaxFault}
-use Rattle.fz_check.specs.Checked.{HasCheckFault}
-use Rattle.fz_check.specs.declared.fault.CheckFault.{CheckFault}
-use Rattle.fz_print.specs.declared.refusal.Refusal.{Refusal}
-use Rattle.fzn.specs.Ends.{IsRefusal}
+use Rattle.fz_spec.specs.Reads.{TEXT_LIMIT, IsShort, Reads, Reading, Accepted, Refused, IsRefused, IsRefusedAt}
 
 -- the first bytes of a text, one more than the limit, are read as the text
 front_is_long : (text : List ℕ) → TEXT_LIMIT < length text → IsShort (take (TEXT_LIMIT + 1) text) → ⊥

@@ -1,5 +1,5 @@
 -- How a run ends, and what it printed.
-use Rattle.std.specs.Prelude.{◌≡◌, ℕ, ℤ, ◌+◌, ◌<◌, ◌⊎◌, take, Option, Some, None, IfSome, Result, MatchResult, List, [], ◌++◌, length}
+use Rattle.std.specs.Prelude.{◌≡◌, ℕ, ℤ, ◌+◌, ◌<◌, ◌⊎◌, take, Option, IfSome, Result, MatchResult, List, [], ◌++◌}
 use Rattle.fz_spec.specs.declared.code.Code.{Code}
 use Rattle.fz_spec.specs.Codes.{code_number}
 use Rattle.fz_spec.specs.Instance.{Instance, Lists}

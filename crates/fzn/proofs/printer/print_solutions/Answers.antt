@@ -1,6 +1,5 @@
 use Rattle.std.proofs.lemmas.Result.{on_err_weaker}
 use Rattle.fz_spec.specs.Run.{blocks, closing}
-use Rattle.fz_io.specs.Outside.{with_more}
 use Rattle.fzn.proofs.Fronts.{front_more, front_after, whenever}
 use Rattle.fzn.proofs.printer.print_solutions.Goals as goal
 
