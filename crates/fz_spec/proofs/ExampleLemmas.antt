@@ -2,22 +2,22 @@
 use Rattle.std.proofs.Common.{◌≡◌, ℕ, ◌+◌, ◌≤◌, ℤ, pos, true, true≢false, List, [], ◌∷◌, ◌++◌, codes, length, refl, sym, inl, inr, arith, lit≤, lit<}
 use Rattle.std.proofs.lemmas.Int.{ints}
 use Rattle.fz_spec.specs.declared.code.Code.{Code}
-use Rattle.fz_spec.specs.declared.code.Code.TheVariants.{E01, E02, E03, E04, E11}
+use Rattle.fz_spec.specs.declared.code.Code.TheVariants.{E01, E02, E03, E04, E05, E06, E07, E08, E10, E11}
 use Rattle.fz_spec.specs.declared.sign.Sign.TheVariants.{Semicolon, Colon, DoubleColon, DoubleDot}
 use Rattle.fz_spec.specs.Limits.{IsWithinLimits}
 use Rattle.fz_spec.specs.Tokens.{Token, Lexeme, Word, Number, Punct, BeginsLargeNumber, BeginsNoToken, End, Fault, AreTokensOf, HasFault}
-use Rattle.fz_spec.specs.Grammar.{Declaration, Item, Declare, Method, Satisfy, Program, Piece, AllFit, declaration_pieces, solve_pieces, Spells}
+use Rattle.fz_spec.specs.Grammar.{Declaration, Item, Declare, Constrain, Method, Satisfy, Program, Piece, AllFit, declaration_pieces, solve_pieces, Spells}
 use Rattle.fz_spec.specs.Reads.{BreaksRule, BreaksNone, ComesFirst}
 use Rattle.fz_spec.specs.Examples.{three_values, ThreeValues, EmptyModel, EmptySet, LargeNumber, NoLastSemicolon, EmptyText, DeclaredTwice, unknown_byte, UnknownByte}
 use Rattle.fz_spec.proofs.Lexing.{number_is_token, begins_no_token}
 use Rattle.fz_spec.proofs.TokenTests.{tokens_pass, last_stop, gap_passes, gap, lead}
 use Rattle.fz_spec.proofs.ReadingLaws.{one_fault}
 
-abbrev token : Lexeme → ℕ → ℕ → Token
+abbrev pub token : Lexeme → ℕ → ℕ → Token
 token x start stop = record { lexeme = x; start = start; stop = stop }
 
 -- "var 1..2: x;" from a place on, for any two digits
-abbrev short_declaration : ℕ → ℤ → ℤ → Declaration
+abbrev pub short_declaration : ℕ → ℤ → ℤ → Declaration
 short_declaration at low high = record {
   low = token (Number low) (at + 4) (at + 5);
   high = token (Number high) (at + 7) (at + 8);
@@ -26,37 +26,42 @@ short_declaration at low high = record {
 }
 
 -- the tokens of a declaration up to its name, and of a short one
-abbrev front_tokens : ℕ → Declaration → List Token
+abbrev pub front_tokens : ℕ → Declaration → List Token
 front_tokens at d = token (Word (codes "var")) at (at + 3) ∷ d.low ∷ token (Punct DoubleDot) (at + 5) (at + 7) ∷ d.high ∷ token (Punct Colon) (at + 8) (at + 9) ∷ d.name ∷ []
 
-abbrev short_tokens : ℕ → Declaration → List Token
+abbrev pub short_tokens : ℕ → Declaration → List Token
 short_tokens at d = front_tokens at d ++ token (Punct Semicolon) (at + 11) (at + 12) ∷ []
 
 -- "solve satisfy;" from a place on
-abbrev solve_tokens : ℕ → List Token
+abbrev pub solve_tokens : ℕ → List Token
 solve_tokens at = token (Word (codes "solve")) at (at + 5) ∷ token (Word (codes "satisfy")) (at + 6) (at + 13) ∷ token (Punct Semicolon) (at + 13) (at + 14) ∷ []
 
-solve_fits : (at : ℕ) → AllFit (solve_pieces Satisfy) (solve_tokens at)
+pub solve_fits : (at : ℕ) → AllFit (solve_pieces Satisfy) (solve_tokens at)
 solve_fits at = (refl, (refl, (refl, tt)))
 
-short_fits : (at : ℕ) (low high : ℤ) → AllFit (declaration_pieces (short_declaration at low high)) (short_tokens at (short_declaration at low high))
+pub short_fits : (at : ℕ) (low high : ℤ) → AllFit (declaration_pieces (short_declaration at low high)) (short_tokens at (short_declaration at low high))
 short_fits at low high = (refl, ((refl, tt), (refl, ((refl, tt), (refl, ((refl, refl), (refl, tt)))))))
 
-fit_more : (ps qs : List Piece) (ts us : List Token) → AllFit ps ts → AllFit qs us → AllFit (ps ++ qs) (ts ++ us)
+pub fit_more : (ps qs : List Piece) (ts us : List Token) → AllFit ps ts → AllFit qs us → AllFit (ps ++ qs) (ts ++ us)
 fit_more [] qs [] us h k = k
 fit_more [] qs (t ∷ ts) us h k = absurd h
 fit_more (p ∷ ps) qs [] us h k = absurd h
 fit_more (p ∷ ps) qs (t ∷ ts) us h k = (h.0, fit_more ps qs ts us h.1 k)
 
-are_tokens : (text : List ℕ) (ts : List Token) → tokens_pass text 0 ts ≡ true → gap_passes text (last_stop 0 ts) (length text) ≡ true → AreTokensOf text ts
+pub are_tokens : (text : List ℕ) (ts : List Token) → tokens_pass text 0 ts ≡ true → gap_passes text (last_stop 0 ts) (length text) ≡ true → AreTokensOf text ts
 are_tokens text ts h k = lead text 0 ts End h (gap text (last_stop 0 ts) (length text) k)
 
-first_keeps : (item : Item) → BreaksNone [] item
-first_keeps item E01 at b = b
-first_keeps item E02 at b = b
-first_keeps item E03 at b = b
-first_keeps item E04 at b = true≢false (sym b.0)
-first_keeps item E11 at b = let few : 1000000 ≤ 0 = b.0 in omega arith
+pub first_keeps : (d : Declaration) → BreaksNone [] (Declare d)
+first_keeps d E01 at b = b
+first_keeps d E02 at b = b
+first_keeps d E03 at b = b
+first_keeps d E04 at b = true≢false (sym b.0)
+first_keeps d E05 at b = b
+first_keeps d E06 at b = b
+first_keeps d E07 at b = b
+first_keeps d E08 at b = b
+first_keeps d E10 at b = b
+first_keeps d E11 at b = let few : 1000000 ≤ 0 = b.0 in omega arith
 
 -- the texts that are accepted
 
@@ -76,7 +81,7 @@ three_values_reads = record {
     lexed = are_tokens three_values three_values_tokens refl refl;
     spelt = (refl, ((refl, tt), (refl, ((refl, tt), (refl, ((refl, refl), (refl, ((refl, refl), (refl, solve_fits 27)))))))));
   };
-  keep = (first_keeps (Declare three_values_declaration), tt);
+  keep = (first_keeps three_values_declaration, tt);
   is = refl;
 }
 
@@ -108,7 +113,7 @@ empty_set_reads = record {
     lexed = are_tokens (codes "var 3..1: x; solve satisfy;") empty_set_tokens refl refl;
     spelt = fit_more (declaration_pieces empty_set_declaration) (solve_pieces Satisfy) (short_tokens 0 empty_set_declaration) (solve_tokens 13) (short_fits 0 (pos 3) (pos 1)) (solve_fits 13);
   };
-  keep = (first_keeps (Declare empty_set_declaration), tt);
+  keep = (first_keeps empty_set_declaration, tt);
   is = refl;
 }
 
@@ -149,10 +154,12 @@ two_tokens = token (Word (codes "solve")) 0 5 ∷ token (Word (codes "satisfy"))
 two_are_none : (items : List Item) (method : Method) → Spells two_tokens (record { items = items; method = method }) → ⊥
 two_are_none [] Satisfy h = h.1.1
 two_are_none (Declare d ∷ items) method h = let e = h.0 in cc e
+two_are_none (Constrain c ∷ items) method h = let e = h.0 in cc e
 
 none_are_none : (items : List Item) (method : Method) → Spells [] (record { items = items; method = method }) → ⊥
 none_are_none [] Satisfy h = h
 none_are_none (Declare d ∷ items) method h = h
+none_are_none (Constrain c ∷ items) method h = h
 
 pub no_last_semicolon_reads : NoLastSemicolon
 no_last_semicolon_reads = record {
@@ -220,6 +227,11 @@ first_twice E01 place b = absurd b
 first_twice E02 place b = absurd b
 first_twice E03 place b = absurd b
 first_twice E04 place b = let e : place ≡ 23 = b.1 in inr (refl, omega arith)
+first_twice E05 place b = absurd b
+first_twice E06 place b = absurd b
+first_twice E07 place b = absurd b
+first_twice E08 place b = absurd b
+first_twice E10 place b = absurd b
 first_twice E11 place b = inl (lit< tt)
 
 pub declared_twice_reads : DeclaredTwice
@@ -233,7 +245,7 @@ declared_twice_reads = record {
       item = Declare declaration_again;
       behind = [];
       are = refl;
-      keep = (first_keeps (Declare declaration_once), tt);
+      keep = (first_keeps declaration_once, tt);
       first = record { broken = (refl, refl); first = first_twice };
     },
   );

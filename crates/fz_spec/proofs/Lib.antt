@@ -6,3 +6,4 @@ pub mod ReadingLaws
 pub mod RunLaws
 pub mod TokenTests
 pub mod ExampleLemmas
+pub mod ConstraintExamples

@@ -1,7 +1,7 @@
 -- A text has one reading at most.
 use Rattle.std.proofs.Common.{◌≡◌, ℕ, ◌<◌, inl, inr, List, [], ◌∷◌, ◌++◌, length, refl, sym, ap, ◌∙◌, subst, arith, append_assoc, append-nil}
 use Rattle.fz_spec.specs.declared.code.Code.{Code}
-use Rattle.fz_spec.specs.declared.code.Code.TheVariants.{E01, E02, E03, E04, E11}
+use Rattle.fz_spec.specs.declared.code.Code.TheVariants.{E01, E02, E03, E04, E05, E06, E07, E08, E10, E11}
 use Rattle.fz_spec.specs.Places.{line_of, column_of}
 use Rattle.fz_spec.specs.Tokens.{Token, End, Fault, LeadsTo, HasFault}
 use Rattle.fz_spec.specs.Grammar.{Program, Item, Spells, BreaksBehind}
@@ -15,6 +15,11 @@ one_rank E01 E01 e = refl
 one_rank E02 E02 e = refl
 one_rank E03 E03 e = refl
 one_rank E04 E04 e = refl
+one_rank E05 E05 e = refl
+one_rank E06 E06 e = refl
+one_rank E07 E07 e = refl
+one_rank E08 E08 e = refl
+one_rank E10 E10 e = refl
 one_rank E11 E11 e = refl
 one_rank _ _ e = cc
 
@@ -69,6 +74,11 @@ cause_of text E01 a h = Unlexed h.0 h.1
 cause_of text E02 a h = Unlexed h.0 h.1
 cause_of text E03 a h = Unspelt refl h
 cause_of text E04 a h = Wrong h
+cause_of text E05 a h = Wrong h
+cause_of text E06 a h = Wrong h
+cause_of text E07 a h = Wrong h
+cause_of text E08 a h = Wrong h
+cause_of text E10 a h = Wrong h
 cause_of text E11 a h = elim h [ inl long ↦ Long long.0 refl long.1 | inr wrong ↦ Wrong wrong ]
 
 not_short : (text : List ℕ) → TEXT_LIMIT < length text → IsShort text → ⊥

@@ -1,7 +1,7 @@
 -- A text has one list of tokens at most, with one ending.
 use Rattle.std.proofs.Common.{◌≡◌, ℕ, ◌≤◌, ◌<◌, ◌⊎◌, inl, inr, true≢false, List, [], ◌∷◌, length, slice_range, refl, sym, ap₂, ◌∙◌, subst, arith}
 use Rattle.fz_spec.specs.declared.code.Code.{Code}
-use Rattle.fz_spec.specs.declared.code.Code.TheVariants.{E01, E02, E03, E04, E11}
+use Rattle.fz_spec.specs.declared.code.Code.TheVariants.{E01, E02, E03, E04, E05, E06, E07, E08, E10, E11}
 use Rattle.fz_spec.specs.Tokens.{Token, Number, IsSpelt, IsToken, IsGap, IsFault, IsFine, BeginsNoToken, BeginsLargeNumber, Ending, End, Fault, EndsIn, LeadsTo}
 use Rattle.fz_spec.proofs.LexemeLaws.{one_lexeme, IsVisible, spelt_is_visible}
 
@@ -29,6 +29,11 @@ fault_is_visible text E01 at f = record { within = f.within; visible = f.visible
 fault_is_visible text E02 at f = token_is_visible text _ f.token
 fault_is_visible text E03 at f = absurd f
 fault_is_visible text E04 at f = absurd f
+fault_is_visible text E05 at f = absurd f
+fault_is_visible text E06 at f = absurd f
+fault_is_visible text E07 at f = absurd f
+fault_is_visible text E08 at f = absurd f
+fault_is_visible text E10 at f = absurd f
 fault_is_visible text E11 at f = absurd f
 
 pub one_token : (text : List ℕ) (t u : Token) → IsToken text t → IsToken text u → t.start ≡ u.start → t ≡ u
@@ -48,6 +53,11 @@ fault_no_token text E02 t f h fine =
     f.large (subst (λ (u : Token). IsFine u.lexeme) (sym same) fine)
 fault_no_token text E03 t f h fine = f
 fault_no_token text E04 t f h fine = f
+fault_no_token text E05 t f h fine = f
+fault_no_token text E06 t f h fine = f
+fault_no_token text E07 t f h fine = f
+fault_no_token text E08 t f h fine = f
+fault_no_token text E10 t f h fine = f
 fault_no_token text E11 t f h fine = f
 
 no_both : (text : List ℕ) (at : ℕ) → BeginsNoToken text at → BeginsLargeNumber text at → ⊥
@@ -60,12 +70,27 @@ one_code text E02 E01 at f g = absurd (no_both text at g f)
 one_code text E02 E02 at f g = refl
 one_code text E01 E03 at f g = absurd g
 one_code text E01 E04 at f g = absurd g
+one_code text E01 E05 at f g = absurd g
+one_code text E01 E06 at f g = absurd g
+one_code text E01 E07 at f g = absurd g
+one_code text E01 E08 at f g = absurd g
+one_code text E01 E10 at f g = absurd g
 one_code text E01 E11 at f g = absurd g
 one_code text E02 E03 at f g = absurd g
 one_code text E02 E04 at f g = absurd g
+one_code text E02 E05 at f g = absurd g
+one_code text E02 E06 at f g = absurd g
+one_code text E02 E07 at f g = absurd g
+one_code text E02 E08 at f g = absurd g
+one_code text E02 E10 at f g = absurd g
 one_code text E02 E11 at f g = absurd g
 one_code text E03 d at f g = absurd f
 one_code text E04 d at f g = absurd f
+one_code text E05 d at f g = absurd f
+one_code text E06 d at f g = absurd f
+one_code text E07 d at f g = absurd f
+one_code text E08 d at f g = absurd f
+one_code text E10 d at f g = absurd f
 one_code text E11 d at f g = absurd f
 
 one_ending : (text : List ℕ) (from : ℕ) (e f : Ending) → EndsIn text from e → EndsIn text from f → e ≡ f

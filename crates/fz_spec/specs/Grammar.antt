@@ -1,9 +1,9 @@
 -- The grammar (MiniZinc Handbook, "FlatZinc grammar"): which tokens spell a program, apart from any way to find it.
 -- There is a type for each rule, with a field for each part of the rule; a leaf is a token, which keeps its place.
-use Rattle.std.specs.Prelude.{◌≡◌, ℕ, List, [], ◌∷◌, ◌++◌, codes, flat_map, false, bytes_eq}
+use Rattle.std.specs.Prelude.{◌≡◌, ℕ, List, [], ◌∷◌, ◌++◌, codes, flat_map, map, false, bytes_eq}
 use Rattle.std.specs.List.{list_any}
 use Rattle.fz_spec.specs.declared.sign.Sign.{Sign}
-use Rattle.fz_spec.specs.declared.sign.Sign.TheVariants.{Semicolon, Colon, DoubleColon, DoubleDot}
+use Rattle.fz_spec.specs.declared.sign.Sign.TheVariants.{Semicolon, Colon, DoubleColon, Comma, LeftParenthesis, RightParenthesis, LeftBracket, RightBracket, DoubleDot}
 use Rattle.fz_spec.specs.Tokens.{Token, Lexeme, Word, Number, Punct}
 
 -- the words of the language, which are no identifiers
@@ -32,9 +32,26 @@ pub record Declaration : Type 0 where
   pub name : Token
   pub annotations : List Annotation
 
+-- integer | identifier
+pub data Basic : Type 0 where
+  Literal : (leaf : Token) → Basic
+  Name : (leaf : Token) → Basic
+
+-- basic | "[" [ basic { "," basic } ] "]"
+pub data Expression : Type 0 where
+  Scalar : (basic : Basic) → Expression
+  Elements : (bracket : Token) (elements : List Basic) → Expression
+
+-- "constraint" identifier "(" [ expression { "," expression } ] ")" { "::" annotation } ";"
+pub record Constraint : Type 0 where
+  pub name : Token
+  pub arguments : List Expression
+  pub annotations : List Annotation
+
 -- an item before the solve item
 pub data Item : Type 0 where
   Declare : (declaration : Declaration) → Item
+  Constrain : (constraint : Constraint) → Item
 
 -- "satisfy"
 pub data Method : Type 0 where
@@ -50,11 +67,13 @@ pub data Piece : Type 0 where
   Exactly : (lexeme : Lexeme) → Piece
   Identifier : (leaf : Token) → Piece
   Integer : (leaf : Token) → Piece
+  Marked : (sign : Sign) (leaf : Token) → Piece
 
 abbrev pub Fits : Piece → Token → Type 0
 Fits (Exactly x) t = t.lexeme ≡ x
 Fits (Identifier u) t = (t ≡ u) × IsIdentifier t.lexeme
 Fits (Integer u) t = (t ≡ u) × IsInteger t.lexeme
+Fits (Marked s u) t = (t ≡ u) × (t.lexeme ≡ Punct s)
 
 -- as many tokens as pieces, and each fits its piece
 abbrev pub AllFit : List Piece → List Token → Type 0
@@ -76,8 +95,27 @@ abbrev pub declaration_pieces : Declaration → List Piece
 declaration_pieces d = word (codes "var") ∷ Integer d.low ∷ sign DoubleDot ∷ Integer d.high ∷ sign Colon ∷ Identifier d.name
     ∷ (flat_map annotation_pieces d.annotations ++ sign Semicolon ∷ [])
 
+-- parts with a comma between each two
+abbrev pub separated : List (List Piece) → List Piece
+separated [] = []
+separated (x ∷ []) = x
+separated (x ∷ y ∷ xs) = x ++ (sign Comma ∷ separated (y ∷ xs))
+
+abbrev pub basic_pieces : Basic → List Piece
+basic_pieces (Literal leaf) = Integer leaf ∷ []
+basic_pieces (Name leaf) = Identifier leaf ∷ []
+
+abbrev pub expression_pieces : Expression → List Piece
+expression_pieces (Scalar basic) = basic_pieces basic
+expression_pieces (Elements bracket elements) = Marked LeftBracket bracket ∷ (separated (map basic_pieces elements) ++ sign RightBracket ∷ [])
+
+abbrev pub constraint_pieces : Constraint → List Piece
+constraint_pieces c = word (codes "constraint") ∷ Identifier c.name ∷ sign LeftParenthesis
+    ∷ (separated (map expression_pieces c.arguments) ++ (sign RightParenthesis ∷ (flat_map annotation_pieces c.annotations ++ sign Semicolon ∷ [])))
+
 abbrev pub item_pieces : Item → List Piece
 item_pieces (Declare d) = declaration_pieces d
+item_pieces (Constrain c) = constraint_pieces c
 
 abbrev pub method_pieces : Method → List Piece
 method_pieces Satisfy = word (codes "satisfy") ∷ []

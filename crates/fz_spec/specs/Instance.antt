@@ -4,6 +4,7 @@ use Rattle.std.specs.Ordering.{int_eq}
 use Rattle.std.specs.List.{AllByRecursion}
 use Rattle.fz_spec.specs.declared.kind.Kind.{Kind}
 use Rattle.fz_spec.specs.Limits.{IsInSet}
+use Rattle.fz_spec.specs.Constraints.{Constraint, IsTrueOf}
 
 -- a variable: what its values are, and the set that it is declared with (0..1 for a Boolean)
 pub record Variable : Type 0 where
@@ -13,9 +14,6 @@ pub record Variable : Type 0 where
 -- an output item: the name of a variable, its kind and its number
 pub data Output : Type 0 where
   Scalar : (name : List ℕ) (kind : Kind) (variable : ℕ) → Output
-
--- a constraint; none until constraints come in
-pub data Constraint : Type 0 where
 
 pub data Goal : Type 0 where
   Satisfy : Goal
@@ -33,10 +31,6 @@ AreDeclared [] [] = Unit {0}
 AreDeclared (v ∷ vs) (x ∷ xs) = IsInSet v.set x × AreDeclared vs xs
 AreDeclared [] (x ∷ xs) = ⊥
 AreDeclared (v ∷ vs) [] = ⊥
-
--- a constraint is true of the values that an assignment gives: one line for each name of a constraint
-abbrev pub IsTrueOf : List ℤ → Constraint → Type 0
-IsTrueOf a c = elim c [ ]
 
 pub record Satisfies (m : Instance) (a : List ℤ) : Type 0 where
   pub declared : AreDeclared m.variables a

@@ -1,4 +1,6 @@
 pub mod Limits
+pub mod Signatures
+pub mod Constraints
 pub mod Instance
 pub mod Codes
 pub mod Places

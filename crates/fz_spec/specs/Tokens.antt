@@ -7,7 +7,7 @@ use Rattle.fz_spec.specs.declared.sign.Sign.{Sign}
 use Rattle.fz_spec.specs.declared.sign.Sign.TheVariants.{Semicolon, Colon, DoubleColon, Comma, LeftParenthesis, RightParenthesis, LeftBracket, RightBracket, LeftBrace, RightBrace, Equals, DoubleDot}
 use Rattle.fz_spec.specs.Limits.{IsWithinLimits}
 use Rattle.fz_spec.specs.declared.code.Code.{Code}
-use Rattle.fz_spec.specs.declared.code.Code.TheVariants.{E01, E02, E03, E04, E11}
+use Rattle.fz_spec.specs.declared.code.Code.TheVariants.{E01, E02, E03, E04, E05, E06, E07, E08, E10, E11}
 
 -- what a token says
 pub data Lexeme : Type 0 where
@@ -97,6 +97,11 @@ IsFault text E01 at = BeginsNoToken text at
 IsFault text E02 at = BeginsLargeNumber text at
 IsFault text E03 at = ⊥
 IsFault text E04 at = ⊥
+IsFault text E05 at = ⊥
+IsFault text E06 at = ⊥
+IsFault text E07 at = ⊥
+IsFault text E08 at = ⊥
+IsFault text E10 at = ⊥
 IsFault text E11 at = ⊥
 
 abbrev pub IsFine : Lexeme → Type 0

@@ -13,6 +13,16 @@ pub enum Code {
     E03,
     /// A name that is declared twice.
     E04,
+    /// A name that isn't declared, or only later.
+    E05,
+    /// An argument of a wrong type.
+    E06,
+    /// A wrong number of arguments.
+    E07,
+    /// A constraint of a name that isn't known.
+    E08,
+    /// Lists of one constraint that differ in length.
+    E10,
     /// Over a limit.
     E11,
 }
@@ -27,6 +37,11 @@ impl Code {
             Code::E02 => 2,
             Code::E03 => 3,
             Code::E04 => 4,
+            Code::E05 => 5,
+            Code::E06 => 6,
+            Code::E07 => 7,
+            Code::E08 => 8,
+            Code::E10 => 10,
             Code::E11 => 11,
         }
     }

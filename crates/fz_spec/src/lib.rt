@@ -6,10 +6,12 @@
 //! keep, and how some texts are read.
 #![tactic(auto)]
 
+pub mod builtin;
 pub mod code;
 pub mod examples;
 pub mod kind;
 pub mod laws;
 pub mod sign;
+pub mod term;
 #[cfg(test)]
 mod tests;
