@@ -7,7 +7,7 @@ use Rattle.std.proofs.lemmas.Bool.{cases_lt, both_ways}
 use Rattle.std.proofs.lemmas.List.{append-nil, get_or_default, drop_more, drop_all, map-append, length-map}
 use Rattle.std.proofs.lemmas.List.Elements.{All-get_or, All-push}
 use Rattle.fz_spec.specs.declared.code.Code.{Code}
-use Rattle.fz_spec.specs.declared.code.Code.TheVariants.{E01, E02, E03, E04, E11}
+use Rattle.fz_spec.specs.declared.code.Code.TheVariants.{E01, E02, E03, E04, E05, E06, E07, E08, E10, E11}
 use Rattle.fz_spec.specs.declared.sign.Sign.{Sign}
 use Rattle.fz_spec.specs.declared.sign.Sign.TheVariants.{Semicolon, Colon, DoubleColon, Comma, LeftParenthesis, RightParenthesis, LeftBracket, RightBracket, LeftBrace, RightBrace, Equals, DoubleDot}
 use Rattle.fz_spec.specs.Tokens.{Lexeme, Word, Number, Punct, is_word_start, is_word_byte, sign_bytes, IsSpelt, IsToken, IsGap, IsFault, HasFault, IsFine, Ending, End, Fault, LeadsTo, AreTokensOf}
@@ -46,6 +46,11 @@ led_fault text ts E01 at s h f = (s, (ts, led_to text ts h.from (Fault E01 at) h
 led_fault text ts E02 at s h f = (s, (ts, led_to text ts h.from (Fault E02 at) h.leads (h.gap, f)))
 led_fault text ts E03 at s h f = absurd f
 led_fault text ts E04 at s h f = absurd f
+led_fault text ts E05 at s h f = absurd f
+led_fault text ts E06 at s h f = absurd f
+led_fault text ts E07 at s h f = absurd f
+led_fault text ts E08 at s h f = absurd f
+led_fault text ts E10 at s h f = absurd f
 led_fault text ts E11 at s h f = absurd f
 
 -- a token's bytes
