@@ -5,6 +5,7 @@
 #![tactic(auto)]
 
 pub mod assignment;
+pub mod constraint;
 pub mod model;
 pub mod output;
 #[cfg(test)]

@@ -3,14 +3,16 @@ ghost use Rattle.std.specs.Prelude.{◌≡◌, ◌↔◌, IfOk, IsTrue, []};
 ghost use Rattle.fz_spec.specs.Instance.{Instance, Satisfy};
 ghost use Rattle.fz_model.specs.Kept.{IsModel, model_of};
 
+use crate::constraint::Constraint;
 use crate::output::Output;
 use crate::variable::Variable;
 use std::alloc::{AllocError, Global};
 
-/// A model: variables and output items, each in the order of declaration. Its goal is to satisfy, and it has no constraint.
+/// A model: variables, constraints and output items, each in the order of their items. Its goal is to satisfy.
 #[derive(Drop)]
 pub struct Model {
     variables: Vec<Variable>,
+    constraints: Vec<Constraint>,
     outputs: Vec<Output>,
 }
 
@@ -21,18 +23,28 @@ impl std::marker::Model for Model {
 
     ghost use Rattle.fz_model.specs.Kept.{IsModel, model_of};
 
-    ghost view = { λ m. model_of m.variables.items m.outputs.items };
+    ghost view = { λ m. model_of m.variables.items m.constraints.items m.outputs.items };
 
-    ghost invariant = { λ m. IsModel (model_of m.variables.items m.outputs.items) };
+    ghost invariant = { λ m. IsModel (model_of m.variables.items m.constraints.items m.outputs.items) };
 }
 
 impl Model {
-    /// A model of at most 1,000,000 variables. Each output item shows one of them, by its kind and number. It takes no memory.
-    pub fn new(variables: Vec<Variable>, outputs: Vec<Output>) -> Model
-        requires { IsModel (model_of variables.items outputs.items) }
-        ensures { result ≡ model_of variables.items outputs.items }
+    /// A model of at most 1,000,000 variables and as many constraints. Each constraint has the arguments that its name asks for, of
+    /// numbers within the limits and variables of the model, and each output item shows one of the variables, by its kind and
+    /// number. It takes no memory.
+    pub fn new(
+        variables: Vec<Variable>,
+        constraints: Vec<Constraint>,
+        outputs: Vec<Output>,
+    ) -> Model
+        requires { IsModel (model_of variables.items constraints.items outputs.items) }
+        ensures { result ≡ model_of variables.items constraints.items outputs.items }
     {
-        Model { variables, outputs }
+        Model {
+            variables,
+            constraints,
+            outputs,
+        }
     }
 
     /// The variables, in the order of declaration.
@@ -41,6 +53,14 @@ impl Model {
         ensures kept { IsModel self.now }
     {
         &self.variables
+    }
+
+    /// The constraints, in the order of their items.
+    pub fn constraints(&self) -> &[Constraint]
+        ensures constraints { result.now ≡ self.now.constraints }
+        ensures kept { IsModel self.now }
+    {
+        &self.constraints
     }
 
     /// The output items, in the order of declaration.
@@ -57,8 +77,13 @@ impl Model {
     {
         let alloc = *self.variables.allocator();
         let variables = copy_variables(alloc, &self.variables)?;
+        let constraints = copy_constraints(alloc, &self.constraints)?;
         let outputs = copy_outputs(alloc, &self.outputs)?;
-        Ok(Model { variables, outputs })
+        Ok(Model {
+            variables,
+            constraints,
+            outputs,
+        })
     }
 
     /// Whether all fields of the two are equal.
@@ -66,6 +91,7 @@ impl Model {
         ensures { IsTrue result ↔ (self.now ≡ other.now) }
     {
         same_variables(&self.variables, &other.variables)
+            && same_constraints(&self.constraints, &other.constraints)
             && same_outputs(&self.outputs, &other.outputs)
     }
 }
@@ -76,6 +102,19 @@ fn copy_variables(alloc: Global, variables: &[Variable]) -> Result<Vec<Variable>
     let mut copies = Vec::with_capacity(alloc, variables.len())?;
     for variable in variables {
         copies.push(variable.copy()?)?;
+    }
+    Ok(copies)
+}
+
+fn copy_constraints(
+    alloc: Global,
+    constraints: &[Constraint],
+) -> Result<Vec<Constraint>, AllocError>
+    ensures { IfOk result (λ v. v.items ≡ constraints.now) }
+{
+    let mut copies = Vec::with_capacity(alloc, constraints.len())?;
+    for constraint in constraints {
+        copies.push(constraint.copy()?)?;
     }
     Ok(copies)
 }
@@ -91,6 +130,20 @@ fn copy_outputs(alloc: Global, outputs: &[Output]) -> Result<Vec<Output>, AllocE
 }
 
 fn same_variables(these: &[Variable], those: &[Variable]) -> bool
+    ensures { IsTrue result ↔ (these.now ≡ those.now) }
+{
+    if these.len() != those.len() {
+        return false;
+    }
+    for (i, this) in these.iter().enumerate() {
+        if !this.same(&those[i]) {
+            return false;
+        }
+    }
+    true
+}
+
+fn same_constraints(these: &[Constraint], those: &[Constraint]) -> bool
     ensures { IsTrue result ↔ (these.now ≡ those.now) }
 {
     if these.len() != those.len() {

@@ -1,25 +1,43 @@
 //! What no clause says: that calls succeed where memory is ample, and that a model is shared among threads.
+ghost use Rattle.std.specs.Prelude.{◌≡◌, IfOk, pos, [], ◌∷◌};
+ghost use Rattle.fz_spec.specs.Constraints.{One, Numbers, Terms};
 
 use crate::assignment::Assignment;
+use crate::constraint::{Argument, Constraint};
 use crate::model::Model;
 use crate::output::Output;
 use crate::text::Text;
 use crate::variable::Variable;
 use fz_dom::Dom;
+use fz_spec::builtin::Builtin;
 use fz_spec::kind::Kind;
+use fz_spec::term::Term;
 use std::alloc::{AllocError, Global};
 use std::sync::Arc;
 use std::test::Fail;
 use std::thread::join;
 
-/// `var 1..3: x :: output_var; var bool: b;`
+/// `int_lin_le([2,3],[x,7],bound)`, if x is the first variable
+fn weighted(alloc: Global, bound: i32) -> Result<Constraint, AllocError>
+    ensures { IfOk result (λ c. c ≡ record { name = Builtin.IntLinLe; arguments = Numbers (pos 2 ∷ pos 3 ∷ []) ∷ Terms (Term.Var 0 ∷ Term.Num (pos 7) ∷ []) ∷ One (Term.Num bound) ∷ [] }) }
+{
+    let mut arguments = Vec::new(alloc);
+    arguments.push(Argument::Numbers(Vec::from_slice(alloc, &[2, 3])?))?;
+    arguments.push(Argument::Terms(Vec::from_slice(alloc, &[Term::Var(0), Term::Num(7)])?))?;
+    arguments.push(Argument::One(Term::Num(bound)))?;
+    Ok(Constraint::new(Builtin::IntLinLe, arguments))
+}
+
+/// `var 1..3: x :: output_var; var bool: b; constraint int_lin_le([2,3],[x,7],25);`
 fn two_variables(alloc: Global) -> Result<Model, AllocError> {
     let mut variables = Vec::new(alloc);
     variables.push(Variable::new(Kind::Int, Dom::from_ranges(alloc, &[(1, 3)])?))?;
     variables.push(Variable::new(Kind::Bool, Dom::from_ranges(alloc, &[(0, 1)])?))?;
+    let mut constraints = Vec::new(alloc);
+    constraints.push(weighted(alloc, 25)?)?;
     let mut outputs = Vec::new(alloc);
     outputs.push(Output::new(Text::new(String::from_str(alloc, "x")?), Kind::Int, 0))?;
-    Ok(Model::new(variables, outputs))
+    Ok(Model::new(variables, constraints, outputs))
 }
 
 #[test]
@@ -29,6 +47,7 @@ fn a_copy_is_the_same_model(rt: HostRuntime) -> Result<(), Fail> {
     let copy = model.copy()?;
     assert!(rt; model.same(&copy));
     assert_eq!(rt; copy.variables().len(), 2);
+    assert_eq!(rt; copy.constraints().len(), 1);
     assert_eq!(rt; copy.outputs().len(), 1);
     for output in copy.outputs() {
         let (name, kind, variable) = output.parts();
@@ -36,8 +55,23 @@ fn a_copy_is_the_same_model(rt: HostRuntime) -> Result<(), Fail> {
         assert_eq!(rt; kind, Kind::Int);
         assert_eq!(rt; variable, 0);
     }
-    let other = Model::new(Vec::new(alloc), Vec::new(alloc));
+    let other = Model::new(Vec::new(alloc), Vec::new(alloc), Vec::new(alloc));
     assert!(rt; !model.same(&other));
+    Ok(())
+}
+
+#[test]
+fn a_copy_is_the_same_constraint(rt: HostRuntime) -> Result<(), Fail> {
+    let alloc = rt.alloc();
+    let constraint = weighted(alloc, 25)?;
+    let copy = constraint.copy()?;
+    assert!(rt; constraint.same(&copy));
+    assert_eq!(rt; copy.name(), Builtin::IntLinLe);
+    assert_eq!(rt; copy.arguments().len(), 3);
+    assert!(rt; !copy.same(&weighted(alloc, 26)?));
+    let first = constraint.arguments()[0].copy()?;
+    assert!(rt; first.same(&copy.arguments()[0]));
+    assert!(rt; !first.same(&copy.arguments()[1]));
     Ok(())
 }
 

@@ -1,0 +1,133 @@
+//! Constraints.
+ghost use Rattle.std.specs.Prelude.{◌≡◌, ◌↔◌, IfOk, IsTrue, map};
+ghost use Rattle.fz_model.specs.Arguments.{argument_of};
+
+use fz_spec::builtin::Builtin;
+use fz_spec::term::Term;
+use std::alloc::{AllocError, Global};
+use std::marker::Model;
+
+/// An argument of a constraint: a term, a list of numbers, or a list of terms.
+#[derive(Drop)]
+pub enum Argument {
+    One(Term),
+    Numbers(Vec<i32>),
+    Terms(Vec<Term>),
+}
+
+impl Argument {
+    /// Another argument of the same parts.
+    pub fn copy(&self) -> Result<Argument, AllocError>
+        ensures { IfOk result (λ a. argument_of a ≡ argument_of self.now) }
+    {
+        match self {
+            Argument::One(term) => Ok(Argument::One(*term)),
+            Argument::Numbers(numbers) => {
+                let numbers = Vec::from_slice(*numbers.allocator(), numbers)?;
+                Ok(Argument::Numbers(numbers))
+            }
+            Argument::Terms(terms) => {
+                let terms = Vec::from_slice(*terms.allocator(), terms)?;
+                Ok(Argument::Terms(terms))
+            }
+        }
+    }
+
+    /// Whether the two are of one form and have the same parts.
+    pub fn same(&self, other: &Argument) -> bool
+        ensures { IsTrue result ↔ (argument_of self.now ≡ argument_of other.now) }
+    {
+        match (self, other) {
+            (Argument::One(this), Argument::One(that)) => this == that,
+            (Argument::Numbers(these), Argument::Numbers(those)) => {
+                these.as_slice() == those.as_slice()
+            }
+            (Argument::Terms(these), Argument::Terms(those)) => {
+                these.as_slice() == those.as_slice()
+            }
+            _ => false,
+        }
+    }
+}
+
+/// A constraint: its name and its arguments (MiniZinc Handbook, "FlatZinc builtins").
+#[derive(Drop)]
+pub struct Constraint {
+    name: Builtin,
+    arguments: Vec<Argument>,
+}
+
+impl Model for Constraint {
+    ghost use Rattle.std.specs.Prelude.{map};
+    ghost use Rattle.fz_spec.specs.Constraints as meaning;
+    ghost use Rattle.fz_model.specs.Arguments.{argument_of};
+
+    ghost Value = { meaning.Constraint };
+
+    ghost view = { λ c. record { name = c.name; arguments = map argument_of c.arguments.items } };
+}
+
+impl Constraint {
+    /// A constraint of this name and these arguments, whether the name asks for them or not. It takes no memory.
+    pub fn new(name: Builtin, arguments: Vec<Argument>) -> Constraint
+        ensures { result ≡ record { name = name; arguments = map argument_of arguments.items } }
+    {
+        Constraint { name, arguments }
+    }
+
+    /// Its name.
+    pub fn name(&self) -> Builtin
+        ensures { result ≡ self.now.name }
+    {
+        self.name
+    }
+
+    /// Its arguments, in order.
+    pub fn arguments(&self) -> &[Argument]
+        ensures { map argument_of result.now ≡ self.now.arguments }
+    {
+        &self.arguments
+    }
+
+    /// Another constraint of the same name and arguments.
+    pub fn copy(&self) -> Result<Constraint, AllocError>
+        ensures { IfOk result (λ c. c ≡ self.now) }
+    {
+        let arguments = copy_arguments(*self.arguments.allocator(), &self.arguments)?;
+        Ok(Constraint {
+            name: self.name,
+            arguments,
+        })
+    }
+
+    /// Whether the two have the same name and the same arguments.
+    pub fn same(&self, other: &Constraint) -> bool
+        ensures { IsTrue result ↔ (self.now ≡ other.now) }
+    {
+        self.name == other.name && same_arguments(&self.arguments, &other.arguments)
+    }
+}
+
+fn copy_arguments(alloc: Global, arguments: &[Argument]) -> Result<Vec<Argument>, AllocError>
+    ensures { IfOk result (λ v. map argument_of v.items ≡ map argument_of arguments.now) }
+{
+    let mut copies = Vec::with_capacity(alloc, arguments.len())?;
+    for argument in arguments {
+        copies.push(argument.copy()?)?;
+    }
+    Ok(copies)
+}
+
+fn same_arguments(these: &[Argument], those: &[Argument]) -> bool
+    ensures { IsTrue result ↔ (map argument_of these.now ≡ map argument_of those.now) }
+{
+    if these.len() != those.len() {
+        return false;
+    }
+    for (i, this) in these.iter().enumerate() {
+        if !this.same(&those[i]) {
+            return false;
+        }
+    }
+    true
+}
