@@ -1,0 +1,65 @@
+-- One number for each variable, and each constraint true, place by place.
+use Rattle.std.proofs.Common.{◌≡◌, ℕ, ◌+◌, ◌<◌, ◌≤◌, zero, suc, List, [], ◌∷◌, take, length, get_or, arith, sym, ap, refl, ◌∙◌, subst, add-one}
+use Rattle.std.specs.Prelude.{ℤ}
+use Rattle.std.specs.List.{AllByRecursion}
+use Rattle.fz_spec.specs.Limits.{IsInSet}
+use Rattle.fz_spec.specs.Instance.{Variable, AreDeclared}
+
+pub one_length : (vs : List Variable) (xs : List ℤ) → AreDeclared vs xs → length vs ≡ length xs
+one_length [] [] d = refl
+one_length [] (x ∷ xs) d = absurd d
+one_length (v ∷ vs) [] d = absurd d
+one_length (v ∷ vs) (x ∷ xs) d = ap suc (one_length vs xs d.1)
+
+pub declared_at : (vs : List Variable) (xs : List ℤ) (i : ℕ) (d : Variable) (e : ℤ) → i < length vs → AreDeclared vs xs → IsInSet (get_or vs i d).set (get_or xs i e)
+declared_at [] xs i d e h k = absurd (omega (arith, h))
+declared_at (v ∷ vs) [] i d e h k = absurd k
+declared_at (v ∷ vs) (x ∷ xs) zero d e h k = k.0
+declared_at (v ∷ vs) (x ∷ xs) (suc i) d e h k = declared_at vs xs i d e (omega (arith, h)) k.1
+
+declared_more : (vs : List Variable) (xs : List ℤ) (i : ℕ) (d : Variable) (e : ℤ) → i < length vs → length vs ≡ length xs → AreDeclared (take i vs) (take i xs) → IsInSet (get_or vs i d).set (get_or xs i e)
+    → AreDeclared (take (suc i) vs) (take (suc i) xs)
+declared_more [] xs i d e h l k m = absurd (omega (arith, h))
+declared_more (v ∷ vs) [] i d e h l k m = cc
+declared_more (v ∷ vs) (x ∷ xs) zero d e h l k m = (m, tt)
+declared_more (v ∷ vs) (x ∷ xs) (suc i) d e h l k m = (k.0, declared_more vs xs i d e (omega (arith, h)) (omega (arith, l)) k.1 m)
+
+pub declared_whole : (vs : List Variable) (xs : List ℤ) (i : ℕ) → length vs ≤ i → length vs ≡ length xs → AreDeclared (take i vs) (take i xs) → AreDeclared vs xs
+declared_whole [] [] i h l k = tt
+declared_whole [] (x ∷ xs) i h l k = cc
+declared_whole (v ∷ vs) [] i h l k = cc
+declared_whole (v ∷ vs) (x ∷ xs) zero h l k = absurd (omega (arith, h))
+declared_whole (v ∷ vs) (x ∷ xs) (suc i) h l k = (k.0, declared_whole vs xs i (omega (arith, h)) (omega (arith, l)) k.1)
+
+-- the same, of the parts that the code reads
+pub read_at : (vs : List Variable) (xs : List ℤ) (i : ℕ) (v : Variable) (s : List (ℤ × ℤ)) (x e : ℤ) → i < length vs → v ≡ get_or vs i v → s ≡ v.set → x ≡ get_or xs i e → AreDeclared vs xs → IsInSet s x
+read_at vs xs i v s x e h at set is k =
+    subst (λ (u : ℤ). IsInSet s u) (sym is) (subst (λ (u : List (ℤ × ℤ)). IsInSet u (get_or xs i e)) (sym (set ∙ ap (λ (u : Variable). u.set) at)) (declared_at vs xs i v e h k))
+
+pub read_more : (vs : List Variable) (xs : List ℤ) (i : ℕ) (v : Variable) (s : List (ℤ × ℤ)) (x e : ℤ) → i < length vs → length vs ≡ length xs → v ≡ get_or vs i v → s ≡ v.set → x ≡ get_or xs i e
+    → AreDeclared (take i vs) (take i xs) → IsInSet s x → AreDeclared (take (i + 1) vs) (take (i + 1) xs)
+read_more vs xs i v s x e h l at set is k m =
+    rw add-one
+    (declared_more vs xs i v e h l k (subst (λ (u : List (ℤ × ℤ)). IsInSet u (get_or xs i e)) (set ∙ ap (λ (u : Variable). u.set) at) (subst (λ (u : ℤ). IsInSet s u) is m)))
+
+all_more : {X : Type 0} (P : X → Type 0) (xs : List X) (i : ℕ) (d : X) → i < length xs → AllByRecursion P (take i xs) → P (get_or xs i d) → AllByRecursion P (take (suc i) xs)
+all_more P [] i d h k p = absurd (omega (arith, h))
+all_more P (x ∷ xs) zero d h k p = (p, tt)
+all_more P (x ∷ xs) (suc i) d h k p = (k.0, all_more P xs i d (omega (arith, h)) k.1 p)
+
+all_at : {X : Type 0} (P : X → Type 0) (xs : List X) (i : ℕ) (d : X) → i < length xs → AllByRecursion P xs → P (get_or xs i d)
+all_at P [] i d h k = absurd (omega (arith, h))
+all_at P (x ∷ xs) zero d h k = k.0
+all_at P (x ∷ xs) (suc i) d h k = all_at P xs i d (omega (arith, h)) k.1
+
+-- the same, of the element that the code reads
+pub all_read_more : {X : Type 0} (P : X → Type 0) (xs : List X) (i : ℕ) (x : X) → i < length xs → x ≡ get_or xs i x → AllByRecursion P (take i xs) → P x → AllByRecursion P (take (i + 1) xs)
+all_read_more P xs i x h at k p = rw add-one (all_more P xs i x h k (subst P at p))
+
+pub all_read : {X : Type 0} (P : X → Type 0) (xs : List X) (i : ℕ) (x : X) → i < length xs → x ≡ get_or xs i x → AllByRecursion P xs → P x
+all_read P xs i x h at k = subst P (sym at) (all_at P xs i x h k)
+
+pub all_whole : {X : Type 0} (P : X → Type 0) (xs : List X) (i : ℕ) → length xs ≤ i → AllByRecursion P (take i xs) → AllByRecursion P xs
+all_whole P [] i h k = tt
+all_whole P (x ∷ xs) zero h k = absurd (omega (arith, h))
+all_whole P (x ∷ xs) (suc i) h k = (k.0, all_whole P xs i (omega (arith, h)) k.1)
