@@ -13,14 +13,14 @@ joined [] qs (u ∷ us) vs h i = absurd h
 joined (p ∷ ps) qs [] vs h i = absurd h
 joined (p ∷ ps) qs (u ∷ us) vs h i = (h.0, joined ps qs us vs h.1 i)
 
-record Parts (ps qs : List Piece) (ts : List Token) : Type 0 where
-  front : List Token
-  back : List Token
-  are : ts ≡ front ++ back
-  first : AllFit ps front
-  second : AllFit qs back
+pub record Parts (ps qs : List Piece) (ts : List Token) : Type 0 where
+  pub front : List Token
+  pub back : List Token
+  pub are : ts ≡ front ++ back
+  pub first : AllFit ps front
+  pub second : AllFit qs back
 
-parts : (ps qs : List Piece) (ts : List Token) → AllFit (ps ++ qs) ts → Parts ps qs ts
+pub parts : (ps qs : List Piece) (ts : List Token) → AllFit (ps ++ qs) ts → Parts ps qs ts
 parts [] qs ts h = record { front = []; back = ts; are = refl; first = tt; second = h }
 parts (p ∷ ps) qs [] h = absurd h
 parts (p ∷ ps) qs (t ∷ ts) h =
@@ -56,6 +56,14 @@ first_goes_on x (t ∷ ts) new others g b = b
 pub begins_first : (x : Piece) (ps : List Piece) (ts : List Token) → AllFit (x ∷ ps) ts → Begins x ts
 begins_first x ps [] h = absurd h
 begins_first x ps (t ∷ ts) h = h.0
+
+-- the first token of what goes on as `new` behind `before`
+pub begins_along : (x : Piece) (old before new others : List Token) → old ≡ before ++ new → GoOnAs new others → Begins x (before ++ others) → Begins x old
+begins_along x old before new others are g b = subst (λ (ts : List Token). Begins x ts) (sym are) (first_goes_on x before new others g b)
+
+pub begins_more : (x : Piece) (front ts : List Token) → Begins x front → Begins x (front ++ ts)
+begins_more x [] ts h = absurd h
+begins_more x (t ∷ front) ts h = h
 
 -- the first token does not fit what must come first
 pub breaks_here : {A : Type 0} (follow : A → List Piece) (example : A) (more : List Token) (old new : List Token) → AllFit (follow example) more → new ≡ old → ((a : A) (ts : List Token) → AllFit (follow a) ts → GoOnAs old ts → ⊥) → BreaksIn follow old new

@@ -11,8 +11,13 @@ use Rattle.fz_lex.specs.Lexed.{LexedText, token_of, lexeme_of, IsPlaceOf}
 use Rattle.fz_lex.specs.declared.token.Token.{Token}
 use Rattle.fz_parse.specs.declared.tree.Annotation.{Annotation}
 use Rattle.fz_parse.specs.declared.tree.Declaration.{Declaration}
+use Rattle.fz_parse.specs.declared.tree.Basic.{Basic}
+use Rattle.fz_parse.specs.declared.tree.Basic.TheVariants.{Literal, Name}
+use Rattle.fz_parse.specs.declared.tree.Expression.{Expression}
+use Rattle.fz_parse.specs.declared.tree.Expression.TheVariants.{Scalar, Elements}
+use Rattle.fz_parse.specs.declared.tree.Constraint.{Constraint}
 use Rattle.fz_parse.specs.declared.tree.Item.{Item}
-use Rattle.fz_parse.specs.declared.tree.Item.TheVariants.{Declare}
+use Rattle.fz_parse.specs.declared.tree.Item.TheVariants.{Declare, Constrain}
 use Rattle.fz_parse.specs.declared.tree.Method.{Method}
 use Rattle.fz_parse.specs.declared.tree.Method.TheVariants.{Satisfy}
 use Rattle.fz_parse.specs.declared.fault.SyntaxFault.{SyntaxFault}
@@ -28,8 +33,20 @@ annotation_of text a = record { name = token_of text a.name }
 abbrev pub declaration_of : List ℕ → Declaration → grammar.Declaration
 declaration_of text d = record { low = token_of text d.low; high = token_of text d.high; name = token_of text d.name; annotations = map (annotation_of text) d.annotations.items }
 
+abbrev pub basic_of : List ℕ → Basic → grammar.Basic
+basic_of text (Literal leaf) = grammar.Literal (token_of text leaf)
+basic_of text (Name leaf) = grammar.Name (token_of text leaf)
+
+abbrev pub expression_of : List ℕ → Expression → grammar.Expression
+expression_of text (Scalar basic) = grammar.Scalar (basic_of text basic)
+expression_of text (Elements bracket elements) = grammar.Elements (token_of text bracket) (map (basic_of text) elements.items)
+
+abbrev pub constraint_of : List ℕ → Constraint → grammar.Constraint
+constraint_of text c = record { name = token_of text c.name; arguments = map (expression_of text) c.arguments.items; annotations = map (annotation_of text) c.annotations.items }
+
 abbrev pub item_of : List ℕ → Item → grammar.Item
 item_of text (Declare d) = grammar.Declare (declaration_of text d)
+item_of text (Constrain c) = grammar.Constrain (constraint_of text c)
 
 abbrev pub method_of : Method → grammar.Method
 method_of Satisfy = grammar.Satisfy
@@ -54,8 +71,22 @@ pub record HasLeaves (text : List ℕ) (d : Declaration) : Type 0 where
   pub name : IsLeaf text d.name
   pub annotations : AllByRecursion (AnnotationHasLeaf text) d.annotations.items
 
+abbrev pub BasicHasLeaf : List ℕ → Basic → Type 0
+BasicHasLeaf text (Literal leaf) = IsLeaf text leaf
+BasicHasLeaf text (Name leaf) = IsLeaf text leaf
+
+abbrev pub ExpressionHasLeaves : List ℕ → Expression → Type 0
+ExpressionHasLeaves text (Scalar basic) = BasicHasLeaf text basic
+ExpressionHasLeaves text (Elements bracket elements) = IsLeaf text bracket × AllByRecursion (BasicHasLeaf text) elements.items
+
+pub record ConstraintHasLeaves (text : List ℕ) (c : Constraint) : Type 0 where
+  pub name : IsLeaf text c.name
+  pub arguments : AllByRecursion (ExpressionHasLeaves text) c.arguments.items
+  pub annotations : AllByRecursion (AnnotationHasLeaf text) c.annotations.items
+
 abbrev pub ItemHasLeaves : List ℕ → Item → Type 0
 ItemHasLeaves text (Declare d) = HasLeaves text d
+ItemHasLeaves text (Constrain c) = ConstraintHasLeaves text c
 
 -- the text's tokens spell these items, whose leaves are tokens of the text
 pub record IsParsed (text : List ℕ) (items : List Item) (method : Method) : Type 0 where

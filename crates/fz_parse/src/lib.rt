@@ -4,7 +4,9 @@
 //! There is a type for each rule of the grammar, with a field for each part of the rule. A leaf is a token, which keeps its place.
 #![tactic(auto)]
 
+mod constraint;
 mod declaration;
+mod expression;
 pub mod fault;
 pub mod items;
 mod keywords;
@@ -17,4 +19,4 @@ pub mod tree;
 pub use fault::SyntaxFault;
 pub use items::Items;
 pub use parser::parse;
-pub use tree::{Annotation, Declaration, Item, Method};
+pub use tree::{Annotation, Basic, Constraint, Declaration, Expression, Item, Method};

@@ -1,11 +1,12 @@
 //! The reading of items.
-ghost use Rattle.std.specs.Prelude.{◌≡◌, ◌≤◌, IfOk, MatchOption, MatchResult, length, []};
+ghost use Rattle.std.specs.Prelude.{◌≡◌, ◌↔◌, ◌<◌, ◌≤◌, IsTrue, IfOk, MatchOption, MatchResult, length, []};
 ghost use Rattle.fz_spec.specs.Reads.{IsProgramText, place_of};
-ghost use Rattle.fz_spec.specs.Grammar.{solve_pieces};
+ghost use Rattle.fz_spec.specs.Grammar.{solve_pieces, program_pieces};
 ghost use Rattle.fz_lex.specs.Lexed.{IsPlaceOf};
 ghost use Rattle.fz_parse.specs.Parsed.{HasSyntaxFault, method_of};
-ghost use Rattle.fz_parse.specs.Steps.{rest, BreaksIn, Spans};
+ghost use Rattle.fz_parse.specs.Steps.{rest, BreaksIn, Spans, BeginsItem, IsItem};
 
+use crate::constraint::constraint;
 use crate::declaration::declaration;
 use crate::fault::SyntaxFault;
 use crate::items::Items;
@@ -27,16 +28,47 @@ pub fn parse<'a>(
 {
     let mut items = Vec::new(alloc);
     let mut next = 0;
-    'items: while is_word(tokens, next, b"var") {
-        next += 1;
-        match declaration(alloc, tokens, &mut next)? {
-            Some(declaration) => items.push(Item::Declare(declaration))?,
+    'items: while begins_item(tokens, next) {
+        match item(alloc, tokens, &mut next)? {
+            Some(item) => items.push(item)?,
             None => return Ok(Err(fault_at(tokens, next))),
         }
     }
     match solve(tokens, &mut next) {
         Some(method) => Ok(Ok(Items::new(tokens.text(), items, method))),
         None => Ok(Err(fault_at(tokens, next))),
+    }
+}
+
+/// Whether an item before the solve item begins with the token of this number.
+fn begins_item(tokens: &Tokens, index: usize) -> bool
+    ensures found { IsTrue result ↔ BeginsItem (rest tokens.now index) }
+    ensures within { IsTrue result → index < length tokens.now.tokens }
+{
+    is_word(tokens, index, b"var") || is_word(tokens, index, b"constraint")
+}
+
+/// Takes an item before the solve item, which begins here. Without it the next token is the first that does not fit.
+fn item(alloc: Global, tokens: &Tokens, next: &mut usize) -> Result<Option<Item>, AllocError>
+    requires within { next.old < length tokens.now.tokens }
+    requires begins { BeginsItem (rest tokens.now next.old) }
+    ensures taken { IfOk result (λ found. MatchOption found
+        (BreaksIn program_pieces (rest tokens.now next.old) (rest tokens.now next.new))
+        (IsItem tokens.now next.old next.new)) }
+    ensures forward { next.old < next.new }
+    ensures within { next.new ≤ length tokens.now.tokens }
+{
+    let declares = is_word(tokens, *next, b"var");
+    *next += 1;
+    if declares {
+        return match declaration(alloc, tokens, next)? {
+            Some(declaration) => Ok(Some(Item::Declare(declaration))),
+            None => Ok(None),
+        };
+    }
+    match constraint(alloc, tokens, next)? {
+        Some(constraint) => Ok(Some(Item::Constrain(constraint))),
+        None => Ok(None),
     }
 }
 

@@ -1,7 +1,7 @@
 //! The reading of one token.
 ghost use Rattle.std.specs.Prelude.{◌≡◌, ◌↔◌, ◌<◌, ◌≤◌, ◌+◌, IsTrue, MatchOption, length, []};
 ghost use Rattle.fz_spec.specs.Tokens.{Word, Punct};
-ghost use Rattle.fz_spec.specs.Grammar.{Exactly, Identifier, Integer};
+ghost use Rattle.fz_spec.specs.Grammar.{Exactly, Identifier, Integer, Marked};
 ghost use Rattle.fz_parse.specs.Steps.{Begins, Takes, Misses, MissesEach, rest, IsLeafAt, TakesLeaf};
 
 use crate::keywords::is_keyword;
@@ -108,4 +108,20 @@ pub(crate) fn identifier(tokens: &Tokens, next: &mut usize) -> Option<Token>
         }
         _ => None,
     }
+}
+
+/// Takes the next token if it is this sign, for its place.
+pub(crate) fn mark(tokens: &Tokens, next: &mut usize, sign: Sign) -> Option<Token>
+    requires { next.old ≤ length tokens.now.tokens }
+    ensures taken { MatchOption result (MissesEach (Marked sign) (rest tokens.now next.old) (rest tokens.now next.new))
+        (TakesLeaf (Marked sign) tokens.now next.old next.new) }
+    ensures forward { next.old ≤ next.new }
+    ensures within { next.new ≤ length tokens.now.tokens }
+{
+    let token = token_at(tokens, *next)?;
+    if token.kind != TokenKind::Sign(sign) {
+        return None;
+    }
+    *next += 1;
+    Some(token)
 }

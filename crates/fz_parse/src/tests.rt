@@ -1,6 +1,6 @@
 //! What no clause says: that calls succeed where memory is ample, and that the grammar is the one meant.
 
-use crate::{Item, Method, parse};
+use crate::{Expression, Item, Method, parse};
 use fz_lex::{TokenKind, tokens};
 use fz_spec::code::Code;
 use std::alloc::{AllocError, Global};
@@ -24,13 +24,43 @@ fn a_declaration_has_its_ends_its_name_and_its_annotation(rt: HostRuntime) -> Re
     assert_eq!(rt; items.method(), Method::Satisfy);
     assert_eq!(rt; items.items().len(), 1);
     for item in items.items() {
-        let Item::Declare(declaration) = item;
-        assert_eq!(rt; declaration.low.kind, TokenKind::Number(1));
-        assert_eq!(rt; declaration.high.kind, TokenKind::Number(3));
-        assert_eq!(rt; items.bytes(declaration.name), b"x".as_slice());
-        assert_eq!(rt; declaration.annotations.len(), 1);
-        for annotation in &declaration.annotations {
-            assert_eq!(rt; items.bytes(annotation.name), b"output_var".as_slice());
+        assert!(rt; matches!(item, Item::Declare(_)));
+        if let Item::Declare(declaration) = item {
+            assert_eq!(rt; declaration.low.kind, TokenKind::Number(1));
+            assert_eq!(rt; declaration.high.kind, TokenKind::Number(3));
+            assert_eq!(rt; items.bytes(declaration.name), b"x".as_slice());
+            assert_eq!(rt; declaration.annotations.len(), 1);
+            for annotation in &declaration.annotations {
+                assert_eq!(rt; items.bytes(annotation.name), b"output_var".as_slice());
+            }
+        }
+    }
+    Ok(())
+}
+
+/// How many elements a list literal has, or none for another expression.
+fn element_count(expression: &Expression) -> Option<usize> {
+    match expression {
+        Expression::Scalar(_) => None,
+        Expression::Elements { elements, .. } => Some(elements.len()),
+    }
+}
+
+#[test]
+fn a_constraint_has_its_name_its_arguments_and_its_annotation(rt: HostRuntime) -> Result<(), Fail> {
+    let text = b"constraint int_lin_le([1,-2],[x,3],4) :: domain; solve satisfy;";
+    let lexed = tokens(rt.alloc(), text)??;
+    let items = parse(rt.alloc(), &lexed)??;
+    assert_eq!(rt; items.items().len(), 1);
+    for item in items.items() {
+        assert!(rt; matches!(item, Item::Constrain(_)));
+        if let Item::Constrain(constraint) = item {
+            assert_eq!(rt; items.bytes(constraint.name), b"int_lin_le".as_slice());
+            assert_eq!(rt; constraint.arguments.len(), 3);
+            for (argument, count) in constraint.arguments.iter().zip([Some(2), Some(2), None]) {
+                assert_eq!(rt; element_count(argument), count);
+            }
+            assert_eq!(rt; constraint.annotations.len(), 1);
         }
     }
     Ok(())
@@ -53,7 +83,13 @@ fn a_fault_stands_at_the_first_token_that_does_not_fit(rt: HostRuntime) -> Resul
         ("var 1..2: x solve satisfy;", 13),
         ("solve satisfy; var 1..2: x;", 16),
         ("var float: f; solve satisfy;", 5),
-        ("constraint int_ne(x,1); solve satisfy;", 1),
+        ("constraint int_ne(x,1 solve satisfy;", 23),
+        ("constraint int_ne(x,); solve satisfy;", 21),
+        ("constraint (x); solve satisfy;", 12),
+        ("constraint int_ne x; solve satisfy;", 19),
+        ("constraint f([1,[2]]); solve satisfy;", 17),
+        ("constraint f(1) solve satisfy;", 17),
+        ("constraint f(var); solve satisfy;", 14),
         ("var 1..2: var; solve satisfy;", 11),
         ("var 1..2: x :: 3; solve satisfy;", 16),
         ("solve :: a satisfy;", 7),

@@ -16,10 +16,36 @@ pub struct Declaration {
     pub annotations: Vec<Annotation>,
 }
 
+/// An integer or an identifier.
+#[derive(Clone, Copy, Debug)]
+pub enum Basic {
+    Literal(Token),
+    Name(Token),
+}
+
+/// An argument of a constraint: a basic expression, or `[basic, basic, ..]` with its opening bracket.
+#[derive(Drop)]
+pub enum Expression {
+    Scalar(Basic),
+    Elements {
+        bracket: Token,
+        elements: Vec<Basic>,
+    },
+}
+
+/// `constraint name(argument, argument, ..) :: annotation :: ..;`
+#[derive(Drop)]
+pub struct Constraint {
+    pub name: Token,
+    pub arguments: Vec<Expression>,
+    pub annotations: Vec<Annotation>,
+}
+
 /// An item before the solve item.
 #[derive(Drop)]
 pub enum Item {
     Declare(Declaration),
+    Constrain(Constraint),
 }
 
 /// What the solve item asks for.

@@ -3,7 +3,7 @@ use Rattle.fz_spec.specs.declared.sign.Sign.TheVariants.{DoubleColon}
 use Rattle.fz_spec.specs.Grammar.{sign, annotation_pieces}
 use Rattle.fz_parse.proofs.Faults.{spans_both, spans_one, spans_next}
 use Rattle.fz_parse.proofs.Leaves.{takes_next}
-use Rattle.fz_parse.proofs.Programs.{behind_annotations, annotation_breaks, annotations_end_breaks}
+use Rattle.fz_parse.proofs.Declarations.{behind_annotations, annotation_breaks, annotations_end_breaks}
 use Rattle.fz_parse.proofs.Trees.{more_leaves, more_spans, not_both}
 use Rattle.fz_parse.proofs.declaration.annotations.Goals as goal
 

@@ -1,5 +1,5 @@
 use Rattle.fz_parse.proofs.Faults.{spans_both}
-use Rattle.fz_parse.proofs.Programs.{behind_header}
+use Rattle.fz_parse.proofs.Declarations.{behind_header}
 use Rattle.fz_parse.proofs.declaration.declaration.Goals as goal
 
 pub returns-in-Some-2-clause-taken : goal.returns-in-Some-2-clause-taken

@@ -1,5 +1,5 @@
 use Rattle.fz_parse.proofs.Faults.{spans_next, spans_one}
-use Rattle.fz_parse.proofs.Programs.{low_breaks, dots_breaks, high_breaks, colon_breaks, name_breaks, behind_low, behind_dots, behind_high, behind_colon}
+use Rattle.fz_parse.proofs.Declarations.{low_breaks, dots_breaks, high_breaks, colon_breaks, name_breaks, behind_low, behind_dots, behind_high, behind_colon}
 use Rattle.fz_parse.proofs.declaration.header.Goals as goal
 
 pub returns-in_err-low-clause-taken : goal.returns-in_err-low-clause-taken

@@ -1,27 +1,21 @@
-use Rattle.std.proofs.Common.{codes}
-use Rattle.fz_spec.specs.Grammar.{word, item_pieces}
-use Rattle.fz_parse.proofs.Faults.{spans_next}
-use Rattle.fz_parse.proofs.Leaves.{takes_next}
-use Rattle.fz_parse.proofs.Programs.{behind_items, declaration_breaks, solve_breaks}
+use Rattle.fz_spec.specs.Grammar.{item_pieces}
+use Rattle.fz_parse.proofs.Programs.{behind_items, solve_breaks}
 use Rattle.fz_parse.proofs.Trees.{more_leaves, more_spans, not_both, fault_is, parsed_is}
 use Rattle.fz_parse.proofs.parser.parse.Goals as goal
 
 pub items-preserved : goal.items-preserved
 items-preserved c =
-    let d = rw c.in-Some.is at c.in_ok-declaration.ensures.taken in
+    let i = rw c.in-Some.is at c.in_ok-item.ensures.taken in
     record {
-      within = c.declaration.ensures.within;
-      leaves = more_leaves _ _ _ _ c.in_ok-push-in-Some.ensures.items c.items.invariant.leaves d.leaves;
-      spans =
-          more_spans item_pieces _ _ _ _ _ _ _ c.in_ok-push-in-Some.ensures.items c.items.invariant.spans
-          (spans_next _ _ _ _ _ (takes_next c.args.tokens.now c.items.next (word (codes "var")) (c.is_word.ensures.found.0 c.items-test.true)) d.spans);
+      within = c.item.ensures.within;
+      leaves = more_leaves _ _ _ _ c.in_ok-push-in-Some.ensures.items c.items.invariant.leaves i.leaves;
+      spans = more_spans item_pieces _ _ _ _ _ _ _ c.in_ok-push-in-Some.ensures.items c.items.invariant.spans i.spans;
     }
 
 pub returns-in-None : goal.returns-in-None
 returns-in-None c =
     fault_is _ _ _
-    (behind_items _ _ _ _ c.items.invariant.spans
-    (declaration_breaks _ _ _ (takes_next c.args.tokens.now c.items.next (word (codes "var")) (c.is_word.ensures.found.0 c.items-test.true)) (rw c.in-None.is at c.in_ok-declaration.ensures.taken)))
+    (behind_items _ _ _ _ c.items.invariant.spans (rw c.in-None.is at c.in_ok-item.ensures.taken))
     c.fault_at.ensures.code
     c.fault_at.ensures.placed
 
@@ -33,6 +27,6 @@ pub returns : goal.returns
 returns c =
     fault_is _ _ _
     (behind_items _ _ _ _ c.items.invariant.spans
-    (solve_breaks _ _ (λ b. not_both _ (c.is_word.ensures.found.1 b) c.items-test.false) c.in-None-solve.ensures.taken))
+    (solve_breaks _ _ (λ b. not_both _ (c.begins_item.ensures.found.1 b) c.items-test.false) c.in-None-solve.ensures.taken))
     c.fault_at-in-None-solve.ensures.code
     c.fault_at-in-None-solve.ensures.placed
