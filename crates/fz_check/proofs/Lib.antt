@@ -1,4 +1,15 @@
 pub mod Annotations
+pub mod Arguments
+pub mod Breaks
+pub mod Calls
 pub mod Done
+pub mod Elements
+pub mod Faults
+pub mod Firsts
+pub mod Fits
+pub mod Grown
+pub mod Known
+pub mod Lookups
+pub mod Rows
 pub mod Turn
 pub mod Words

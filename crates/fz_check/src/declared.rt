@@ -3,12 +3,11 @@ ghost use Rattle.std.specs.Prelude.{◌≡◌, IfOk, map};
 ghost use Rattle.std.specs.List.{AllByRecursion, list_any};
 ghost use Rattle.fz_spec.specs.declared.kind.Kind.TheVariants.{Int};
 ghost use Rattle.fz_spec.specs.Instance.{Scalar};
-ghost use Rattle.fz_spec.specs.Reads.{is_output, name_of, variable_of};
-ghost use Rattle.fz_spec.specs.Grammar.{Declare};
+ghost use Rattle.fz_spec.specs.Reads.{is_output, name_of};
 ghost use Rattle.fz_lex.specs.Lexed.{token_of};
 ghost use Rattle.fz_model.specs.Kept.{IsVariable};
-ghost use Rattle.fz_parse.specs.declared.tree.Item.TheVariants as tree;
 ghost use Rattle.fz_parse.specs.Parsed.{AnnotationHasLeaf, annotation_of, declaration_of, HasLeaves, IsLeaf};
+ghost use Rattle.fz_check.specs.Draft.{variable_of};
 
 use crate::leaf::{name, value};
 use fz_dom::Dom;
@@ -16,17 +15,9 @@ use fz_lex::Token;
 use fz_model::output::Output;
 use fz_model::text::Text;
 use fz_model::variable::Variable;
-use fz_parse::{Annotation, Declaration, Item, Items};
+use fz_parse::{Annotation, Declaration, Items};
 use fz_spec::kind::Kind;
 use std::alloc::{AllocError, Global};
-
-/// The declaration that an item is.
-pub(crate) fn declaration(item: &Item) -> &Declaration
-    ensures { item.now ≡ tree.Declare result.now }
-{
-    let Item::Declare(declaration) = item;
-    declaration
-}
 
 /// The variable that is declared: its set is the numbers from `low` up to `high`, none where `low` is above `high`.
 pub(crate) fn variable(
@@ -35,7 +26,7 @@ pub(crate) fn variable(
     declaration: &Declaration,
 ) -> Result<Variable, AllocError>
     requires { HasLeaves items.now.text declaration.now }
-    ensures variable { IfOk result (λ v. v ≡ variable_of (Declare (declaration_of items.now.text declaration.now))) }
+    ensures variable { IfOk result (λ v. v ≡ variable_of (declaration_of items.now.text declaration.now)) }
     ensures kept { IfOk result IsVariable }
 {
     let low = value(declaration.low);
