@@ -1,5 +1,5 @@
 //! All satisfying assignments of a model, found by going through the declared ones in order, the last variable fastest.
-//! Each declared assignment is looked at once, in a time that is linear in the number of variables.
+//! Each declared assignment is looked at once, in a time that is linear in the numbers of variables and of constraint arguments.
 #![tactic(auto)]
 
 pub mod enumerate;

@@ -1,13 +1,17 @@
 //! The list of each model, in its order, worked out by hand.
-ghost use Rattle.std.specs.Prelude.{IfOk};
+ghost use Rattle.std.specs.Prelude.{◌≡◌, IfOk, [], ◌∷◌};
+ghost use Rattle.fz_spec.specs.Constraints.{One};
 ghost use Rattle.fz_spec.specs.Limits.{AreWithinLimits};
-ghost use Rattle.fz_model.specs.Kept.{IsVariable};
+ghost use Rattle.fz_model.specs.Kept.{IsVariable, IsConstraint};
 
 use crate::all_solutions;
 use fz_dom::Dom;
+use fz_model::constraint::{Argument, Constraint};
 use fz_model::model::Model;
 use fz_model::variable::Variable;
+use fz_spec::builtin::Builtin;
 use fz_spec::kind::Kind;
+use fz_spec::term::Term;
 use std::alloc::{AllocError, Global};
 use std::test::Fail;
 
@@ -30,7 +34,7 @@ fn model_of_one(alloc: Global, only: Variable) -> Result<Model, AllocError>
 {
     let mut variables = Vec::new(alloc);
     variables.push(only)?;
-    Ok(Model::new(variables, Vec::new(alloc)))
+    Ok(Model::new(variables, Vec::new(alloc), Vec::new(alloc)))
 }
 
 fn model_of_two(alloc: Global, first: Variable, second: Variable) -> Result<Model, AllocError>
@@ -40,7 +44,28 @@ fn model_of_two(alloc: Global, first: Variable, second: Variable) -> Result<Mode
     let mut variables = Vec::new(alloc);
     variables.push(first)?;
     variables.push(second)?;
-    Ok(Model::new(variables, Vec::new(alloc)))
+    Ok(Model::new(variables, Vec::new(alloc), Vec::new(alloc)))
+}
+
+fn int_ne(alloc: Global, this: Term, that: Term) -> Result<Constraint, AllocError>
+    ensures { IfOk result (λ c. c ≡ record { name = Builtin.IntNe; arguments = One this ∷ One that ∷ [] }) }
+{
+    let mut arguments = Vec::new(alloc);
+    arguments.push(Argument::One(this))?;
+    arguments.push(Argument::One(that))?;
+    Ok(Constraint::new(Builtin::IntNe, arguments))
+}
+
+/// `var 1..2: x; var 1..2: y;` and a constraint
+fn constrained(alloc: Global, constraint: Constraint) -> Result<Model, AllocError>
+    requires { IsConstraint 2 constraint }
+{
+    let mut variables = Vec::new(alloc);
+    variables.push(integer(alloc, &[(1, 2)])?)?;
+    variables.push(integer(alloc, &[(1, 2)])?)?;
+    let mut constraints = Vec::new(alloc);
+    constraints.push(constraint)?;
+    Ok(Model::new(variables, constraints, Vec::new(alloc)))
 }
 
 /// How many assignments are listed, and their numbers, one assignment after the other.
@@ -73,7 +98,11 @@ fn a_boolean_takes_zero_and_one(rt: HostRuntime) -> Result<(), Fail> {
 
 #[test]
 fn no_variable_has_one_empty_assignment(rt: HostRuntime) -> Result<(), Fail> {
-    let model = Model::new(Vec::new(rt.alloc()), Vec::new(rt.alloc()));
+    let model = Model::new(
+        Vec::new(rt.alloc()),
+        Vec::new(rt.alloc()),
+        Vec::new(rt.alloc()),
+    );
     let (count, numbers) = listed(rt.alloc(), &model)?;
     assert_eq!(rt; count, 1);
     assert!(rt; numbers.is_empty());
@@ -110,5 +139,25 @@ fn a_hole_is_left_out(rt: HostRuntime) -> Result<(), Fail> {
     let (count, numbers) = listed(rt.alloc(), &model)?;
     assert_eq!(rt; count, 4);
     assert!(rt; numbers.as_slice() == [1, -1, 1, 0, 3, -1, 3, 0].as_slice());
+    Ok(())
+}
+
+#[test]
+fn what_a_constraint_refuses_is_left_out(rt: HostRuntime) -> Result<(), Fail> {
+    let alloc = rt.alloc();
+    let model = constrained(alloc, int_ne(alloc, Term::Var(0), Term::Var(1))?)?;
+    let (count, numbers) = listed(alloc, &model)?;
+    assert_eq!(rt; count, 2);
+    assert!(rt; numbers.as_slice() == [1, 2, 2, 1].as_slice());
+    Ok(())
+}
+
+#[test]
+fn where_nothing_satisfies_nothing_is_listed(rt: HostRuntime) -> Result<(), Fail> {
+    let alloc = rt.alloc();
+    let model = constrained(alloc, int_ne(alloc, Term::Var(0), Term::Var(0))?)?;
+    let (count, numbers) = listed(alloc, &model)?;
+    assert_eq!(rt; count, 0);
+    assert!(rt; numbers.is_empty());
     Ok(())
 }
