@@ -22,7 +22,7 @@ fn a_block_has_a_line_for_each_output_item(rt: HostRuntime) -> Result<(), Fail> 
     let mut outputs = Vec::new(alloc);
     outputs.push(Output::new(Text::new(String::from_str(alloc, "b")?), Kind::Bool, 1))?;
     outputs.push(Output::new(Text::new(String::from_str(alloc, "x")?), Kind::Int, 0))?;
-    let model = Model::new(variables, outputs);
+    let model = Model::new(variables, Vec::new(alloc), outputs);
     let text = block(alloc, &model, &Assignment::new(alloc, &[-7, 1])?)?;
     assert_eq!(rt;
         text.as_slice(),
