@@ -2,7 +2,7 @@
 use Rattle.std.proofs.Common.{◌≡◌, ◌∙◌, ◌≢◌, ℕ, ◌+◌, List, [], ◌++◌, Option, None, Some, IfSome, ap, sym, refl, subst, inl, inr, append_assoc, append-nil, arith, codes, decimal, ◌⊎◌, unwrap_or, take}
 use Rattle.std.specs.Fmt.{digits}
 use Rattle.fz_spec.specs.declared.code.Code.{Code}
-use Rattle.fz_spec.specs.declared.code.Code.TheVariants.{E01, E02, E03, E04, E11}
+use Rattle.fz_spec.specs.declared.code.Code.TheVariants.{E01, E02, E03, E04, E05, E06, E07, E08, E10, E11}
 use Rattle.fz_spec.specs.Codes.{code_number, code_text}
 use Rattle.fz_spec.specs.Instance.{Instance}
 use Rattle.fz_spec.specs.Reads.{Reads, Reading, TEXT_LIMIT}
@@ -29,6 +29,11 @@ code_digits_is E01 = refl
 code_digits_is E02 = refl
 code_digits_is E03 = refl
 code_digits_is E04 = refl
+code_digits_is E05 = refl
+code_digits_is E06 = refl
+code_digits_is E07 = refl
+code_digits_is E08 = refl
+code_digits_is E10 = refl
 code_digits_is E11 = refl
 
 text_is : (r : Refusal) (c : Code) → r.code ≡ code_number c → text_of r ≡ refusal_text c r.line r.column

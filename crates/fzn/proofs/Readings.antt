@@ -4,7 +4,7 @@ use Rattle.std.proofs.lemmas.Bool.{cases_lt}
 use Rattle.std.proofs.lemmas.List.{take_all}
 use Rattle.std.proofs.Math.Nat.{suc-add}
 use Rattle.fz_spec.specs.declared.code.Code.{Code}
-use Rattle.fz_spec.specs.declared.code.Code.TheVariants.{E01, E02, E03, E04, E11}
+use Rattle.fz_spec.specs.declared.code.Code.TheVariants.{E01, E02, E03, E04, E05, E06, E07, E08, E10, E11}
 use Rattle.fz_spec.specs.Places.{line_of, column_of, is_line_end, is_in_line}
 use Rattle.fz_spec.specs.Reads.{TEXT_LIMIT, IsShort, Reads, Reading, Accepted, Refused, IsRefused, IsRefusedAt}
 
@@ -27,6 +27,11 @@ refused_front text E01 line column at long h l c = absurd (front_is_long text lo
 refused_front text E02 line column at long h l c = absurd (front_is_long text long h.0)
 refused_front text E03 line column at long h l c = absurd (front_is_long text long h.short)
 refused_front text E04 line column at long h l c = absurd (front_is_long text long h.1.short)
+refused_front text E05 line column at long h l c = absurd (front_is_long text long h.1.short)
+refused_front text E06 line column at long h l c = absurd (front_is_long text long h.1.short)
+refused_front text E07 line column at long h l c = absurd (front_is_long text long h.1.short)
+refused_front text E08 line column at long h l c = absurd (front_is_long text long h.1.short)
+refused_front text E10 line column at long h l c = absurd (front_is_long text long h.1.short)
 refused_front text E11 line column at long h l c = elim h [
   | inl over ↦ record {
     at = TEXT_LIMIT;
