@@ -1,5 +1,5 @@
 //! Printing, a piece at a time.
-ghost use Rattle.std.specs.Prelude.{◌≡◌, ◌<◌, ◌^◌, ◌-◌, ◌++◌, OnOk, OnErr, IfErr, MatchResult};
+ghost use Rattle.std.specs.Prelude.{◌≡◌, ◌≢◌, ◌<◌, ◌^◌, ◌-◌, ◌++◌, OnOk, OnErr, IfErr, MatchResult};
 ghost use Rattle.std.specs.List.{AllByRecursion};
 ghost use Rattle.fz_spec.specs.Instance.{AreDeclared};
 ghost use Rattle.fz_spec.specs.Run.{block, blocks, closing};
@@ -116,6 +116,7 @@ fn put<S: Sink>(sink: &mut S, piece: &[u8]) -> Result<(), Stop>
     ensures taken { OnOk result (S.taken sink.new ≡ with_more (S.taken sink.old) piece.now) }
     ensures front { OnErr result (TakesFront piece.now (S.taken sink.old) (S.taken sink.new)) }
     ensures cause { HasStopCause (S.faults sink.old) (S.faults sink.new) result }
+    ensures no_memory { result ≢ Err Stop.Memory }
 {
     match put_all(sink, piece) {
         Ok(()) => Ok(()),
