@@ -4,7 +4,7 @@ use Rattle.std.specs.List.{list_any}
 use Rattle.std.proofs.lemmas.Bool.Decides.{same_from_decides}
 use Rattle.std.proofs.lemmas.List.Folds.{list_any_at, list_any_more}
 use Rattle.std.proofs.lemmas.Slice.Eq.{bytes_eq-Decides}
-use Rattle.fz_spec.specs.Reads.{is_output, name_of}
+use Rattle.fz_language.specs.Reads.{is_output, name_of}
 use Rattle.fz_lex.specs.Lexed.{token_of}
 use Rattle.fz_parse.specs.Parsed.{annotation_of}
 use Rattle.fz_parse.specs.declared.tree.Annotation.{Annotation}

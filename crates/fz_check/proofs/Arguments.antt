@@ -1,8 +1,8 @@
 -- The arguments of a constraint, from one to the next.
 use Rattle.std.proofs.Common.{◌≡◌, ℕ, ◌+◌, ◌<◌, List, [], ◌∷◌, ◌++◌, length, map, take, get_or, length-take, refl, sym, ap, ◌∙◌, arith}
 use Rattle.std.proofs.lemmas.List.{length-map, map-append, map_more}
-use Rattle.fz_spec.specs.Grammar as grammar
-use Rattle.fz_spec.specs.Reads.{argument_of, arguments_of}
+use Rattle.fz_language.specs.Grammar as grammar
+use Rattle.fz_language.specs.Reads.{argument_of, arguments_of}
 use Rattle.fz_spec.specs.Signatures as language
 use Rattle.fz_model.specs.Arguments as kept
 use Rattle.fz_model.specs.declared.constraint.Argument.{Argument}

@@ -6,10 +6,11 @@ use Rattle.std.proofs.lemmas.Option.{none-some, same_Some, slice_get_within}
 use Rattle.fz_spec.specs.declared.builtin.Builtin.{Builtin}
 use Rattle.fz_spec.specs.declared.code.Code.{Code}
 use Rattle.fz_spec.specs.declared.code.Code.TheVariants.{E01, E02, E03, E04, E05, E06, E07, E08, E10, E11}
-use Rattle.fz_spec.specs.Grammar.{Item, Declare, Constrain, Declaration, Constraint}
-use Rattle.fz_spec.specs.Reads.{VARIABLE_LIMIT, CONSTRAINT_LIMIT, ELEMENT_LIMIT, BreaksNone, BreaksRule, ConstraintBreaks, IsFirstBroken, ComesFirst, IsCall, IsOverLimit, HasUnequalLists, all_wrong_leaves, constraint_count, declared_names, element_count, elements_in, is_declared, is_unknown, name_of, names_in}
+use Rattle.fz_language.specs.Grammar.{Item, Declare, Constrain, Declaration, Constraint}
+use Rattle.fz_language.specs.Reads.{BreaksNone, BreaksRule, ConstraintBreaks, IsFirstBroken, ComesFirst, IsCall, IsOverLimit, HasUnequalLists, all_wrong_leaves, constraint_count, declared_names, element_count, elements_in, is_declared, is_unknown, name_of, names_in}
+use Rattle.fz_spec.specs.declared.limits.TheConstants.{VARIABLE_LIMIT, CONSTRAINT_LIMIT, ELEMENT_LIMIT}
 use Rattle.fz_spec.specs.Signatures.{signature, builtin_of}
-use Rattle.fz_spec.specs.Tokens.{Token}
+use Rattle.fz_language.specs.Tokens.{Token}
 use Rattle.fz_check.specs.Draft.{KeepsRules}
 
 -- declarations

@@ -4,8 +4,9 @@ use Rattle.std.specs.Prelude.{slice_get}
 use Rattle.std.proofs.lemmas.List.{length-map}
 use Rattle.fz_spec.specs.declared.builtin.Builtin.{Builtin}
 use Rattle.fz_spec.specs.declared.code.Code.TheVariants.{E05, E06, E10, E11}
-use Rattle.fz_spec.specs.Grammar.{Item, Constrain}
-use Rattle.fz_spec.specs.Reads.{CONSTRAINT_LIMIT, IsCall, HasUnequalLists, all_wrong_leaves, is_unknown, name_of, names_in}
+use Rattle.fz_language.specs.Grammar.{Item, Constrain}
+use Rattle.fz_language.specs.Reads.{IsCall, HasUnequalLists, all_wrong_leaves, is_unknown, name_of, names_in}
+use Rattle.fz_spec.specs.declared.limits.TheConstants.{CONSTRAINT_LIMIT}
 use Rattle.fz_spec.specs.Signatures.{signature, builtin_of}
 use Rattle.fz_lex.specs.Lexed.{token_of}
 use Rattle.fz_lex.specs.declared.token.Token.{Token}

@@ -6,10 +6,11 @@ use Rattle.std.proofs.lemmas.List.{append_assoc, append-nil, length-map}
 use Rattle.std.proofs.lemmas.Grind.{flat_map-append}
 use Rattle.fz_spec.specs.declared.builtin.Builtin.{Builtin}
 use Rattle.fz_spec.specs.declared.kind.Kind.TheVariants.{Int}
-use Rattle.fz_spec.specs.Grammar.{Item, Declare, Constrain, Declaration, Expression}
+use Rattle.fz_language.specs.Grammar.{Item, Declare, Constrain, Declaration, Expression}
 use Rattle.fz_spec.specs.Instance.{Variable, Output, Scalar}
 use Rattle.fz_spec.specs.Constraints as meaning
-use Rattle.fz_spec.specs.Reads.{VARIABLE_LIMIT, AllKeep, BreaksNone, arguments_of, constraint_named, constraints_from, declared_names, elements_of, is_declared, is_output, leaf_of, name_of, output_of, outputs_from, variables_of}
+use Rattle.fz_language.specs.Reads.{AllKeep, BreaksNone, arguments_of, constraint_named, constraints_from, declared_names, elements_of, is_declared, is_output, leaf_of, name_of, output_of, outputs_from, variables_of}
+use Rattle.fz_spec.specs.declared.limits.TheConstants.{VARIABLE_LIMIT}
 use Rattle.fz_spec.specs.Signatures.{signature}
 use Rattle.fz_model.specs.Kept.{IsVariable, IsConstraint, ShowsOneOf, IsModel, model_of}
 use Rattle.fz_parse.specs.Parsed.{constraint_of, ConstraintHasLeaves, expression_of}

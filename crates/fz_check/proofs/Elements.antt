@@ -4,8 +4,8 @@ use Rattle.std.specs.Prelude.{slice_get, option_map}
 use Rattle.std.specs.List.{flat_map}
 use Rattle.std.proofs.lemmas.List.{map-append, length-map, at_drop_more, at_drop_all}
 use Rattle.std.proofs.lemmas.Option.{slice_get-map, slice_get-get_or}
-use Rattle.fz_spec.specs.Tokens.{Token}
-use Rattle.fz_spec.specs.Reads.{elements_of, leaf_of}
+use Rattle.fz_language.specs.Tokens.{Token}
+use Rattle.fz_language.specs.Reads.{elements_of, leaf_of}
 use Rattle.fz_parse.specs.Parsed.{basic_of, expression_of}
 use Rattle.fz_parse.specs.declared.tree.Basic.{Basic}
 use Rattle.fz_parse.specs.declared.tree.Expression.{Expression}

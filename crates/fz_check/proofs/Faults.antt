@@ -1,8 +1,8 @@
 -- The fault of an item, at a leaf.
 use Rattle.std.proofs.Common.{◌≡◌, ℕ, List, sym, subst, ◌∙◌}
 use Rattle.fz_spec.specs.declared.code.Code.{Code}
-use Rattle.fz_spec.specs.Grammar as grammar
-use Rattle.fz_spec.specs.Reads.{IsFirstBroken}
+use Rattle.fz_language.specs.Grammar as grammar
+use Rattle.fz_language.specs.Reads.{IsFirstBroken}
 use Rattle.fz_lex.specs.declared.token.Token.{Token}
 use Rattle.fz_parse.specs.Parsed.{IsLeaf}
 use Rattle.fz_check.specs.Draft.{IsFaultOf}

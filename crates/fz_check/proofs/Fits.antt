@@ -15,11 +15,12 @@ use Rattle.fz_spec.specs.declared.term.Term.{Term}
 use Rattle.fz_spec.specs.declared.term.Term.TheVariants.{Num, Var}
 use Rattle.fz_spec.specs.Constraints as meaning
 use Rattle.fz_spec.specs.Constraints.{Argument, One, Numbers, Terms}
-use Rattle.fz_spec.specs.Grammar.{Basic, Literal, Name, Expression, Scalar, Elements}
-use Rattle.fz_spec.specs.Limits.{IsWithinLimits}
-use Rattle.fz_spec.specs.Reads.{ELEMENT_LIMIT, argument_of, arguments_of, all_wrong_leaves, basics_of, elements_of, HasUnequalLists, identifiers, leaf_of, name_of, term_of, value_of, wrong_leaves}
+use Rattle.fz_language.specs.Grammar.{Basic, Literal, Name, Expression, Scalar, Elements}
+use Rattle.fz_sets.specs.Sets.{IsWithinLimits}
+use Rattle.fz_language.specs.Reads.{argument_of, arguments_of, all_wrong_leaves, basics_of, elements_of, HasUnequalLists, identifiers, leaf_of, name_of, term_of, value_of, wrong_leaves}
+use Rattle.fz_spec.specs.declared.limits.TheConstants.{ELEMENT_LIMIT}
 use Rattle.fz_spec.specs.Signatures.{Asked, Value, Operand, Values, Operands, signature}
-use Rattle.fz_spec.specs.Tokens.{Token, Lexeme, Word, Number, Punct, IsFine}
+use Rattle.fz_language.specs.Tokens.{Token, Lexeme, Word, Number, Punct, IsFine}
 use Rattle.fz_model.specs.Kept.{AllFit, AreNumbers, FitsAsked, HaveOneLength, IsConstraint, IsTermOf}
 use Rattle.fz_parse.specs.Parsed.{basic_of, expression_of, BasicHasLeaf, ExpressionHasLeaves}
 use Rattle.fz_parse.specs.declared.tree.Basic as tree_basic

@@ -4,9 +4,9 @@ use Rattle.std.specs.Prelude.{bytes_eq}
 use Rattle.std.specs.List.{list_any}
 use Rattle.std.proofs.lemmas.Bool.{false≢true}
 use Rattle.std.proofs.lemmas.List.{length-map, map-append}
-use Rattle.fz_spec.specs.Grammar.{Item}
-use Rattle.fz_spec.specs.Reads.{declared_names, is_declared, name_of}
-use Rattle.fz_spec.specs.Tokens.{Token}
+use Rattle.fz_language.specs.Grammar.{Item}
+use Rattle.fz_language.specs.Reads.{declared_names, is_declared, name_of}
+use Rattle.fz_language.specs.Tokens.{Token}
 use Rattle.fz_check.specs.Draft.{texts}
 use Rattle.fz_check.proofs.Lookups.{list_any-map}
 

@@ -5,7 +5,7 @@ use Rattle.std.specs.List.{list_any, position_or_len, position}
 use Rattle.std.specs.Option.{unwrap_or}
 use Rattle.std.proofs.lemmas.Bool.{ltb-false}
 use Rattle.fz_spec.specs.declared.term.Term.TheVariants.{Var}
-use Rattle.fz_spec.specs.Reads.{identifiers, name_of, term_of}
+use Rattle.fz_language.specs.Reads.{identifiers, name_of, term_of}
 use Rattle.fz_lex.specs.Lexed.{token_of}
 use Rattle.fz_lex.specs.declared.token.Token as lexer
 use Rattle.fz_parse.specs.Parsed.{basic_of}

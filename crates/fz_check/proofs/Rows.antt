@@ -5,8 +5,8 @@ use Rattle.std.specs.List.{flat_map}
 use Rattle.std.specs.Option.{option_or}
 use Rattle.std.proofs.lemmas.Grind.{flat_map-append}
 use Rattle.std.proofs.lemmas.List.Folds.{find-append}
-use Rattle.fz_spec.specs.Tokens.{Token}
-use Rattle.fz_spec.specs.Reads.{identifiers, basics_of, wrong_leaves, all_wrong_leaves}
+use Rattle.fz_language.specs.Tokens.{Token}
+use Rattle.fz_language.specs.Reads.{identifiers, basics_of, wrong_leaves, all_wrong_leaves}
 use Rattle.fz_parse.specs.Parsed.{basic_of, expression_of}
 use Rattle.fz_parse.specs.declared.tree.Basic.{Basic}
 use Rattle.fz_parse.specs.declared.tree.Expression.{Expression}

@@ -2,7 +2,7 @@
 use Rattle.std.proofs.Common.{◌≡◌, ℕ, ◌<◌, suc, List, [], ◌∷◌, ◌++◌, length, map, take, drop, get_or, sym, ap, ◌∙◌}
 use Rattle.std.proofs.Math.Seq.{drop-cons}
 use Rattle.std.proofs.lemmas.List.{map-append, take-append-drop}
-use Rattle.fz_spec.specs.Reads.{AllKeep}
+use Rattle.fz_language.specs.Reads.{AllKeep}
 use Rattle.fz_parse.specs.Parsed.{ParsedText, item_of}
 use Rattle.fz_parse.specs.declared.tree.Item.{Item}
 use Rattle.fz_check.specs.Checked.{HasCheckFault}

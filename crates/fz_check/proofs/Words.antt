@@ -8,8 +8,8 @@ use Rattle.std.proofs.lemmas.Bool.{and_parts}
 use Rattle.std.proofs.lemmas.Bool.Decides.{nat_tests}
 use Rattle.std.proofs.lemmas.Str.{IsUtf8-from_ascii}
 use Rattle.std.proofs.lemmas.Str.Ascii.{IsAscii-nil}
-use Rattle.fz_spec.specs.Tokens.{is_word_start, is_word_byte, IsWord, IsSpelt}
-use Rattle.fz_spec.specs.Reads.{name_of}
+use Rattle.fz_language.specs.Tokens.{is_word_start, is_word_byte, IsWord, IsSpelt}
+use Rattle.fz_language.specs.Reads.{name_of}
 use Rattle.fz_lex.specs.Lexed.{lexeme_of}
 use Rattle.fz_lex.specs.declared.token.TokenKind.{TokenKind}
 use Rattle.fz_lex.specs.declared.token.TokenKind.TheVariants as kind

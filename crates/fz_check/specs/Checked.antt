@@ -1,6 +1,6 @@
 -- The first rule that items break, with its place.
 use Rattle.std.specs.Prelude.{ℕ}
-use Rattle.fz_spec.specs.Reads.{HasBrokenRule}
+use Rattle.fz_language.specs.Reads.{HasBrokenRule}
 use Rattle.fz_lex.specs.Lexed.{IsPlaceOf}
 use Rattle.fz_parse.specs.Parsed.{ParsedText}
 use Rattle.fz_check.specs.declared.fault.CheckFault.{CheckFault}

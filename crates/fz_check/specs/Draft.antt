@@ -5,11 +5,12 @@ use Rattle.std.specs.Borrow.{Bor}
 use Rattle.std.specs.declared.result.Result.{Result}
 use Rattle.fz_spec.specs.declared.builtin.Builtin.{Builtin}
 use Rattle.fz_spec.specs.declared.kind.Kind.TheVariants.{Int}
-use Rattle.fz_spec.specs.Limits.{interval}
-use Rattle.fz_spec.specs.Tokens.{Token}
-use Rattle.fz_spec.specs.Grammar.{Item, Declaration, Constraint, Expression, Elements}
+use Rattle.fz_sets.specs.Sets.{interval}
+use Rattle.fz_language.specs.Tokens.{Token}
+use Rattle.fz_language.specs.Grammar.{Item, Declaration, Constraint, Expression, Elements}
 use Rattle.fz_spec.specs.Instance.{Variable}
-use Rattle.fz_spec.specs.Reads.{VARIABLE_LIMIT, CONSTRAINT_LIMIT, ELEMENT_LIMIT, name_of, value_of, is_unknown, declared_names, constraint_count, element_count, names_in, elements_in, all_wrong_leaves, HasUnequalLists, IsCall, IsFirstBroken, AllKeep, variables_of, outputs_from, constraints_from}
+use Rattle.fz_language.specs.Reads.{name_of, value_of, is_unknown, declared_names, constraint_count, element_count, names_in, elements_in, all_wrong_leaves, HasUnequalLists, IsCall, IsFirstBroken, AllKeep, variables_of, outputs_from, constraints_from}
+use Rattle.fz_spec.specs.declared.limits.TheConstants.{VARIABLE_LIMIT, CONSTRAINT_LIMIT, ELEMENT_LIMIT}
 use Rattle.fz_spec.specs.Signatures.{signature}
 use Rattle.fz_spec.specs.Signatures as language
 use Rattle.fz_model.specs.Kept.{IsVariable, IsConstraint}

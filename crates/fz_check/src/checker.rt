@@ -1,6 +1,6 @@
 //! The reading of a model.
 ghost use Rattle.std.specs.Prelude.{◌≡◌, [], IfOk, MatchResult};
-ghost use Rattle.fz_spec.specs.Reads.{AllKeep, model_of};
+ghost use Rattle.fz_language.specs.Reads.{AllKeep, model_of};
 ghost use Rattle.fz_check.specs.Checked.{HasCheckFault};
 
 use crate::draft::Draft;

@@ -3,7 +3,7 @@ ghost use Rattle.std.specs.Prelude.{◌≡◌, IfOk, map};
 ghost use Rattle.std.specs.List.{AllByRecursion, list_any};
 ghost use Rattle.fz_spec.specs.declared.kind.Kind.TheVariants.{Int};
 ghost use Rattle.fz_spec.specs.Instance.{Scalar};
-ghost use Rattle.fz_spec.specs.Reads.{is_output, name_of};
+ghost use Rattle.fz_language.specs.Reads.{is_output, name_of};
 ghost use Rattle.fz_lex.specs.Lexed.{token_of};
 ghost use Rattle.fz_model.specs.Kept.{IsVariable};
 ghost use Rattle.fz_parse.specs.Parsed.{AnnotationHasLeaf, annotation_of, declaration_of, HasLeaves, IsLeaf};

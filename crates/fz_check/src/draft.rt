@@ -1,7 +1,7 @@
 //! What the items so far make.
 ghost use Rattle.std.specs.Prelude.{◌≡◌, ◌≤◌, List, length, IfOk, MatchResult, []};
-ghost use Rattle.fz_spec.specs.Grammar as grammar;
-ghost use Rattle.fz_spec.specs.Reads.{VARIABLE_LIMIT};
+ghost use Rattle.fz_language.specs.Grammar as grammar;
+ghost use Rattle.fz_spec.specs.declared.limits.TheConstants.{VARIABLE_LIMIT};
 ghost use Rattle.fz_spec.specs.Signatures.{signature};
 ghost use Rattle.fz_model.specs.Kept as kept;
 ghost use Rattle.fz_parse.specs.Parsed.{constraint_of, ConstraintHasLeaves, declaration_of, HasLeaves, item_of, ItemHasLeaves};
@@ -10,7 +10,7 @@ ghost use Rattle.fz_check.specs.Draft.{AreDone, IsFaultOf, IsStep, KeepsRules};
 use crate::declared::{is_output, output, variable};
 use crate::fault::CheckFault;
 use crate::leaf::{fault_at, name};
-use crate::limits::{CONSTRAINT_LIMIT, ELEMENT_LIMIT, VARIABLE_LIMIT, room_behind};
+use crate::limits::room_behind;
 use crate::names::unknown_name;
 use crate::signature::{builtin_of, signature};
 use crate::terms::constraint_of;
@@ -20,6 +20,7 @@ use fz_model::model::Model;
 use fz_model::output::Output;
 use fz_model::variable::Variable;
 use fz_parse::{Constraint, Declaration, Item, Items};
+use fz_spec::limits::{CONSTRAINT_LIMIT, ELEMENT_LIMIT, VARIABLE_LIMIT};
 use fz_spec::builtin::Builtin;
 use fz_spec::code::Code;
 use indexmap::IndexSet;

@@ -1,8 +1,8 @@
 //! What leaves say.
 ghost use Rattle.std.specs.Prelude.{◌≡◌, ℕ, List, IfSome, map, option_map, slice_get};
 ghost use Rattle.std.specs.List.{AllByRecursion, flat_map};
-ghost use Rattle.fz_spec.specs.Limits.{IsWithinLimits};
-ghost use Rattle.fz_spec.specs.Reads.{basics_of, elements_of, identifiers, leaf_of, name_of, value_of};
+ghost use Rattle.fz_sets.specs.Sets.{IsWithinLimits};
+ghost use Rattle.fz_language.specs.Reads.{basics_of, elements_of, identifiers, leaf_of, name_of, value_of};
 ghost use Rattle.fz_lex.specs.Lexed.{token_of, IsPlaceOf};
 ghost use Rattle.fz_parse.specs.Parsed.{basic_of, BasicHasLeaf, expression_of, ExpressionHasLeaves, IsLeaf};
 

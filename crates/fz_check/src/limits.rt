@@ -1,22 +1,13 @@
-//! The limits of a model.
+//! The room that is left for elements.
 ghost use Rattle.std.specs.Prelude.{◌≡◌, ◌+◌, ℕ, List, length, IfErr, MatchResult, Some, map, slice_get};
 ghost use Rattle.std.specs.List.{AllByRecursion, flat_map};
-ghost use Rattle.fz_spec.specs.Reads.{elements_of, leaf_of};
+ghost use Rattle.fz_language.specs.Reads.{elements_of, leaf_of};
 ghost use Rattle.fz_lex.specs.Lexed.{token_of};
 ghost use Rattle.fz_parse.specs.Parsed.{expression_of, ExpressionHasLeaves, IsLeaf};
 
 use crate::leaf::{elements, leaf};
 use fz_lex::Token;
 use fz_parse::Expression;
-
-/// The most variables of a model.
-pub(crate) const VARIABLE_LIMIT: usize = 1_000_000;
-
-/// The most constraints of a model.
-pub(crate) const CONSTRAINT_LIMIT: usize = 1_000_000;
-
-/// The most elements of list literals of a model.
-pub(crate) const ELEMENT_LIMIT: usize = 1_000_000;
 
 /// How many more elements there may be behind the list literals of these arguments, if there may be `room` before them; or the
 /// first element for which there is no room.

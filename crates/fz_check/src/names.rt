@@ -1,7 +1,7 @@
 //! The names of variables.
 ghost use Rattle.std.specs.Prelude.{◌≡◌, IfSome, find, map, option_map};
 ghost use Rattle.std.specs.List.{AllByRecursion, flat_map};
-ghost use Rattle.fz_spec.specs.Reads.{basics_of, identifiers};
+ghost use Rattle.fz_language.specs.Reads.{basics_of, identifiers};
 ghost use Rattle.fz_lex.specs.Lexed.{token_of};
 ghost use Rattle.fz_parse.specs.Parsed.{basic_of, BasicHasLeaf, expression_of, ExpressionHasLeaves, IsLeaf};
 ghost use Rattle.fz_check.specs.Draft.{is_absent, texts};

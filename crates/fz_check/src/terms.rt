@@ -1,8 +1,9 @@
 //! Constraints of a model.
 ghost use Rattle.std.specs.Prelude.{◌≡◌, ◌≤◌, ℕ, List, length, IfOk, map};
 ghost use Rattle.std.specs.List.{AllByRecursion};
-ghost use Rattle.fz_spec.specs.Grammar.{Scalar};
-ghost use Rattle.fz_spec.specs.Reads.{argument_of, arguments_of, leaf_of, term_of, value_of, VARIABLE_LIMIT};
+ghost use Rattle.fz_language.specs.Grammar.{Scalar};
+ghost use Rattle.fz_language.specs.Reads.{argument_of, arguments_of, leaf_of, term_of, value_of};
+ghost use Rattle.fz_spec.specs.declared.limits.TheConstants.{VARIABLE_LIMIT};
 ghost use Rattle.fz_spec.specs.Constraints.{One};
 ghost use Rattle.fz_spec.specs.Signatures.{signature};
 ghost use Rattle.fz_model.specs.Arguments as kept;

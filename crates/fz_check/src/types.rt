@@ -1,8 +1,8 @@
 //! The types of arguments.
 ghost use Rattle.std.specs.Prelude.{◌≡◌, ◌↔◌, ℕ, List, length, IfSome, IsTrue, map, option_map, slice_get};
 ghost use Rattle.std.specs.List.{AllByRecursion};
-ghost use Rattle.fz_spec.specs.Grammar.{Elements, Scalar};
-ghost use Rattle.fz_spec.specs.Reads.{all_wrong_leaves, HasUnequalLists, wrong_leaves};
+ghost use Rattle.fz_language.specs.Grammar.{Elements, Scalar};
+ghost use Rattle.fz_language.specs.Reads.{all_wrong_leaves, HasUnequalLists, wrong_leaves};
 ghost use Rattle.fz_lex.specs.Lexed.{token_of};
 ghost use Rattle.fz_parse.specs.Parsed.{basic_of, BasicHasLeaf, expression_of, ExpressionHasLeaves, IsLeaf};
 ghost use Rattle.fz_check.specs.Draft.{asked_of, DifferInLength};

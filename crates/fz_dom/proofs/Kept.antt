@@ -4,7 +4,7 @@ use Rattle.std.specs.Prelude.{◌&&◌}
 use Rattle.std.specs.Bool.{Decides}
 use Rattle.std.specs.Ordering.{int_eq}
 use Rattle.std.proofs.lemmas.Bool.Decides.{nat_tests, Decides-and, Decides-like, Decides-int_eq}
-use Rattle.fz_spec.specs.Limits.{AreRanges, AreWithinLimits, set_size}
+use Rattle.fz_sets.specs.Sets.{AreRanges, AreWithinLimits, set_size}
 use Rattle.fz_dom.specs.Shape.{least, greatest, several, ranges_of, IsKept}
 
 pub ranges_of_kept : (rs : List (ℤ × ℤ)) → ranges_of (least rs) (greatest rs) (set_size rs) (several rs) ≡ rs

@@ -8,7 +8,7 @@ use Rattle.std.proofs.lemmas.Int.{ints, clamps, by_lt_z}
 use Rattle.std.proofs.lemmas.List.{get_or_default}
 use Rattle.std.proofs.lemmas.List.Elements.{All-nil, All-cons, All-head, All-tail}
 use Rattle.std.proofs.lemmas.List.Sorted.{Contains-permutation, IsPermutation-sym}
-use Rattle.fz_spec.specs.Limits.{AreRanges, AreWithinLimits, AreOneSet, IsInSet, IsInRange, IsWithinLimits, interval}
+use Rattle.fz_sets.specs.Sets.{AreRanges, AreWithinLimits, AreOneSet, IsInSet, IsInRange, IsWithinLimits, interval}
 use Rattle.fz_dom.specs.Union.{IsProper, AreInOrder, IsMerging}
 use Rattle.fz_dom.proofs.Ranges.{at_place, from_place, same_ranges}
 

@@ -1,7 +1,7 @@
 -- Laws of rising ranges: where their members lie, how many there are, and that a set has one such list.
 use Rattle.std.proofs.Common.{◌≡◌, ℕ, zero, suc, length, get_or, ℤ, pos, ◌+ℤ◌, ◌≤ℤ◌, ◌<ℤ◌, ◌≤◌, ◌<◌, inl, inr, List, [], ◌∷◌, refl, ap, sym, subst, arith}
 use Rattle.std.proofs.lemmas.Int.{ints, by_lt_z, clamps}
-use Rattle.fz_spec.specs.Limits.{AreRanges, AreWithinLimits, IsInRange, IsInSet, AreOneSet, IsWithinLimits, set_size}
+use Rattle.fz_sets.specs.Sets.{AreRanges, AreWithinLimits, IsInRange, IsInSet, AreOneSet, IsWithinLimits, set_size}
 use Rattle.std.specs.Prelude.{int_lt, true, false}
 use Rattle.std.specs.Int.{int_max}
 use Rattle.std.specs.List.{AllWithin}

@@ -1,7 +1,7 @@
 -- What the readers of a domain answer, and how a domain is kept: its ends and its size always, its ranges only where
 -- there are two or more.
 use Rattle.std.specs.Prelude.{◌≡◌, ℕ, ℤ, pos, ◌≤ℤ◌, ◌<ℤ◌, List, [], ◌∷◌, nat_eq, if◌then◌else◌}
-use Rattle.fz_spec.specs.Limits.{AreRanges, AreWithinLimits, IsInSet, set_size}
+use Rattle.fz_sets.specs.Sets.{AreRanges, AreWithinLimits, IsInSet, set_size}
 
 -- what holds of the ranges of every domain
 abbrev pub IsDomain : List (ℤ × ℤ) → Type 0

@@ -1,6 +1,6 @@
 -- The states of the union of a list of ranges.
 use Rattle.std.specs.Prelude.{ℤ, ◌≤ℤ◌, List, [], ◌∷◌, ◌++◌, All}
-use Rattle.fz_spec.specs.Limits.{AreRanges, AreWithinLimits, AreOneSet, IsWithinLimits}
+use Rattle.fz_sets.specs.Sets.{AreRanges, AreWithinLimits, AreOneSet, IsWithinLimits}
 
 -- a range that isn't empty, within the limits
 abbrev pub IsProper : ℤ × ℤ → Type 0

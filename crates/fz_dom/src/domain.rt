@@ -1,6 +1,6 @@
 //! The domain of a variable.
 ghost use Rattle.std.specs.Prelude.{◌≡◌, ℕ, ℤ, pos, ◌≤ℤ◌, ◌≤◌, ◌<◌, ◌↔◌, List, [], ◌∷◌, length, IfOk, IsOk, IsTrue, slice_index_or, MatchOption};
-ghost use Rattle.fz_spec.specs.Limits.{AreRanges, AreWithinLimits, AreOneSet, IsInSet, IsWithinLimits, set_size, interval};
+ghost use Rattle.fz_sets.specs.Sets.{AreRanges, AreWithinLimits, AreOneSet, IsInSet, IsWithinLimits, set_size, interval};
 ghost use Rattle.fz_dom.specs.Shape.{IsDomain, least, greatest, IsNextFrom, IsNextAbove, IsNoneFrom, IsNoneAbove};
 
 use crate::rising::{next_in, size_of};

@@ -1,6 +1,6 @@
 //! Reads of rising ranges.
 ghost use Rattle.std.specs.Prelude.{◌≡◌, ℕ, ℤ, List, MatchOption};
-ghost use Rattle.fz_spec.specs.Limits.{AreRanges, AreWithinLimits, set_size};
+ghost use Rattle.fz_sets.specs.Sets.{AreRanges, AreWithinLimits, set_size};
 ghost use Rattle.fz_dom.specs.Shape.{IsNextFrom, IsNoneFrom};
 
 /// How many numbers are in rising ranges within the limits.

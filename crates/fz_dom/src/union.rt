@@ -1,6 +1,6 @@
 //! The union of a list of ranges.
 ghost use Rattle.std.specs.Prelude.{◌≡◌, ℕ, ℤ, List, [], ◌∷◌, length, IfOk, All, filter, int_le};
-ghost use Rattle.fz_spec.specs.Limits.{AreRanges, AreWithinLimits, AreOneSet, IsInSet};
+ghost use Rattle.fz_sets.specs.Sets.{AreRanges, AreWithinLimits, AreOneSet, IsInSet};
 ghost use Rattle.fz_dom.specs.Union.{IsProper, AreInOrder};
 
 use std::alloc::{AllocError, Global};

@@ -1,7 +1,7 @@
 //! The list of each model, in its order, worked out by hand.
 ghost use Rattle.std.specs.Prelude.{◌≡◌, IfOk, [], ◌∷◌};
 ghost use Rattle.fz_spec.specs.Constraints.{One};
-ghost use Rattle.fz_spec.specs.Limits.{AreWithinLimits};
+ghost use Rattle.fz_sets.specs.Sets.{AreWithinLimits};
 ghost use Rattle.fz_model.specs.Kept.{IsVariable, IsConstraint};
 
 use crate::all_solutions;

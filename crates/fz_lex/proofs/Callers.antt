@@ -1,8 +1,8 @@
 -- For callers: what the token at a number, and its bytes, tell of the text's tokens.
 use Rattle.std.proofs.Common.{◌≡◌, ℕ, ◌<◌, ◌∙◌, List, length, get_or, slice_range, ap, sym}
 use Rattle.std.proofs.lemmas.List.{get_or_default}
-use Rattle.fz_spec.specs.Tokens.{Word}
-use Rattle.fz_spec.specs.Tokens as language
+use Rattle.fz_language.specs.Tokens.{Word}
+use Rattle.fz_language.specs.Tokens as language
 use Rattle.fz_lex.specs.declared.token.Token.{Token}
 use Rattle.fz_lex.specs.declared.token.TokenKind.TheVariants as kind
 use Rattle.fz_lex.specs.Lexed.{LexedText, lexeme_of, token_of, IsTokenAt, IsTextOfToken}

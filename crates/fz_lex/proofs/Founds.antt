@@ -3,10 +3,10 @@ use Rattle.std.proofs.Common.{◌≡◌, ◌≢◌, ℕ, zero, suc, ◌+◌, ◌
 use Rattle.std.proofs.lemmas.Bool.{cases_lt}
 use Rattle.std.proofs.lemmas.List.{get_or_past, ext_get_or}
 use Rattle.std.specs.Char.{is_ascii_digit}
-use Rattle.fz_spec.specs.declared.sign.Sign.{Sign}
-use Rattle.fz_spec.specs.declared.sign.Sign.TheVariants.{Semicolon, Colon, DoubleColon, Comma, LeftParenthesis, RightParenthesis, LeftBracket, RightBracket, LeftBrace, RightBrace, Equals, DoubleDot}
-use Rattle.fz_spec.specs.Tokens.{is_space, is_word_start, is_word_byte, sign_bytes, BeginsNoToken}
-use Rattle.fz_spec.proofs.Lexing.{word_from, word_is_token, sign_is_token, begins_no_token, slice_at, slice_length, sign_length, bytes_of_sign}
+use Rattle.fz_language.specs.declared.sign.Sign.{Sign}
+use Rattle.fz_language.specs.declared.sign.Sign.TheVariants.{Semicolon, Colon, DoubleColon, Comma, LeftParenthesis, RightParenthesis, LeftBracket, RightBracket, LeftBrace, RightBrace, Equals, DoubleDot}
+use Rattle.fz_language.specs.Tokens.{is_space, is_word_start, is_word_byte, sign_bytes, BeginsNoToken}
+use Rattle.fz_language.proofs.Lexing.{word_from, word_is_token, sign_is_token, begins_no_token, slice_at, slice_length, sign_length, bytes_of_sign}
 use Rattle.fz_lex.specs.declared.token.TokenKind.TheVariants as kind
 use Rattle.fz_lex.specs.Steps.{IsRun, FitsSign, FitsNoSign, IsFoundAt}
 

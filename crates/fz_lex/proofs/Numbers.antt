@@ -4,9 +4,9 @@ use Rattle.std.proofs.lemmas.Bool.{both_ways}
 use Rattle.std.proofs.lemmas.List.{get_or_past}
 use Rattle.std.proofs.lemmas.Int.{ints}
 use Rattle.std.specs.Char.{is_ascii_digit}
-use Rattle.fz_spec.specs.Limits.{IsWithinLimits, GREATEST, LEAST}
-use Rattle.fz_spec.specs.Tokens.{is_space, is_word_start, digits_value, IsNumber, BeginsNoToken, BeginsLargeNumber}
-use Rattle.fz_spec.proofs.Lexing.{are_digits, slice_cons, number_is_token, begins_no_token, begins_sign}
+use Rattle.fz_sets.specs.Sets.{IsWithinLimits, GREATEST, LEAST}
+use Rattle.fz_language.specs.Tokens.{is_space, is_word_start, digits_value, IsNumber, BeginsNoToken, BeginsLargeNumber}
+use Rattle.fz_language.proofs.Lexing.{are_digits, slice_cons, number_is_token, begins_no_token, begins_sign}
 use Rattle.fz_lex.specs.declared.token.TokenKind.TheVariants as kind
 use Rattle.fz_lex.specs.Steps.{Passes, IsRun, IsFoundAt}
 

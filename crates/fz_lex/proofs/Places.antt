@@ -4,7 +4,7 @@ use Rattle.std.specs.List.{take_while}
 use Rattle.std.proofs.lemmas.Bool.{ne_eqb}
 use Rattle.std.proofs.lemmas.List.{take_more, reverse-append}
 use Rattle.std.proofs.lemmas.List.Sums.{count_by_more_no, take_while-cons}
-use Rattle.fz_spec.specs.Places.{line_of, column_of, is_line_end, is_in_line}
+use Rattle.fz_language.specs.Places.{line_of, column_of, is_line_end, is_in_line}
 
 -- one more byte that ends no line
 pub line_goes_on : (text : List ℕ) (at : ℕ) → at < length text → slice_index text at ≢ 10 → line_of text (at + 1) ≡ line_of text at

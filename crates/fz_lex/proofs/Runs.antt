@@ -1,8 +1,8 @@
 -- Runs of bytes that pass a test.
 use Rattle.std.proofs.Common.{◌≡◌, ℕ, ◌+◌, ◌*◌, ◌-◌, ◌<◌, ◌≤◌, min, Bool, true, List, length, slice_index, slice_range, subst, sym, ap, ◌∙◌, inl, inr, arith}
 use Rattle.std.proofs.lemmas.Bool.{cases_lt}
-use Rattle.fz_spec.specs.Tokens.{digits_value}
-use Rattle.fz_spec.proofs.Lexing.{slice_more, slice_none, digits_value_more}
+use Rattle.fz_language.specs.Tokens.{digits_value}
+use Rattle.fz_language.proofs.Lexing.{slice_more, slice_none, digits_value_more}
 use Rattle.fz_lex.specs.Steps.{Passes}
 
 pub passes_none : (p : ℕ → Bool) (text : List ℕ) (at : ℕ) → at ≤ length text → Passes p text at at

@@ -8,12 +8,12 @@ use Rattle.std.proofs.lemmas.List.{append-nil, get_or_default, drop_more, drop_a
 use Rattle.std.proofs.lemmas.List.Elements.{All-get_or, All-push}
 use Rattle.fz_spec.specs.declared.code.Code.{Code}
 use Rattle.fz_spec.specs.declared.code.Code.TheVariants.{E01, E02, E03, E04, E05, E06, E07, E08, E10, E11}
-use Rattle.fz_spec.specs.declared.sign.Sign.{Sign}
-use Rattle.fz_spec.specs.declared.sign.Sign.TheVariants.{Semicolon, Colon, DoubleColon, Comma, LeftParenthesis, RightParenthesis, LeftBracket, RightBracket, LeftBrace, RightBrace, Equals, DoubleDot}
-use Rattle.fz_spec.specs.Tokens.{Lexeme, Word, Number, Punct, is_word_start, is_word_byte, sign_bytes, IsSpelt, IsToken, IsGap, IsFault, HasFault, IsFine, Ending, End, Fault, LeadsTo, AreTokensOf}
-use Rattle.fz_spec.specs.Tokens as language
-use Rattle.fz_spec.specs.Reads.{IsShort, IsUnlexed, place_of}
-use Rattle.fz_spec.proofs.Lexing.{all_at, sign_length, word_at, number_at, sign_at, sign_starts}
+use Rattle.fz_language.specs.declared.sign.Sign.{Sign}
+use Rattle.fz_language.specs.declared.sign.Sign.TheVariants.{Semicolon, Colon, DoubleColon, Comma, LeftParenthesis, RightParenthesis, LeftBracket, RightBracket, LeftBrace, RightBrace, Equals, DoubleDot}
+use Rattle.fz_language.specs.Tokens.{Lexeme, Word, Number, Punct, is_word_start, is_word_byte, sign_bytes, IsSpelt, IsToken, IsGap, IsFault, HasFault, IsFine, Ending, End, Fault, LeadsTo, AreTokensOf}
+use Rattle.fz_language.specs.Tokens as language
+use Rattle.fz_language.specs.Reads.{IsShort, IsUnlexed, place_of}
+use Rattle.fz_language.proofs.Lexing.{all_at, sign_length, word_at, number_at, sign_at, sign_starts}
 use Rattle.fz_lex.specs.declared.token.Token.{Token}
 use Rattle.fz_lex.specs.declared.place.Place.{Place}
 use Rattle.fz_lex.specs.Lexed.{LexedText, token_of, IsTokenAt, IsTextOfToken, IsPlaceOf, IsPlaced, IsWhole}

@@ -1,10 +1,10 @@
 -- A text and its tokens, as contracts see them.
 use Rattle.std.specs.Prelude.{◌≡◌, ℕ, ◌≤◌, List, map, length, slice_range, slice_index_or}
 use Rattle.std.specs.List.{All}
-use Rattle.fz_spec.specs.Tokens.{Lexeme, Word, Number, Punct, AreTokensOf}
-use Rattle.fz_spec.specs.Tokens as language
-use Rattle.fz_spec.specs.Places.{line_of, column_of}
-use Rattle.fz_spec.specs.Reads.{IsShort, IsUnlexed}
+use Rattle.fz_language.specs.Tokens.{Lexeme, Word, Number, Punct, AreTokensOf}
+use Rattle.fz_language.specs.Tokens as language
+use Rattle.fz_language.specs.Places.{line_of, column_of}
+use Rattle.fz_language.specs.Reads.{IsShort, IsUnlexed}
 use Rattle.fz_lex.specs.declared.token.TokenKind.{TokenKind}
 use Rattle.fz_lex.specs.declared.token.TokenKind.TheVariants as kind
 use Rattle.fz_lex.specs.declared.token.Token.{Token}

@@ -1,10 +1,10 @@
 -- What the steps of the reading say.
 use Rattle.std.specs.Prelude.{◌≡◌, ◌≢◌, ℕ, ◌<◌, ◌≤◌, ◌⊎◌, Bool, false, IsTrue, List, ◌++◌, length, slice_index, slice_range}
-use Rattle.fz_spec.specs.declared.sign.Sign.{Sign}
-use Rattle.fz_spec.specs.declared.sign.Sign.TheVariants.{Colon}
-use Rattle.fz_spec.specs.Tokens.{is_space, sign_bytes, IsGap, IsToken, IsFine, Ending, LeadsTo}
-use Rattle.fz_spec.specs.Tokens as language
-use Rattle.fz_spec.proofs.Lexing.{begins_sign}
+use Rattle.fz_language.specs.declared.sign.Sign.{Sign}
+use Rattle.fz_language.specs.declared.sign.Sign.TheVariants.{Colon}
+use Rattle.fz_language.specs.Tokens.{is_space, sign_bytes, IsGap, IsToken, IsFine, Ending, LeadsTo}
+use Rattle.fz_language.specs.Tokens as language
+use Rattle.fz_language.proofs.Lexing.{begins_sign}
 use Rattle.fz_lex.specs.Lexed.{lexeme_of, IsPlaceOf}
 use Rattle.fz_lex.specs.declared.cursor.Cursor.{Cursor}
 use Rattle.fz_lex.specs.declared.reading.Found.{Found}

@@ -1,7 +1,7 @@
 //! A way through a text.
 ghost use Rattle.std.specs.Prelude.{◌≡◌, ◌≢◌, ℕ, ◌+◌, ◌<◌, ◌≤◌, ◌^◌, length, slice_index};
-ghost use Rattle.fz_spec.specs.Tokens.{IsGap};
-ghost use Rattle.fz_spec.specs.Tokens as spec;
+ghost use Rattle.fz_language.specs.Tokens.{IsGap};
+ghost use Rattle.fz_language.specs.Tokens as spec;
 ghost use Rattle.fz_lex.specs.Steps.{StandsAt, EndsGap};
 
 /// A byte of a text, or its end, by the count of bytes before it, with its line and column.

@@ -1,6 +1,6 @@
 //! A text and its tokens.
 ghost use Rattle.std.specs.Prelude.{◌≡◌, ◌==◌, ◌<◌, ◌≤◌, length, drop, map};
-ghost use Rattle.fz_spec.specs.Reads.{place_of};
+ghost use Rattle.fz_language.specs.Reads.{place_of};
 ghost use Rattle.fz_lex.specs.Lexed.{IsLexed, IsTokenAt, IsPlaceOf, IsTextOfToken, IsWhole, token_of};
 
 use crate::place::Place;

@@ -1,7 +1,7 @@
 //! The token at a place.
 ghost use Rattle.std.specs.Prelude.{◌≡◌, ℕ, ◌<◌, ◌⊎◌, length, slice_index, IsTrue, false, MatchResult};
 ghost use Rattle.std.specs.Char.{is_ascii_digit};
-ghost use Rattle.fz_spec.specs.Tokens.{is_space, is_word_start, IsFault};
+ghost use Rattle.fz_language.specs.Tokens.{is_space, is_word_start, IsFault};
 ghost use Rattle.fz_lex.specs.Steps.{IsFoundAt};
 
 use crate::spelling::{OVER, byte_at, digits, is_word_start, sign_length, sign_of, word_end};

@@ -9,18 +9,16 @@ use crate::place::Place;
 use crate::reading::token_at;
 use crate::token::Token;
 use fz_spec::code::Code;
+use fz_spec::limits::TEXT_LIMIT;
 use std::alloc::{AllocError, Global};
-
-/// The most bytes of a text.
-const LIMIT: usize = 67_108_864;
 
 /// The tokens of a text, or its first fault. A text that is too long has that fault, whatever its bytes. An `AllocError`
 /// says that memory ran out.
 pub fn tokens(alloc: Global, text: &[u8]) -> Result<Result<Tokens<'_>, LexFault>, AllocError>
     ensures { IfOk result (λ found. MatchResult found (λ t. (t.text ≡ text.now) × IsLexed t) (HasFirstFault text.now)) }
 {
-    if text.len() > LIMIT {
-        let over = Cursor::start(text).walk(text, LIMIT);
+    if text.len() > TEXT_LIMIT {
+        let over = Cursor::start(text).walk(text, TEXT_LIMIT);
         return Ok(Err(fault_at(Code::E11, over)));
     }
     let mut found: Vec<Token> = Vec::new(alloc);

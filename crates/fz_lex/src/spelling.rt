@@ -1,11 +1,11 @@
 //! What the bytes at a place spell.
 ghost use Rattle.std.specs.Prelude.{◌≡◌, ℕ, ◌+◌, ◌<◌, ◌≤◌, length, slice_index, slice_range, min, MatchOption};
 ghost use Rattle.std.specs.Char.{is_ascii_digit};
-ghost use Rattle.fz_spec.specs.Tokens.{digits_value, sign_bytes};
-ghost use Rattle.fz_spec.specs.Tokens as spec;
+ghost use Rattle.fz_language.specs.Tokens.{digits_value, sign_bytes};
+ghost use Rattle.fz_language.specs.Tokens as spec;
 ghost use Rattle.fz_lex.specs.Steps.{IsRun, FitsSign, FitsNoSign};
 
-use fz_spec::sign::Sign;
+use fz_language::sign::Sign;
 
 /// One more than the greatest number.
 pub(crate) const OVER: u64 = 2_147_483_647;

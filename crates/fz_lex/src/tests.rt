@@ -2,7 +2,7 @@
 
 use crate::{LexFault, Place, Token, TokenKind, tokens};
 use fz_spec::code::Code;
-use fz_spec::sign::Sign;
+use fz_language::sign::Sign;
 use std::alloc::{AllocError, Global};
 use std::test::Fail;
 

@@ -1,5 +1,5 @@
 //! Tokens.
-use fz_spec::sign::Sign;
+use fz_language::sign::Sign;
 
 /// What a token is.
 #[derive(Clone, Copy, Debug, PartialEq, Eq)]

@@ -3,7 +3,7 @@ use Rattle.std.specs.Prelude.{◌≡◌, ℕ, ℤ, pos, ◌≤◌, ◌<◌, List
 use Rattle.std.specs.List.{AllByRecursion}
 use Rattle.fz_spec.specs.declared.kind.Kind.{Kind}
 use Rattle.fz_spec.specs.declared.kind.Kind.TheVariants.{Bool, Int}
-use Rattle.fz_spec.specs.Limits.{IsWithinLimits, AreRanges, AreWithinLimits}
+use Rattle.fz_sets.specs.Sets.{IsWithinLimits, AreRanges, AreWithinLimits}
 use Rattle.fz_spec.specs.declared.builtin.Builtin.{Builtin}
 use Rattle.fz_spec.specs.declared.builtin.Builtin.TheVariants.{IntLinLe}
 use Rattle.fz_spec.specs.declared.term.Term.{Term}
@@ -11,7 +11,7 @@ use Rattle.fz_spec.specs.declared.term.Term.TheVariants.{Num, Var}
 use Rattle.fz_spec.specs.Constraints.{Argument, One, Numbers, Terms, Constraint}
 use Rattle.fz_spec.specs.Signatures.{Asked, Value, Operand, Values, Operands, signature}
 use Rattle.fz_spec.specs.Instance.{Instance, Variable, Output, Scalar, Satisfy}
-use Rattle.fz_spec.specs.Reads.{VARIABLE_LIMIT, CONSTRAINT_LIMIT, ELEMENT_LIMIT}
+use Rattle.fz_spec.specs.declared.limits.TheConstants.{VARIABLE_LIMIT, CONSTRAINT_LIMIT, ELEMENT_LIMIT}
 
 abbrev pub AreNumbers : List ℤ → Type 0
 AreNumbers xs = AllByRecursion IsWithinLimits xs

@@ -1,10 +1,10 @@
 -- Lemmas on expressions and constraints, and where they break.
 use Rattle.std.proofs.Common.{◌≡◌, List, [], ◌∷◌, ◌++◌, refl, sym, ◌∙◌, ap, subst, append_assoc, map}
 use Rattle.std.specs.List.{flat_map}
-use Rattle.fz_spec.specs.declared.sign.Sign.{Sign}
-use Rattle.fz_spec.specs.declared.sign.Sign.TheVariants.{Semicolon, Comma, LeftParenthesis, RightParenthesis, LeftBracket, RightBracket}
-use Rattle.fz_spec.specs.Tokens.{Token, Lexeme, Punct}
-use Rattle.fz_spec.specs.Grammar.{Piece, Identifier, Integer, Marked, IsIdentifier, IsInteger, AllFit, Annotation, Basic, Literal, Name, Expression, Scalar, Elements, Constraint, Program, sign, separated, annotation_pieces, basic_pieces, expression_pieces, constraint_pieces, program_pieces}
+use Rattle.fz_language.specs.declared.sign.Sign.{Sign}
+use Rattle.fz_language.specs.declared.sign.Sign.TheVariants.{Semicolon, Comma, LeftParenthesis, RightParenthesis, LeftBracket, RightBracket}
+use Rattle.fz_language.specs.Tokens.{Token, Lexeme, Punct}
+use Rattle.fz_language.specs.Grammar.{Piece, Identifier, Integer, Marked, IsIdentifier, IsInteger, AllFit, Annotation, Basic, Literal, Name, Expression, Scalar, Elements, Constraint, Program, sign, separated, annotation_pieces, basic_pieces, expression_pieces, constraint_pieces, program_pieces}
 use Rattle.fz_parse.specs.Steps.{Begins, Takes, Spans, Misses, MissesEach, MissesBasic, GoOnAs, BreaksIn, annotations_on, more_on, arguments_on, expression_on, elements_end, elements_on, element_on, constraint_on, call_end, call_pieces, tail_pieces}
 use Rattle.fz_parse.proofs.Faults.{spans_both, first_goes_on, begins_first, begins_more, breaks_here, breaks_at, breaks_next, unspanned}
 use Rattle.fz_parse.proofs.Lists.{AreListed, Peeled, no_two_signs, takes_one, first_breaks, next_breaks, close_breaks, behind_parts, behind_list, list_peeled}

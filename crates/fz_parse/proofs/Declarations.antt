@@ -1,10 +1,10 @@
 -- Lemmas on annotations and declarations, and where they break.
 use Rattle.std.proofs.Common.{◌≡◌, pos, List, [], ◌∷◌, ◌++◌, refl, sym, ◌∙◌, ap, subst, append_assoc, codes}
 use Rattle.std.specs.List.{flat_map}
-use Rattle.fz_spec.specs.declared.sign.Sign.{Sign}
-use Rattle.fz_spec.specs.declared.sign.Sign.TheVariants.{Semicolon, DoubleColon, Colon, DoubleDot}
-use Rattle.fz_spec.specs.Tokens.{Token, Lexeme, Word, Number, Punct}
-use Rattle.fz_spec.specs.Grammar.{Piece, Identifier, Integer, AllFit, Annotation, Declaration, Satisfy, Program, sign, annotation_pieces, declaration_pieces, program_pieces}
+use Rattle.fz_language.specs.declared.sign.Sign.{Sign}
+use Rattle.fz_language.specs.declared.sign.Sign.TheVariants.{Semicolon, DoubleColon, Colon, DoubleDot}
+use Rattle.fz_language.specs.Tokens.{Token, Lexeme, Word, Number, Punct}
+use Rattle.fz_language.specs.Grammar.{Piece, Identifier, Integer, AllFit, Annotation, Declaration, Satisfy, Program, sign, annotation_pieces, declaration_pieces, program_pieces}
 use Rattle.fz_parse.specs.Steps.{Begins, Takes, Spans, Misses, MissesEach, GoOnAs, BreaksIn, declaration_on, annotations_on, header_pieces}
 use Rattle.fz_parse.proofs.Faults.{first_goes_on, begins_first, breaks_here, breaks_at, breaks_next, unspanned, AreApart, breaks_behind_items}
 

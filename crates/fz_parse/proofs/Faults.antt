@@ -1,8 +1,8 @@
 -- Lemmas on what may follow, and where it breaks.
 use Rattle.std.proofs.Common.{◌≡◌, List, [], ◌∷◌, ◌++◌, refl, sym, ◌∙◌, ap, subst, append_assoc}
 use Rattle.std.specs.List.{flat_map}
-use Rattle.fz_spec.specs.Tokens.{Token}
-use Rattle.fz_spec.specs.Grammar.{Piece, Fits, AllFit}
+use Rattle.fz_language.specs.Tokens.{Token}
+use Rattle.fz_language.specs.Grammar.{Piece, Fits, AllFit}
 use Rattle.fz_parse.specs.Steps.{Begins, Takes, Spans, GoOnAs, BreaksIn}
 
 -- pieces and tokens in two parts

@@ -1,10 +1,10 @@
 -- Lemmas on the tokens of a text as leaves.
 use Rattle.std.proofs.Common.{◌≡◌, ℕ, ◌+◌, ◌<◌, ◌≤◌, zero, suc, List, [], ◌∷◌, refl, sym, ◌∙◌, ap, subst, length, drop, add-one, arith}
 use Rattle.std.proofs.lemmas.List.{drop_more}
-use Rattle.fz_spec.specs.Tokens.{Token, Ending, End, IsToken, IsFine, LeadsTo}
+use Rattle.fz_language.specs.Tokens.{Token, Ending, End, IsToken, IsFine, LeadsTo}
 use Rattle.fz_lex.specs.Lexed.{LexedText, token_of, IsTokenAt, IsLexed}
 use Rattle.fz_lex.specs.declared.token.Token as lexed_token
-use Rattle.fz_spec.specs.Grammar.{Piece}
+use Rattle.fz_language.specs.Grammar.{Piece}
 use Rattle.fz_parse.specs.Steps.{rest, IsLeafAt, Begins, Takes}
 
 record IsTokenOf (text : List ℕ) (t : Token) : Type 0 where

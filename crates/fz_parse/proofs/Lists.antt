@@ -2,10 +2,10 @@
 use Rattle.std.proofs.Common.{◌≡◌, List, [], ◌∷◌, ◌++◌, refl, sym, ◌∙◌, ap, subst, append_assoc, append-nil, map}
 use Rattle.std.specs.List.{flat_map}
 use Rattle.std.proofs.lemmas.List.{map-append}
-use Rattle.fz_spec.specs.declared.sign.Sign.{Sign}
-use Rattle.fz_spec.specs.declared.sign.Sign.TheVariants.{Comma}
-use Rattle.fz_spec.specs.Tokens.{Token, Punct}
-use Rattle.fz_spec.specs.Grammar.{Piece, AllFit, sign, separated}
+use Rattle.fz_language.specs.declared.sign.Sign.{Sign}
+use Rattle.fz_language.specs.declared.sign.Sign.TheVariants.{Comma}
+use Rattle.fz_language.specs.Tokens.{Token, Punct}
+use Rattle.fz_language.specs.Grammar.{Piece, AllFit, sign, separated}
 use Rattle.fz_parse.specs.Steps.{Begins, Takes, Spans, Misses, GoOnAs, BreaksIn, behind_comma, more_on, list_on, part_on}
 use Rattle.fz_parse.proofs.Faults.{joined, parts, spans_next, spans_both, first_goes_on, begins_first, begins_more, begins_along, breaks_here, AreApart, breaks_behind_items}
 

@@ -1,8 +1,8 @@
 -- Lemmas on items and programs, and where they break.
 use Rattle.std.proofs.Common.{◌≡◌, inl, inr, List, [], ◌∷◌, ◌++◌, sym, ◌∙◌, subst, append_assoc, codes}
 use Rattle.std.specs.List.{flat_map}
-use Rattle.fz_spec.specs.Tokens.{Token, Word}
-use Rattle.fz_spec.specs.Grammar.{Piece, Fits, AllFit, Declaration, Constraint, Item, Declare, Constrain, Method, Program, word, declaration_pieces, constraint_pieces, item_pieces, solve_pieces, program_pieces}
+use Rattle.fz_language.specs.Tokens.{Token, Word}
+use Rattle.fz_language.specs.Grammar.{Piece, Fits, AllFit, Declaration, Constraint, Item, Declare, Constrain, Method, Program, word, declaration_pieces, constraint_pieces, item_pieces, solve_pieces, program_pieces}
 use Rattle.fz_parse.specs.Steps.{Begins, BeginsItem, Takes, Spans, GoOnAs, BreaksIn, declaration_on, constraint_on}
 use Rattle.fz_parse.proofs.Faults.{begins_along, breaks_next, AreApart, breaks_behind_items}
 use Rattle.fz_parse.proofs.Declarations.{declaration_peeled}

@@ -1,8 +1,8 @@
 -- Lemmas on the solve item and whole programs, and where they break.
 use Rattle.std.proofs.Common.{◌≡◌, List, [], ◌∷◌, ◌++◌, refl, sym, ◌∙◌, subst, append_assoc, append-nil, codes}
-use Rattle.fz_spec.specs.declared.sign.Sign.TheVariants.{Semicolon}
-use Rattle.fz_spec.specs.Tokens.{Token, Lexeme, Word, Punct}
-use Rattle.fz_spec.specs.Grammar.{Piece, AllFit, Method, Satisfy, Program, word, sign, method_pieces, solve_pieces, program_pieces, Spells, Breaks, BreaksBehind}
+use Rattle.fz_language.specs.declared.sign.Sign.TheVariants.{Semicolon}
+use Rattle.fz_language.specs.Tokens.{Token, Lexeme, Word, Punct}
+use Rattle.fz_language.specs.Grammar.{Piece, AllFit, Method, Satisfy, Program, word, sign, method_pieces, solve_pieces, program_pieces, Spells, Breaks, BreaksBehind}
 use Rattle.fz_parse.specs.Steps.{Takes, Spans, Misses, GoOnAs, BreaksIn}
 use Rattle.fz_parse.proofs.Faults.{spans_one, spans_next, breaks_here, breaks_at, breaks_next}
 

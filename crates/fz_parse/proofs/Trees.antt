@@ -4,9 +4,9 @@ use Rattle.std.specs.List.{flat_map, AllByRecursion}
 use Rattle.std.proofs.lemmas.List.{map-append}
 use Rattle.std.proofs.lemmas.Grind.{flat_map-append}
 use Rattle.fz_spec.specs.declared.code.Code.TheVariants.{E03}
-use Rattle.fz_spec.specs.Grammar.{Piece, item_pieces, solve_pieces, program_pieces}
-use Rattle.fz_spec.specs.Tokens as language
-use Rattle.fz_spec.specs.Reads.{place_of}
+use Rattle.fz_language.specs.Grammar.{Piece, item_pieces, solve_pieces, program_pieces}
+use Rattle.fz_language.specs.Tokens as language
+use Rattle.fz_language.specs.Reads.{place_of}
 use Rattle.fz_lex.specs.Lexed.{LexedText, IsLexed, IsPlaceOf}
 use Rattle.fz_parse.specs.declared.tree.Item.{Item}
 use Rattle.fz_parse.specs.declared.tree.Method.{Method}

@@ -2,11 +2,11 @@
 use Rattle.std.specs.Prelude.{◌≡◌, ℕ, ◌≤◌, List, map, length, slice_range}
 use Rattle.std.specs.List.{AllByRecursion}
 use Rattle.fz_spec.specs.declared.code.Code.TheVariants.{E03}
-use Rattle.fz_spec.specs.Tokens.{IsFine, IsSpelt}
-use Rattle.fz_spec.specs.Tokens as language
-use Rattle.fz_spec.specs.Grammar.{BreaksBehind}
-use Rattle.fz_spec.specs.Grammar as grammar
-use Rattle.fz_spec.specs.Reads.{IsProgramText, place_of}
+use Rattle.fz_language.specs.Tokens.{IsFine, IsSpelt}
+use Rattle.fz_language.specs.Tokens as language
+use Rattle.fz_language.specs.Grammar.{BreaksBehind}
+use Rattle.fz_language.specs.Grammar as grammar
+use Rattle.fz_language.specs.Reads.{IsProgramText, place_of}
 use Rattle.fz_lex.specs.Lexed.{LexedText, token_of, lexeme_of, IsPlaceOf}
 use Rattle.fz_lex.specs.declared.token.Token.{Token}
 use Rattle.fz_parse.specs.declared.tree.Annotation.{Annotation}

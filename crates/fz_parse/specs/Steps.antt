@@ -1,9 +1,9 @@
 -- Steps of reading, from the tokens that are left before to those that are left behind.
 use Rattle.std.specs.Prelude.{◌≡◌, ℕ, ◌+◌, ◌<◌, ◌⊎◌, codes, List, [], ◌∷◌, ◌++◌, length, drop, map, flat_map}
 use Rattle.std.specs.List.{AllByRecursion}
-use Rattle.fz_spec.specs.declared.sign.Sign.TheVariants.{Semicolon, Colon, DoubleDot, Comma, LeftParenthesis, RightParenthesis, RightBracket}
-use Rattle.fz_spec.specs.Tokens.{Token}
-use Rattle.fz_spec.specs.Grammar.{Piece, Identifier, Integer, Fits, AllFit, Annotation, Declaration, Basic, Expression, Constraint, Program, word, sign, separated, annotation_pieces, basic_pieces, expression_pieces, item_pieces, program_pieces}
+use Rattle.fz_language.specs.declared.sign.Sign.TheVariants.{Semicolon, Colon, DoubleDot, Comma, LeftParenthesis, RightParenthesis, RightBracket}
+use Rattle.fz_language.specs.Tokens.{Token}
+use Rattle.fz_language.specs.Grammar.{Piece, Identifier, Integer, Fits, AllFit, Annotation, Declaration, Basic, Expression, Constraint, Program, word, sign, separated, annotation_pieces, basic_pieces, expression_pieces, item_pieces, program_pieces}
 use Rattle.fz_lex.specs.Lexed.{LexedText, token_of, IsTokenAt}
 use Rattle.fz_lex.specs.declared.token.Token as lexed_token
 use Rattle.fz_parse.specs.declared.tree.Annotation as tree

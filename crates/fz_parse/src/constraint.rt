@@ -7,7 +7,7 @@ use crate::expression::expression;
 use crate::steps::{identifier, is_sign, sign};
 use crate::tree::{Constraint, Expression};
 use fz_lex::{Token, Tokens};
-use fz_spec::sign::Sign;
+use fz_language::sign::Sign;
 use std::alloc::{AllocError, Global};
 
 /// Takes the name of a constraint and the opening parenthesis. Without them the next token is the first that does not fit.

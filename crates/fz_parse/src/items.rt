@@ -1,7 +1,7 @@
 //! Items.
 ghost use Rattle.std.specs.Prelude.{◌≡◌, map, slice_range};
 ghost use Rattle.std.specs.List.{AllByRecursion};
-ghost use Rattle.fz_spec.specs.Reads.{IsProgramText};
+ghost use Rattle.fz_language.specs.Reads.{IsProgramText};
 ghost use Rattle.fz_parse.specs.Parsed.{item_of, method_of, IsLeaf, ItemHasLeaves, IsParsed};
 
 use crate::tree::{Item, Method};

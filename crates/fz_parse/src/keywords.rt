@@ -1,7 +1,7 @@
 //! The words of the language.
 ghost use Rattle.std.specs.Prelude.{◌≡◌, bytes_eq};
 ghost use Rattle.std.specs.List.{list_any};
-ghost use Rattle.fz_spec.specs.Grammar.{keywords};
+ghost use Rattle.fz_language.specs.Grammar.{keywords};
 
 /// The words that are no identifiers.
 const KEYWORDS: [&[u8]; 15] = [

@@ -1,7 +1,7 @@
 //! The reading of items.
 ghost use Rattle.std.specs.Prelude.{◌≡◌, ◌↔◌, ◌<◌, ◌≤◌, IsTrue, IfOk, MatchOption, MatchResult, length, []};
-ghost use Rattle.fz_spec.specs.Reads.{IsProgramText, place_of};
-ghost use Rattle.fz_spec.specs.Grammar.{solve_pieces, program_pieces};
+ghost use Rattle.fz_language.specs.Reads.{IsProgramText, place_of};
+ghost use Rattle.fz_language.specs.Grammar.{solve_pieces, program_pieces};
 ghost use Rattle.fz_lex.specs.Lexed.{IsPlaceOf};
 ghost use Rattle.fz_parse.specs.Parsed.{HasSyntaxFault, method_of};
 ghost use Rattle.fz_parse.specs.Steps.{rest, BreaksIn, Spans, BeginsItem, IsItem};
@@ -14,7 +14,7 @@ use crate::steps::{is_word, sign, word};
 use crate::tree::{Item, Method};
 use fz_lex::Tokens;
 use fz_spec::code::Code;
-use fz_spec::sign::Sign;
+use fz_language::sign::Sign;
 use std::alloc::{AllocError, Global};
 
 /// The items that the tokens spell, or the place where the syntax is at fault.

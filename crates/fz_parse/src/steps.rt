@@ -1,12 +1,12 @@
 //! The reading of one token.
 ghost use Rattle.std.specs.Prelude.{◌≡◌, ◌↔◌, ◌<◌, ◌≤◌, ◌+◌, IsTrue, MatchOption, length, []};
-ghost use Rattle.fz_spec.specs.Tokens.{Word, Punct};
-ghost use Rattle.fz_spec.specs.Grammar.{Exactly, Identifier, Integer, Marked};
+ghost use Rattle.fz_language.specs.Tokens.{Word, Punct};
+ghost use Rattle.fz_language.specs.Grammar.{Exactly, Identifier, Integer, Marked};
 ghost use Rattle.fz_parse.specs.Steps.{Begins, Takes, Misses, MissesEach, rest, IsLeafAt, TakesLeaf};
 
 use crate::keywords::is_keyword;
 use fz_lex::{Token, TokenKind, Tokens};
-use fz_spec::sign::Sign;
+use fz_language::sign::Sign;
 
 /// The token of this number, from 0, or none behind the last.
 pub(crate) fn token_at(tokens: &Tokens, index: usize) -> Option<Token>

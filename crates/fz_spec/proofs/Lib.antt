@@ -1,9 +1,1 @@
-pub mod Lexing
-pub mod LexemeLaws
-pub mod TokenLaws
-pub mod GrammarLaws
-pub mod ReadingLaws
 pub mod RunLaws
-pub mod TokenTests
-pub mod ExampleLemmas
-pub mod ConstraintExamples

@@ -3,7 +3,7 @@ use Rattle.std.specs.Prelude.{◌≡◌, ℕ, ℤ, Bool, List, [], ◌∷◌, co
 use Rattle.std.specs.Ordering.{int_eq}
 use Rattle.std.specs.List.{AllByRecursion}
 use Rattle.fz_spec.specs.declared.kind.Kind.{Kind}
-use Rattle.fz_spec.specs.Limits.{IsInSet}
+use Rattle.fz_sets.specs.Sets.{IsInSet}
 use Rattle.fz_spec.specs.Constraints.{Constraint, IsTrueOf}
 
 -- a variable: what its values are, and the set that it is declared with (0..1 for a Boolean)

@@ -1,13 +1,7 @@
-pub mod Limits
 pub mod Signatures
 pub mod Constraints
 pub mod Instance
 pub mod Codes
-pub mod Places
-pub mod Tokens
-pub mod Grammar
-pub mod Reads
 pub mod Words
 pub mod Run
 pub mod Laws
-pub mod Examples

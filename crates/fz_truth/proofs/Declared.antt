@@ -2,7 +2,7 @@
 use Rattle.std.proofs.Common.{◌≡◌, ℕ, ◌+◌, ◌<◌, ◌≤◌, zero, suc, List, [], ◌∷◌, take, length, get_or, arith, sym, ap, refl, ◌∙◌, subst, add-one}
 use Rattle.std.specs.Prelude.{ℤ}
 use Rattle.std.specs.List.{AllByRecursion}
-use Rattle.fz_spec.specs.Limits.{IsInSet}
+use Rattle.fz_sets.specs.Sets.{IsInSet}
 use Rattle.fz_spec.specs.Instance.{Variable, AreDeclared}
 
 pub one_length : (vs : List Variable) (xs : List ℤ) → AreDeclared vs xs → length vs ≡ length xs

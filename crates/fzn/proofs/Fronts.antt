@@ -6,7 +6,7 @@ use Rattle.std.proofs.lemmas.List.Concat.{flat_map-append}
 use Rattle.std.proofs.Math.Seq.{drop-cons, take-suc}
 use Rattle.fz_io.specs.Outside.{with_more, with_more-with_more}
 use Rattle.fz_io.specs.Whole.{AllRead}
-use Rattle.fz_spec.specs.Reads.{TEXT_LIMIT}
+use Rattle.fz_spec.specs.declared.limits.TheConstants.{TEXT_LIMIT}
 use Rattle.fzn.specs.Ends.{TakesFront, IsReadOf}
 
 -- the first k bytes of a piece

@@ -5,11 +5,12 @@ use Rattle.fz_spec.specs.declared.code.Code.{Code}
 use Rattle.fz_spec.specs.declared.code.Code.TheVariants.{E01, E02, E03, E04, E05, E06, E07, E08, E10, E11}
 use Rattle.fz_spec.specs.Codes.{code_number, code_text}
 use Rattle.fz_spec.specs.Instance.{Instance}
-use Rattle.fz_spec.specs.Reads.{Reads, Reading, TEXT_LIMIT}
-use Rattle.fz_spec.specs.Reads as reads
+use Rattle.fz_language.specs.Reads.{Reads, Reading}
+use Rattle.fz_spec.specs.declared.limits.TheConstants.{TEXT_LIMIT}
+use Rattle.fz_language.specs.Reads as reads
 use Rattle.fz_spec.specs.Run.{refusal_text, blocks, closing}
 use Rattle.fz_spec.specs.Words.{All, Options}
-use Rattle.fz_spec.proofs.ReadingLaws.{one_reading}
+use Rattle.fz_language.proofs.ReadingLaws.{one_reading}
 use Rattle.fz_io.specs.Outside.{with_more}
 use Rattle.fz_print.specs.declared.refusal.Refusal.{Refusal}
 use Rattle.fz_print.specs.Refusal.{text_of, code_digits}

@@ -5,8 +5,9 @@ use Rattle.std.proofs.lemmas.List.{take_all}
 use Rattle.std.proofs.Math.Nat.{suc-add}
 use Rattle.fz_spec.specs.declared.code.Code.{Code}
 use Rattle.fz_spec.specs.declared.code.Code.TheVariants.{E01, E02, E03, E04, E05, E06, E07, E08, E10, E11}
-use Rattle.fz_spec.specs.Places.{line_of, column_of, is_line_end, is_in_line}
-use Rattle.fz_spec.specs.Reads.{TEXT_LIMIT, IsShort, Reads, Reading, Accepted, Refused, IsRefused, IsRefusedAt}
+use Rattle.fz_language.specs.Places.{line_of, column_of, is_line_end, is_in_line}
+use Rattle.fz_language.specs.Reads.{IsShort, Reads, Reading, Accepted, Refused, IsRefused, IsRefusedAt}
+use Rattle.fz_spec.specs.declared.limits.TheConstants.{TEXT_LIMIT}
 
 -- the first bytes of a text, one more than the limit, are read as the text
 front_is_long : (text : List ℕ) → TEXT_LIMIT < length text → IsShort (take (TEXT_LIMIT + 1) text) → ⊥

@@ -3,8 +3,9 @@ use Rattle.std.specs.Prelude.{◌≡◌, ℕ, ℤ, ◌+◌, ◌<◌, ◌⊎◌, 
 use Rattle.fz_spec.specs.declared.code.Code.{Code}
 use Rattle.fz_spec.specs.Codes.{code_number}
 use Rattle.fz_spec.specs.Instance.{Instance, Lists}
-use Rattle.fz_spec.specs.Reads.{Reads, Accepted, TEXT_LIMIT}
-use Rattle.fz_spec.specs.Reads as reads
+use Rattle.fz_language.specs.Reads.{Reads, Accepted}
+use Rattle.fz_spec.specs.declared.limits.TheConstants.{TEXT_LIMIT}
+use Rattle.fz_language.specs.Reads as reads
 use Rattle.fz_spec.specs.Run.{IsRunText, refusal_text, blocks, closing}
 use Rattle.fz_spec.specs.Words.{Options, Asked, All}
 use Rattle.fz_io.specs.Outside.{with_more, AllFlushed}

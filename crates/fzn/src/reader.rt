@@ -1,7 +1,7 @@
 //! From a text to its model.
 ghost use Rattle.std.specs.Prelude.{◌≡◌, IfOk, MatchResult};
 ghost use Rattle.fz_spec.specs.Codes.{code_number};
-ghost use Rattle.fz_spec.specs.Reads.{Reads, Accepted};
+ghost use Rattle.fz_language.specs.Reads.{Reads, Accepted};
 ghost use Rattle.fzn.specs.Ends.{IsRefusal};
 
 use fz_check::check;

@@ -2,8 +2,8 @@
 ghost use Rattle.std.specs.Prelude.{◌≡◌, ◌≢◌, ◌↔◌, ℕ, ◌-◌, ◌^◌, ◌<◌, List, None, Some, IfSome, IfOk, map, string_bytes};
 ghost use Rattle.fz_spec.specs.declared.code.Code.{Code};
 ghost use Rattle.fz_spec.specs.Instance.{Instance};
-ghost use Rattle.fz_spec.specs.Reads.{Reads, Accepted};
-ghost use Rattle.fz_spec.specs.Reads as reads;
+ghost use Rattle.fz_language.specs.Reads.{Reads, Accepted};
+ghost use Rattle.fz_language.specs.Reads as reads;
 ghost use Rattle.fz_spec.specs.Words.{options_of, All};
 ghost use Rattle.fz_print.specs.Refusal.{text_of};
 ghost use Rattle.fzn.specs.Ends.{Runs, HasCause, IsFlushed, IsDoneOrShort, IsRefusedOrShort, IsReadOf, PrintsOf, HasSinkCause, HasStopCause, Answers, AnswersAll, Flushes};
@@ -18,10 +18,8 @@ use fz_io::outside::{Sink, Source};
 use fz_io::whole::{Whole, read_all};
 use fz_model::model::Model;
 use fz_print::refusal::Refusal;
+use fz_spec::limits::TEXT_LIMIT;
 use std::alloc::Global;
-
-/// The most bytes of a text.
-const TEXT_LIMIT: usize = 67_108_864;
 
 /// Reads a FlatZinc text, searches for its solutions, and prints them.
 ///

@@ -1,6 +1,6 @@
 use Rattle.std.proofs.Common.{◌≡◌, false, map, take}
 use Rattle.std.specs.List.{list_any}
-use Rattle.fz_spec.specs.Reads.{is_output}
+use Rattle.fz_language.specs.Reads.{is_output}
 use Rattle.fz_parse.specs.Parsed.{annotation_of}
 use Rattle.fz_check.proofs.declared.is_output.Given as goal
 

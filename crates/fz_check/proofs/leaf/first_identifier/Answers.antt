@@ -1,6 +1,6 @@
 use Rattle.std.proofs.Common.{refl, sym}
 use Rattle.std.specs.Prelude.{slice_get}
-use Rattle.fz_spec.specs.Reads.{identifiers}
+use Rattle.fz_language.specs.Reads.{identifiers}
 use Rattle.fz_lex.specs.Lexed.{token_of}
 use Rattle.fz_parse.specs.Parsed.{basic_of, BasicHasLeaf}
 use Rattle.fz_check.proofs.Firsts.{passed, stopped, ended, all_at}

@@ -1,5 +1,5 @@
 use Rattle.std.proofs.Common.{ap, sym, subst, ◌∙◌}
-use Rattle.fz_spec.specs.Reads.{elements_of}
+use Rattle.fz_language.specs.Reads.{elements_of}
 use Rattle.fz_lex.specs.Lexed.{token_of}
 use Rattle.fz_parse.specs.Parsed.{expression_of, BasicHasLeaf, ExpressionHasLeaves}
 use Rattle.fz_check.proofs.Elements.{over, under, room_left}

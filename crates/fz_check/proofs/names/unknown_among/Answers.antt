@@ -1,5 +1,5 @@
 use Rattle.std.proofs.Common.{sym, find}
-use Rattle.fz_spec.specs.Reads.{identifiers}
+use Rattle.fz_language.specs.Reads.{identifiers}
 use Rattle.fz_lex.specs.Lexed.{token_of}
 use Rattle.fz_parse.specs.Parsed.{basic_of}
 use Rattle.fz_check.specs.Draft.{is_absent, texts}

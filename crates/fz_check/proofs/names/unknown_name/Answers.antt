@@ -1,6 +1,6 @@
 use Rattle.std.proofs.Common.{sym, ap, subst, ◌∙◌, find}
 use Rattle.std.specs.List.{flat_map}
-use Rattle.fz_spec.specs.Reads.{identifiers}
+use Rattle.fz_language.specs.Reads.{identifiers}
 use Rattle.fz_lex.specs.Lexed.{token_of}
 use Rattle.fz_parse.specs.Parsed.{ExpressionHasLeaves}
 use Rattle.fz_check.specs.Draft.{is_absent, texts}

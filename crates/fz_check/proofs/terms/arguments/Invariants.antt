@@ -1,5 +1,5 @@
 use Rattle.std.proofs.Common.{◌≡◌, map, take}
-use Rattle.fz_spec.specs.Reads.{arguments_of}
+use Rattle.fz_language.specs.Reads.{arguments_of}
 use Rattle.fz_parse.specs.Parsed.{expression_of}
 use Rattle.fz_model.specs.Arguments as kept
 use Rattle.fz_check.specs.Draft.{asked_of, texts}

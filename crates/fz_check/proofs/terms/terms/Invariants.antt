@@ -1,5 +1,5 @@
 use Rattle.std.proofs.Common.{◌≡◌, map, take}
-use Rattle.fz_spec.specs.Reads.{term_of}
+use Rattle.fz_language.specs.Reads.{term_of}
 use Rattle.fz_parse.specs.Parsed.{basic_of}
 use Rattle.fz_check.specs.Draft.{texts}
 use Rattle.fz_check.proofs.terms.terms.Given as goal

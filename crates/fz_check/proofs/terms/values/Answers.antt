@@ -3,8 +3,8 @@ use Rattle.std.proofs.lemmas.List.{map-append, map_more, take_all}
 use Rattle.std.proofs.lemmas.Int.{to_z-of_z}
 use mir.Syntax.{w32}
 use mir.Val.{SFits}
-use Rattle.fz_spec.specs.Reads.{leaf_of, value_of}
-use Rattle.fz_spec.specs.Grammar as grammar
+use Rattle.fz_language.specs.Reads.{leaf_of, value_of}
+use Rattle.fz_language.specs.Grammar as grammar
 use Rattle.fz_parse.specs.Parsed.{basic_of}
 use Rattle.fz_check.proofs.terms.values.Goals as goal
 

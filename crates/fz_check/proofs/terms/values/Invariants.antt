@@ -1,5 +1,5 @@
 use Rattle.std.proofs.Common.{◌≡◌, ℕ, List, map, take}
-use Rattle.fz_spec.specs.Reads.{leaf_of, value_of}
+use Rattle.fz_language.specs.Reads.{leaf_of, value_of}
 use Rattle.fz_parse.specs.Parsed.{basic_of}
 use Rattle.fz_check.proofs.terms.values.Given as goal
 

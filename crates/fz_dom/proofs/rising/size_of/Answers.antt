@@ -1,7 +1,7 @@
 use Rattle.std.proofs.Common.{◌≡◌, pos, ◌-ℤ◌, get_or, arith, rules}
 use Rattle.std.specs.Prelude.{nat_abs}
 use Rattle.std.proofs.lemmas.List.{at_drop_more}
-use Rattle.fz_spec.specs.Limits.{set_size}
+use Rattle.fz_sets.specs.Sets.{set_size}
 use Rattle.fz_dom.proofs.Ranges.{size_below}
 use Rattle.fz_dom.proofs.rising.size_of.Goals as goal
 

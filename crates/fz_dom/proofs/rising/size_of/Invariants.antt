@@ -1,5 +1,5 @@
 use Rattle.std.proofs.Common.{◌≡◌, ◌+◌, drop}
-use Rattle.fz_spec.specs.Limits.{set_size}
+use Rattle.fz_sets.specs.Sets.{set_size}
 use Rattle.fz_dom.proofs.rising.size_of.Given as goal
 
 abbrev pub invariant-loop-r : goal.invariant-loop-r

@@ -1,7 +1,7 @@
 use Rattle.std.proofs.Common.{ℕ, ◌∙◌, map, refl, subst, sym}
 use Rattle.fz_spec.specs.declared.code.Code.{Code}
-use Rattle.fz_spec.specs.Tokens.{IsGap}
-use Rattle.fz_spec.specs.Reads.{IsUnlexed}
+use Rattle.fz_language.specs.Tokens.{IsGap}
+use Rattle.fz_language.specs.Reads.{IsUnlexed}
 use Rattle.fz_lex.specs.Lexed.{token_of}
 use Rattle.fz_lex.proofs.Wholes.{led_fault, led_push, placed_push, token_in_line, whole_from}
 use Rattle.fz_lex.proofs.scan.tokens.Goals as goal
@@ -13,7 +13,7 @@ returns-in-Err c =
     let e = c.fault_at-in-Err.ensures in
     record {
       at = at;
-      unlexed = subst (λ (x : Code). IsUnlexed text x at) (sym e.code) (led_fault text (map (token_of text) c.text.found.items) c.in-Err.code at c.if-text-gt-LIMIT.false c.text.invariant.2 c.in-Err.ensures);
+      unlexed = subst (λ (x : Code). IsUnlexed text x at) (sym e.code) (led_fault text (map (token_of text) c.text.found.items) c.in-Err.code at c.if-text-gt-TEXT_LIMIT.false c.text.invariant.2 c.in-Err.ensures);
       placed = record {
         line_is = e.line ∙ c.text.invariant.0.placed.line_is;
         column_is = e.column ∙ c.text.invariant.0.placed.column_is;
@@ -36,4 +36,4 @@ text-preserved c =
 
 pub new-requires : goal.new-requires
 new-requires c =
-    whole_from c.args.text.now c.text.found.items c.text.cursor c.if-text-gt-LIMIT.false c.text.invariant.0 c.text-test.false c.text.invariant.2 c.text.invariant.3
+    whole_from c.args.text.now c.text.found.items c.text.cursor c.if-text-gt-TEXT_LIMIT.false c.text.invariant.0 c.text-test.false c.text.invariant.2 c.text.invariant.3

@@ -1,6 +1,6 @@
 use Rattle.std.proofs.Common.{length, ◌-◌, ◌≡◌, slice_range, min}
 use Rattle.std.specs.Char.{is_ascii_digit}
-use Rattle.fz_spec.specs.Tokens.{digits_value}
+use Rattle.fz_language.specs.Tokens.{digits_value}
 use Rattle.fz_lex.specs.Steps.{Passes}
 use Rattle.fz_lex.specs.declared.spelling.TheConstants.{OVER}
 use Rattle.fz_lex.proofs.spelling.digits.Given as goal

@@ -1,5 +1,5 @@
 use Rattle.std.proofs.Common.{length, ◌-◌}
-use Rattle.fz_spec.specs.Tokens.{is_word_byte}
+use Rattle.fz_language.specs.Tokens.{is_word_byte}
 use Rattle.fz_lex.specs.Steps.{Passes}
 use Rattle.fz_lex.proofs.spelling.word_end.Given as goal
 

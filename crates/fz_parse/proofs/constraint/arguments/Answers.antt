@@ -1,6 +1,6 @@
 use Rattle.std.proofs.Common.{arith}
-use Rattle.fz_spec.specs.declared.sign.Sign.TheVariants.{Comma, RightParenthesis}
-use Rattle.fz_spec.specs.Grammar.{sign, expression_pieces}
+use Rattle.fz_language.specs.declared.sign.Sign.TheVariants.{Comma, RightParenthesis}
+use Rattle.fz_language.specs.Grammar.{sign, expression_pieces}
 use Rattle.fz_parse.proofs.Faults.{spans_both, spans_one}
 use Rattle.fz_parse.proofs.Leaves.{takes_next}
 use Rattle.fz_parse.proofs.Lists.{map_some, some_more, next_part}

@@ -1,6 +1,6 @@
 use Rattle.std.proofs.Common.{arith}
-use Rattle.fz_spec.specs.declared.sign.Sign.TheVariants.{DoubleColon}
-use Rattle.fz_spec.specs.Grammar.{sign, annotation_pieces}
+use Rattle.fz_language.specs.declared.sign.Sign.TheVariants.{DoubleColon}
+use Rattle.fz_language.specs.Grammar.{sign, annotation_pieces}
 use Rattle.fz_parse.proofs.Faults.{spans_both, spans_one, spans_next}
 use Rattle.fz_parse.proofs.Leaves.{takes_next}
 use Rattle.fz_parse.proofs.Declarations.{behind_annotations, annotation_breaks, annotations_end_breaks}

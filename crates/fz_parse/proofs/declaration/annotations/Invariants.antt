@@ -1,6 +1,6 @@
 use Rattle.std.proofs.Common.{◌≤◌, ◌-◌, length, map}
 use Rattle.std.specs.List.{AllByRecursion, flat_map}
-use Rattle.fz_spec.specs.Grammar.{annotation_pieces}
+use Rattle.fz_language.specs.Grammar.{annotation_pieces}
 use Rattle.fz_parse.specs.Parsed.{annotation_of, AnnotationHasLeaf}
 use Rattle.fz_parse.specs.Steps.{rest, Spans}
 use Rattle.fz_parse.proofs.declaration.annotations.Given as goal

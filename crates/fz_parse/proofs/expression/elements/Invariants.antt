@@ -1,6 +1,6 @@
 use Rattle.std.proofs.Common.{◌≡◌, ◌≤◌, ◌-◌, [], length, map}
 use Rattle.std.specs.List.{AllByRecursion}
-use Rattle.fz_spec.specs.Grammar.{separated, basic_pieces}
+use Rattle.fz_language.specs.Grammar.{separated, basic_pieces}
 use Rattle.fz_parse.specs.Parsed.{basic_of, BasicHasLeaf}
 use Rattle.fz_parse.specs.Steps.{rest, Spans}
 use Rattle.fz_parse.proofs.expression.elements.Given as goal

@@ -1,5 +1,5 @@
 use Rattle.std.proofs.Common.{codes}
-use Rattle.fz_spec.specs.Grammar.{word}
+use Rattle.fz_language.specs.Grammar.{word}
 use Rattle.fz_parse.proofs.Faults.{spans_next}
 use Rattle.fz_parse.proofs.Leaves.{takes_next}
 use Rattle.fz_parse.proofs.Programs.{declaration_breaks, constraint_breaks, begins_constraint}

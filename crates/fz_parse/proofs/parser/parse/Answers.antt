@@ -1,4 +1,4 @@
-use Rattle.fz_spec.specs.Grammar.{item_pieces}
+use Rattle.fz_language.specs.Grammar.{item_pieces}
 use Rattle.fz_parse.proofs.Programs.{behind_items, solve_breaks}
 use Rattle.fz_parse.proofs.Trees.{more_leaves, more_spans, not_both, fault_is, parsed_is}
 use Rattle.fz_parse.proofs.parser.parse.Goals as goal

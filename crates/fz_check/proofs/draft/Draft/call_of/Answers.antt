@@ -1,7 +1,7 @@
 use Rattle.std.proofs.Common.{map, sym, subst, arith}
 use Rattle.std.specs.List.{AllByRecursion}
 use Rattle.std.proofs.lemmas.Bool.{both_ways}
-use Rattle.fz_spec.specs.Reads.{HasUnequalLists}
+use Rattle.fz_language.specs.Reads.{HasUnequalLists}
 use Rattle.fz_parse.specs.Parsed.{expression_of, ExpressionHasLeaves}
 use Rattle.fz_check.proofs.Calls.{HasCall, unknown_at, wrong_at, unequal_at, many_at, element_at, keeps}
 use Rattle.fz_check.proofs.draft.Draft.call_of.Goals as goal

@@ -1,8 +1,8 @@
 use Rattle.std.proofs.Common.{◌≡◌, length, map, refl, ap, ◌∙◌, ◌++◌, arith}
 use Rattle.std.specs.List.{list_any}
 use Rattle.fz_spec.specs.declared.code.Code.TheVariants.{E04, E11}
-use Rattle.fz_spec.specs.Grammar.{Declare}
-use Rattle.fz_spec.specs.Reads.{declared_names, is_output, name_of, output_of}
+use Rattle.fz_language.specs.Grammar.{Declare}
+use Rattle.fz_language.specs.Reads.{declared_names, is_output, name_of, output_of}
 use Rattle.fz_lex.specs.Lexed.{token_of}
 use Rattle.fz_parse.specs.Parsed.{annotation_of, declaration_of}
 use Rattle.fz_check.proofs.Breaks.{declared_before, one_too_many}

@@ -1,7 +1,7 @@
 use Rattle.std.proofs.Common.{◌≡◌, ◌∙◌, ℤ, pos, List, [], ◌∷◌, get_or, arith, rules, w32, to_z, of_z}
 use Rattle.std.proofs.lemmas.List.{nil_from_length}
 use Rattle.std.proofs.lemmas.Result.{IfOk-weaker}
-use Rattle.fz_spec.specs.Limits.{AreRanges, AreOneSet, interval}
+use Rattle.fz_sets.specs.Sets.{AreRanges, AreOneSet, interval}
 use Rattle.fz_dom.proofs.Merging.{unique, interval_one_set, interval_ranges, one_range}
 use Rattle.fz_dom.proofs.domain.Dom.from_ranges.Goals as goal
 

@@ -1,6 +1,6 @@
 use Rattle.std.proofs.Common.{◌≡◌, rules, arith}
 use Rattle.std.proofs.lemmas.Bool.Decides.{nat_tests}
-use Rattle.fz_spec.specs.Limits.{set_size}
+use Rattle.fz_sets.specs.Sets.{set_size}
 use Rattle.fz_dom.specs.Shape.{IsDomain}
 use Rattle.fz_dom.proofs.Ranges.{none_of_size}
 use Rattle.fz_dom.proofs.domain.Dom.is_empty.Goals as goal

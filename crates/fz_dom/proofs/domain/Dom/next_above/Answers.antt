@@ -1,6 +1,6 @@
 use Rattle.std.proofs.Common.{◌≡◌, rules, arith, w32, to_z, of_z}
 use Rattle.std.proofs.lemmas.Int.{ints}
-use Rattle.fz_spec.specs.Limits.{set_size}
+use Rattle.fz_sets.specs.Sets.{set_size}
 use Rattle.fz_dom.specs.Shape.{IsDomain, greatest}
 use Rattle.fz_dom.proofs.Ranges.{upper_bound, none_of_size}
 use Rattle.fz_dom.proofs.domain.Dom.next_above.Goals as goal

@@ -1,5 +1,5 @@
 use Rattle.std.proofs.Common.{◌≡◌, rules}
-use Rattle.fz_spec.specs.Limits.{set_size}
+use Rattle.fz_sets.specs.Sets.{set_size}
 use Rattle.fz_dom.specs.Shape.{IsDomain}
 use Rattle.fz_dom.proofs.Ranges.{size_below}
 use Rattle.fz_dom.proofs.domain.Dom.size.Goals as goal

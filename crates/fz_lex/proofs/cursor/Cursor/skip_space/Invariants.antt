@@ -1,5 +1,5 @@
 use Rattle.std.proofs.Common.{length, ◌-◌}
-use Rattle.fz_spec.specs.Tokens.{IsGap}
+use Rattle.fz_language.specs.Tokens.{IsGap}
 use Rattle.fz_lex.specs.Steps.{StandsAt}
 use Rattle.fz_lex.proofs.cursor.Cursor.skip_space.Given as goal
 

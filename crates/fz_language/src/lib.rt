@@ -1,0 +1,11 @@
+//! The language, as definitions that the reader's contracts cite: its tokens, its grammar, and how a text is read. The language
+//! is the integer part of FlatZinc (MiniZinc Handbook, "FlatZinc and the MiniZinc Challenge"); where the handbook leaves a
+//! choice, the rule is fzn's own and says so.
+//!
+//! The definitions stand in `specs/`. Here are the enum that code and definitions share, the laws that the definitions keep,
+//! and how some texts are read.
+#![tactic(auto)]
+
+pub mod examples;
+pub mod laws;
+pub mod sign;

@@ -1,5 +1,0 @@
-use Rattle.fz_spec.proofs.ReadingLaws.{one_reading}
-use Rattle.fz_spec.proofs.laws.reading_is_one.Goals as goal
-
-pub returns : goal.returns
-returns c = one_reading

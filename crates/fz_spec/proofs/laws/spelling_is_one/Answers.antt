@@ -1,5 +1,0 @@
-use Rattle.fz_spec.proofs.GrammarLaws.{one_program}
-use Rattle.fz_spec.proofs.laws.spelling_is_one.Goals as goal
-
-pub returns : goal.returns
-returns c = one_program

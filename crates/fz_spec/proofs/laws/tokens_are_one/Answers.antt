@@ -1,6 +1,0 @@
-use Rattle.fz_spec.specs.Tokens.{End}
-use Rattle.fz_spec.proofs.TokenLaws.{one_lexing}
-use Rattle.fz_spec.proofs.laws.tokens_are_one.Goals as goal
-
-pub returns : goal.returns
-returns c = λ text ts us h k. (one_lexing text 0 ts us End End h k).0
