@@ -1,10 +1,11 @@
 -- Which calls of an object in memory fail. Calls are numbered from 1; the numbers end at the greatest that fits 64 bits.
-use Rattle.std.specs.Prelude.{◌≡◌, ℕ, ◌+◌, ◌-◌, ◌^◌, ◌≤◌, min, Contains}
+use Rattle.std.specs.Prelude.{◌≡◌, ℕ, ◌+◌, ◌≤◌, Contains}
+use Rattle.fz_io.specs.Outside.{one_more}
 use Rattle.fz_io.specs.declared.calls.Calls.{Calls}
 
 -- the number of the next call
 abbrev pub next_call : Calls → ℕ
-next_call c = min (c.made + 1) (2 ^ 64 - 1)
+next_call c = one_more c.made
 
 -- the next call is listed as one that fails
 abbrev pub FailsNext : Calls → Type 0

@@ -1,5 +1,5 @@
 -- What a source of files reads from.
-use Rattle.std.specs.Prelude.{ℕ, Option, Some, List, [], IsTrue, IsFalse, bytes_eq, codes}
+use Rattle.std.specs.Prelude.{ℕ, Bool, true, false, not, Option, Some, List, [], bytes_eq, codes}
 use Rattle.std.specs.Io.Buffered.{reader_remaining}
 use Rattle.fz_io.specs.declared.file.FileSource.{FileSource}
 use Rattle.fz_io.specs.declared.file.Opened.{Opened}
@@ -11,11 +11,17 @@ opened_left of_file of_input Nothing = Some []
 opened_left of_file of_input (File f) = reader_remaining of_file f
 opened_left of_file of_input (Input i) = reader_remaining of_input i
 
+-- whether nothing is opened
+abbrev pub is_nothing : {F I : Type 0} → Opened F I → Bool
+is_nothing Nothing = true
+is_nothing (File f) = false
+is_nothing (Input i) = false
+
 -- what is opened for a name: standard input for `-`, and else a file
-abbrev pub IsOpenedFor : {F I : Type 0} → List ℕ → Opened F I → Type 0
-IsOpenedFor name Nothing = ⊥
-IsOpenedFor name (File f) = IsFalse (bytes_eq name (codes "-"))
-IsOpenedFor name (Input i) = IsTrue (bytes_eq name (codes "-"))
+abbrev pub is_opened_for : {F I : Type 0} → Opened F I → List ℕ → Bool
+is_opened_for Nothing name = false
+is_opened_for (File f) name = not (bytes_eq name (codes "-"))
+is_opened_for (Input i) name = bytes_eq name (codes "-")
 
 -- what the source reads from
 abbrev pub file_opened : {R F D I : Type 0} → FileSource R F D I → Opened F I
@@ -24,6 +30,10 @@ file_opened s = s.opened
 -- the bytes that the source has left, where the file or the input tells them
 abbrev pub file_left : {R F D I : Type 0} → (F → Option (List ℕ)) → (I → Option (List ℕ)) → FileSource R F D I → Option (List ℕ)
 file_left of_file of_input s = opened_left of_file of_input s.opened
+
+-- how often `select` was called
+abbrev pub file_selections : {R F D I : Type 0} → FileSource R F D I → ℕ
+file_selections s = s.selections
 
 -- how often a call of the source failed
 abbrev pub file_faults : {R F D I : Type 0} → FileSource R F D I → ℕ

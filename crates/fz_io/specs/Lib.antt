@@ -4,4 +4,5 @@ pub mod Texts
 pub mod Calls
 pub mod Memory
 pub mod Output
+pub mod Buffered
 pub mod File

@@ -1,10 +1,10 @@
 -- What a source and a sink in memory tell.
-use Rattle.std.specs.Prelude.{ℕ, min, ◌≤◌, List, length, Option, Some}
+use Rattle.std.specs.Prelude.{ℕ, Bool, min, ◌≤◌, List, length, Option, Some}
 use Rattle.std.proofs.Common.{arith}
 use Rattle.fz_io.specs.declared.calls.Calls.{Calls}
 use Rattle.fz_io.specs.declared.memory_source.MemSource.{MemSource}
 use Rattle.fz_io.specs.declared.memory_sink.MemSink.{MemSink}
-use Rattle.fz_io.specs.Texts.{text_of, bytes_left}
+use Rattle.fz_io.specs.Texts.{text_of, bytes_left, is_chosen}
 
 -- the text of each name, the first where two have it
 abbrev pub source_texts : MemSource → List ℕ → Option (List ℕ)
@@ -13,6 +13,14 @@ source_texts s = text_of s.texts.all.items
 -- the bytes left of the selected text
 abbrev pub source_left : MemSource → Option (List ℕ)
 source_left s = Some (bytes_left s.texts)
+
+-- whether a text of this name is selected
+abbrev pub source_selected : MemSource → List ℕ → Bool
+source_selected s = is_chosen s.texts
+
+-- how often `select` was called
+abbrev pub source_selections : MemSource → ℕ
+source_selections s = s.selections
 
 -- how often a call of the source failed
 abbrev pub source_faults : MemSource → ℕ

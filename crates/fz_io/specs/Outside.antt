@@ -1,10 +1,14 @@
 -- What a source gives and what a sink takes.
-use Rattle.std.specs.Prelude.{◌≡◌, ◌↔◌, ℕ, ◌<◌, ◌≤◌, Option, Some, None, IfSome, Result, MatchResult, List, [], ◌++◌, length, take, drop, option_map, refl}
-use Rattle.std.proofs.Common.{ap, append_assoc, append-nil}
+use Rattle.std.specs.Prelude.{◌≡◌, ◌↔◌, ℕ, ◌+◌, ◌-◌, ◌^◌, ◌<◌, ◌≤◌, min, Option, Some, None, IfSome, Result, MatchResult, List, [], ◌++◌, length, take, drop, option_map, refl}
+use Rattle.std.proofs.Common.{ap, append_assoc, append-nil, arith, length-append}
 
 -- A call fails exactly where its object's count of faults rose in it.
 abbrev pub HasCause : {T E : Type 0} → ℕ → ℕ → Result T E → Type 0
 HasCause before after result = MatchResult result (λ _. after ≡ before) (λ _. before < after)
+
+-- the count of one call more; it stands still at the greatest number that fits 64 bits
+abbrev pub one_more : ℕ → ℕ
+one_more n = min (n + 1) (2 ^ 64 - 1)
 
 -- n bytes moved from the front of what was left into the front of the buffer; none exactly where none was left
 pub record Moves (n : ℕ) (left : List ℕ) (buffer : List ℕ) (after : Option (List ℕ)) : Type 0 where
@@ -43,3 +47,8 @@ with_more-with_more (Some t) a b = ap Some (append_assoc t a b)
 pub with_more-none : (taken : Option (List ℕ)) → with_more taken [] ≡ taken
 with_more-none None = refl
 with_more-none (Some t) = ap Some (append-nil t)
+
+-- what is flushed is within what was taken, also with bytes behind it
+pub flushed_before : (taken : Option (List ℕ)) (n : ℕ) (more : List ℕ) → FlushedWithin taken n → FlushedWithin (with_more taken more) n
+flushed_before None n more h = tt
+flushed_before (Some t) n more h = omega (arith, length-append t more)

@@ -1,18 +1,22 @@
 //! Files and standard input as a source.
-ghost use Rattle.std.specs.Prelude.{◌≡◌, ℕ, ◌-◌, ◌+◌, ◌^◌, ◌<◌, ◌≤◌, None, Some, [], IfOk, OnOk, OnErr, length};
+ghost use Rattle.std.specs.Prelude.{◌≡◌, ℕ, ◌-◌, ◌+◌, ◌^◌, ◌<◌, ◌≤◌, IsTrue, None, Some, Ok, [], IfOk, OnOk, OnErr, false, true, length};
 ghost use Rattle.std.specs.Io.KnownBytes.{ReadConsumes};
-ghost use Rattle.fz_io.specs.Outside.{HasCause};
-ghost use Rattle.fz_io.specs.File.{file_left, file_opened, file_faults, IsOpenedFor};
+ghost use Rattle.std.specs.Fs.{asks_read, asks_write, asks_append, asks_truncate};
+ghost use Rattle.fz_io.specs.Outside.{HasCause, one_more};
+ghost use Rattle.fz_io.specs.File.{file_left, file_opened, file_faults, file_selections, is_nothing, is_opened_for};
 
 use crate::outside::{Failed, Source};
 use std::alloc::Global;
-use std::fs::File;
+use std::fs::OpenOptions;
 use std::io;
-use std::io::{BufReader, Read};
+use std::io::{BufReader, ErrorKind, Read};
 use std::rt::Files;
 
 /// How many bytes are read at once, so that a piece is no system call.
 const BUFFER: usize = 64 * 1024;
+
+/// How often a read that a signal interrupts is tried again.
+const TRIES: u32 = 1_000_000;
 
 /// What is read from.
 #[derive(Drop)]
@@ -23,18 +27,47 @@ enum Opened<F, I> {
 }
 
 /// The file of each name, and standard input for the name `-`. It doesn't tell its bytes. A file that can't be opened
-/// or read is a fault, and so is want of memory for the buffer of 64 KiB that each selected text has.
+/// or read is a fault, and so is want of memory for the buffer of 64 KiB that each selected text has. A read that a signal
+/// interrupts is tried again.
 #[derive(Drop)]
 pub struct FileSource<R: Files + Input> {
     alloc: Global,
     rt: R,
     opened: Opened<R::File, R::Reader>,
+    selections: u64,
     faults: u64,
+}
+
+/// How a file is opened: to be read, and nothing else. It isn't made, and what stands in it stays.
+fn for_reading() -> OpenOptions
+    ensures read { asks_read result ≡ true }
+    ensures write { asks_write result ≡ false }
+    ensures append { asks_append result ≡ false }
+    ensures truncate { asks_truncate result ≡ false }
+{
+    let mut how = OpenOptions::new();
+    how.read(true);
+    how
+}
+
+/// Reads, and tries again where a signal interrupts.
+fn read_again<T: Read>(reader: &mut T, buf: &mut [u8]) -> io::Result<usize>
+    ensures within { IfOk result (λ n. n ≤ length buf.old) }
+    ensures bytes { ReadConsumes (T.remaining reader.old) (T.remaining reader.new) result buf.new }
+{
+    'tries: for _ in 0..TRIES {
+        match reader.read(buf) {
+            Err(fault) if fault.kind() == ErrorKind::Interrupted => {}
+            other => return other,
+        }
+    }
+    Err(io::Error::from(ErrorKind::Interrupted))
 }
 
 impl<R: Files + Input> FileSource<R> {
     /// Nothing is selected yet.
     pub fn new(alloc: Global, rt: R) -> FileSource<R>
+        ensures selections { file_selections result ≡ 0 }
         ensures faults { file_faults result ≡ 0 }
         ensures left { file_left R.File.remaining R.Reader.remaining result ≡ Some [] }
     {
@@ -42,6 +75,7 @@ impl<R: Files + Input> FileSource<R> {
             alloc,
             rt,
             opened: Opened::Nothing,
+            selections: 0,
             faults: 0,
         }
     }
@@ -54,13 +88,13 @@ impl<R: Files + Input> FileSource<R> {
     }
 
     fn open(&self, name: &str) -> io::Result<Opened<R::File, R::Reader>>
-        ensures { IfOk result (λ o. IsOpenedFor name.now o) }
+        ensures { IfOk result (λ o. IsTrue (is_opened_for o name.now)) }
     {
         if name == "-" {
             let input = BufReader::with_capacity(self.alloc, BUFFER, self.rt.reader())?;
             return Ok(Opened::Input(input));
         }
-        let file = File::open(&self.rt, name)?;
+        let file = for_reading().open(&self.rt, name)?;
         Ok(Opened::File(BufReader::with_capacity(self.alloc, BUFFER, file)?))
     }
 
@@ -79,14 +113,20 @@ impl<R: Files + Input> Source for FileSource<R> {
 
     ghost left = { λ _. None };
 
+    ghost is_selected = { λ s. is_opened_for (file_opened s) };
+
+    ghost selections = { λ s. file_selections s };
+
     ghost faults = { λ s. file_faults s };
 
     fn select(&mut self, name: &str) -> Result<(), Failed>
         requires { file_faults self.old < 2 ^ 64 - 1 }
         ensures cause { HasCause (file_faults self.old) (file_faults self.new) result }
-        ensures opened { OnOk result (IsOpenedFor name.now (file_opened self.new)) }
+        ensures counted { file_selections self.new ≡ one_more (file_selections self.old) }
+        ensures selected { OnOk result (IsTrue (is_opened_for (file_opened self.new) name.now)) }
         ensures stays { OnErr result (file_opened self.new ≡ file_opened self.old) }
     {
+        self.selections = self.selections.saturating_add(1);
         match self.open(name) {
             Ok(opened) => {
                 self.opened = opened;
@@ -100,14 +140,17 @@ impl<R: Files + Input> Source for FileSource<R> {
         requires faults { file_faults self.old < 2 ^ 64 - 1 }
         requires room { 0 < length buf.old }
         ensures within { IfOk result (λ n. n ≤ length buf.old) }
+        ensures selected { is_opened_for (file_opened self.new) ≡ is_opened_for (file_opened self.old) }
+        ensures counted { file_selections self.new ≡ file_selections self.old }
+        ensures nothing { IsTrue (is_nothing (file_opened self.old)) → result ≡ Ok 0 }
         ensures cause { HasCause (file_faults self.old) (file_faults self.new) result }
         ensures bytes { ReadConsumes (file_left R.File.remaining R.Reader.remaining self.old)
             (file_left R.File.remaining R.Reader.remaining self.new) result buf.new }
     {
         let count = match &mut self.opened {
             Opened::Nothing => Ok(0),
-            Opened::File(file) => file.read(buf),
-            Opened::Input(input) => input.read(buf),
+            Opened::File(file) => read_again(file, buf),
+            Opened::Input(input) => read_again(input, buf),
         };
         match count {
             Ok(count) => Ok(count),

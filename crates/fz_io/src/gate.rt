@@ -9,11 +9,11 @@ pub enum EventKind {
     Start,
     /// Goes on by one step of the search.
     Step,
-    /// Hands in a solution.
+    /// Hands in an account of a piece: what was found in it, and what is left of it.
     Report,
-    /// Takes a piece from another worker.
+    /// Takes a part of the piece that another worker has.
     Steal,
-    /// Hands in a fact that it learned.
+    /// Takes in a better solution that another worker found.
     Learn,
 }
 

@@ -4,6 +4,8 @@
 //! its faults, and a call answers that it failed exactly where the count rose.
 #![tactic(auto)]
 
+mod buffer;
+pub mod buffered;
 mod calls;
 pub mod file;
 pub mod gate;

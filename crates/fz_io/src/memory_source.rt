@@ -1,9 +1,9 @@
 //! A source in memory, some of whose calls fail.
-ghost use Rattle.std.specs.Prelude.{◌≡◌, ℕ, ◌-◌, ◌^◌, ◌<◌, ◌≤◌, ◌↔◌, ◌⊎◌, [], None, Some, IsErr, IfOk, OnOk, OnErr, length};
-ghost use Rattle.fz_io.specs.Outside.{HasCause, Reads};
+ghost use Rattle.std.specs.Prelude.{◌≡◌, ℕ, ◌-◌, ◌^◌, ◌<◌, ◌≤◌, ◌↔◌, ◌⊎◌, [], None, Some, IsTrue, IsErr, IfOk, OnOk, OnErr, length};
+ghost use Rattle.fz_io.specs.Outside.{HasCause, Reads, one_more};
 ghost use Rattle.fz_io.specs.Texts.{text_of};
 ghost use Rattle.fz_io.specs.Calls.{FailsNext, Counts};
-ghost use Rattle.fz_io.specs.Memory.{source_texts, source_left, source_faults, source_calls};
+ghost use Rattle.fz_io.specs.Memory.{source_texts, source_left, source_selected, source_selections, source_faults, source_calls};
 
 use crate::calls::Calls;
 use crate::outside::{Failed, Source};
@@ -13,6 +13,7 @@ use crate::texts::{NamedText, Texts};
 #[derive(Drop)]
 pub struct MemSource {
     texts: Texts,
+    selections: u64,
     calls: Calls,
 }
 
@@ -22,12 +23,14 @@ impl MemSource {
     pub fn new(texts: Vec<NamedText>, fails: Vec<u64>) -> MemSource
         ensures texts { source_texts result ≡ text_of texts.items }
         ensures left { source_left result ≡ Some [] }
+        ensures selections { source_selections result ≡ 0 }
         ensures faults { source_faults result ≡ 0 }
         ensures made { (source_calls result).made ≡ 0 }
         ensures fails { (source_calls result).fails ≡ fails }
     {
         MemSource {
             texts: Texts::new(texts),
+            selections: 0,
             calls: Calls::new(fails),
         }
     }
@@ -45,17 +48,24 @@ impl Source for MemSource {
 
     ghost left = { source_left };
 
+    ghost is_selected = { source_selected };
+
+    ghost selections = { source_selections };
+
     ghost faults = { source_faults };
 
     fn select(&mut self, name: &str) -> Result<(), Failed>
         requires { source_faults self.old < 2 ^ 64 - 1 }
         ensures left { OnOk result (source_left self.new ≡ source_texts self.old name.now) }
+        ensures selected { OnOk result (IsTrue (source_selected self.new name.now)) }
+        ensures counted { source_selections self.new ≡ one_more (source_selections self.old) }
         ensures stays { OnErr result (source_left self.new ≡ source_left self.old) }
         ensures texts { source_texts self.new ≡ source_texts self.old }
         ensures cause { HasCause (source_faults self.old) (source_faults self.new) result }
         ensures fails { IsErr result ↔ (FailsNext (source_calls self.old) ⊎ (source_texts self.old name.now ≡ None)) }
         ensures counts { Counts (source_calls self.old) (source_calls self.new) }
     {
+        self.selections = self.selections.saturating_add(1);
         self.calls.begin()?;
         if self.texts.select(name) {
             Ok(())
@@ -69,6 +79,8 @@ impl Source for MemSource {
         requires room { 0 < length buf.old }
         ensures within { IfOk result (λ n. n ≤ length buf.old) }
         ensures moves { IfOk result (λ n. Reads n (source_left self.old) (source_left self.new) buf.new) }
+        ensures selected { source_selected self.new ≡ source_selected self.old }
+        ensures counted { source_selections self.new ≡ source_selections self.old }
         ensures stays { OnErr result (source_left self.new ≡ source_left self.old) }
         ensures texts { source_texts self.new ≡ source_texts self.old }
         ensures cause { HasCause (source_faults self.old) (source_faults self.new) result }

@@ -1,36 +1,47 @@
 //! Standard output as a sink.
-ghost use Rattle.std.specs.Prelude.{◌≡◌, ℕ, ◌-◌, ◌+◌, ◌^◌, ◌<◌, ◌≤◌, [], None, IfOk, OnOk, OnErr, length, take};
+ghost use Rattle.std.specs.Prelude.{◌≡◌, ℕ, ◌-◌, ◌+◌, ◌^◌, ◌<◌, ◌≤◌, None, IfOk, OnOk, OnErr, length, take};
+ghost use Rattle.std.specs.Io.{WritesAtMost};
 ghost use Rattle.std.specs.Io.KnownBytes.{Keeps, WriteAppends};
-ghost use Rattle.fz_io.specs.Outside.{HasCause, AllFlushed, with_more};
-ghost use Rattle.fz_io.specs.Output.{out_bytes, out_kept, out_faults};
+ghost use Rattle.fz_io.specs.Outside.{HasCause};
+ghost use Rattle.fz_io.specs.Output.{out_bytes, out_faults};
 
 use crate::outside::{Failed, Sink};
-use std::alloc::{AllocError, Global};
-use std::io::{BufWriter, Write};
+use std::io;
+use std::io::{ErrorKind, Write};
 
-/// How many bytes are kept before they are written, so that a piece is no system call.
-const BUFFER: usize = 64 * 1024;
+/// How often a write that a signal interrupts is tried again.
+const TRIES: u32 = 1_000_000;
 
-/// Standard output, or another writer. It doesn't tell the bytes that it took. A write that fails, or that takes no
-/// byte, is a fault. Up to 64 KiB are kept until a `flush`; after a fault what is kept stays, and the next call goes on
-/// with it.
+/// Standard output, or another writer. It doesn't tell the bytes that it took. A write that fails, or that takes no byte of a
+/// piece that has one, is a fault; one that a signal interrupts is tried again. Each write goes to the writer at once, so a
+/// `BufferedSink` is put before it.
 #[derive(Drop)]
 pub struct OutSink<W: Write + Drop> {
-    writer: BufWriter<W>,
+    writer: W,
     faults: u64,
+}
+
+/// Writes a front of the piece, and tries again where a signal interrupts.
+fn write_again<W: Write>(writer: &mut W, piece: &[u8]) -> io::Result<usize>
+    ensures within { WritesAtMost result piece.now }
+    ensures bytes { WriteAppends (W.contents writer.old) (W.contents writer.new) result piece.now }
+{
+    'tries: for _ in 0..TRIES {
+        match writer.write(piece) {
+            Err(fault) if fault.kind() == ErrorKind::Interrupted => {}
+            other => return other,
+        }
+    }
+    Err(io::Error::from(ErrorKind::Interrupted))
 }
 
 impl<W: Write + Drop> OutSink<W> {
     /// Nothing is taken yet. For standard output `writer` is the runtime's `stdout()`.
-    pub fn new(alloc: Global, writer: W) -> Result<OutSink<W>, AllocError>
-        ensures faults { IfOk result (λ s. out_faults s ≡ 0) }
-        ensures kept { IfOk result (λ s. out_kept s ≡ []) }
-        ensures writer { IfOk result (λ s. Keeps (W.contents writer) (out_bytes W.contents s)) }
+    pub fn new(writer: W) -> OutSink<W>
+        ensures faults { out_faults result ≡ 0 }
+        ensures writer { out_bytes W.contents result ≡ W.contents writer }
     {
-        match BufWriter::with_capacity(alloc, BUFFER, writer) {
-            Ok(writer) => Ok(OutSink { writer, faults: 0 }),
-            Err(_) => Err(AllocError),
-        }
+        OutSink { writer, faults: 0 }
     }
 
     /// How often a call has failed.
@@ -64,9 +75,10 @@ impl<W: Write + Drop> Sink for OutSink<W> {
         ensures within { IfOk result (λ n. n ≤ length piece.now) }
         ensures some { IfOk result (λ n. 0 < length piece.now → 0 < n) }
         ensures cause { HasCause (out_faults self.old) (out_faults self.new) result }
-        ensures bytes { WriteAppends (out_bytes W.contents self.old) (out_bytes W.contents self.new) result piece.now }
+        ensures bytes { OnOk result (WriteAppends (out_bytes W.contents self.old)
+            (out_bytes W.contents self.new) result piece.now) }
     {
-        match self.writer.write(piece) {
+        match write_again(&mut self.writer, piece) {
             Ok(count) if count > 0 || piece.is_empty() => Ok(count),
             _ => Err(self.fault()),
         }
@@ -75,7 +87,6 @@ impl<W: Write + Drop> Sink for OutSink<W> {
     fn flush(&mut self) -> Result<(), Failed>
         requires { out_faults self.old < 2 ^ 64 - 1 }
         ensures cause { HasCause (out_faults self.old) (out_faults self.new) result }
-        ensures kept { OnOk result (out_kept self.new ≡ []) }
         ensures bytes { Keeps (out_bytes W.contents self.old) (out_bytes W.contents self.new) }
     {
         match self.writer.flush() {

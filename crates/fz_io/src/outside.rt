@@ -1,6 +1,6 @@
 //! What a run reads from and prints to.
-ghost use Rattle.std.specs.Prelude.{◌≡◌, ℕ, ◌-◌, ◌^◌, ◌<◌, ◌≤◌, List, Option, IfOk, OnOk, OnErr, length, take};
-ghost use Rattle.fz_io.specs.Outside.{HasCause, Reads, FlushedWithin, AllFlushed, with_more};
+ghost use Rattle.std.specs.Prelude.{◌≡◌, ℕ, ◌-◌, ◌^◌, ◌<◌, ◌≤◌, Bool, IsTrue, List, Option, IfOk, OnOk, OnErr, length, take};
+ghost use Rattle.fz_io.specs.Outside.{HasCause, Reads, FlushedWithin, AllFlushed, with_more, one_more};
 
 /// A call of a source or a sink failed.
 #[derive(Debug, Clone, Copy, PartialEq, Eq, Drop)]
@@ -12,6 +12,10 @@ pub trait Source {
     ghost texts: { Self → List ℕ → Option (List ℕ) };
     /// The bytes left of the selected text, where they are told.
     ghost left: { Self → Option (List ℕ) };
+    /// Whether the text of this name is the selected one.
+    ghost is_selected: { Self → List ℕ → Bool };
+    /// How often `select` was called. At the greatest number that fits 64 bits the count stands still.
+    ghost selections: { Self → ℕ };
     /// How often a call has failed.
     ghost faults: { Self → ℕ };
 
@@ -19,6 +23,8 @@ pub trait Source {
     fn select(&mut self, name: &str) -> Result<(), Failed>
         requires { faults self.old < 2 ^ 64 - 1 }
         ensures left { OnOk result (left self.new ≡ texts self.old name.now) }
+        ensures selected { OnOk result (IsTrue (is_selected self.new name.now)) }
+        ensures counted { selections self.new ≡ one_more (selections self.old) }
         ensures stays { OnErr result (left self.new ≡ left self.old) }
         ensures texts { texts self.new ≡ texts self.old }
         ensures cause { HasCause (faults self.old) (faults self.new) result };
@@ -30,6 +36,8 @@ pub trait Source {
         requires room { 0 < length buf.old }
         ensures within { IfOk result (λ n. n ≤ length buf.old) }
         ensures moves { IfOk result (λ n. Reads n (left self.old) (left self.new) buf.new) }
+        ensures selected { is_selected self.new ≡ is_selected self.old }
+        ensures counted { selections self.new ≡ selections self.old }
         ensures stays { OnErr result (left self.new ≡ left self.old) }
         ensures texts { texts self.new ≡ texts self.old }
         ensures cause { HasCause (faults self.old) (faults self.new) result };

@@ -1,6 +1,6 @@
 //! A source that never fails.
 ghost use Rattle.std.specs.Prelude.{◌≡◌, [], Some};
-ghost use Rattle.fz_io.specs.Texts.{text_or_empty, bytes_left};
+ghost use Rattle.fz_io.specs.Texts.{text_or_empty, bytes_left, is_chosen_or_none};
 
 use crate::outside::{Failed, Source};
 use crate::texts::{NamedText, Texts};
@@ -9,6 +9,7 @@ use crate::texts::{NamedText, Texts};
 #[derive(Drop)]
 pub struct SureSource {
     texts: Texts,
+    selections: u64,
 }
 
 impl SureSource {
@@ -19,6 +20,7 @@ impl SureSource {
     {
         SureSource {
             texts: Texts::new(texts),
+            selections: 0,
         }
     }
 }
@@ -28,9 +30,14 @@ impl Source for SureSource {
 
     ghost left = { λ s. Some (bytes_left s.texts) };
 
+    ghost is_selected = { λ s. is_chosen_or_none s.texts };
+
+    ghost selections = { λ s. s.selections };
+
     ghost faults = { λ _. 0 };
 
     fn select(&mut self, name: &str) -> Result<(), Failed> {
+        self.selections = self.selections.saturating_add(1);
         if !self.texts.select(name) {
             self.texts.deselect();
         }

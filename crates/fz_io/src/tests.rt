@@ -1,5 +1,6 @@
 //! What no clause says: that calls succeed where memory is ample, and what files and standard output do.
 
+use crate::buffered::BufferedSink;
 use crate::file::FileSource;
 use crate::gate::{EventKind, Gate, NoGate};
 use crate::memory_sink::MemSink;
@@ -134,34 +135,75 @@ fn sure_ones_take_every_name_and_piece(rt: HostRuntime) -> Result<(), Fail> {
 }
 
 #[test]
-fn a_file_is_read(rt: HostRuntime) -> Result<(), Fail> {
+fn a_file_is_read_by_its_whole_name_and_stays(rt: HostRuntime) -> Result<(), Fail> {
     let alloc = rt.alloc();
-    fs::write(&rt, "digits", "0123456789")?;
+    let files = [
+        ("other.fzn", "0123456789"),
+        ("a", "letters"),
+        ("two words.fzn", "blank"),
+        ("-a", "dash"),
+    ];
+    for (name, text) in files {
+        fs::write(&rt, name, text)?;
+    }
     let mut source = FileSource::new(alloc, rt);
-    assert!(rt; source.select("letters").is_err());
-    assert_eq!(rt; source.fault_count(), 1);
-    assert!(rt; source.select("digits").is_ok());
-    let got = shown(alloc, read_all(alloc, &mut source, 10)?)?;
-    assert_eq!(rt; got.as_slice(), b"0123456789".as_slice());
-    assert_eq!(rt; source.fault_count(), 1);
+    let mut buffer = [0u8; 4];
+    assert_eq!(rt; source.read(&mut buffer), Ok(0), "nothing is selected yet");
+    for name in ["b", "other", "two", ""] {
+        assert!(rt; source.fault_count() < 4);
+        assert!(rt; source.select(name).is_err(), "{name}");
+    }
+    assert_eq!(rt; source.fault_count(), 4);
+    for (name, text) in files {
+        assert!(rt; source.fault_count() == 4);
+        assert!(rt; source.select(name).is_ok(), "{name}");
+        let got = shown(alloc, read_all(alloc, &mut source, 100)?)?;
+        assert_eq!(rt; got.as_slice(), text.as_bytes(), "{name}");
+        let stays = fs::read(&rt, name)?;
+        assert_eq!(rt; stays.as_slice(), text.as_bytes(), "{name}");
+    }
+    assert_eq!(rt; source.fault_count(), 4);
     Ok(())
 }
 
 #[test]
 fn standard_output_takes_a_piece(rt: HostRuntime) -> Result<(), Fail> {
-    let mut sink = OutSink::new(rt.alloc(), rt.stdout())?;
+    let mut sink = BufferedSink::new(rt.alloc(), OutSink::new(rt.stdout()))?;
     assert!(rt; put_all(&mut sink, b"one\n").is_ok());
     assert!(rt; sink.flush().is_ok());
-    assert_eq!(rt; sink.fault_count(), 0);
+    assert_eq!(rt; sink.inner().fault_count(), 0);
     Ok(())
 }
 
 #[test]
 fn a_write_of_no_bytes_is_a_fault(rt: HostRuntime) -> Result<(), Fail> {
-    let mut sink = OutSink::new(rt.alloc(), Closed)?;
-    assert!(rt; put_all(&mut sink, b"one\n").is_ok());
-    assert!(rt; sink.flush().is_err());
+    let mut sink = OutSink::new(Closed);
+    assert!(rt; put_all(&mut sink, b"one\n").is_err());
     assert_eq!(rt; sink.fault_count(), 1);
+    Ok(())
+}
+
+/// So many bytes.
+fn many(alloc: Global, count: usize) -> Result<Vec<u8>, AllocError> {
+    vec![in alloc; b'x'; count]
+}
+
+#[test]
+fn a_buffer_hands_on_what_it_has_no_room_for(rt: HostRuntime) -> Result<(), Fail> {
+    let alloc = rt.alloc();
+    let mut sink = BufferedSink::new(alloc, MemSink::new(alloc, [3].to_vec(alloc)?))?;
+    let piece = many(alloc, 40_000)?;
+    assert!(rt; put_all(&mut sink, &piece).is_ok());
+    assert_eq!(rt; sink.inner().bytes().len(), 0, "it is kept");
+    assert!(rt; put_all(&mut sink, &piece).is_ok());
+    assert_eq!(rt;
+        sink.inner().bytes().len(),
+        65_536,
+        "what there was room for"
+    );
+    assert!(rt; sink.flush().is_err(), "its third call fails");
+    assert_eq!(rt; sink.inner().bytes().len(), 80_000);
+    assert_eq!(rt; sink.inner().fault_count(), 1);
     Ok(())
 }
 
@@ -179,6 +221,6 @@ fn threads_share_a_gate_and_hand_on_a_sink(rt: HostRuntime) -> Result<(), Fail> 
     lend(&NoGate);
     lend_moved(&SureSink);
     lend_moved(&MemSink::new(alloc, Vec::new(alloc)));
-    lend_moved(&OutSink::new(alloc, rt.stdout())?);
+    lend_moved(&BufferedSink::new(alloc, OutSink::new(rt.stdout()))?);
     Ok(())
 }

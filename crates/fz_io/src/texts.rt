@@ -1,7 +1,7 @@
 //! Texts that have names, and a place in one of them.
 ghost use Rattle.std.specs.Prelude.{◌≡◌, ℕ, ◌-◌, ◌+◌, ◌^◌, ◌<◌, ◌≤◌, ◌↔◌, List, [], Option, Some, None, IfSome, IfNone, IsSome, IsTrue, IsFalse, length};
 ghost use Rattle.fz_io.specs.Outside.{Moves};
-ghost use Rattle.fz_io.specs.Texts.{text_of, bytes_at, bytes_chosen, bytes_left};
+ghost use Rattle.fz_io.specs.Texts.{text_of, bytes_at, bytes_chosen, bytes_left, is_named, is_chosen};
 
 /// A text and its name.
 #[derive(Drop)]
@@ -21,6 +21,7 @@ pub(crate) struct Texts {
 /// The number of the first text of this name.
 fn position_of(texts: &[NamedText], name: &str) -> Option<usize>
     ensures some { IfSome result (λ i. text_of texts.now name.now ≡ Some (bytes_at texts.now i)) }
+    ensures named { IfSome result (λ i. IsTrue (is_named texts.now name.now i)) }
     ensures none { IfNone result (text_of texts.now name.now ≡ None) }
 {
     for (index, text) in texts.iter().enumerate() {
@@ -48,6 +49,7 @@ impl Texts {
     pub(crate) fn select(&mut self, name: &str) -> bool
         ensures found { IsTrue result ↔ IsSome (text_of self.old.all.items name.now) }
         ensures left { IsTrue result → Some (bytes_left self.new) ≡ text_of self.old.all.items name.now }
+        ensures selected { IsTrue result → IsTrue (is_chosen self.new name.now) }
         ensures stays { IsFalse result → bytes_left self.new ≡ bytes_left self.old }
         ensures texts { self.new.all ≡ self.old.all }
     {
@@ -62,6 +64,7 @@ impl Texts {
     /// Selects none of the texts.
     pub(crate) fn deselect(&mut self)
         ensures left { bytes_left self.new ≡ [] }
+        ensures selected { self.new.selected ≡ None }
         ensures texts { self.new.all ≡ self.old.all }
     {
         self.selected = None;
@@ -98,6 +101,7 @@ impl Texts {
         requires { 0 < length buffer.old }
         ensures within { result ≤ length buffer.old }
         ensures moves { Moves result (bytes_left self.old) buffer.new (Some (bytes_left self.new)) }
+        ensures selected { self.new.selected ≡ self.old.selected }
         ensures texts { self.new.all ≡ self.old.all }
     {
         let rest = self.rest();

@@ -27,6 +27,8 @@ pub fn read_all<R: Source>(alloc: Global, source: &mut R, limit: usize) -> Resul
     ensures whole { IfOk result (λ w. IsWhole limit (R.left source.old) (R.left source.new) w) }
     ensures cause { IfOk result (λ w. HasReadCause (R.faults source.old) (R.faults source.new) w) }
     ensures texts { R.texts source.new ≡ R.texts source.old }
+    ensures selected { R.is_selected source.new ≡ R.is_selected source.old }
+    ensures counted { R.selections source.new ≡ R.selections source.old }
     ensures memory_count { OnErr result (R.faults source.new ≡ R.faults source.old) }
     ensures memory_left { OnErr result (LeavesRest limit (R.left source.old) (R.left source.new)) }
 {

@@ -8,6 +8,8 @@ invariant-pieces g l = record {
   front : IfSome (g.R.Source.left l.initial.source) (λ b. b ≡ l.bytes.items ++ drop (length l.bytes.items) b);
   left : g.R.Source.left l.source ≡ without (g.R.Source.left l.initial.source) (length l.bytes.items);
   faults : g.R.Source.faults l.source ≡ g.R.Source.faults l.initial.source;
+  selected : g.R.Source.is_selected l.source ≡ g.R.Source.is_selected l.initial.source;
+  counted : g.R.Source.selections l.source ≡ g.R.Source.selections l.initial.source;
   texts : g.R.Source.texts l.source ≡ g.R.Source.texts l.initial.source;
 }
 
