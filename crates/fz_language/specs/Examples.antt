@@ -6,7 +6,8 @@ use Rattle.fz_spec.specs.declared.code.Code.TheVariants.{UnknownByte, LargeNumbe
 use Rattle.fz_spec.specs.declared.builtin.Builtin.TheVariants.{IntNe}
 use Rattle.fz_spec.specs.declared.term.Term.TheVariants.{Var}
 use Rattle.fz_spec.specs.Constraints.{One}
-use Rattle.fz_spec.specs.Instance.{Instance, Satisfy}
+use Rattle.fz_spec.specs.declared.goal.Goal.TheVariants.{Satisfy}
+use Rattle.fz_spec.specs.Instance.{Instance}
 use Rattle.fz_language.specs.Tokens.{HasFault}
 use Rattle.fz_language.specs.Reads.{Reads, Accepted, Refused}
 

@@ -18,8 +18,9 @@ use Rattle.fz_language.specs.Grammar as grammar
 use Rattle.fz_language.specs.Signatures.{Asked, Value, Operand, Values, Operands, signature, builtin_of}
 use Rattle.fz_spec.specs.Constraints.{Argument, One, Numbers, Terms}
 use Rattle.fz_spec.specs.Constraints as instance_constraint
-use Rattle.fz_spec.specs.Instance.{Instance, Variable, Output, Goal}
-use Rattle.fz_spec.specs.Instance as instance
+use Rattle.fz_spec.specs.declared.goal.Goal.{Goal}
+use Rattle.fz_spec.specs.declared.goal.Goal.TheVariants as goals
+use Rattle.fz_spec.specs.Instance.{Instance, Variable, Output}
 
 -- what a leaf says
 abbrev pub name_of : Token → List ℕ
@@ -214,7 +215,7 @@ constraints_from names (Declare d ∷ items) = constraints_from (names ++ name_o
 constraints_from names (Constrain c ∷ items) = constraint_named names c.arguments (builtin_of (name_of c.name)) ++ constraints_from names items
 
 abbrev pub goal_of : Method → Goal
-goal_of grammar.Satisfy = instance.Satisfy
+goal_of grammar.Satisfy = goals.Satisfy
 
 abbrev pub model_of : Program → Instance
 model_of p = record { variables = flat_map variables_of p.items; constraints = constraints_from [] p.items; goal = goal_of p.method; outputs = outputs_from 0 p.items; search = [] }

@@ -3,6 +3,8 @@ use Rattle.std.specs.Prelude.{◌≡◌, ◌≢◌, ℕ, ℤ, pos, Bool, ◌-ℤ
 use Rattle.std.specs.Ordering.{int_eq}
 use Rattle.std.specs.List.{AllByRecursion}
 use Rattle.fz_spec.specs.declared.kind.Kind.{Kind}
+use Rattle.fz_spec.specs.declared.goal.Goal.{Goal}
+use Rattle.fz_spec.specs.declared.goal.Goal.TheVariants.{Satisfy, Minimize, Maximize}
 use Rattle.fz_spec.specs.declared.search.Pick.{Pick}
 use Rattle.fz_spec.specs.declared.search.Value.{Value}
 use Rattle.fz_spec.specs.declared.term.Term.{Term}
@@ -22,11 +24,6 @@ pub record Output : Type 0 where
   pub array : Bool
   pub shape : List (ℤ × ℤ)
   pub terms : List Term
-
-pub data Goal : Type 0 where
-  Satisfy : Goal
-  Minimize : (term : Term) → Goal
-  Maximize : (term : Term) → Goal
 
 -- a part of the search: the numbers of its variables, which of them is picked, and how its values are parted
 pub record SearchPart : Type 0 where

@@ -8,6 +8,7 @@
 pub mod asked;
 pub mod builtin;
 pub mod code;
+pub mod goal;
 pub mod kind;
 pub mod laws;
 pub mod limits;
