@@ -3,7 +3,7 @@ use Rattle.std.proofs.Common.{◌≡◌, ℕ, ◌+◌, ◌<◌, ◌≤◌, Some,
 use Rattle.std.specs.Prelude.{slice_get}
 use Rattle.std.proofs.lemmas.List.{length-map}
 use Rattle.fz_spec.specs.declared.builtin.Builtin.{Builtin}
-use Rattle.fz_spec.specs.declared.code.Code.TheVariants.{E05, E06, E10, E11}
+use Rattle.fz_spec.specs.declared.code.Code.TheVariants.{UnknownName, WrongType, WrongLengths, OverLimit}
 use Rattle.fz_language.specs.Grammar.{Item, Constrain}
 use Rattle.fz_language.specs.Reads.{IsCall, HasUnequalLists, all_wrong_leaves, is_unknown, name_of, names_in}
 use Rattle.fz_spec.specs.declared.limits.TheConstants.{CONSTRAINT_LIMIT}
@@ -45,39 +45,39 @@ module _ {text : List ℕ} {before : List Item} {draft : Draft} {c : Constraint}
   compared : slice_get (all_wrong_leaves (signature b) (constraint_of text c).arguments) 0 ≡ first_wrong text asked those
   compared = ap (λ l. slice_get (all_wrong_leaves l (constraint_of text c).arguments) 0) (sym h.asked_is) ∙ ap (first_wrong text asked) (sym h.same)
 
-  pub unknown_at : (leaf : Token) (fault : CheckFault) → Some (token_of text leaf) ≡ unknown_in (texts draft.names.keys) text those → IsLeaf text leaf → IsAtLeaf E05 leaf fault → IsFaultOf text before (Constrain (constraint_of text c)) fault
+  pub unknown_at : (leaf : Token) (fault : CheckFault) → Some (token_of text leaf) ≡ unknown_in (texts draft.names.keys) text those → IsLeaf text leaf → IsAtLeaf UnknownName leaf fault → IsFaultOf text before (Constrain (constraint_of text c)) fault
   unknown_at leaf fault found placed is =
-      fault_of_item text before (Constrain (constraint_of text c)) E05 leaf fault placed is (unknown_name before (constraint_of text c) b is_call (token_of text leaf) (searched ∙ sym found))
+      fault_of_item text before (Constrain (constraint_of text c)) UnknownName leaf fault placed is (unknown_name before (constraint_of text c) b is_call (token_of text leaf) (searched ∙ sym found))
 
   module _ (clear : None ≡ unknown_in (texts draft.names.keys) text those) where
     declared : find (is_unknown before) (names_in (constraint_of text c)) ≡ None
     declared = searched ∙ sym clear
 
-    pub wrong_at : (leaf : Token) (fault : CheckFault) → Some (token_of text leaf) ≡ first_wrong text asked those → IsLeaf text leaf → IsAtLeaf E06 leaf fault → IsFaultOf text before (Constrain (constraint_of text c)) fault
+    pub wrong_at : (leaf : Token) (fault : CheckFault) → Some (token_of text leaf) ≡ first_wrong text asked those → IsLeaf text leaf → IsAtLeaf WrongType leaf fault → IsFaultOf text before (Constrain (constraint_of text c)) fault
     wrong_at leaf fault found placed is =
-        fault_of_item text before (Constrain (constraint_of text c)) E06 leaf fault placed is (wrong_type before (constraint_of text c) b is_call declared (token_of text leaf) (compared ∙ sym found))
+        fault_of_item text before (Constrain (constraint_of text c)) WrongType leaf fault placed is (wrong_type before (constraint_of text c) b is_call declared (token_of text leaf) (compared ∙ sym found))
 
     module _ (right : None ≡ first_wrong text asked those) where
       typed : slice_get (all_wrong_leaves (signature b) (constraint_of text c).arguments) 0 ≡ None
       typed = compared ∙ sym right
 
-      pub unequal_at : (fault : CheckFault) → HasUnequalLists b (map (expression_of text) those) → IsAtLeaf E10 c.name fault → IsFaultOf text before (Constrain (constraint_of text c)) fault
+      pub unequal_at : (fault : CheckFault) → HasUnequalLists b (map (expression_of text) those) → IsAtLeaf WrongLengths c.name fault → IsFaultOf text before (Constrain (constraint_of text c)) fault
       unequal_at fault unequal is =
-          fault_of_item text before (Constrain (constraint_of text c)) E10 c.name fault h.leaves.name is
+          fault_of_item text before (Constrain (constraint_of text c)) WrongLengths c.name fault h.leaves.name is
           (unequal_lists before (constraint_of text c) b is_call declared typed (subst (λ es. HasUnequalLists b (map (expression_of text) es)) h.same unequal))
 
       module _ (equal : HasUnequalLists b (map (expression_of text) those) → ⊥) where
         equal_there : HasUnequalLists b (constraint_of text c).arguments → ⊥
         equal_there u = equal (subst (λ es. HasUnequalLists b (map (expression_of text) es)) (sym h.same) u)
 
-        pub many_at : (fault : CheckFault) → CONSTRAINT_LIMIT ≤ length draft.constraints.items → IsAtLeaf E11 c.name fault → IsFaultOf text before (Constrain (constraint_of text c)) fault
+        pub many_at : (fault : CheckFault) → CONSTRAINT_LIMIT ≤ length draft.constraints.items → IsAtLeaf OverLimit c.name fault → IsFaultOf text before (Constrain (constraint_of text c)) fault
         many_at fault many is =
-            fault_of_item text before (Constrain (constraint_of text c)) E11 c.name fault h.leaves.name is
+            fault_of_item text before (Constrain (constraint_of text c)) OverLimit c.name fault h.leaves.name is
             (many_constraints before (constraint_of text c) b is_call declared typed equal_there (omega (arith, h.done.count_is)))
 
-        pub element_at : (leaf : Token) (fault : CheckFault) → length draft.constraints.items < CONSTRAINT_LIMIT → slice_get (elements_in text those) draft.room ≡ Some (token_of text leaf) → IsLeaf text leaf → IsAtLeaf E11 leaf fault → IsFaultOf text before (Constrain (constraint_of text c)) fault
+        pub element_at : (leaf : Token) (fault : CheckFault) → length draft.constraints.items < CONSTRAINT_LIMIT → slice_get (elements_in text those) draft.room ≡ Some (token_of text leaf) → IsLeaf text leaf → IsAtLeaf OverLimit leaf fault → IsFaultOf text before (Constrain (constraint_of text c)) fault
         element_at leaf fault few found placed is =
-            fault_of_item text before (Constrain (constraint_of text c)) E11 leaf fault placed is
+            fault_of_item text before (Constrain (constraint_of text c)) OverLimit leaf fault placed is
             (many_elements before (constraint_of text c) b is_call declared typed equal_there (token_of text leaf) (omega (arith, h.done.count_is))
             (ap (slice_get (elements_in text c.arguments.items)) (omega (arith, h.done.room_is)) ∙ ap (λ es. slice_get (elements_in text es) draft.room) (sym h.same) ∙ found))
 

@@ -79,10 +79,10 @@ impl<'i> Draft<'i> {
     {
         let number = self.names.len();
         if !self.names.insert(name(items, declaration.name))? {
-            return Ok(Err(fault_at(Code::E04, declaration.name)));
+            return Ok(Err(fault_at(Code::DeclaredTwice, declaration.name)));
         }
         if number >= VARIABLE_LIMIT {
-            return Ok(Err(fault_at(Code::E11, declaration.name)));
+            return Ok(Err(fault_at(Code::OverLimit, declaration.name)));
         }
         let variable = variable(alloc, items, declaration)?;
         self.variables.push(variable)?;
@@ -127,27 +127,27 @@ impl<'i> Draft<'i> {
     {
         let arguments = constraint.arguments.as_slice();
         let Some(builtin) = builtin_of(name(items, constraint.name)) else {
-            return Err(fault_at(Code::E08, constraint.name));
+            return Err(fault_at(Code::UnknownConstraint, constraint.name));
         };
         let asked = signature(builtin);
         if arguments.len() != asked.len() {
-            return Err(fault_at(Code::E07, constraint.name));
+            return Err(fault_at(Code::WrongArity, constraint.name));
         }
         if let Some(leaf) = unknown_name(items, &self.names, arguments) {
-            return Err(fault_at(Code::E05, leaf));
+            return Err(fault_at(Code::UnknownName, leaf));
         }
         if let Some(leaf) = first_wrong_leaf(asked, arguments) {
-            return Err(fault_at(Code::E06, leaf));
+            return Err(fault_at(Code::WrongType, leaf));
         }
         if has_unequal_lists(builtin, arguments) {
-            return Err(fault_at(Code::E10, constraint.name));
+            return Err(fault_at(Code::WrongLengths, constraint.name));
         }
         if self.constraints.len() >= CONSTRAINT_LIMIT {
-            return Err(fault_at(Code::E11, constraint.name));
+            return Err(fault_at(Code::OverLimit, constraint.name));
         }
         match room_behind(arguments, self.room) {
             Ok(room) => Ok((builtin, room)),
-            Err(leaf) => Err(fault_at(Code::E11, leaf)),
+            Err(leaf) => Err(fault_at(Code::OverLimit, leaf)),
         }
     }
 

@@ -1,15 +1,15 @@
 -- The tokens and programs of the example texts with constraints, and how the texts are read.
 use Rattle.std.proofs.Common.{◌≡◌, ℕ, ◌+◌, ◌≤◌, pos, Some, None, true≢false, List, [], ◌∷◌, ◌++◌, codes, length, find, slice_get, refl, sym, ap, ◌∙◌, inl, inr, arith, lit≤, lit<}
 use Rattle.fz_spec.specs.declared.code.Code.{Code}
-use Rattle.fz_spec.specs.declared.code.Code.TheVariants.{E01, E02, E03, E04, E05, E06, E07, E08, E10, E11}
+use Rattle.fz_spec.specs.declared.code.Code.TheVariants.{UnknownByte, LargeNumber, UnexpectedToken, DeclaredTwice, UnknownName, WrongType, WrongArity, UnknownConstraint, Unsupported, WrongLengths, OverLimit}
 use Rattle.fz_language.specs.declared.sign.Sign.TheVariants.{Semicolon, DoubleColon, Comma, LeftParenthesis, RightParenthesis, LeftBracket, RightBracket}
 use Rattle.fz_spec.specs.declared.builtin.Builtin.{Builtin}
 use Rattle.fz_spec.specs.declared.builtin.Builtin.TheVariants.{IntNe, IntLinLe}
-use Rattle.fz_spec.specs.Signatures.{signature, builtin_of}
+use Rattle.fz_language.specs.Signatures.{signature, builtin_of}
 use Rattle.fz_language.specs.Tokens.{Token, Word, Number, Punct}
 use Rattle.fz_language.specs.Grammar.{Declaration, Literal, Name, Expression, Scalar, Elements, Constraint, Item, Declare, Constrain, Satisfy, AllFit, declaration_pieces, constraint_pieces, solve_pieces}
 use Rattle.fz_language.specs.Reads.{BreaksNone, ComesFirst, ConstraintBreaks, IsCall, is_unknown, name_of, names_in, all_wrong_leaves, IsOverLimit}
-use Rattle.fz_language.specs.Examples.{NotEqual, UnknownName, TooFewArguments, UnknownConstraint, UnequalLists, WrongType}
+use Rattle.fz_language.specs.Examples.{NotEqual, UnknownNameText, TooFewArguments, UnknownConstraintText, UnequalLists, WrongTypeText}
 use Rattle.fz_language.proofs.ExampleLemmas.{token, short_declaration, front_tokens, short_tokens, solve_tokens, solve_fits, short_fits, fit_more, are_tokens, first_keeps}
 
 -- tokens of one byte
@@ -48,20 +48,20 @@ one_builtin a b e = cc
 same_builtin : (c : Constraint) (a b : Builtin) → IsCall c a → builtin_of (name_of c.name) ≡ Some b → a ≡ b
 same_builtin c a b h e = one_builtin a b (sym h.known ∙ e)
 
-is_known : (before : List Item) (c : Constraint) (a : Builtin) (at : ℕ) → IsCall c a → ConstraintBreaks before c E08 at → ⊥
+is_known : (before : List Item) (c : Constraint) (a : Builtin) (at : ℕ) → IsCall c a → ConstraintBreaks before c UnknownConstraint at → ⊥
 is_known before c a at h b = no_some a (sym b.0 ∙ h.known)
 
-right_arity : (before : List Item) (c : Constraint) (a : Builtin) (at : ℕ) → IsCall c a → ConstraintBreaks before c E07 at → ⊥
+right_arity : (before : List Item) (c : Constraint) (a : Builtin) (at : ℕ) → IsCall c a → ConstraintBreaks before c WrongArity at → ⊥
 right_arity before c a at h b = b.2 (h.arity ∙ ap (λ u. length (signature u)) (same_builtin c a b.0 h b.1))
 
-no_unknown : (before : List Item) (c : Constraint) (at : ℕ) → find (is_unknown before) (names_in c) ≡ None → ConstraintBreaks before c E05 at → ⊥
+no_unknown : (before : List Item) (c : Constraint) (at : ℕ) → find (is_unknown before) (names_in c) ≡ None → ConstraintBreaks before c UnknownName at → ⊥
 no_unknown before c at h b = no_some b.0 (sym h ∙ b.1)
 
 -- the first leaf of a wrong type, where the constraint is known
-wrong_leaf : (before : List Item) (c : Constraint) (a : Builtin) (at : ℕ) → IsCall c a → (b : ConstraintBreaks before c E06 at) → slice_get (all_wrong_leaves (signature a) c.arguments) 0 ≡ Some b.2.0
+wrong_leaf : (before : List Item) (c : Constraint) (a : Builtin) (at : ℕ) → IsCall c a → (b : ConstraintBreaks before c WrongType at) → slice_get (all_wrong_leaves (signature a) c.arguments) 0 ≡ Some b.2.0
 wrong_leaf before c a at h b = ap (λ u. slice_get (all_wrong_leaves (signature u) c.arguments) 0) (same_builtin c a b.0 h b.1.known) ∙ b.2.1
 
-right_types : (before : List Item) (c : Constraint) (a : Builtin) (at : ℕ) → IsCall c a → slice_get (all_wrong_leaves (signature a) c.arguments) 0 ≡ None → ConstraintBreaks before c E06 at → ⊥
+right_types : (before : List Item) (c : Constraint) (a : Builtin) (at : ℕ) → IsCall c a → slice_get (all_wrong_leaves (signature a) c.arguments) 0 ≡ None → ConstraintBreaks before c WrongType at → ⊥
 right_types before c a at h e b = no_some b.2.0 (sym e ∙ wrong_leaf before c a at h b)
 
 -- a constraint that two variables differ
@@ -95,16 +95,17 @@ abbrev not_equal_all_tokens : List Token
 not_equal_all_tokens = printed_tokens 0 (codes "x") ++ (printed_tokens 27 (codes "y") ++ (not_equal_tokens ++ solve_tokens 78))
 
 y_keeps : BreaksNone (Declare declaration_of_x ∷ []) (Declare declaration_of_y)
-y_keeps E01 at b = b
-y_keeps E02 at b = b
-y_keeps E03 at b = b
-y_keeps E04 at b = true≢false (sym b.0)
-y_keeps E05 at b = b
-y_keeps E06 at b = b
-y_keeps E07 at b = b
-y_keeps E08 at b = b
-y_keeps E10 at b = b
-y_keeps E11 at b = let few : 1000000 ≤ 1 = b.0 in omega arith
+y_keeps UnknownByte at b = b
+y_keeps LargeNumber at b = b
+y_keeps UnexpectedToken at b = b
+y_keeps DeclaredTwice at b = true≢false (sym b.0)
+y_keeps UnknownName at b = b
+y_keeps WrongType at b = b
+y_keeps WrongArity at b = b
+y_keeps UnknownConstraint at b = b
+y_keeps Unsupported at b = absurd b
+y_keeps WrongLengths at b = b
+y_keeps OverLimit at b = let few : 1000000 ≤ 1 = b.0 in omega arith
 
 abbrev both_declarations : List Item
 both_declarations = Declare declaration_of_x ∷ Declare declaration_of_y ∷ []
@@ -112,25 +113,26 @@ both_declarations = Declare declaration_of_x ∷ Declare declaration_of_y ∷ []
 not_equal_call : IsCall not_equal IntNe
 not_equal_call = record { known = refl; arity = refl }
 
-not_equal_no_lists : (at : ℕ) → ConstraintBreaks both_declarations not_equal E10 at → ⊥
+not_equal_no_lists : (at : ℕ) → ConstraintBreaks both_declarations not_equal WrongLengths at → ⊥
 not_equal_no_lists at (IntNe, call, unequal, place) = unequal
-not_equal_no_lists at (IntLinLe, call, unequal, place) = unequal
+not_equal_no_lists at (name, call, unequal, place) = unequal
 
 not_equal_within : (at : ℕ) → IsOverLimit both_declarations not_equal at → ⊥
 not_equal_within at (inl h) = let few : 1000000 ≤ 0 = h.0 in omega arith
 not_equal_within at (inr h) = no_some h.1.0 h.1.1
 
 not_equal_keeps : BreaksNone both_declarations (Constrain not_equal)
-not_equal_keeps E01 at b = b
-not_equal_keeps E02 at b = b
-not_equal_keeps E03 at b = b
-not_equal_keeps E04 at b = b
-not_equal_keeps E05 at b = no_unknown both_declarations not_equal at refl b
-not_equal_keeps E06 at b = right_types both_declarations not_equal IntNe at not_equal_call refl b
-not_equal_keeps E07 at b = right_arity both_declarations not_equal IntNe at not_equal_call b
-not_equal_keeps E08 at b = is_known both_declarations not_equal IntNe at not_equal_call b
-not_equal_keeps E10 at b = not_equal_no_lists at b
-not_equal_keeps E11 at b = not_equal_within at b
+not_equal_keeps UnknownByte at b = b
+not_equal_keeps LargeNumber at b = b
+not_equal_keeps UnexpectedToken at b = b
+not_equal_keeps DeclaredTwice at b = b
+not_equal_keeps UnknownName at b = no_unknown both_declarations not_equal at refl b
+not_equal_keeps WrongType at b = right_types both_declarations not_equal IntNe at not_equal_call refl b
+not_equal_keeps WrongArity at b = right_arity both_declarations not_equal IntNe at not_equal_call b
+not_equal_keeps UnknownConstraint at b = is_known both_declarations not_equal IntNe at not_equal_call b
+not_equal_keeps Unsupported at b = absurd b
+not_equal_keeps WrongLengths at b = not_equal_no_lists at b
+not_equal_keeps OverLimit at b = not_equal_within at b
 
 printed_x_fits : AllFit (declaration_pieces declaration_of_x) (printed_tokens 0 (codes "x"))
 printed_x_fits = (refl, ((refl, tt), (refl, ((refl, tt), (refl, ((refl, refl), (refl, ((refl, refl), (refl, tt)))))))))
@@ -176,19 +178,20 @@ unknown_name_fits = (refl, ((refl, refl), (refl, ((refl, refl), (refl, ((refl, t
 found_place : (t u : Token) (place : ℕ) → Some t ≡ Some u → place ≡ u.start → t.start ≤ place
 found_place t u place e f = let same : t.start ≡ u.start = cc in omega (arith, same, f)
 
-unknown_name_first : (code : Code) (place : ℕ) → ConstraintBreaks [] unknown_name code place → ComesFirst E05 18 code place
-unknown_name_first E01 place b = absurd b
-unknown_name_first E02 place b = absurd b
-unknown_name_first E03 place b = absurd b
-unknown_name_first E04 place b = absurd b
-unknown_name_first E05 place b = inr (refl, found_place (letter (codes "x") 18) b.0 place b.1 b.2)
-unknown_name_first E06 place b = inl (lit< tt)
-unknown_name_first E07 place b = absurd (right_arity [] unknown_name IntNe place unknown_name_call b)
-unknown_name_first E08 place b = absurd (is_known [] unknown_name IntNe place unknown_name_call b)
-unknown_name_first E10 place b = inl (lit< tt)
-unknown_name_first E11 place b = inl (lit< tt)
+unknown_name_first : (code : Code) (place : ℕ) → ConstraintBreaks [] unknown_name code place → ComesFirst UnknownName 18 code place
+unknown_name_first UnknownByte place b = absurd b
+unknown_name_first LargeNumber place b = absurd b
+unknown_name_first UnexpectedToken place b = absurd b
+unknown_name_first DeclaredTwice place b = absurd b
+unknown_name_first UnknownName place b = inr (refl, found_place (letter (codes "x") 18) b.0 place b.1 b.2)
+unknown_name_first WrongType place b = inl (lit< tt)
+unknown_name_first WrongArity place b = absurd (right_arity [] unknown_name IntNe place unknown_name_call b)
+unknown_name_first UnknownConstraint place b = absurd (is_known [] unknown_name IntNe place unknown_name_call b)
+unknown_name_first Unsupported place b = absurd b
+unknown_name_first WrongLengths place b = inl (lit< tt)
+unknown_name_first OverLimit place b = inl (lit< tt)
 
-pub unknown_name_reads : UnknownName
+pub unknown_name_reads : UnknownNameText
 unknown_name_reads = record {
   at = 18;
   refused = (
@@ -223,17 +226,18 @@ too_few_tokens = call_tokens 0 too_few.name (digit 1 18 ∷ []) 19
 too_few_fits : AllFit (constraint_pieces too_few) too_few_tokens
 too_few_fits = (refl, ((refl, refl), (refl, ((refl, tt), (refl, (refl, tt))))))
 
-too_few_first : (code : Code) (place : ℕ) → ConstraintBreaks [] too_few code place → ComesFirst E07 11 code place
-too_few_first E01 place b = absurd b
-too_few_first E02 place b = absurd b
-too_few_first E03 place b = absurd b
-too_few_first E04 place b = absurd b
-too_few_first E05 place b = inl (lit< tt)
-too_few_first E06 place b = inl (lit< tt)
-too_few_first E07 place b = let e : place ≡ 11 = b.3 in inr (refl, omega arith)
-too_few_first E08 place b = absurd (no_some IntNe (sym b.0))
-too_few_first E10 place b = inl (lit< tt)
-too_few_first E11 place b = inl (lit< tt)
+too_few_first : (code : Code) (place : ℕ) → ConstraintBreaks [] too_few code place → ComesFirst WrongArity 11 code place
+too_few_first UnknownByte place b = absurd b
+too_few_first LargeNumber place b = absurd b
+too_few_first UnexpectedToken place b = absurd b
+too_few_first DeclaredTwice place b = absurd b
+too_few_first UnknownName place b = inl (lit< tt)
+too_few_first WrongType place b = inl (lit< tt)
+too_few_first WrongArity place b = let e : place ≡ 11 = b.3 in inr (refl, omega arith)
+too_few_first UnknownConstraint place b = absurd (no_some IntNe (sym b.0))
+too_few_first Unsupported place b = absurd b
+too_few_first WrongLengths place b = inl (lit< tt)
+too_few_first OverLimit place b = inl (lit< tt)
 
 pub too_few_arguments_read : TooFewArguments
 too_few_arguments_read = record {
@@ -276,19 +280,20 @@ unknown_constraint_all_tokens = short_tokens 0 only_x ++ (unknown_constraint_tok
 unknown_constraint_fits : AllFit (constraint_pieces unknown_constraint) unknown_constraint_tokens
 unknown_constraint_fits = (refl, ((refl, refl), (refl, ((refl, refl), (refl, (refl, tt))))))
 
-unknown_constraint_first : (code : Code) (place : ℕ) → ConstraintBreaks (Declare only_x ∷ []) unknown_constraint code place → ComesFirst E08 24 code place
-unknown_constraint_first E01 place b = absurd b
-unknown_constraint_first E02 place b = absurd b
-unknown_constraint_first E03 place b = absurd b
-unknown_constraint_first E04 place b = absurd b
-unknown_constraint_first E05 place b = inl (lit< tt)
-unknown_constraint_first E06 place b = inl (lit< tt)
-unknown_constraint_first E07 place b = inl (lit< tt)
-unknown_constraint_first E08 place b = let e : place ≡ 24 = b.1 in inr (refl, omega arith)
-unknown_constraint_first E10 place b = inl (lit< tt)
-unknown_constraint_first E11 place b = inl (lit< tt)
+unknown_constraint_first : (code : Code) (place : ℕ) → ConstraintBreaks (Declare only_x ∷ []) unknown_constraint code place → ComesFirst UnknownConstraint 24 code place
+unknown_constraint_first UnknownByte place b = absurd b
+unknown_constraint_first LargeNumber place b = absurd b
+unknown_constraint_first UnexpectedToken place b = absurd b
+unknown_constraint_first DeclaredTwice place b = absurd b
+unknown_constraint_first UnknownName place b = inl (lit< tt)
+unknown_constraint_first WrongType place b = inl (lit< tt)
+unknown_constraint_first WrongArity place b = inl (lit< tt)
+unknown_constraint_first UnknownConstraint place b = let e : place ≡ 24 = b.1 in inr (refl, omega arith)
+unknown_constraint_first Unsupported place b = absurd b
+unknown_constraint_first WrongLengths place b = inl (lit< tt)
+unknown_constraint_first OverLimit place b = inl (lit< tt)
 
-pub unknown_constraint_reads : UnknownConstraint
+pub unknown_constraint_reads : UnknownConstraintText
 unknown_constraint_reads = record {
   at = 24;
   refused = (
@@ -329,17 +334,18 @@ unequal_call = record { known = refl; arity = refl }
 unequal_fits : AllFit (constraint_pieces unequal) unequal_tokens
 unequal_fits = (refl, ((refl, refl), (refl, ((refl, refl), ((refl, tt), (refl, ((refl, tt), (refl, (refl, ((refl, refl), ((refl, tt), (refl, (refl, ((refl, tt), (refl, (refl, tt))))))))))))))))
 
-unequal_first : (code : Code) (place : ℕ) → ConstraintBreaks [] unequal code place → ComesFirst E10 11 code place
-unequal_first E01 place b = absurd b
-unequal_first E02 place b = absurd b
-unequal_first E03 place b = absurd b
-unequal_first E04 place b = absurd b
-unequal_first E05 place b = absurd (no_unknown [] unequal place refl b)
-unequal_first E06 place b = absurd (right_types [] unequal IntLinLe place unequal_call refl b)
-unequal_first E07 place b = absurd (right_arity [] unequal IntLinLe place unequal_call b)
-unequal_first E08 place b = absurd (is_known [] unequal IntLinLe place unequal_call b)
-unequal_first E10 place b = let e : place ≡ 11 = b.3 in inr (refl, omega arith)
-unequal_first E11 place b = inl (lit< tt)
+unequal_first : (code : Code) (place : ℕ) → ConstraintBreaks [] unequal code place → ComesFirst WrongLengths 11 code place
+unequal_first UnknownByte place b = absurd b
+unequal_first LargeNumber place b = absurd b
+unequal_first UnexpectedToken place b = absurd b
+unequal_first DeclaredTwice place b = absurd b
+unequal_first UnknownName place b = absurd (no_unknown [] unequal place refl b)
+unequal_first WrongType place b = absurd (right_types [] unequal IntLinLe place unequal_call refl b)
+unequal_first WrongArity place b = absurd (right_arity [] unequal IntLinLe place unequal_call b)
+unequal_first UnknownConstraint place b = absurd (is_known [] unequal IntLinLe place unequal_call b)
+unequal_first Unsupported place b = absurd b
+unequal_first WrongLengths place b = let e : place ≡ 11 = b.3 in inr (refl, omega arith)
+unequal_first OverLimit place b = inl (lit< tt)
 
 pub unequal_lists_read : UnequalLists
 unequal_lists_read = record {
@@ -386,19 +392,20 @@ wrong_type_fits = (refl, ((refl, refl), (refl, ((refl, refl), ((refl, refl), (re
 abbrev behind_x : List Item
 behind_x = Declare only_x ∷ []
 
-wrong_type_first : (code : Code) (place : ℕ) → ConstraintBreaks behind_x wrong_type code place → ComesFirst E06 36 code place
-wrong_type_first E01 place b = absurd b
-wrong_type_first E02 place b = absurd b
-wrong_type_first E03 place b = absurd b
-wrong_type_first E04 place b = absurd b
-wrong_type_first E05 place b = absurd (no_unknown behind_x wrong_type place refl b)
-wrong_type_first E06 place b = inr (refl, found_place (letter (codes "x") 36) b.2.0 place (wrong_leaf behind_x wrong_type IntLinLe place wrong_type_call b) b.2.2)
-wrong_type_first E07 place b = absurd (right_arity behind_x wrong_type IntLinLe place wrong_type_call b)
-wrong_type_first E08 place b = absurd (is_known behind_x wrong_type IntLinLe place wrong_type_call b)
-wrong_type_first E10 place b = inl (lit< tt)
-wrong_type_first E11 place b = inl (lit< tt)
+wrong_type_first : (code : Code) (place : ℕ) → ConstraintBreaks behind_x wrong_type code place → ComesFirst WrongType 36 code place
+wrong_type_first UnknownByte place b = absurd b
+wrong_type_first LargeNumber place b = absurd b
+wrong_type_first UnexpectedToken place b = absurd b
+wrong_type_first DeclaredTwice place b = absurd b
+wrong_type_first UnknownName place b = absurd (no_unknown behind_x wrong_type place refl b)
+wrong_type_first WrongType place b = inr (refl, found_place (letter (codes "x") 36) b.2.0 place (wrong_leaf behind_x wrong_type IntLinLe place wrong_type_call b) b.2.2)
+wrong_type_first WrongArity place b = absurd (right_arity behind_x wrong_type IntLinLe place wrong_type_call b)
+wrong_type_first UnknownConstraint place b = absurd (is_known behind_x wrong_type IntLinLe place wrong_type_call b)
+wrong_type_first Unsupported place b = absurd b
+wrong_type_first WrongLengths place b = inl (lit< tt)
+wrong_type_first OverLimit place b = inl (lit< tt)
 
-pub wrong_type_reads : WrongType
+pub wrong_type_reads : WrongTypeText
 wrong_type_reads = record {
   at = 36;
   refused = (

@@ -2,13 +2,13 @@
 use Rattle.std.proofs.Common.{◌≡◌, ℕ, ◌+◌, ◌≤◌, ℤ, pos, true, true≢false, List, [], ◌∷◌, ◌++◌, codes, length, refl, sym, inl, inr, arith, lit≤, lit<}
 use Rattle.std.proofs.lemmas.Int.{ints}
 use Rattle.fz_spec.specs.declared.code.Code.{Code}
-use Rattle.fz_spec.specs.declared.code.Code.TheVariants.{E01, E02, E03, E04, E05, E06, E07, E08, E10, E11}
+use Rattle.fz_spec.specs.declared.code.Code.TheVariants.{UnknownByte, LargeNumber, UnexpectedToken, DeclaredTwice, UnknownName, WrongType, WrongArity, UnknownConstraint, Unsupported, WrongLengths, OverLimit}
 use Rattle.fz_language.specs.declared.sign.Sign.TheVariants.{Semicolon, Colon, DoubleColon, DoubleDot}
 use Rattle.fz_sets.specs.Sets.{IsWithinLimits}
 use Rattle.fz_language.specs.Tokens.{Token, Lexeme, Word, Number, Punct, BeginsLargeNumber, BeginsNoToken, End, Fault, AreTokensOf, HasFault}
 use Rattle.fz_language.specs.Grammar.{Declaration, Item, Declare, Constrain, Method, Satisfy, Program, Piece, AllFit, declaration_pieces, solve_pieces, Spells}
 use Rattle.fz_language.specs.Reads.{BreaksRule, BreaksNone, ComesFirst}
-use Rattle.fz_language.specs.Examples.{three_values, ThreeValues, EmptyModel, EmptySet, LargeNumber, NoLastSemicolon, EmptyText, DeclaredTwice, unknown_byte, UnknownByte}
+use Rattle.fz_language.specs.Examples.{three_values, ThreeValues, EmptyModel, EmptySet, LargeNumberText, NoLastSemicolon, EmptyText, DeclaredTwiceText, unknown_byte, UnknownByteText}
 use Rattle.fz_language.proofs.Lexing.{number_is_token, begins_no_token}
 use Rattle.fz_language.proofs.TokenTests.{tokens_pass, last_stop, gap_passes, gap, lead}
 use Rattle.fz_language.proofs.ReadingLaws.{one_fault}
@@ -52,16 +52,17 @@ pub are_tokens : (text : List ℕ) (ts : List Token) → tokens_pass text 0 ts �
 are_tokens text ts h k = lead text 0 ts End h (gap text (last_stop 0 ts) (length text) k)
 
 pub first_keeps : (d : Declaration) → BreaksNone [] (Declare d)
-first_keeps d E01 at b = b
-first_keeps d E02 at b = b
-first_keeps d E03 at b = b
-first_keeps d E04 at b = true≢false (sym b.0)
-first_keeps d E05 at b = b
-first_keeps d E06 at b = b
-first_keeps d E07 at b = b
-first_keeps d E08 at b = b
-first_keeps d E10 at b = b
-first_keeps d E11 at b = let few : 1000000 ≤ 0 = b.0 in omega arith
+first_keeps d UnknownByte at b = b
+first_keeps d LargeNumber at b = b
+first_keeps d UnexpectedToken at b = b
+first_keeps d DeclaredTwice at b = true≢false (sym b.0)
+first_keeps d UnknownName at b = b
+first_keeps d WrongType at b = b
+first_keeps d WrongArity at b = b
+first_keeps d UnknownConstraint at b = b
+first_keeps d Unsupported at b = b
+first_keeps d WrongLengths at b = b
+first_keeps d OverLimit at b = let few : 1000000 ≤ 0 = b.0 in omega arith
 
 -- the texts that are accepted
 
@@ -136,10 +137,10 @@ large_number = record {
   large = over_limit;
 }
 
-pub large_number_reads : LargeNumber
+pub large_number_reads : LargeNumberText
 large_number_reads = record {
   at = 7;
-  refused = (lit≤ tt, (large_front, lead large_text 0 large_front (Fault E02 7) refl (gap large_text 7 7 refl, large_number)));
+  refused = (lit≤ tt, (large_front, lead large_text 0 large_front (Fault LargeNumber 7) refl (gap large_text 7 7 refl, large_number)));
   line_is = refl;
   column_is = refl;
 }
@@ -222,19 +223,20 @@ twice_fits =
     (short_fits 0 (pos 1) (pos 2))
     (fit_more (declaration_pieces declaration_again) (solve_pieces Satisfy) (short_tokens 13 declaration_again) (solve_tokens 26) (short_fits 13 (pos 1) (pos 2)) (solve_fits 26))
 
-first_twice : (code : Code) (place : ℕ) → BreaksRule (Declare declaration_once ∷ []) (Declare declaration_again) code place → ComesFirst E04 23 code place
-first_twice E01 place b = absurd b
-first_twice E02 place b = absurd b
-first_twice E03 place b = absurd b
-first_twice E04 place b = let e : place ≡ 23 = b.1 in inr (refl, omega arith)
-first_twice E05 place b = absurd b
-first_twice E06 place b = absurd b
-first_twice E07 place b = absurd b
-first_twice E08 place b = absurd b
-first_twice E10 place b = absurd b
-first_twice E11 place b = inl (lit< tt)
+first_twice : (code : Code) (place : ℕ) → BreaksRule (Declare declaration_once ∷ []) (Declare declaration_again) code place → ComesFirst DeclaredTwice 23 code place
+first_twice UnknownByte place b = absurd b
+first_twice LargeNumber place b = absurd b
+first_twice UnexpectedToken place b = absurd b
+first_twice DeclaredTwice place b = let e : place ≡ 23 = b.1 in inr (refl, omega arith)
+first_twice UnknownName place b = absurd b
+first_twice WrongType place b = absurd b
+first_twice WrongArity place b = absurd b
+first_twice UnknownConstraint place b = absurd b
+first_twice Unsupported place b = absurd b
+first_twice WrongLengths place b = absurd b
+first_twice OverLimit place b = inl (lit< tt)
 
-pub declared_twice_reads : DeclaredTwice
+pub declared_twice_reads : DeclaredTwiceText
 declared_twice_reads = record {
   at = 23;
   refused = (
@@ -263,8 +265,8 @@ unknown_begins : BeginsNoToken unknown_byte 15
 unknown_begins = begins_no_token unknown_byte 15 (lit< tt) refl
     (record { no_word = refl; no_digit = refl; no_sign = refl; no_minus = λ e. absurd (omega (arith, e)); no_dots = λ e. absurd (omega (arith, e)) })
 
-unknown_fault : HasFault unknown_byte E01 15
-unknown_fault = (unknown_front, lead unknown_byte 0 unknown_front (Fault E01 15) refl (gap unknown_byte 14 15 refl, unknown_begins))
+unknown_fault : HasFault unknown_byte UnknownByte 15
+unknown_fault = (unknown_front, lead unknown_byte 0 unknown_front (Fault UnknownByte 15) refl (gap unknown_byte 14 15 refl, unknown_begins))
 
-pub unknown_byte_faults : UnknownByte
-unknown_byte_faults = (unknown_fault, λ code at h. (one_fault unknown_byte code E01 at 15 h unknown_fault).place)
+pub unknown_byte_faults : UnknownByteText
+unknown_byte_faults = (unknown_fault, λ code at h. (one_fault unknown_byte code UnknownByte at 15 h unknown_fault).place)

@@ -1,7 +1,7 @@
 -- A text has one reading at most.
 use Rattle.std.proofs.Common.{◌≡◌, ℕ, ◌<◌, inl, inr, List, [], ◌∷◌, ◌++◌, length, refl, sym, ap, ◌∙◌, subst, arith, append_assoc, append-nil}
 use Rattle.fz_spec.specs.declared.code.Code.{Code}
-use Rattle.fz_spec.specs.declared.code.Code.TheVariants.{E01, E02, E03, E04, E05, E06, E07, E08, E10, E11}
+use Rattle.fz_spec.specs.declared.code.Code.TheVariants.{UnknownByte, LargeNumber, UnexpectedToken, DeclaredTwice, UnknownName, WrongType, WrongArity, UnknownConstraint, Unsupported, WrongLengths, OverLimit}
 use Rattle.fz_language.specs.Places.{line_of, column_of}
 use Rattle.fz_language.specs.Tokens.{Token, End, Fault, LeadsTo, HasFault}
 use Rattle.fz_language.specs.Grammar.{Program, Item, Spells, BreaksBehind}
@@ -12,16 +12,17 @@ use Rattle.fz_language.proofs.TokenLaws.{one_lexing}
 use Rattle.fz_language.proofs.GrammarLaws.{one_program, one_break, no_break, Cuts, Same, Before, Behind, cuts}
 
 one_rank : (c d : Code) → rank c ≡ rank d → c ≡ d
-one_rank E01 E01 e = refl
-one_rank E02 E02 e = refl
-one_rank E03 E03 e = refl
-one_rank E04 E04 e = refl
-one_rank E05 E05 e = refl
-one_rank E06 E06 e = refl
-one_rank E07 E07 e = refl
-one_rank E08 E08 e = refl
-one_rank E10 E10 e = refl
-one_rank E11 E11 e = refl
+one_rank UnknownByte UnknownByte e = refl
+one_rank LargeNumber LargeNumber e = refl
+one_rank UnexpectedToken UnexpectedToken e = refl
+one_rank DeclaredTwice DeclaredTwice e = refl
+one_rank UnknownName UnknownName e = refl
+one_rank WrongType WrongType e = refl
+one_rank WrongArity WrongArity e = refl
+one_rank UnknownConstraint UnknownConstraint e = refl
+one_rank Unsupported Unsupported e = refl
+one_rank WrongLengths WrongLengths e = refl
+one_rank OverLimit OverLimit e = refl
 one_rank _ _ e = cc
 
 -- a refusal: its code and its place
@@ -65,22 +66,23 @@ one_broken items c d a b h k = go (cuts h.before (h.item ∷ h.behind) k.before 
 
 -- why a text is refused
 data Cause (text : List ℕ) (c : Code) (a : ℕ) : Type 0 where
-  Long : TEXT_LIMIT < length text → c ≡ E11 → a ≡ TEXT_LIMIT → Cause text c a
+  Long : TEXT_LIMIT < length text → c ≡ OverLimit → a ≡ TEXT_LIMIT → Cause text c a
   Unlexed : IsShort text → HasFault text c a → Cause text c a
-  Unspelt : c ≡ E03 → IsUnspelt text a → Cause text c a
+  Unspelt : c ≡ UnexpectedToken → IsUnspelt text a → Cause text c a
   Wrong : IsWrong text c a → Cause text c a
 
 cause_of : (text : List ℕ) (c : Code) (a : ℕ) → IsRefusedAt text c a → Cause text c a
-cause_of text E01 a h = Unlexed h.0 h.1
-cause_of text E02 a h = Unlexed h.0 h.1
-cause_of text E03 a h = Unspelt refl h
-cause_of text E04 a h = Wrong h
-cause_of text E05 a h = Wrong h
-cause_of text E06 a h = Wrong h
-cause_of text E07 a h = Wrong h
-cause_of text E08 a h = Wrong h
-cause_of text E10 a h = Wrong h
-cause_of text E11 a h = elim h [ inl long ↦ Long long.0 refl long.1 | inr wrong ↦ Wrong wrong ]
+cause_of text UnknownByte a h = Unlexed h.0 h.1
+cause_of text LargeNumber a h = Unlexed h.0 h.1
+cause_of text UnexpectedToken a h = Unspelt refl h
+cause_of text DeclaredTwice a h = Wrong h
+cause_of text UnknownName a h = Wrong h
+cause_of text WrongType a h = Wrong h
+cause_of text WrongArity a h = Wrong h
+cause_of text UnknownConstraint a h = Wrong h
+cause_of text Unsupported a h = Wrong h
+cause_of text WrongLengths a h = Wrong h
+cause_of text OverLimit a h = elim h [ inl long ↦ Long long.0 refl long.1 | inr wrong ↦ Wrong wrong ]
 
 not_short : (text : List ℕ) → TEXT_LIMIT < length text → IsShort text → ⊥
 not_short text l s = omega arith

@@ -1,7 +1,7 @@
 -- A text has one list of tokens at most, with one ending.
 use Rattle.std.proofs.Common.{◌≡◌, ℕ, ◌≤◌, ◌<◌, ◌⊎◌, inl, inr, true≢false, List, [], ◌∷◌, length, slice_range, refl, sym, ap₂, ◌∙◌, subst, arith}
 use Rattle.fz_spec.specs.declared.code.Code.{Code}
-use Rattle.fz_spec.specs.declared.code.Code.TheVariants.{E01, E02, E03, E04, E05, E06, E07, E08, E10, E11}
+use Rattle.fz_spec.specs.declared.code.Code.TheVariants.{UnknownByte, LargeNumber, UnexpectedToken, DeclaredTwice, UnknownName, WrongType, WrongArity, UnknownConstraint, Unsupported, WrongLengths, OverLimit}
 use Rattle.fz_language.specs.Tokens.{Token, Number, IsSpelt, IsToken, IsGap, IsFault, IsFine, BeginsNoToken, BeginsLargeNumber, Ending, End, Fault, EndsIn, LeadsTo}
 use Rattle.fz_language.proofs.LexemeLaws.{one_lexeme, IsVisible, spelt_is_visible}
 
@@ -25,16 +25,17 @@ token_is_visible : (text : List ℕ) (t : Token) → IsToken text t → IsVisibl
 token_is_visible text t h = spelt_is_visible text t.lexeme t.start t.stop h.spelt
 
 fault_is_visible : (text : List ℕ) (code : Code) (at : ℕ) → IsFault text code at → IsVisible text at
-fault_is_visible text E01 at f = record { within = f.within; visible = f.visible }
-fault_is_visible text E02 at f = token_is_visible text _ f.token
-fault_is_visible text E03 at f = absurd f
-fault_is_visible text E04 at f = absurd f
-fault_is_visible text E05 at f = absurd f
-fault_is_visible text E06 at f = absurd f
-fault_is_visible text E07 at f = absurd f
-fault_is_visible text E08 at f = absurd f
-fault_is_visible text E10 at f = absurd f
-fault_is_visible text E11 at f = absurd f
+fault_is_visible text UnknownByte at f = record { within = f.within; visible = f.visible }
+fault_is_visible text LargeNumber at f = token_is_visible text _ f.token
+fault_is_visible text UnexpectedToken at f = absurd f
+fault_is_visible text DeclaredTwice at f = absurd f
+fault_is_visible text UnknownName at f = absurd f
+fault_is_visible text WrongType at f = absurd f
+fault_is_visible text WrongArity at f = absurd f
+fault_is_visible text UnknownConstraint at f = absurd f
+fault_is_visible text Unsupported at f = absurd f
+fault_is_visible text WrongLengths at f = absurd f
+fault_is_visible text OverLimit at f = absurd f
 
 pub one_token : (text : List ℕ) (t u : Token) → IsToken text t → IsToken text u → t.start ≡ u.start → t ≡ u
 one_token text t u h k e =
@@ -47,51 +48,55 @@ one_token text t u h k e =
 
 -- no fine token begins at a fault
 fault_no_token : (text : List ℕ) (code : Code) (t : Token) → IsFault text code t.start → IsToken text t → IsFine t.lexeme → ⊥
-fault_no_token text E01 t f h fine = f.none t.lexeme t.stop h.within h.spelt
-fault_no_token text E02 t f h fine =
+fault_no_token text UnknownByte t f h fine = f.none t.lexeme t.stop h.within h.spelt
+fault_no_token text LargeNumber t f h fine =
     let same = one_token text _ t f.token h refl in
     f.large (subst (λ (u : Token). IsFine u.lexeme) (sym same) fine)
-fault_no_token text E03 t f h fine = f
-fault_no_token text E04 t f h fine = f
-fault_no_token text E05 t f h fine = f
-fault_no_token text E06 t f h fine = f
-fault_no_token text E07 t f h fine = f
-fault_no_token text E08 t f h fine = f
-fault_no_token text E10 t f h fine = f
-fault_no_token text E11 t f h fine = f
+fault_no_token text UnexpectedToken t f h fine = f
+fault_no_token text DeclaredTwice t f h fine = f
+fault_no_token text UnknownName t f h fine = f
+fault_no_token text WrongType t f h fine = f
+fault_no_token text WrongArity t f h fine = f
+fault_no_token text UnknownConstraint t f h fine = f
+fault_no_token text Unsupported t f h fine = f
+fault_no_token text WrongLengths t f h fine = f
+fault_no_token text OverLimit t f h fine = f
 
 no_both : (text : List ℕ) (at : ℕ) → BeginsNoToken text at → BeginsLargeNumber text at → ⊥
 no_both text at f g = f.none (Number g.value) g.stop g.token.within g.token.spelt
 
 one_code : (text : List ℕ) (c d : Code) (at : ℕ) → IsFault text c at → IsFault text d at → c ≡ d
-one_code text E01 E01 at f g = refl
-one_code text E01 E02 at f g = absurd (no_both text at f g)
-one_code text E02 E01 at f g = absurd (no_both text at g f)
-one_code text E02 E02 at f g = refl
-one_code text E01 E03 at f g = absurd g
-one_code text E01 E04 at f g = absurd g
-one_code text E01 E05 at f g = absurd g
-one_code text E01 E06 at f g = absurd g
-one_code text E01 E07 at f g = absurd g
-one_code text E01 E08 at f g = absurd g
-one_code text E01 E10 at f g = absurd g
-one_code text E01 E11 at f g = absurd g
-one_code text E02 E03 at f g = absurd g
-one_code text E02 E04 at f g = absurd g
-one_code text E02 E05 at f g = absurd g
-one_code text E02 E06 at f g = absurd g
-one_code text E02 E07 at f g = absurd g
-one_code text E02 E08 at f g = absurd g
-one_code text E02 E10 at f g = absurd g
-one_code text E02 E11 at f g = absurd g
-one_code text E03 d at f g = absurd f
-one_code text E04 d at f g = absurd f
-one_code text E05 d at f g = absurd f
-one_code text E06 d at f g = absurd f
-one_code text E07 d at f g = absurd f
-one_code text E08 d at f g = absurd f
-one_code text E10 d at f g = absurd f
-one_code text E11 d at f g = absurd f
+one_code text UnknownByte UnknownByte at f g = refl
+one_code text UnknownByte LargeNumber at f g = absurd (no_both text at f g)
+one_code text LargeNumber UnknownByte at f g = absurd (no_both text at g f)
+one_code text LargeNumber LargeNumber at f g = refl
+one_code text UnknownByte UnexpectedToken at f g = absurd g
+one_code text UnknownByte DeclaredTwice at f g = absurd g
+one_code text UnknownByte UnknownName at f g = absurd g
+one_code text UnknownByte WrongType at f g = absurd g
+one_code text UnknownByte WrongArity at f g = absurd g
+one_code text UnknownByte UnknownConstraint at f g = absurd g
+one_code text UnknownByte Unsupported at f g = absurd g
+one_code text UnknownByte WrongLengths at f g = absurd g
+one_code text UnknownByte OverLimit at f g = absurd g
+one_code text LargeNumber UnexpectedToken at f g = absurd g
+one_code text LargeNumber DeclaredTwice at f g = absurd g
+one_code text LargeNumber UnknownName at f g = absurd g
+one_code text LargeNumber WrongType at f g = absurd g
+one_code text LargeNumber WrongArity at f g = absurd g
+one_code text LargeNumber UnknownConstraint at f g = absurd g
+one_code text LargeNumber Unsupported at f g = absurd g
+one_code text LargeNumber WrongLengths at f g = absurd g
+one_code text LargeNumber OverLimit at f g = absurd g
+one_code text UnexpectedToken d at f g = absurd f
+one_code text DeclaredTwice d at f g = absurd f
+one_code text UnknownName d at f g = absurd f
+one_code text WrongType d at f g = absurd f
+one_code text WrongArity d at f g = absurd f
+one_code text UnknownConstraint d at f g = absurd f
+one_code text Unsupported d at f g = absurd f
+one_code text WrongLengths d at f g = absurd f
+one_code text OverLimit d at f g = absurd f
 
 one_ending : (text : List ℕ) (from : ℕ) (e f : Ending) → EndsIn text from e → EndsIn text from f → e ≡ f
 one_ending text from End End h k = refl

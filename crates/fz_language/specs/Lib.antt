@@ -1,3 +1,4 @@
+pub mod Signatures
 pub mod Places
 pub mod Tokens
 pub mod Grammar

@@ -1,6 +1,6 @@
 -- How a text is read: accepted with its model, or refused with a code and a place, the first in the order of refusals (fzn's own rule):
 -- the text's length; then the first fault of its tokens; then its syntax; then the first item that breaks a rule.
-use Rattle.std.specs.Prelude.{◌≡◌, ◌≢◌, ◌+◌, ◌-◌, Option, Some, None, flat_map, find, not, slice_get, ℕ, ℤ, pos, ◌≤◌, ◌<◌, ◌⊎◌, Bool, IsTrue, if◌then◌else◌, List, [], ◌∷◌, ◌++◌, suc, length, map, codes, bytes_eq}
+use Rattle.std.specs.Prelude.{◌≡◌, ◌≢◌, ◌+◌, ◌-◌, Option, Some, None, flat_map, find, not, slice_get, ℕ, ℤ, pos, ◌≤◌, ◌<◌, ◌⊎◌, Bool, IsTrue, false, if◌then◌else◌, List, [], ◌∷◌, ◌++◌, suc, length, map, codes, bytes_eq}
 use Rattle.std.specs.List.{list_any, position_or_len}
 use Rattle.fz_spec.specs.declared.limits.TheConstants.{TEXT_LIMIT, VARIABLE_LIMIT, CONSTRAINT_LIMIT, ELEMENT_LIMIT}
 use Rattle.fz_spec.specs.declared.kind.Kind.TheVariants.{Int}
@@ -10,16 +10,17 @@ use Rattle.fz_spec.specs.declared.term.Term.{Term}
 use Rattle.fz_spec.specs.declared.term.Term.TheVariants.{Num, Var}
 use Rattle.fz_sets.specs.Sets.{interval}
 use Rattle.fz_spec.specs.declared.code.Code.{Code}
-use Rattle.fz_spec.specs.declared.code.Code.TheVariants.{E01, E02, E03, E04, E05, E06, E07, E08, E10, E11}
+use Rattle.fz_spec.specs.declared.code.Code.TheVariants.{UnknownByte, LargeNumber, UnexpectedToken, DeclaredTwice, UnknownName, WrongType, WrongArity, UnknownConstraint, Unsupported, WrongLengths, OverLimit}
 use Rattle.fz_language.specs.Places.{line_of, column_of}
 use Rattle.fz_language.specs.Tokens.{Token, Word, Number, Punct, AreTokensOf, HasFault}
 use Rattle.fz_language.specs.Grammar.{Program, Item, Declare, Constrain, Declaration, Constraint, Expression, Scalar, Elements, Basic, Literal, Name, Annotation, Method, Spells, BreaksBehind}
 use Rattle.fz_language.specs.Grammar as grammar
-use Rattle.fz_spec.specs.Signatures.{Asked, Value, Operand, Values, Operands, signature, builtin_of}
+use Rattle.fz_language.specs.Signatures.{Asked, Value, Operand, Values, Operands, signature, builtin_of}
 use Rattle.fz_spec.specs.Constraints.{Argument, One, Numbers, Terms}
 use Rattle.fz_spec.specs.Constraints as instance_constraint
-use Rattle.fz_spec.specs.Instance.{Instance, Variable, Output, Goal}
-use Rattle.fz_spec.specs.Instance as instance
+use Rattle.fz_spec.specs.declared.goal.Goal.{Goal}
+use Rattle.fz_spec.specs.declared.goal.Goal.TheVariants as goals
+use Rattle.fz_spec.specs.Instance.{Instance, Variable, Output}
 
 -- what a leaf says
 abbrev pub name_of : Token → List ℕ
@@ -99,8 +100,8 @@ HasUnequalLists name arguments = ⊥
 
 -- Rules that a declaration breaks behind these items: a name that is declared already; a variable over the limit.
 abbrev pub DeclarationBreaks : List Item → Declaration → Code → ℕ → Type 0
-DeclarationBreaks before d E04 at = IsTrue (is_declared before d.name) × (at ≡ d.name.start)
-DeclarationBreaks before d E11 at = (VARIABLE_LIMIT ≤ length (declared_names before)) × (at ≡ d.name.start)
+DeclarationBreaks before d DeclaredTwice at = IsTrue (is_declared before d.name) × (at ≡ d.name.start)
+DeclarationBreaks before d OverLimit at = (VARIABLE_LIMIT ≤ length (declared_names before)) × (at ≡ d.name.start)
 DeclarationBreaks before d code at = ⊥
 
 -- the first constraint over the limit, at its name; else the first element over the limit
@@ -116,12 +117,12 @@ pub record IsCall (c : Constraint) (name : Builtin) : Type 0 where
 -- Rules that a constraint breaks behind these items: an unknown name of a constraint; a wrong number of arguments; the first name
 -- that isn't declared; the first argument of a wrong type; lists that differ in length; over a limit.
 abbrev pub ConstraintBreaks : List Item → Constraint → Code → ℕ → Type 0
-ConstraintBreaks before c E05 at = (t : Token) × (find (is_unknown before) (names_in c) ≡ Some t) × (at ≡ t.start)
-ConstraintBreaks before c E06 at = (b : Builtin) × IsCall c b × ((t : Token) × (slice_get (all_wrong_leaves (signature b) c.arguments) 0 ≡ Some t) × (at ≡ t.start))
-ConstraintBreaks before c E07 at = (b : Builtin) × (builtin_of (name_of c.name) ≡ Some b) × (length c.arguments ≢ length (signature b)) × (at ≡ c.name.start)
-ConstraintBreaks before c E08 at = (builtin_of (name_of c.name) ≡ None) × (at ≡ c.name.start)
-ConstraintBreaks before c E10 at = (b : Builtin) × IsCall c b × HasUnequalLists b c.arguments × (at ≡ c.name.start)
-ConstraintBreaks before c E11 at = IsOverLimit before c at
+ConstraintBreaks before c UnknownName at = (t : Token) × (find (is_unknown before) (names_in c) ≡ Some t) × (at ≡ t.start)
+ConstraintBreaks before c WrongType at = (b : Builtin) × IsCall c b × ((t : Token) × (slice_get (all_wrong_leaves (signature b) c.arguments) 0 ≡ Some t) × (at ≡ t.start))
+ConstraintBreaks before c WrongArity at = (b : Builtin) × (builtin_of (name_of c.name) ≡ Some b) × (length c.arguments ≢ length (signature b)) × (at ≡ c.name.start)
+ConstraintBreaks before c UnknownConstraint at = (builtin_of (name_of c.name) ≡ None) × (at ≡ c.name.start)
+ConstraintBreaks before c WrongLengths at = (b : Builtin) × IsCall c b × HasUnequalLists b c.arguments × (at ≡ c.name.start)
+ConstraintBreaks before c OverLimit at = IsOverLimit before c at
 ConstraintBreaks before c code at = ⊥
 
 abbrev pub BreaksRule : List Item → Item → Code → ℕ → Type 0
@@ -130,16 +131,17 @@ BreaksRule before (Constrain c) code at = ConstraintBreaks before c code at
 
 -- the order of codes within an item
 abbrev pub rank : Code → ℕ
-rank E08 = 1
-rank E07 = 2
-rank E05 = 3
-rank E06 = 4
-rank E10 = 5
-rank E04 = 6
-rank E11 = 7
-rank E01 = 8
-rank E02 = 9
-rank E03 = 10
+rank Unsupported = 0
+rank UnknownConstraint = 1
+rank WrongArity = 2
+rank UnknownName = 3
+rank WrongType = 4
+rank WrongLengths = 5
+rank DeclaredTwice = 6
+rank OverLimit = 7
+rank UnknownByte = 8
+rank LargeNumber = 9
+rank UnexpectedToken = 10
 
 abbrev pub ComesFirst : Code → ℕ → Code → ℕ → Type 0
 ComesFirst code at other place = (rank code < rank other) ⊎ ((rank code ≡ rank other) × (at ≤ place))
@@ -176,7 +178,7 @@ is_output a = bytes_eq (codes "output_var") (name_of a.name)
 
 -- what a declaration adds to the output, if its variable has this number
 abbrev pub output_of : Declaration → ℕ → List Output
-output_of d n = if list_any is_output d.annotations then instance.Scalar (name_of d.name) Int n ∷ [] else []
+output_of d n = if list_any is_output d.annotations then record { name = name_of d.name; kind = Int; array = false; shape = []; terms = Var n ∷ [] } ∷ [] else []
 
 -- the output items of these, the first variable of which has this number
 abbrev pub outputs_from : ℕ → List Item → List Output
@@ -213,26 +215,27 @@ constraints_from names (Declare d ∷ items) = constraints_from (names ++ name_o
 constraints_from names (Constrain c ∷ items) = constraint_named names c.arguments (builtin_of (name_of c.name)) ++ constraints_from names items
 
 abbrev pub goal_of : Method → Goal
-goal_of grammar.Satisfy = instance.Satisfy
+goal_of grammar.Satisfy = goals.Satisfy
 
 abbrev pub model_of : Program → Instance
-model_of p = record { variables = flat_map variables_of p.items; constraints = constraints_from [] p.items; goal = goal_of p.method; outputs = outputs_from 0 p.items }
+model_of p = record { variables = flat_map variables_of p.items; constraints = constraints_from [] p.items; goal = goal_of p.method; outputs = outputs_from 0 p.items; search = [] }
 
 abbrev pub IsShort : List ℕ → Type 0
 IsShort text = length text ≤ TEXT_LIMIT
 
 -- a text that is too long, at the first byte over the limit; or the first fault of its tokens
 abbrev pub IsUnlexed : List ℕ → Code → ℕ → Type 0
-IsUnlexed text E01 at = IsShort text × HasFault text E01 at
-IsUnlexed text E02 at = IsShort text × HasFault text E02 at
-IsUnlexed text E03 at = ⊥
-IsUnlexed text E04 at = ⊥
-IsUnlexed text E05 at = ⊥
-IsUnlexed text E06 at = ⊥
-IsUnlexed text E07 at = ⊥
-IsUnlexed text E08 at = ⊥
-IsUnlexed text E10 at = ⊥
-IsUnlexed text E11 at = (TEXT_LIMIT < length text) × (at ≡ TEXT_LIMIT)
+IsUnlexed text UnknownByte at = IsShort text × HasFault text UnknownByte at
+IsUnlexed text LargeNumber at = IsShort text × HasFault text LargeNumber at
+IsUnlexed text UnexpectedToken at = ⊥
+IsUnlexed text DeclaredTwice at = ⊥
+IsUnlexed text UnknownName at = ⊥
+IsUnlexed text WrongType at = ⊥
+IsUnlexed text WrongArity at = ⊥
+IsUnlexed text UnknownConstraint at = ⊥
+IsUnlexed text Unsupported at = ⊥
+IsUnlexed text WrongLengths at = ⊥
+IsUnlexed text OverLimit at = (TEXT_LIMIT < length text) × (at ≡ TEXT_LIMIT)
 
 -- the place of the first of these tokens, or the end of the text
 abbrev pub place_of : List ℕ → List Token → ℕ
@@ -262,16 +265,17 @@ IsWrong text code at = (p : Program) × IsProgramText text p × HasBrokenRule p.
 
 -- refused with this code at this byte: each code by its causes
 abbrev pub IsRefusedAt : List ℕ → Code → ℕ → Type 0
-IsRefusedAt text E01 at = IsUnlexed text E01 at
-IsRefusedAt text E02 at = IsUnlexed text E02 at
-IsRefusedAt text E03 at = IsUnspelt text at
-IsRefusedAt text E04 at = IsWrong text E04 at
-IsRefusedAt text E05 at = IsWrong text E05 at
-IsRefusedAt text E06 at = IsWrong text E06 at
-IsRefusedAt text E07 at = IsWrong text E07 at
-IsRefusedAt text E08 at = IsWrong text E08 at
-IsRefusedAt text E10 at = IsWrong text E10 at
-IsRefusedAt text E11 at = IsUnlexed text E11 at ⊎ IsWrong text E11 at
+IsRefusedAt text UnknownByte at = IsUnlexed text UnknownByte at
+IsRefusedAt text LargeNumber at = IsUnlexed text LargeNumber at
+IsRefusedAt text UnexpectedToken at = IsUnspelt text at
+IsRefusedAt text DeclaredTwice at = IsWrong text DeclaredTwice at
+IsRefusedAt text UnknownName at = IsWrong text UnknownName at
+IsRefusedAt text WrongType at = IsWrong text WrongType at
+IsRefusedAt text WrongArity at = IsWrong text WrongArity at
+IsRefusedAt text UnknownConstraint at = IsWrong text UnknownConstraint at
+IsRefusedAt text Unsupported at = IsWrong text Unsupported at
+IsRefusedAt text WrongLengths at = IsWrong text WrongLengths at
+IsRefusedAt text OverLimit at = IsUnlexed text OverLimit at ⊎ IsWrong text OverLimit at
 
 pub record IsAccepted (text : List ℕ) (m : Instance) : Type 0 where
   pub program : Program

@@ -7,7 +7,7 @@ use Rattle.fz_language.specs.declared.sign.Sign.{Sign}
 use Rattle.fz_language.specs.declared.sign.Sign.TheVariants.{Semicolon, Colon, DoubleColon, Comma, LeftParenthesis, RightParenthesis, LeftBracket, RightBracket, LeftBrace, RightBrace, Equals, DoubleDot}
 use Rattle.fz_sets.specs.Sets.{IsWithinLimits}
 use Rattle.fz_spec.specs.declared.code.Code.{Code}
-use Rattle.fz_spec.specs.declared.code.Code.TheVariants.{E01, E02, E03, E04, E05, E06, E07, E08, E10, E11}
+use Rattle.fz_spec.specs.declared.code.Code.TheVariants.{UnknownByte, LargeNumber, UnexpectedToken, DeclaredTwice, UnknownName, WrongType, WrongArity, UnknownConstraint, Unsupported, WrongLengths, OverLimit}
 
 -- what a token says
 pub data Lexeme : Type 0 where
@@ -93,16 +93,17 @@ pub record BeginsLargeNumber (text : List ℕ) (at : ℕ) : Type 0 where
   pub large : IsWithinLimits value → ⊥
 
 abbrev pub IsFault : List ℕ → Code → ℕ → Type 0
-IsFault text E01 at = BeginsNoToken text at
-IsFault text E02 at = BeginsLargeNumber text at
-IsFault text E03 at = ⊥
-IsFault text E04 at = ⊥
-IsFault text E05 at = ⊥
-IsFault text E06 at = ⊥
-IsFault text E07 at = ⊥
-IsFault text E08 at = ⊥
-IsFault text E10 at = ⊥
-IsFault text E11 at = ⊥
+IsFault text UnknownByte at = BeginsNoToken text at
+IsFault text LargeNumber at = BeginsLargeNumber text at
+IsFault text UnexpectedToken at = ⊥
+IsFault text DeclaredTwice at = ⊥
+IsFault text UnknownName at = ⊥
+IsFault text WrongType at = ⊥
+IsFault text WrongArity at = ⊥
+IsFault text UnknownConstraint at = ⊥
+IsFault text Unsupported at = ⊥
+IsFault text WrongLengths at = ⊥
+IsFault text OverLimit at = ⊥
 
 abbrev pub IsFine : Lexeme → Type 0
 IsFine (Word name) = Unit {0}

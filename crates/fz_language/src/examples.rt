@@ -1,5 +1,5 @@
 //! How some texts are read: each reading is the clause of a function that does nothing, so that the clause is proved.
-ghost use Rattle.fz_language.specs.Examples.{ThreeValues, EmptyModel, EmptySet, LargeNumber, NoLastSemicolon, EmptyText, DeclaredTwice, UnknownByte, NotEqual, UnknownName, TooFewArguments, UnknownConstraint, UnequalLists, WrongType};
+ghost use Rattle.fz_language.specs.Examples.{ThreeValues, EmptyModel, EmptySet, LargeNumberText, NoLastSemicolon, EmptyText, DeclaredTwiceText, UnknownByteText, NotEqual, UnknownNameText, TooFewArguments, UnknownConstraintText, UnequalLists, WrongTypeText};
 
 /// `var 1..3: x :: output_var; solve satisfy;` is accepted: a variable of three values, which is printed.
 pub fn three_values()
@@ -18,7 +18,7 @@ pub fn empty_set()
 
 /// `var 1..2147483647: x; solve satisfy;` is refused with E02 at column 8, where the large number begins.
 pub fn large_number()
-    ensures { LargeNumber }
+    ensures { LargeNumberText }
 {}
 
 /// `solve satisfy` is refused with E03 at column 14, behind its end.
@@ -33,12 +33,12 @@ pub fn empty_text()
 
 /// `var 1..2: x; var 1..2: x; solve satisfy;` is refused with E04 at column 24, where the name stands again.
 pub fn declared_twice()
-    ensures { DeclaredTwice }
+    ensures { DeclaredTwiceText }
 {}
 
 /// `  var 1..2: x; #` has one fault, E01 at byte 15: `#` begins no token, and nothing before it is at fault.
 pub fn unknown_byte()
-    ensures { UnknownByte }
+    ensures { UnknownByteText }
 {}
 
 /// `var 1..2: x :: output_var; var 1..2: y :: output_var; constraint int_ne(x,y); solve satisfy;` is accepted: two variables
@@ -49,7 +49,7 @@ pub fn not_equal()
 
 /// `constraint int_ne(x,1); solve satisfy;` is refused with E05 at column 19: no `x` is declared.
 pub fn unknown_name()
-    ensures { UnknownName }
+    ensures { UnknownNameText }
 {}
 
 /// `constraint int_ne(1); solve satisfy;` is refused with E07 at column 12, at the constraint's name: it has one argument, not two.
@@ -59,7 +59,7 @@ pub fn too_few_arguments()
 
 /// `var 1..2: x; constraint foo(x); solve satisfy;` is refused with E08 at column 25: there is no constraint `foo`.
 pub fn unknown_constraint()
-    ensures { UnknownConstraint }
+    ensures { UnknownConstraintText }
 {}
 
 /// `constraint int_lin_le([1,2],[3],4); solve satisfy;` is refused with E10 at column 12, at the constraint's name: its lists
@@ -71,5 +71,5 @@ pub fn unequal_lists()
 /// `var 1..2: x; constraint int_lin_le([x],[x],4); solve satisfy;` is refused with E06 at column 37: the first list is one of
 /// numbers, and `x` is a variable.
 pub fn wrong_type()
-    ensures { WrongType }
+    ensures { WrongTypeText }
 {}

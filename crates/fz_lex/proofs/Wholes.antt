@@ -7,7 +7,7 @@ use Rattle.std.proofs.lemmas.Bool.{cases_lt, both_ways}
 use Rattle.std.proofs.lemmas.List.{append-nil, get_or_default, drop_more, drop_all, map-append, length-map}
 use Rattle.std.proofs.lemmas.List.Elements.{All-get_or, All-push}
 use Rattle.fz_spec.specs.declared.code.Code.{Code}
-use Rattle.fz_spec.specs.declared.code.Code.TheVariants.{E01, E02, E03, E04, E05, E06, E07, E08, E10, E11}
+use Rattle.fz_spec.specs.declared.code.Code.TheVariants.{UnknownByte, LargeNumber, UnexpectedToken, DeclaredTwice, UnknownName, WrongType, WrongArity, UnknownConstraint, Unsupported, WrongLengths, OverLimit}
 use Rattle.fz_language.specs.declared.sign.Sign.{Sign}
 use Rattle.fz_language.specs.declared.sign.Sign.TheVariants.{Semicolon, Colon, DoubleColon, Comma, LeftParenthesis, RightParenthesis, LeftBracket, RightBracket, LeftBrace, RightBrace, Equals, DoubleDot}
 use Rattle.fz_language.specs.Tokens.{Lexeme, Word, Number, Punct, is_word_start, is_word_byte, sign_bytes, IsSpelt, IsToken, IsGap, IsFault, HasFault, IsFine, Ending, End, Fault, LeadsTo, AreTokensOf}
@@ -42,16 +42,17 @@ pub led_end : (text : List ℕ) (ts : List language.Token) → Led text ts (leng
 led_end text ts h = led_to text ts h.from End h.leads h.gap
 
 pub led_fault : (text : List ℕ) (ts : List language.Token) (code : Code) (at : ℕ) → IsShort text → Led text ts at → IsFault text code at → IsUnlexed text code at
-led_fault text ts E01 at s h f = (s, (ts, led_to text ts h.from (Fault E01 at) h.leads (h.gap, f)))
-led_fault text ts E02 at s h f = (s, (ts, led_to text ts h.from (Fault E02 at) h.leads (h.gap, f)))
-led_fault text ts E03 at s h f = absurd f
-led_fault text ts E04 at s h f = absurd f
-led_fault text ts E05 at s h f = absurd f
-led_fault text ts E06 at s h f = absurd f
-led_fault text ts E07 at s h f = absurd f
-led_fault text ts E08 at s h f = absurd f
-led_fault text ts E10 at s h f = absurd f
-led_fault text ts E11 at s h f = absurd f
+led_fault text ts UnknownByte at s h f = (s, (ts, led_to text ts h.from (Fault UnknownByte at) h.leads (h.gap, f)))
+led_fault text ts LargeNumber at s h f = (s, (ts, led_to text ts h.from (Fault LargeNumber at) h.leads (h.gap, f)))
+led_fault text ts UnexpectedToken at s h f = absurd f
+led_fault text ts DeclaredTwice at s h f = absurd f
+led_fault text ts UnknownName at s h f = absurd f
+led_fault text ts WrongType at s h f = absurd f
+led_fault text ts WrongArity at s h f = absurd f
+led_fault text ts UnknownConstraint at s h f = absurd f
+led_fault text ts Unsupported at s h f = absurd f
+led_fault text ts WrongLengths at s h f = absurd f
+led_fault text ts OverLimit at s h f = absurd f
 
 -- a token's bytes
 

@@ -45,10 +45,10 @@ fn number_at(text: &[u8], at: usize) -> Result<Found, Code>
     let from = if is_negative { at + 1 } else { at };
     let run = digits(text, from);
     if run.stop == from {
-        return Err(Code::E01);
+        return Err(Code::UnknownByte);
     }
     if run.value == OVER {
-        return Err(Code::E02);
+        return Err(Code::LargeNumber);
     }
     let size = run.value as i32;
     let value = if is_negative { -size } else { size };
@@ -72,6 +72,6 @@ fn sign_at(text: &[u8], at: usize) -> Result<Found, Code>
             kind: TokenKind::Sign(sign),
             stop: at + sign_length(sign),
         }),
-        None => Err(Code::E01),
+        None => Err(Code::UnknownByte),
     }
 }

@@ -19,7 +19,7 @@ pub fn tokens(alloc: Global, text: &[u8]) -> Result<Result<Tokens<'_>, LexFault>
 {
     if text.len() > TEXT_LIMIT {
         let over = Cursor::start(text).walk(text, TEXT_LIMIT);
-        return Ok(Err(fault_at(Code::E11, over)));
+        return Ok(Err(fault_at(Code::OverLimit, over)));
     }
     let mut found: Vec<Token> = Vec::new(alloc);
     let mut cursor = Cursor::start(text).skip_space(text);

@@ -98,17 +98,17 @@ fn the_longest_token_counts(rt: HostRuntime) -> Result<(), Fail> {
 #[test]
 fn the_first_fault_is_told_with_its_place(rt: HostRuntime) -> Result<(), Fail> {
     for (text, code, line, column) in [
-        ("-2147483647", Code::E02, 1, 1),
-        ("2147483647", Code::E02, 1, 1),
-        ("x = 123456789012345678901234567890;", Code::E02, 1, 5),
-        ("  var 1..2: x; #", Code::E01, 1, 16),
-        ("x;\r\n\tvar #", Code::E01, 2, 6),
-        ("a.b", Code::E01, 1, 2),
-        ("1...2", Code::E01, 1, 4),
-        ("-", Code::E01, 1, 1),
-        ("- 1", Code::E01, 1, 1),
-        ("x\n# 2147483647", Code::E01, 2, 1),
-        ("x\n2147483647 #", Code::E02, 2, 1),
+        ("-2147483647", Code::LargeNumber, 1, 1),
+        ("2147483647", Code::LargeNumber, 1, 1),
+        ("x = 123456789012345678901234567890;", Code::LargeNumber, 1, 5),
+        ("  var 1..2: x; #", Code::UnknownByte, 1, 16),
+        ("x;\r\n\tvar #", Code::UnknownByte, 2, 6),
+        ("a.b", Code::UnknownByte, 1, 2),
+        ("1...2", Code::UnknownByte, 1, 4),
+        ("-", Code::UnknownByte, 1, 1),
+        ("- 1", Code::UnknownByte, 1, 1),
+        ("x\n# 2147483647", Code::UnknownByte, 2, 1),
+        ("x\n2147483647 #", Code::LargeNumber, 2, 1),
     ] {
         assert_eq!(rt;
             fault_of(rt.alloc(), text)?,
@@ -125,7 +125,7 @@ fn a_text_over_the_limit_is_refused_at_its_end(rt: HostRuntime) -> Result<(), Fa
     assert!(rt; tokens(rt.alloc(), &text)??.is_empty());
     text.push(b' ')?;
     let want = LexFault {
-        code: Code::E11,
+        code: Code::OverLimit,
         line: 1,
         column: 67_108_865,
     };

@@ -3,11 +3,13 @@ use Rattle.std.proofs.Common.{◌≡◌, ℕ, ℤ, ◌+◌, ◌<◌, Bool, false
 use Rattle.std.specs.Prelude.{IsTrue}
 use Rattle.std.specs.Bool.{Decides}
 use Rattle.std.proofs.lemmas.List.{map_more, get_or-map}
-use Rattle.std.proofs.lemmas.Bool.Decides.{Decides-int_eq, Decides-eqb}
+use Rattle.std.specs.Prelude.{◌&&◌}
+use Rattle.std.specs.Ordering.{int_eq}
+use Rattle.std.proofs.lemmas.Bool.Decides.{Decides-int_eq, Decides-eqb, Decides-and, Decides-like}
 use Rattle.fz_spec.specs.declared.term.Term.{Term}
 use Rattle.fz_spec.specs.declared.term.Term.TheVariants.{Num, Var}
 use Rattle.fz_spec.specs.contracts.term.TermPartialEq.TheImpl as equality
-use Rattle.fz_spec.specs.Constraints.{Argument, One, Numbers, Terms}
+use Rattle.fz_spec.specs.Constraints.{Argument, One, Numbers, Terms, Set}
 
 pub same_more : {X Y : Type 0} (f : X → Y) (xs ys : List X) (i : ℕ) (a b : X) → i < length xs → length xs ≡ length ys → a ≡ get_or xs i a → b ≡ get_or ys i b → f a ≡ f b
     → map f (take i xs) ≡ map f (take i ys) → map f (take (i + 1) xs) ≡ map f (take (i + 1) ys)
@@ -35,15 +37,26 @@ equal_terms (Num x) (Var y) = (λ e. cc, λ e. cc)
 equal_terms (Var x) (Num y) = (λ e. cc, λ e. cc)
 equal_terms (Var x) (Var y) = (λ e. ap (λ u. Var u) ((Decides-eqb x y).0 e), λ e. (Decides-eqb x y).1 (one_variable x y e))
 
+same_pair : (a b : ℤ × ℤ) → (a.0 ≡ b.0) × (a.1 ≡ b.1) → a ≡ b
+same_pair (a, b) (c, d) h = let p = h.0 in let q = h.1 in cc
+
+pub equal_pairs : (a b : ℤ × ℤ) → Decides (int_eq a.0 b.0 && int_eq a.1 b.1) (a ≡ b)
+equal_pairs a b =
+    Decides-like (int_eq a.0 b.0 && int_eq a.1 b.1) (same_pair a b)
+    (λ e. (ap (λ (p : ℤ × ℤ). p.0) e, ap (λ (p : ℤ × ℤ). p.1) e))
+    (Decides-and (int_eq a.0 b.0) (int_eq a.1 b.1) (Decides-int_eq a.0 b.0) (Decides-int_eq a.1 b.1))
+
 numbers_in : Argument → List ℤ
 numbers_in (One t) = []
 numbers_in (Numbers ns) = ns
 numbers_in (Terms ts) = []
+numbers_in (Set set) = []
 
 terms_in : Argument → List Term
 terms_in (One t) = []
 terms_in (Numbers ns) = []
 terms_in (Terms ts) = ts
+terms_in (Set set) = []
 
 one_list : (xs ys : List ℤ) → Numbers xs ≡ Numbers ys → xs ≡ ys
 unfolding numbers_in

@@ -1,9 +1,10 @@
 -- What the arguments of constraints mean.
 use Rattle.fz_model.specs.declared.constraint.Argument.{Argument}
-use Rattle.fz_model.specs.declared.constraint.Argument.TheVariants.{One, Numbers, Terms}
+use Rattle.fz_model.specs.declared.constraint.Argument.TheVariants.{One, Numbers, Terms, Set}
 use Rattle.fz_spec.specs.Constraints as meaning
 
 abbrev pub argument_of : Argument → meaning.Argument
 argument_of (One term) = meaning.One term
 argument_of (Numbers numbers) = meaning.Numbers numbers.items
 argument_of (Terms terms) = meaning.Terms terms.items
+argument_of (Set set) = meaning.Set set

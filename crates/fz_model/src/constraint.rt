@@ -2,17 +2,20 @@
 ghost use Rattle.std.specs.Prelude.{◌≡◌, ◌↔◌, IfOk, IsTrue, map};
 ghost use Rattle.fz_model.specs.Arguments.{argument_of};
 
+use crate::part::Part;
+use fz_dom::Dom;
 use fz_spec::builtin::Builtin;
 use fz_spec::term::Term;
 use std::alloc::{AllocError, Global};
 use std::marker::Model;
 
-/// An argument of a constraint: a term, a list of numbers, or a list of terms.
+/// An argument of a constraint: a term, a list of numbers, a list of terms, or a set.
 #[derive(Drop)]
 pub enum Argument {
     One(Term),
     Numbers(Vec<i32>),
     Terms(Vec<Term>),
+    Set(Dom),
 }
 
 impl Argument {
@@ -30,6 +33,7 @@ impl Argument {
                 let terms = Vec::from_slice(*terms.allocator(), terms)?;
                 Ok(Argument::Terms(terms))
             }
+            Argument::Set(set) => Ok(Argument::Set(set.copy()?)),
         }
     }
 
@@ -45,6 +49,7 @@ impl Argument {
             (Argument::Terms(these), Argument::Terms(those)) => {
                 these.as_slice() == those.as_slice()
             }
+            (Argument::Set(this), Argument::Set(that)) => this.same(that),
             _ => false,
         }
     }
@@ -88,11 +93,10 @@ impl Constraint {
     {
         &self.arguments
     }
+}
 
-    /// Another constraint of the same name and arguments.
-    pub fn copy(&self) -> Result<Constraint, AllocError>
-        ensures { IfOk result (λ c. c ≡ self.now) }
-    {
+impl Part for Constraint {
+    fn copy(&self) -> Result<Constraint, AllocError> {
         let arguments = copy_arguments(*self.arguments.allocator(), &self.arguments)?;
         Ok(Constraint {
             name: self.name,
@@ -100,11 +104,8 @@ impl Constraint {
         })
     }
 
-    /// Whether the two have the same name and the same arguments.
-    pub fn same(&self, other: &Constraint) -> bool
-        ensures { IsTrue result ↔ (self.now ≡ other.now) }
-    {
-        self.name == other.name && same_arguments(&self.arguments, &other.arguments)
+    fn same(&self, other: &Constraint) -> bool {
+        same_name(self.name, other.name) && same_arguments(&self.arguments, &other.arguments)
     }
 }
 
@@ -130,4 +131,10 @@ fn same_arguments(these: &[Argument], those: &[Argument]) -> bool
         }
     }
     true
+}
+
+fn same_name(this: Builtin, that: Builtin) -> bool
+    ensures { IsTrue result ↔ (this ≡ that) }
+{
+    this == that
 }

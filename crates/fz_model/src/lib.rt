@@ -8,7 +8,21 @@ pub mod assignment;
 pub mod constraint;
 pub mod model;
 pub mod output;
+pub mod part;
+pub mod search;
 #[cfg(test)]
 mod tests;
 pub mod text;
 pub mod variable;
+
+pub use assignment::Assignment;
+pub use constraint::{Argument, Constraint};
+pub use fz_spec::goal::Goal;
+pub use fz_spec::kind::Kind;
+pub use fz_spec::term::Term;
+pub use model::Model;
+pub use output::Output;
+pub use part::Part;
+pub use search::SearchPart;
+pub use text::Text;
+pub use variable::Variable;

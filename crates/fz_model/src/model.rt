@@ -1,49 +1,82 @@
 //! Models.
-ghost use Rattle.std.specs.Prelude.{◌≡◌, ◌↔◌, IfOk, IsTrue, []};
-ghost use Rattle.fz_spec.specs.Instance.{Instance, Satisfy};
-ghost use Rattle.fz_model.specs.Kept.{IsModel, model_of};
+ghost use Rattle.std.specs.Prelude.{◌≡◌, ◌↔◌, IfOk, IsTrue, ℤ, pos, length, ◌≢◌, ◌<◌, ◌^◌};
+ghost use Rattle.fz_spec.specs.Instance.{Instance, score, IsWhole};
+ghost use Rattle.fz_model.specs.Kept.{IsModel};
 
+use crate::assignment::Assignment;
 use crate::constraint::Constraint;
 use crate::output::Output;
+use crate::part::{Part, are_same, copies};
+use crate::search::SearchPart;
 use crate::variable::Variable;
-use std::alloc::{AllocError, Global};
+use fz_spec::goal::Goal;
+use std::alloc::AllocError;
 
-/// A model: variables, constraints and output items, each in the order of their items. Its goal is to satisfy.
+/// A model: variables and output items in the order of declaration, constraints and search parts in the order of the text.
 #[derive(Drop)]
 pub struct Model {
     variables: Vec<Variable>,
     constraints: Vec<Constraint>,
+    goal: Goal,
     outputs: Vec<Output>,
+    search: Vec<SearchPart>,
 }
 
 impl std::marker::Model for Model {
     ghost use Rattle.fz_spec.specs.Instance.{Instance};
+    ghost use Rattle.fz_model.specs.Kept.{IsModel};
 
     ghost Value = { Instance };
 
-    ghost use Rattle.fz_model.specs.Kept.{IsModel, model_of};
+    ghost view = { λ m. record {
+      variables = m.variables.items;
+      constraints = m.constraints.items;
+      goal = m.goal;
+      outputs = m.outputs.items;
+      search = m.search.items;
+    } };
 
-    ghost view = { λ m. model_of m.variables.items m.constraints.items m.outputs.items };
-
-    ghost invariant = { λ m. IsModel (model_of m.variables.items m.constraints.items m.outputs.items) };
+    ghost invariant = { λ m. IsModel (record {
+      variables = m.variables.items;
+      constraints = m.constraints.items;
+      goal = m.goal;
+      outputs = m.outputs.items;
+      search = m.search.items;
+    }) };
 }
 
 impl Model {
-    /// A model of at most 1,000,000 variables and as many constraints. Each constraint has the arguments that its name asks for, of
-    /// numbers within the limits and variables of the model, and each output item shows one of the variables, by its kind and
-    /// number. It takes no memory.
+    /// A model of these parts, which `IsModel` lists: at most 1,000,000 variables, as many constraints, and as many elements of a
+    /// list and ranges of a set; numbers within the limits; variables of the model, of the kind that is asked; of each constraint
+    /// the arguments that its row asks; of each output item a shape of as many elements as it has terms. It takes no memory.
     pub fn new(
         variables: Vec<Variable>,
         constraints: Vec<Constraint>,
+        goal: Goal,
         outputs: Vec<Output>,
+        search: Vec<SearchPart>,
     ) -> Model
-        requires { IsModel (model_of variables.items constraints.items outputs.items) }
-        ensures { result ≡ model_of variables.items constraints.items outputs.items }
+        requires { IsModel (record {
+          variables = variables.items;
+          constraints = constraints.items;
+          goal = goal;
+          outputs = outputs.items;
+          search = search.items;
+        }) }
+        ensures { result ≡ record {
+          variables = variables.items;
+          constraints = constraints.items;
+          goal = goal;
+          outputs = outputs.items;
+          search = search.items;
+        } }
     {
         Model {
             variables,
             constraints,
+            goal,
             outputs,
+            search,
         }
     }
 
@@ -55,12 +88,20 @@ impl Model {
         &self.variables
     }
 
-    /// The constraints, in the order of their items.
+    /// The constraints, in the order of the text.
     pub fn constraints(&self) -> &[Constraint]
         ensures constraints { result.now ≡ self.now.constraints }
         ensures kept { IsModel self.now }
     {
         &self.constraints
+    }
+
+    /// What is searched for.
+    pub fn goal(&self) -> &Goal
+        ensures goal { result.now ≡ self.now.goal }
+        ensures kept { IsModel self.now }
+    {
+        &self.goal
     }
 
     /// The output items, in the order of declaration.
@@ -71,102 +112,40 @@ impl Model {
         &self.outputs
     }
 
+    /// The parts of the search, in order.
+    pub fn search(&self) -> &[SearchPart]
+        ensures search { result.now ≡ self.now.search }
+        ensures kept { IsModel self.now }
+    {
+        &self.search
+    }
+
     /// Another model of the same parts.
     pub fn copy(&self) -> Result<Model, AllocError>
         ensures { IfOk result (λ m. m ≡ self.now) }
     {
         let alloc = *self.variables.allocator();
-        let variables = copy_variables(alloc, &self.variables)?;
-        let constraints = copy_constraints(alloc, &self.constraints)?;
-        let outputs = copy_outputs(alloc, &self.outputs)?;
+        let variables = copies(alloc, &self.variables)?;
+        let constraints = copies(alloc, &self.constraints)?;
+        let outputs = copies(alloc, &self.outputs)?;
+        let search = copies(alloc, &self.search)?;
         Ok(Model {
             variables,
             constraints,
+            goal: self.goal,
             outputs,
+            search,
         })
     }
 
-    /// Whether all fields of the two are equal.
+    /// Whether all parts of the two are equal.
     pub fn same(&self, other: &Model) -> bool
         ensures { IsTrue result ↔ (self.now ≡ other.now) }
     {
-        same_variables(&self.variables, &other.variables)
-            && same_constraints(&self.constraints, &other.constraints)
-            && same_outputs(&self.outputs, &other.outputs)
+        are_same(&self.variables, &other.variables)
+            && are_same(&self.constraints, &other.constraints)
+            && self.goal == other.goal
+            && are_same(&self.outputs, &other.outputs)
+            && are_same(&self.search, &other.search)
     }
-}
-
-fn copy_variables(alloc: Global, variables: &[Variable]) -> Result<Vec<Variable>, AllocError>
-    ensures { IfOk result (λ v. v.items ≡ variables.now) }
-{
-    let mut copies = Vec::with_capacity(alloc, variables.len())?;
-    for variable in variables {
-        copies.push(variable.copy()?)?;
-    }
-    Ok(copies)
-}
-
-fn copy_constraints(
-    alloc: Global,
-    constraints: &[Constraint],
-) -> Result<Vec<Constraint>, AllocError>
-    ensures { IfOk result (λ v. v.items ≡ constraints.now) }
-{
-    let mut copies = Vec::with_capacity(alloc, constraints.len())?;
-    for constraint in constraints {
-        copies.push(constraint.copy()?)?;
-    }
-    Ok(copies)
-}
-
-fn copy_outputs(alloc: Global, outputs: &[Output]) -> Result<Vec<Output>, AllocError>
-    ensures { IfOk result (λ v. v.items ≡ outputs.now) }
-{
-    let mut copies = Vec::with_capacity(alloc, outputs.len())?;
-    for output in outputs {
-        copies.push(output.copy()?)?;
-    }
-    Ok(copies)
-}
-
-fn same_variables(these: &[Variable], those: &[Variable]) -> bool
-    ensures { IsTrue result ↔ (these.now ≡ those.now) }
-{
-    if these.len() != those.len() {
-        return false;
-    }
-    for (i, this) in these.iter().enumerate() {
-        if !this.same(&those[i]) {
-            return false;
-        }
-    }
-    true
-}
-
-fn same_constraints(these: &[Constraint], those: &[Constraint]) -> bool
-    ensures { IsTrue result ↔ (these.now ≡ those.now) }
-{
-    if these.len() != those.len() {
-        return false;
-    }
-    for (i, this) in these.iter().enumerate() {
-        if !this.same(&those[i]) {
-            return false;
-        }
-    }
-    true
-}
-
-fn same_outputs(these: &[Output], those: &[Output]) -> bool
-    ensures { IsTrue result ↔ (these.now ≡ those.now) }
-{
-    if these.len() != those.len() {
-        return false;
-    }
-    for (i, this) in these.iter().enumerate() {
-        if !this.same(&those[i]) {
-            return false;
-        }
-    }
-    true
 }

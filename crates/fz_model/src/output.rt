@@ -1,18 +1,22 @@
 //! Output items.
-ghost use Rattle.std.specs.Prelude.{◌≡◌, ◌≤◌, ◌<◌, ◌^◌, ◌↔◌, IfOk, IsTrue, length};
-ghost use Rattle.fz_spec.specs.Instance.{Scalar};
+ghost use Rattle.std.specs.Prelude.{◌≡◌, ◌↔◌, IfOk, IsTrue, ◌∷◌, [], true, false};
 
+use crate::part::Part;
 use crate::text::Text;
 use fz_spec::kind::Kind;
+use fz_spec::term::Term;
 use std::alloc::AllocError;
 use std::marker::Model;
 
-/// An output item: the name of a variable, its kind and its number. A solution prints `name = value;`.
+/// An output item: a name, what its values are, whether it is an array, the index ranges of an array, and its terms. A solution
+/// prints `name = value;`, and of an array `name = array1d(1..2, [value, value]);`.
 #[derive(Drop)]
 pub struct Output {
     name: Text,
     kind: Kind,
-    variable: u32,
+    array: bool,
+    shape: Vec<(i32, i32)>,
+    terms: Vec<Term>,
 }
 
 impl Model for Output {
@@ -20,44 +24,96 @@ impl Model for Output {
 
     ghost Value = { instance.Output };
 
-    ghost view = { λ o. instance.Scalar o.name o.kind o.variable };
+    ghost view = { λ o. record { name = o.name; kind = o.kind; array = o.array; shape = o.shape.items; terms = o.terms.items } };
 }
 
 impl Output {
-    /// An output item of this variable. It takes no memory.
-    pub fn new(name: Text, kind: Kind, variable: u32) -> Output
-        ensures { result ≡ Scalar name kind variable }
+    /// An output item that is no array: it has no index range and one term. It takes no memory.
+    pub fn new(
+        name: Text,
+        kind: Kind,
+        array: bool,
+        shape: Vec<(i32, i32)>,
+        terms: Vec<Term>,
+    ) -> Output
+        ensures { result ≡ record { name = name; kind = kind; array = array; shape = shape.items; terms = terms.items } }
     {
         Output {
             name,
             kind,
-            variable,
+            array,
+            shape,
+            terms,
         }
     }
 
-    /// The name that is printed, the kind and the number of its variable.
-    pub fn parts(&self) -> (&Text, Kind, u32)
-        ensures { self.now ≡ Scalar result.0.now result.1 result.2 }
+    /// The name that is printed.
+    pub fn name(&self) -> &Text
+        ensures { result.now ≡ self.now.name }
     {
-        (&self.name, self.kind, self.variable)
+        &self.name
     }
 
-    /// Another output item of the same parts.
-    pub fn copy(&self) -> Result<Output, AllocError>
-        ensures { IfOk result (λ o. o ≡ self.now) }
+    /// What its values are.
+    pub fn kind(&self) -> Kind
+        ensures { result ≡ self.now.kind }
     {
+        self.kind
+    }
+
+    /// Whether it is an array.
+    pub fn is_array(&self) -> bool
+        ensures { result ≡ self.now.array }
+    {
+        self.array
+    }
+
+    /// The index ranges of an array, each a first and a last index.
+    pub fn shape(&self) -> &[(i32, i32)]
+        ensures { result.now ≡ self.now.shape }
+    {
+        &self.shape
+    }
+
+    /// Its terms, in order.
+    pub fn terms(&self) -> &[Term]
+        ensures { result.now ≡ self.now.terms }
+    {
+        &self.terms
+    }
+}
+
+impl Part for Output {
+    fn copy(&self) -> Result<Output, AllocError> {
         let name = self.name.copy()?;
+        let shape = Vec::from_slice(*self.shape.allocator(), &self.shape)?;
+        let terms = Vec::from_slice(*self.terms.allocator(), &self.terms)?;
         Ok(Output {
             name,
             kind: self.kind,
-            variable: self.variable,
+            array: self.array,
+            shape,
+            terms,
         })
     }
 
-    /// Whether the two have the same name, kind and variable.
-    pub fn same(&self, other: &Output) -> bool
-        ensures { IsTrue result ↔ (self.now ≡ other.now) }
-    {
-        self.name.same(&other.name) && self.kind == other.kind && self.variable == other.variable
+    fn same(&self, other: &Output) -> bool {
+        self.name.same(&other.name)
+            && self.kind == other.kind
+            && self.array == other.array
+            && same_shape(&self.shape, &other.shape)
+            && same_terms(&self.terms, &other.terms)
     }
+}
+
+fn same_shape(this: &[(i32, i32)], that: &[(i32, i32)]) -> bool
+    ensures { IsTrue result ↔ (this.now ≡ that.now) }
+{
+    this == that
+}
+
+fn same_terms(these: &[Term], those: &[Term]) -> bool
+    ensures { IsTrue result ↔ (these.now ≡ those.now) }
+{
+    these == those
 }

@@ -1,16 +1,20 @@
 //! What no clause says: that calls succeed where memory is ample, and that a model is shared among threads.
-ghost use Rattle.std.specs.Prelude.{◌≡◌, IfOk, pos, [], ◌∷◌};
+ghost use Rattle.std.specs.Prelude.{◌≡◌, IfOk, pos, [], ◌∷◌, codes, true};
 ghost use Rattle.fz_spec.specs.Constraints.{One, Numbers, Terms};
 
 use crate::assignment::Assignment;
 use crate::constraint::{Argument, Constraint};
 use crate::model::Model;
 use crate::output::Output;
+use crate::part::Part;
+use crate::search::SearchPart;
 use crate::text::Text;
 use crate::variable::Variable;
 use fz_dom::Dom;
 use fz_spec::builtin::Builtin;
+use fz_spec::goal::Goal;
 use fz_spec::kind::Kind;
+use fz_spec::search::{Pick, Value};
 use fz_spec::term::Term;
 use std::alloc::{AllocError, Global};
 use std::sync::Arc;
@@ -28,7 +32,20 @@ fn weighted(alloc: Global, bound: i32) -> Result<Constraint, AllocError>
     Ok(Constraint::new(Builtin::IntLinLe, arguments))
 }
 
-/// `var 1..3: x :: output_var; var bool: b; constraint int_lin_le([2,3],[x,7],25);`
+/// `array [1..2] of var int: xs :: output_array([1..2]) = [x,7];`
+fn array_of_x(alloc: Global) -> Result<Output, AllocError>
+    ensures { IfOk result (λ o. o ≡ record { name = codes "xs"; kind = Kind.Int; array = true; shape = (pos 1, pos 2) ∷ []; terms = Term.Var 0 ∷ Term.Num (pos 7) ∷ [] }) }
+{
+    Ok(Output::new(
+        Text::new(String::from_str(alloc, "xs")?),
+        Kind::Int,
+        true,
+        Vec::from_slice(alloc, &[(1, 2)])?,
+        Vec::from_slice(alloc, &[Term::Var(0), Term::Num(7)])?,
+    ))
+}
+
+/// `var 1..3: x; var bool: b;`, the array of x and 7, a constraint, a search part over both variables, and x to be maximised
 fn two_variables(alloc: Global) -> Result<Model, AllocError> {
     let mut variables = Vec::new(alloc);
     variables.push(Variable::new(Kind::Int, Dom::from_ranges(alloc, &[(1, 3)])?))?;
@@ -36,8 +53,26 @@ fn two_variables(alloc: Global) -> Result<Model, AllocError> {
     let mut constraints = Vec::new(alloc);
     constraints.push(weighted(alloc, 25)?)?;
     let mut outputs = Vec::new(alloc);
-    outputs.push(Output::new(Text::new(String::from_str(alloc, "x")?), Kind::Int, 0))?;
-    Ok(Model::new(variables, constraints, outputs))
+    outputs.push(array_of_x(alloc)?)?;
+    let mut search = Vec::new(alloc);
+    search.push(SearchPart::new(
+        Vec::from_slice(alloc, &[0, 1])?,
+        Pick::FirstFail,
+        Value::IndomainMax,
+    ))?;
+    let goal = Goal::Maximize(Term::Var(0));
+    Ok(Model::new(variables, constraints, goal, outputs, search))
+}
+
+/// `solve satisfy;`
+fn empty(alloc: Global) -> Model {
+    Model::new(
+        Vec::new(alloc),
+        Vec::new(alloc),
+        Goal::Satisfy,
+        Vec::new(alloc),
+        Vec::new(alloc),
+    )
 }
 
 #[test]
@@ -48,15 +83,21 @@ fn a_copy_is_the_same_model(rt: HostRuntime) -> Result<(), Fail> {
     assert!(rt; model.same(&copy));
     assert_eq!(rt; copy.variables().len(), 2);
     assert_eq!(rt; copy.constraints().len(), 1);
-    assert_eq!(rt; copy.outputs().len(), 1);
+    assert_eq!(rt; *copy.goal(), Goal::Maximize(Term::Var(0)));
     for output in copy.outputs() {
-        let (name, kind, variable) = output.parts();
-        assert_eq!(rt; name.as_str(), "x");
-        assert_eq!(rt; kind, Kind::Int);
-        assert_eq!(rt; variable, 0);
+        assert_eq!(rt; output.name().as_str(), "xs");
+        assert_eq!(rt; output.kind(), Kind::Int);
+        assert!(rt; output.is_array());
+        assert_eq!(rt; output.shape(), [(1, 2)].as_slice());
+        assert_eq!(rt; output.terms(), [Term::Var(0), Term::Num(7)].as_slice());
     }
-    let other = Model::new(Vec::new(alloc), Vec::new(alloc), Vec::new(alloc));
-    assert!(rt; !model.same(&other));
+    for part in copy.search() {
+        assert_eq!(rt; part.variables(), [0, 1].as_slice());
+        assert_eq!(rt; part.pick(), Pick::FirstFail);
+        assert_eq!(rt; part.value(), Value::IndomainMax);
+    }
+    assert_eq!(rt; (copy.outputs().len(), copy.search().len()), (1, 1));
+    assert!(rt; !model.same(&empty(alloc)));
     Ok(())
 }
 

@@ -1,6 +1,7 @@
 //! Names.
 ghost use Rattle.std.specs.Prelude.{◌≡◌, ◌↔◌, IfOk, IsTrue, string_bytes};
 
+use crate::part::Part;
 use std::alloc::AllocError;
 use std::marker::Model;
 
@@ -32,19 +33,15 @@ impl Text {
     {
         self.inner.as_str()
     }
+}
 
-    /// Another text of the same bytes.
-    pub fn copy(&self) -> Result<Text, AllocError>
-        ensures { IfOk result (λ t. t ≡ self.now) }
-    {
+impl Part for Text {
+    fn copy(&self) -> Result<Text, AllocError> {
         let inner = String::from_str(*self.inner.allocator(), self.inner.as_str())?;
         Ok(Text { inner })
     }
 
-    /// Whether the two are the same bytes.
-    pub fn same(&self, other: &Text) -> bool
-        ensures { IsTrue result ↔ (self.now ≡ other.now) }
-    {
+    fn same(&self, other: &Text) -> bool {
         self.inner.as_str() == other.inner.as_str()
     }
 }

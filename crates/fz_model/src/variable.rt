@@ -2,6 +2,7 @@
 ghost use Rattle.std.specs.Prelude.{◌≡◌, ◌↔◌, IfOk, IsTrue};
 ghost use Rattle.fz_model.specs.Kept.{IsVariable};
 
+use crate::part::Part;
 use fz_dom::Dom;
 use fz_spec::kind::Kind;
 use std::alloc::AllocError;
@@ -50,11 +51,10 @@ impl Variable {
     {
         &self.set
     }
+}
 
-    /// Another variable of the same kind and set.
-    pub fn copy(&self) -> Result<Variable, AllocError>
-        ensures { IfOk result (λ v. v ≡ self.now) }
-    {
+impl Part for Variable {
+    fn copy(&self) -> Result<Variable, AllocError> {
         let set = self.set.copy()?;
         Ok(Variable {
             kind: self.kind,
@@ -62,10 +62,7 @@ impl Variable {
         })
     }
 
-    /// Whether the two have the same kind and the same set.
-    pub fn same(&self, other: &Variable) -> bool
-        ensures { IsTrue result ↔ (self.now ≡ other.now) }
-    {
+    fn same(&self, other: &Variable) -> bool {
         self.kind == other.kind && self.set.same(&other.set)
     }
 }

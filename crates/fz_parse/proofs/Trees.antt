@@ -3,7 +3,7 @@ use Rattle.std.proofs.Common.{◌≡◌, ℕ, Bool, true, false, List, [], ◌�
 use Rattle.std.specs.List.{flat_map, AllByRecursion}
 use Rattle.std.proofs.lemmas.List.{map-append}
 use Rattle.std.proofs.lemmas.Grind.{flat_map-append}
-use Rattle.fz_spec.specs.declared.code.Code.TheVariants.{E03}
+use Rattle.fz_spec.specs.declared.code.Code.TheVariants.{UnexpectedToken}
 use Rattle.fz_language.specs.Grammar.{Piece, item_pieces, solve_pieces, program_pieces}
 use Rattle.fz_language.specs.Tokens as language
 use Rattle.fz_language.specs.Reads.{place_of}
@@ -36,7 +36,7 @@ more_spans item f xs ys y old between new e h i =
     subst (λ (ps : List Piece). Spans ps old new) (sym all) (spans_both (flat_map item (map f xs)) (item (f y)) old between new h i)
 
 -- the fault that stands where the tokens break
-pub fault_is : (lexed : LexedText) (behind : List language.Token) (fault : SyntaxFault) → BreaksIn program_pieces lexed.tokens behind → fault.code ≡ E03 → IsPlaceOf lexed.text (place_of lexed.text behind) fault.line fault.column → HasSyntaxFault lexed fault
+pub fault_is : (lexed : LexedText) (behind : List language.Token) (fault : SyntaxFault) → BreaksIn program_pieces lexed.tokens behind → fault.code ≡ UnexpectedToken → IsPlaceOf lexed.text (place_of lexed.text behind) fault.line fault.column → HasSyntaxFault lexed fault
 fault_is lexed behind fault b code placed = record {
   before = b.before;
   behind = behind;

@@ -1,7 +1,7 @@
 -- A text and its items, as contracts see them.
 use Rattle.std.specs.Prelude.{◌≡◌, ℕ, ◌≤◌, List, map, length, slice_range}
 use Rattle.std.specs.List.{AllByRecursion}
-use Rattle.fz_spec.specs.declared.code.Code.TheVariants.{E03}
+use Rattle.fz_spec.specs.declared.code.Code.TheVariants.{UnexpectedToken}
 use Rattle.fz_language.specs.Tokens.{IsFine, IsSpelt}
 use Rattle.fz_language.specs.Tokens as language
 use Rattle.fz_language.specs.Grammar.{BreaksBehind}
@@ -98,5 +98,5 @@ pub record HasSyntaxFault (lexed : LexedText) (fault : SyntaxFault) : Type 0 whe
   pub before : List language.Token
   pub behind : List language.Token
   pub breaks : BreaksBehind lexed.tokens before behind
-  pub code : fault.code ≡ E03
+  pub code : fault.code ≡ UnexpectedToken
   pub placed : IsPlaceOf lexed.text (place_of lexed.text behind) fault.line fault.column

@@ -91,12 +91,12 @@ fn solve(tokens: &Tokens, next: &mut usize) -> Option<Method>
 /// The fault at the token of this number, from 0, or at the end of the text.
 fn fault_at(tokens: &Tokens, index: usize) -> SyntaxFault
     requires { index ≤ length tokens.now.tokens }
-    ensures code { result.code ≡ Code.E03 }
+    ensures code { result.code ≡ Code.UnexpectedToken }
     ensures placed { IsPlaceOf tokens.now.text (place_of tokens.now.text (rest tokens.now index)) result.line result.column }
 {
     let place = tokens.place(index);
     SyntaxFault {
-        code: Code::E03,
+        code: Code::UnexpectedToken,
         line: place.line,
         column: place.column,
     }

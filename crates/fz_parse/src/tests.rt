@@ -98,7 +98,7 @@ fn a_fault_stands_at_the_first_token_that_does_not_fit(rt: HostRuntime) -> Resul
     for (text, column) in cases {
         assert_eq!(rt;
             fault_of(rt.alloc(), text)?,
-            Some((Code::E03, 1, column)),
+            Some((Code::UnexpectedToken, 1, column)),
             "at {text}"
         );
     }
@@ -108,6 +108,6 @@ fn a_fault_stands_at_the_first_token_that_does_not_fit(rt: HostRuntime) -> Resul
 #[test]
 fn a_fault_has_the_line_of_its_token(rt: HostRuntime) -> Result<(), Fail> {
     let fault = fault_of(rt.alloc(), "var 1..2: x;\nvar 1..2:\n  3;\n")?;
-    assert_eq!(rt; fault, Some((Code::E03, 3, 3)));
+    assert_eq!(rt; fault, Some((Code::UnexpectedToken, 3, 3)));
     Ok(())
 }

@@ -1,28 +1,30 @@
 -- Why a text is refused: the codes as numbers and as text.
 use Rattle.std.specs.Prelude.{ℕ, List, codes}
 use Rattle.fz_spec.specs.declared.code.Code.{Code}
-use Rattle.fz_spec.specs.declared.code.Code.TheVariants.{E01, E02, E03, E04, E05, E06, E07, E08, E10, E11}
+use Rattle.fz_spec.specs.declared.code.Code.TheVariants.{UnknownByte, LargeNumber, UnexpectedToken, DeclaredTwice, UnknownName, WrongType, WrongArity, UnknownConstraint, Unsupported, WrongLengths, OverLimit}
 
 abbrev pub code_number : Code → ℕ
-code_number E01 = 1
-code_number E02 = 2
-code_number E03 = 3
-code_number E04 = 4
-code_number E05 = 5
-code_number E06 = 6
-code_number E07 = 7
-code_number E08 = 8
-code_number E10 = 10
-code_number E11 = 11
+code_number UnknownByte = 1
+code_number LargeNumber = 2
+code_number UnexpectedToken = 3
+code_number DeclaredTwice = 4
+code_number UnknownName = 5
+code_number WrongType = 6
+code_number WrongArity = 7
+code_number UnknownConstraint = 8
+code_number Unsupported = 9
+code_number WrongLengths = 10
+code_number OverLimit = 11
 
 abbrev pub code_text : Code → List ℕ
-code_text E01 = codes "E01"
-code_text E02 = codes "E02"
-code_text E03 = codes "E03"
-code_text E04 = codes "E04"
-code_text E05 = codes "E05"
-code_text E06 = codes "E06"
-code_text E07 = codes "E07"
-code_text E08 = codes "E08"
-code_text E10 = codes "E10"
-code_text E11 = codes "E11"
+code_text UnknownByte = codes "E01"
+code_text LargeNumber = codes "E02"
+code_text UnexpectedToken = codes "E03"
+code_text DeclaredTwice = codes "E04"
+code_text UnknownName = codes "E05"
+code_text WrongType = codes "E06"
+code_text WrongArity = codes "E07"
+code_text UnknownConstraint = codes "E08"
+code_text Unsupported = codes "E09"
+code_text WrongLengths = codes "E10"
+code_text OverLimit = codes "E11"

@@ -1,4 +1,5 @@
 pub mod Signatures
+pub mod Truth
 pub mod Constraints
 pub mod Instance
 pub mod Codes

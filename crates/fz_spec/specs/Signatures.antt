@@ -1,19 +1,37 @@
--- What each constraint asks of its arguments (MiniZinc Handbook, "FlatZinc builtins").
-use Rattle.std.specs.Prelude.{ℕ, Option, Some, None, List, [], ◌∷◌, codes, bytes_eq, cond}
+-- What constraints ask of their arguments: the table of `src/row.rt`.
+use Rattle.std.specs.Prelude.{◌≡◌, ℕ, Option, Some, None, List, [], ◌∷◌, length, map, find, bytes_eq, ◌==◌, ◌<◌, ◌%◌}
+use Rattle.std.specs.List.{AllByRecursion}
+use Rattle.fz_spec.specs.declared.asked.Asked.{Asked}
+use Rattle.fz_spec.specs.declared.asked.Lengths.{Lengths}
+use Rattle.fz_spec.specs.declared.asked.Lengths.TheVariants.{Any, Equal, Rows}
 use Rattle.fz_spec.specs.declared.builtin.Builtin.{Builtin}
-use Rattle.fz_spec.specs.declared.builtin.Builtin.TheVariants.{IntNe, IntLinLe}
+use Rattle.fz_spec.specs.declared.row.TheConstants.{ROWS}
+use Rattle.fz_spec.specs.contracts.builtin.BuiltinPartialEq.TheImpl as equality
 
--- a number; a number or an integer variable; a list of numbers; a list of numbers and integer variables
-pub data Asked : Type 0 where
-  Value : Asked
-  Operand : Asked
-  Values : Asked
-  Operands : Asked
+-- what a constraint asks: one of these signatures, and lists of these lengths
+pub record Row : Type 0 where
+  pub name : List ℕ
+  pub builtin : Builtin
+  pub signatures : List (List Asked)
+  pub lengths : Lengths
 
-abbrev pub signature : Builtin → List Asked
-signature IntNe = Operand ∷ Operand ∷ []
-signature IntLinLe = Values ∷ Operands ∷ Value ∷ []
+abbrev pub rows : List Row
+rows = map (λ r. record { name = r.0.now; builtin = r.1; signatures = map (λ s. s.now) r.2.now; lengths = r.3 }) ROWS
 
--- the constraint of a name
-abbrev pub builtin_of : List ℕ → Option Builtin
-builtin_of name = cond (bytes_eq name (codes "int_ne")) (Some IntNe) (cond (bytes_eq name (codes "int_lin_le")) (Some IntLinLe) None)
+-- the row of a name
+abbrev pub row_named : List ℕ → Option Row
+row_named name = find (λ (row : Row). bytes_eq name row.name) rows
+
+-- the row of a constraint
+abbrev pub row_of : Builtin → Option Row
+row_of builtin = find (λ (row : Row). (equality.ghosts).eq builtin row.builtin) rows
+
+-- of the signatures of a row, that of so many arguments
+abbrev pub signature_of : Row → ℕ → Option (List Asked)
+signature_of row arity = find (λ (asked : List Asked). length asked == arity) row.signatures
+
+-- The lengths of a constraint's lists: as long as the first; or the first isn't 0, and the second is a multiple of it.
+abbrev pub HaveLengths : Lengths → List ℕ → Type 0
+HaveLengths Equal (n ∷ ns) = AllByRecursion (λ m. m ≡ n) ns
+HaveLengths Rows (n ∷ m ∷ []) = (0 < n) × (m % n ≡ 0)
+HaveLengths lengths ns = Unit {0}

@@ -2,29 +2,31 @@
 ghost use Rattle.std.specs.Prelude.{◌≡◌};
 ghost use Rattle.fz_spec.specs.Codes.{code_number};
 
-/// Why a text is refused (fzn's own codes).
+/// Why a text is refused (fzn's own codes; what is printed is in brackets).
 #[derive(Clone, Copy, Debug, PartialEq, Eq)]
 pub enum Code {
-    /// A byte that begins no token.
-    E01,
-    /// A number outside the limits.
-    E02,
-    /// Syntax.
-    E03,
-    /// A name that is declared twice.
-    E04,
-    /// A name that isn't declared, or only later.
-    E05,
-    /// An argument of a wrong type.
-    E06,
-    /// A wrong number of arguments.
-    E07,
-    /// A constraint of a name that isn't known.
-    E08,
-    /// Lists of one constraint that differ in length.
-    E10,
-    /// Over a limit.
-    E11,
+    /// A byte that begins no token, or a string without its end (E01).
+    UnknownByte,
+    /// A number outside the limits (E02).
+    LargeNumber,
+    /// A token that no text of the grammar goes on with (E03).
+    UnexpectedToken,
+    /// A name that is declared twice (E04).
+    DeclaredTwice,
+    /// A name that isn't declared, or only later (E05).
+    UnknownName,
+    /// An argument of a wrong type (E06).
+    WrongType,
+    /// A wrong number of arguments (E07).
+    WrongArity,
+    /// A constraint of a name that isn't known (E08).
+    UnknownConstraint,
+    /// What FlatZinc has and fzn has not: floats, sets that vary, and constraints over them (E09).
+    Unsupported,
+    /// Lists whose lengths do not fit (E10).
+    WrongLengths,
+    /// Over a limit (E11).
+    OverLimit,
 }
 
 impl Code {
@@ -33,16 +35,17 @@ impl Code {
         ensures { result ≡ code_number self }
     {
         match self {
-            Code::E01 => 1,
-            Code::E02 => 2,
-            Code::E03 => 3,
-            Code::E04 => 4,
-            Code::E05 => 5,
-            Code::E06 => 6,
-            Code::E07 => 7,
-            Code::E08 => 8,
-            Code::E10 => 10,
-            Code::E11 => 11,
+            Code::UnknownByte => 1,
+            Code::LargeNumber => 2,
+            Code::UnexpectedToken => 3,
+            Code::DeclaredTwice => 4,
+            Code::UnknownName => 5,
+            Code::WrongType => 6,
+            Code::WrongArity => 7,
+            Code::UnknownConstraint => 8,
+            Code::Unsupported => 9,
+            Code::WrongLengths => 10,
+            Code::OverLimit => 11,
         }
     }
 }

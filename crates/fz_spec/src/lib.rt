@@ -5,11 +5,15 @@
 //! keep.
 #![tactic(auto)]
 
+pub mod asked;
 pub mod builtin;
 pub mod code;
+pub mod goal;
 pub mod kind;
 pub mod laws;
 pub mod limits;
+pub mod row;
+pub mod search;
 pub mod term;
 #[cfg(test)]
 mod tests;

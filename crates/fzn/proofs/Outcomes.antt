@@ -2,7 +2,7 @@
 use Rattle.std.proofs.Common.{◌≡◌, ◌∙◌, ◌≢◌, ℕ, ◌+◌, List, [], ◌++◌, Option, None, Some, IfSome, ap, sym, refl, subst, inl, inr, append_assoc, append-nil, arith, codes, decimal, ◌⊎◌, unwrap_or, take}
 use Rattle.std.specs.Fmt.{digits}
 use Rattle.fz_spec.specs.declared.code.Code.{Code}
-use Rattle.fz_spec.specs.declared.code.Code.TheVariants.{E01, E02, E03, E04, E05, E06, E07, E08, E10, E11}
+use Rattle.fz_spec.specs.declared.code.Code.TheVariants.{UnknownByte, LargeNumber, UnexpectedToken, DeclaredTwice, UnknownName, WrongType, WrongArity, UnknownConstraint, Unsupported, WrongLengths, OverLimit}
 use Rattle.fz_spec.specs.Codes.{code_number, code_text}
 use Rattle.fz_spec.specs.Instance.{Instance}
 use Rattle.fz_language.specs.Reads.{Reads, Reading}
@@ -26,16 +26,17 @@ no_more (Some t) = ap Some (sym (append-nil t))
 -- the code of a refusal is printed with two digits
 code_digits_is : (c : Code) → code_digits (code_number c) ≡ codes ": " ++ code_text c
 unfolding digits
-code_digits_is E01 = refl
-code_digits_is E02 = refl
-code_digits_is E03 = refl
-code_digits_is E04 = refl
-code_digits_is E05 = refl
-code_digits_is E06 = refl
-code_digits_is E07 = refl
-code_digits_is E08 = refl
-code_digits_is E10 = refl
-code_digits_is E11 = refl
+code_digits_is UnknownByte = refl
+code_digits_is LargeNumber = refl
+code_digits_is UnexpectedToken = refl
+code_digits_is DeclaredTwice = refl
+code_digits_is UnknownName = refl
+code_digits_is WrongType = refl
+code_digits_is WrongArity = refl
+code_digits_is UnknownConstraint = refl
+code_digits_is Unsupported = refl
+code_digits_is WrongLengths = refl
+code_digits_is OverLimit = refl
 
 text_is : (r : Refusal) (c : Code) → r.code ≡ code_number c → text_of r ≡ refusal_text c r.line r.column
 text_is r c e =

@@ -1,6 +1,6 @@
 use Rattle.std.proofs.Common.{◌≡◌, length, map, refl, ap, ◌∙◌, ◌++◌, arith}
 use Rattle.std.specs.List.{list_any}
-use Rattle.fz_spec.specs.declared.code.Code.TheVariants.{E04, E11}
+use Rattle.fz_spec.specs.declared.code.Code.TheVariants.{DeclaredTwice, OverLimit}
 use Rattle.fz_language.specs.Grammar.{Declare}
 use Rattle.fz_language.specs.Reads.{declared_names, is_output, name_of, output_of}
 use Rattle.fz_lex.specs.Lexed.{token_of}
@@ -17,7 +17,7 @@ returns-then-not-branch c = λ before done.
     let d = c.args.declaration.now in
     let fault = c.fault_at in
     let there = not_added _ _ c.in_ok-insert.ensures.added c.if-not-branch.true in
-    fault_of_item text before (Declare (declaration_of text d)) E04 d.name fault.result c.requires.name (record { code_is = fault.ensures.code; line_is = fault.ensures.line; column_is = fault.ensures.column })
+    fault_of_item text before (Declare (declaration_of text d)) DeclaredTwice d.name fault.result c.requires.name (record { code_is = fault.ensures.code; line_is = fault.ensures.line; column_is = fault.ensures.column })
     (declared_before before (declaration_of text d) (tested before c.args.self.now.names.keys done.names_are (token_of text d.name) c.name.result c.name.ensures ∙ there))
 
 pub returns-then-number-ge-VARIABLE_LIMIT : goal.returns-then-number-ge-VARIABLE_LIMIT
@@ -26,7 +26,7 @@ returns-then-number-ge-VARIABLE_LIMIT c = λ before done.
     let d = c.args.declaration.now in
     let fault = c.fault_at-then-number-ge-VARIABLE_LIMIT in
     let new = added _ _ _ _ _ c.in_ok-insert.ensures.added c.if-not-branch.false c.in_ok-insert.ensures.keys in
-    fault_of_item text before (Declare (declaration_of text d)) E11 d.name fault.result c.requires.name (record { code_is = fault.ensures.code; line_is = fault.ensures.line; column_is = fault.ensures.column })
+    fault_of_item text before (Declare (declaration_of text d)) OverLimit d.name fault.result c.requires.name (record { code_is = fault.ensures.code; line_is = fault.ensures.line; column_is = fault.ensures.column })
     (one_too_many before (declaration_of text d) (tested before c.args.self.now.names.keys done.names_are (token_of text d.name) c.name.result c.name.ensures ∙ new.0)
     (omega (arith, counted before c.args.self.now.names.keys done.names_are)))
 

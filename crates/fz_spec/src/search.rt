@@ -1,0 +1,31 @@
+//! Words of search annotations (MiniZinc Handbook, "Search annotations"; Gecode's value selection).
+
+/// Which variable of a part is picked, among those that aren't fixed.
+#[derive(Clone, Copy, Debug, PartialEq, Eq)]
+pub enum Pick {
+    /// The first in order.
+    InputOrder,
+    /// The one with the fewest values.
+    FirstFail,
+    /// The one with the most values.
+    AntiFirstFail,
+    /// The one with the smallest least value.
+    Smallest,
+    /// The one with the largest greatest value.
+    Largest,
+}
+
+/// How the values of the picked variable are parted.
+#[derive(Clone, Copy, Debug, PartialEq, Eq)]
+pub enum Value {
+    /// The least value, then the others.
+    IndomainMin,
+    /// The greatest value, then the others.
+    IndomainMax,
+    /// The middle value, then the others.
+    IndomainMedian,
+    /// The lower half of the hull, then the upper one.
+    IndomainSplit,
+    /// The upper half of the hull, then the lower one.
+    IndomainReverseSplit,
+}
