@@ -12,7 +12,7 @@ use crate::sure_source::SureSource;
 use crate::texts::NamedText;
 use crate::whole::{Whole, put_all, read_all};
 use std::alloc::{AllocError, Global};
-use std::io::Write;
+use std::io::{ErrorKind, Write};
 use std::test::Fail;
 use std::{fs, io};
 
@@ -27,6 +27,20 @@ impl Write for Closed {
 
     fn flush(&mut self) -> io::Result<()> {
         Ok(())
+    }
+}
+
+/// A writer that can't hand on what it took.
+#[derive(Drop)]
+struct Stuck;
+
+impl Write for Stuck {
+    fn write(&mut self, buf: &[u8]) -> io::Result<usize> {
+        Ok(buf.len())
+    }
+
+    fn flush(&mut self) -> io::Result<()> {
+        Err(io::Error::from(ErrorKind::BrokenPipe))
     }
 }
 
@@ -172,6 +186,15 @@ fn standard_output_takes_a_piece(rt: HostRuntime) -> Result<(), Fail> {
     assert!(rt; put_all(&mut sink, b"one\n").is_ok());
     assert!(rt; sink.flush().is_ok());
     assert_eq!(rt; sink.inner().fault_count(), 0);
+    Ok(())
+}
+
+#[test]
+fn a_flush_that_fails_is_a_fault(rt: HostRuntime) -> Result<(), Fail> {
+    let mut sink = OutSink::new(Stuck);
+    assert!(rt; put_all(&mut sink, b"one\n").is_ok());
+    assert!(rt; sink.flush().is_err());
+    assert_eq!(rt; sink.fault_count(), 1);
     Ok(())
 }
 

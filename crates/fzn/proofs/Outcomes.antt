@@ -1,5 +1,5 @@
 -- What the answers of a run say of its text.
-use Rattle.std.proofs.Common.{◌≡◌, ◌∙◌, ◌≢◌, ℕ, ◌+◌, List, [], ◌++◌, Option, None, Some, IfSome, ap, sym, refl, subst, inl, inr, append_assoc, append-nil, arith, codes, decimal, ◌⊎◌, unwrap_or, take}
+use Rattle.std.proofs.Common.{◌≡◌, ◌∙◌, ◌≢◌, ℕ, ◌+◌, List, [], ◌++◌, Option, None, Some, IfSome, ap, sym, refl, subst, inl, inr, append_assoc, append-nil, arith, codes, decimal, ◌⊎◌, unwrap_or, take, length}
 use Rattle.std.specs.Fmt.{digits}
 use Rattle.fz_spec.specs.declared.code.Code.{Code}
 use Rattle.fz_spec.specs.declared.code.Code.TheVariants.{UnknownByte, LargeNumber, UnexpectedToken, DeclaredTwice, UnknownName, WrongType, WrongArity, UnknownConstraint, Unsupported, WrongLengths, OverLimit}
@@ -16,7 +16,8 @@ use Rattle.fz_print.specs.declared.refusal.Refusal.{Refusal}
 use Rattle.fz_print.specs.Refusal.{text_of, code_digits}
 use Rattle.fzn.specs.declared.status.Status.{Status}
 use Rattle.fzn.specs.declared.status.Status.TheVariants.{Done, Refused, Usage, SourceFault, SinkFault, NoMemory}
-use Rattle.fzn.specs.Ends.{TakesFront, Answers, AnswersAll, PrintsOf, Prints, Runs, IsRefusal, IsRun, IsRefusedRun, IsWhole, IsFrontOfRun, IsReadOf, HasCause, IsDoneOrShort, IsRefusedOrShort, all_of}
+use Rattle.fzn.specs.Promises.{AnswersAccepted, AnswersRefused, HasItsCause, HasReadAll, IsDoneOrShort, IsFront, IsRefusedOrShort, IsRefusedRun, IsRun, IsStrictFront, IsWholeRun, Prints, Runs}
+use Rattle.fzn.specs.Steps.{Answers, AnswersAll, IsReadOf, IsRefusal, LeavesNothing, PrintsOf, TakesFront, all_of}
 use Rattle.fzn.proofs.Readings.{read_of_front}
 
 pub no_more : (taken : Option (List ℕ)) → taken ≡ with_more taken []
@@ -48,23 +49,32 @@ at_status : (s t : Status) (text : List ℕ) (before after : Option (List ℕ)) 
 at_status s t text before after e p = subst (λ (u : Status). PrintsOf u text before after) (sym e) p
 
 -- a front of a whole text, where a fault or want of memory is answered
-stopped : (s : Status) (text whole : List ℕ) (before after : Option (List ℕ)) → (s ≡ SinkFault) ⊎ (s ≡ NoMemory) → TakesFront whole before after → ((printed more : List ℕ) → whole ≡ printed ++ more → IsWhole text All (printed ++ more))
-    → PrintsOf s text before after
+stopped : (s : Status) (text whole : List ℕ) (before after : Option (List ℕ)) → (s ≡ SinkFault) ⊎ (s ≡ NoMemory) → TakesFront whole before after
+    → ((file printed : List ℕ) → whole ≡ printed → IsWholeRun text (all_of file) printed) → PrintsOf s text before after
 stopped s text whole before after e f w = elim e [
-  | inl fault ↦ at_status s SinkFault text before after fault (f.printed, f.taken, inr (f.more, w f.printed f.more f.front))
-  | inr short ↦ at_status s NoMemory text before after short (f.printed, f.taken, inr (f.more, w f.printed f.more f.front))
+  | inl fault ↦ at_status s SinkFault text before after fault (f.printed, f.taken, λ file. inr (f.more, w file (f.printed ++ f.more) f.front))
+  | inr short ↦ at_status s NoMemory text before after short (f.printed, f.taken, λ file. inr (f.more, f.some, w file (f.printed ++ f.more) f.front))
 ]
+
+-- all of it was taken, and the flush failed
+unflushed : (s : Status) (text whole : List ℕ) (before after : Option (List ℕ)) → s ≡ SinkFault → after ≡ with_more before whole
+    → ((file printed : List ℕ) → whole ≡ printed → IsWholeRun text (all_of file) printed) → PrintsOf s text before after
+unflushed s text whole before after e t w = at_status s SinkFault text before after e (whole, t, λ file. inr ([], w file (whole ++ []) (sym (append-nil whole))))
 
 pub prints_all : (s : Status) (text : List ℕ) (m : Instance) (before after : Option (List ℕ)) → Reads text (reads.Accepted m) → AnswersAll s m before after → PrintsOf s text before after
 prints_all s text m before after r a = elim a [
-  | inl short ↦ at_status s NoMemory text before after short.0 ([], short.1 ∙ no_more before, inl refl)
+  | inl short ↦ at_status s NoMemory text before after short.0 ([], short.1 ∙ no_more before, λ file. inl refl)
   | inr found ↦
       let l = found.0 in
-      let run : (u : List ℕ) → blocks m l ++ closing l ≡ u → IsRun text All u =
-      λ u e. record { model = m; listed = l; accepted = r; run = record { lists = found.1; text = sym e } } in
+      let whole = blocks m l ++ closing l in
+      let run : (file u : List ℕ) → whole ≡ u → IsRun text (all_of file) u =
+      λ file u e. record { model = m; listed = l; accepted = r; run = record { lists = found.1; text = sym e } } in
       elim found.2 [
-        | inl done ↦ at_status s Done text before after done.0 (blocks m l ++ closing l, done.1, run (blocks m l ++ closing l) refl)
-        | inr part ↦ stopped s text (blocks m l ++ closing l) before after part.0 part.1 (λ printed more e. inl (run (printed ++ more) e))
+        | inl all ↦ elim all.0 [
+          | inl done ↦ at_status s Done text before after done (whole, all.1, λ file. run file whole refl)
+          | inr fault ↦ unflushed s text whole before after fault all.1 (λ file u e. inl (run file u e))
+        ]
+        | inr part ↦ stopped s text whole before after part.0 part.1 (λ file u e. inl (run file u e))
       ]
 ]
 
@@ -72,13 +82,16 @@ pub prints_refusal : (s : Status) (text : List ℕ) (r : Refusal) (before after 
 prints_refusal s text r before after h a =
     let refused : (u : List ℕ) → text_of r ≡ u → IsRefusedRun text r u = λ u e. record { code = h.code; number = h.number; reads = h.reads; is = sym e ∙ text_is r h.code h.number } in
     elim a [
-      | inl all ↦ at_status s (Refused r) text before after all.0 (text_of r, all.1, refused (text_of r) refl)
-      | inr part ↦ stopped s text (text_of r) before after part.0 part.1 (λ printed more e. inr (r, refused (printed ++ more) e))
+      | inl all ↦ elim all.0 [
+        | inl done ↦ at_status s (Refused r) text before after done (text_of r, all.1, λ file. refused (text_of r) refl)
+        | inr fault ↦ unflushed s text (text_of r) before after fault all.1 (λ file u e. inr (r, refused u e))
+      ]
+      | inr part ↦ stopped s text (text_of r) before after part.0 part.1 (λ file u e. inr (r, refused u e))
     ]
 
 -- from what was read of a text to the text
-whole_of_front : (text printed : List ℕ) → IsWhole (take (TEXT_LIMIT + 1) text) All printed → IsWhole text All printed
-whole_of_front text printed w = elim w [
+whole_of_front : (text printed : List ℕ) (o : Options) → IsWholeRun (take (TEXT_LIMIT + 1) text) o printed → IsWholeRun text o printed
+whole_of_front text printed o w = elim w [
   | inl run ↦ inl (record { model = run.model; listed = run.listed; accepted = read_of_front text (reads.Accepted run.model) run.accepted; run = run.run })
   | inr refused ↦
       let r = refused.0 in
@@ -86,45 +99,57 @@ whole_of_front text printed w = elim w [
       inr (r, record { code = h.code; number = h.number; reads = read_of_front text (reads.Refused h.code r.line r.column) h.reads; is = h.is })
 ]
 
-front_of_front : (text printed : List ℕ) → IsFrontOfRun (take (TEXT_LIMIT + 1) text) All printed → IsFrontOfRun text All printed
-front_of_front text printed f = elim f [ inl none ↦ inl none | inr more ↦ inr (more.0, whole_of_front text (printed ++ more.0) more.1) ]
+front_of_front : (text printed : List ℕ) (o : Options) → IsFront (take (TEXT_LIMIT + 1) text) o printed → IsFront text o printed
+front_of_front text printed o f = elim f [ inl none ↦ inl none | inr more ↦ inr (more.0, whole_of_front text (printed ++ more.0) o more.1) ]
 
-prints_of_front : (s : Status) (text printed : List ℕ) → Prints s (take (TEXT_LIMIT + 1) text) All printed → Prints s text All printed
-prints_of_front Done text printed p = record { model = p.model; listed = p.listed; accepted = read_of_front text (reads.Accepted p.model) p.accepted; run = p.run }
-prints_of_front (Refused r) text printed p = record { code = p.code; number = p.number; reads = read_of_front text (reads.Refused p.code r.line r.column) p.reads; is = p.is }
-prints_of_front Usage text printed p = p
-prints_of_front SourceFault text printed p = p
-prints_of_front SinkFault text printed p = front_of_front text printed p
-prints_of_front NoMemory text printed p = front_of_front text printed p
+strict_of_strict : (text printed : List ℕ) (o : Options) → IsStrictFront (take (TEXT_LIMIT + 1) text) o printed → IsStrictFront text o printed
+strict_of_strict text printed o f = elim f [ inl none ↦ inl none | inr more ↦ inr (more.0, more.1, whole_of_front text (printed ++ more.0) o more.2) ]
 
-pub runs : (s : Status) (file before after : Option (List ℕ)) (read : List ℕ) → IsReadOf file read → PrintsOf s read before after → Runs s All file before after
-runs s None before after read r p = record { text = read; printed = p.0; read = tt; taken = p.1; prints = p.2 }
-runs s (Some t) before after read r p =
-    record { text = t; printed = p.0; read = refl; taken = p.1; prints = prints_of_front s t p.0 (subst (λ (u : List ℕ). Prints s u All p.0) r p.2) }
+prints_of_front : (s : Status) (text printed : List ℕ) (o : Options) → Prints s (take (TEXT_LIMIT + 1) text) o printed → Prints s text o printed
+prints_of_front Done text printed o p = record { model = p.model; listed = p.listed; accepted = read_of_front text (reads.Accepted p.model) p.accepted; run = p.run }
+prints_of_front (Refused r) text printed o p = record { code = p.code; number = p.number; reads = read_of_front text (reads.Refused p.code r.line r.column) p.reads; is = p.is }
+prints_of_front Usage text printed o p = p
+prints_of_front SourceFault text printed o p = p
+prints_of_front SinkFault text printed o p = front_of_front text printed o p
+prints_of_front NoMemory text printed o p = strict_of_strict text printed o p
+
+pub runs : (s : Status) (name : List ℕ) (file before after : Option (List ℕ)) (read : List ℕ) → IsReadOf file read → PrintsOf s read before after → Runs s (all_of name) file before after
+runs s name None before after read r p = record { text = read; printed = p.0; read = tt; taken = p.1; prints = p.2 name }
+runs s name (Some t) before after read r p =
+    record { text = t; printed = p.0; read = refl; taken = p.1; prints = prints_of_front s t p.0 (all_of name) (subst (λ (u : List ℕ). Prints s u (all_of name) p.0) r (p.2 name)) }
+
+-- a run that is done read a text within the limit
+pub reads_all : (s : Status) (read : List ℕ) (before after left : Option (List ℕ)) → PrintsOf s read before after → LeavesNothing (length read) left → HasReadAll s left
+reads_all s read before after left p h done =
+    let run : Prints Done read (all_of []) p.0 = subst (λ (u : Status). Prints u read (all_of []) p.0) done (p.2 []) in h run.accepted.spelt.short
 
 told : (file : Option (List ℕ)) → IfSome file (λ t. t ≡ unwrap_or file [])
 told None = tt
 told (Some t) = refl
 
-pub runs_source_fault : (file before : Option (List ℕ)) → Runs SourceFault All file before before
-runs_source_fault file before = record { text = unwrap_or file []; printed = []; read = told file; taken = no_more before; prints = refl }
+pub runs_source_fault : (name : List ℕ) (file before : Option (List ℕ)) → Runs SourceFault (all_of name) file before before
+runs_source_fault name file before = record { text = unwrap_or file []; printed = []; read = told file; taken = no_more before; prints = refl }
 
-pub runs_short : (file before : Option (List ℕ)) → Runs NoMemory All file before before
-runs_short file before = record { text = unwrap_or file []; printed = []; read = told file; taken = no_more before; prints = inl refl }
+pub runs_short : (name : List ℕ) (file before : Option (List ℕ)) → Runs NoMemory (all_of name) file before before
+runs_short name file before = record { text = unwrap_or file []; printed = []; read = told file; taken = no_more before; prints = inl refl }
 
 -- an accepted text is done, where nothing failed and memory was there
 not_both : (t : List ℕ) (m : Instance) (code : Code) (line column : ℕ) → Reads t (reads.Accepted m) → Reads t (reads.Refused code line column) → ⊥
 not_both t m code line column h k = let e = one_reading t (reads.Accepted m) (reads.Refused code line column) h k in cc
 
-pub done_or_short : (s : Status) (t : List ℕ) (before after : Option (List ℕ)) (a b c d : ℕ) (m : Instance) → Runs s All (Some t) before after → HasCause s a b c d → s ≢ Usage → Reads t (reads.Accepted m) → b ≡ a → d ≡ c
-    → IsDoneOrShort s
-done_or_short Done t before after a b c d m r h u k e f = inl refl
-done_or_short (Refused x) t before after a b c d m r h u k e f =
+done_or_short : (s : Status) (o : Options) (t : List ℕ) (before after : Option (List ℕ)) (a b c d : ℕ) (m : Instance) → Runs s o (Some t) before after → HasItsCause s a b c d → s ≢ Usage → b ≡ a → d ≡ c
+    → Reads t (reads.Accepted m) → IsDoneOrShort s
+done_or_short Done o t before after a b c d m r h u e f k = inl refl
+done_or_short (Refused x) o t before after a b c d m r h u e f k =
     let p = r.prints in absurd (not_both t m p.code x.line x.column k (subst (λ (v : List ℕ). Reads v (reads.Refused p.code x.line x.column)) (sym r.read) p.reads))
-done_or_short Usage t before after a b c d m r h u k e f = absurd (u refl)
-done_or_short SourceFault t before after a b c d m r h u k e f = absurd (omega (arith, h.0, e))
-done_or_short SinkFault t before after a b c d m r h u k e f = absurd (omega (arith, h.1, f))
-done_or_short NoMemory t before after a b c d m r h u k e f = inr refl
+done_or_short Usage o t before after a b c d m r h u e f k = absurd (u refl)
+done_or_short SourceFault o t before after a b c d m r h u e f k = absurd (omega (arith, h.0, e))
+done_or_short SinkFault o t before after a b c d m r h u e f k = absurd (omega (arith, h.1, f))
+done_or_short NoMemory o t before after a b c d m r h u e f k = inr refl
+
+pub answers_accepted : (s : Status) (o : Options) (file before after : Option (List ℕ)) (a b c d : ℕ) → Runs s o file before after → HasItsCause s a b c d → s ≢ Usage → b ≡ a → d ≡ c → AnswersAccepted s file
+answers_accepted s o file before after a b c d r h u e f text m is k =
+    done_or_short s o text before after a b c d m (subst (λ (x : Option (List ℕ)). Runs s o x before after) is r) h u e f k
 
 -- and a text that is refused so is answered so
 same_refusal : (t : List ℕ) (x : Refusal) (c code : Code) (line column : ℕ) → x.code ≡ code_number c → Reads t (reads.Refused c x.line x.column) → Reads t (reads.Refused code line column)
@@ -137,16 +162,20 @@ same_refusal t x c code line column n h k =
     let number : x.code ≡ code_number code = n ∙ ap code_number same_code in
     λ i. Refused (record { code = number i; line = same_line i; column = same_column i })
 
-pub refused_or_short : (s : Status) (t : List ℕ) (before after : Option (List ℕ)) (a b c d : ℕ) (code : Code) (line column : ℕ) → Runs s All (Some t) before after → HasCause s a b c d → s ≢ Usage
-    → Reads t (reads.Refused code line column) → b ≡ a → d ≡ c → IsRefusedOrShort code line column s
-refused_or_short Done t before after a b c d code line column r h u k e f =
+refused_or_short : (s : Status) (o : Options) (t : List ℕ) (before after : Option (List ℕ)) (a b c d : ℕ) (code : Code) (line column : ℕ) → Runs s o (Some t) before after → HasItsCause s a b c d → s ≢ Usage
+    → b ≡ a → d ≡ c → Reads t (reads.Refused code line column) → IsRefusedOrShort code line column s
+refused_or_short Done o t before after a b c d code line column r h u e f k =
     let p = r.prints in absurd (not_both t p.model code line column (subst (λ (v : List ℕ). Reads v (reads.Accepted p.model)) (sym r.read) p.accepted) k)
-refused_or_short (Refused x) t before after a b c d code line column r h u k e f =
+refused_or_short (Refused x) o t before after a b c d code line column r h u e f k =
     let p = r.prints in inl (same_refusal t x p.code code line column p.number (subst (λ (v : List ℕ). Reads v (reads.Refused p.code x.line x.column)) (sym r.read) p.reads) k)
-refused_or_short Usage t before after a b c d code line column r h u k e f = absurd (u refl)
-refused_or_short SourceFault t before after a b c d code line column r h u k e f = absurd (omega (arith, h.0, e))
-refused_or_short SinkFault t before after a b c d code line column r h u k e f = absurd (omega (arith, h.1, f))
-refused_or_short NoMemory t before after a b c d code line column r h u k e f = inr refl
+refused_or_short Usage o t before after a b c d code line column r h u e f k = absurd (u refl)
+refused_or_short SourceFault o t before after a b c d code line column r h u e f k = absurd (omega (arith, h.0, e))
+refused_or_short SinkFault o t before after a b c d code line column r h u e f k = absurd (omega (arith, h.1, f))
+refused_or_short NoMemory o t before after a b c d code line column r h u e f k = inr refl
+
+pub answers_refused : (s : Status) (o : Options) (file before after : Option (List ℕ)) (a b c d : ℕ) → Runs s o file before after → HasItsCause s a b c d → s ≢ Usage → b ≡ a → d ≡ c → AnswersRefused s file
+answers_refused s o file before after a b c d r h u e f text code line column is k =
+    refused_or_short s o text before after a b c d code line column (subst (λ (x : Option (List ℕ)). Runs s o x before after) is r) h u e f k
 
 -- what holds at the options of a file holds at those of words that mean them
 pub at_options : (o : Option Options) (P : Options → Type 0) (file : List ℕ) → ◌≡◌ {A = Option Options} (Some (all_of file)) o → P (all_of file) → IfSome o P

@@ -1,1 +1,3 @@
-pub mod Ends
+pub mod Promises
+pub mod Steps
+pub mod Complaints

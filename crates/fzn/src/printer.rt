@@ -5,7 +5,7 @@ ghost use Rattle.fz_spec.specs.Instance.{AreDeclared};
 ghost use Rattle.fz_spec.specs.Run.{block, blocks, closing};
 ghost use Rattle.fz_io.specs.Outside.{with_more};
 ghost use Rattle.fz_print.specs.Refusal.{text_of};
-ghost use Rattle.fzn.specs.Ends.{TakesFront, HasStopCause};
+ghost use Rattle.fzn.specs.Steps.{TakesFront, HasStopCause};
 
 use fz_io::outside::Sink;
 use fz_io::whole::put_all;

@@ -2,7 +2,7 @@
 ghost use Rattle.std.specs.Prelude.{◌≡◌, IfOk, MatchResult};
 ghost use Rattle.fz_spec.specs.Codes.{code_number};
 ghost use Rattle.fz_language.specs.Reads.{Reads, Accepted};
-ghost use Rattle.fzn.specs.Ends.{IsRefusal};
+ghost use Rattle.fzn.specs.Steps.{IsRefusal};
 
 use fz_check::check;
 use fz_lex::tokens;

@@ -1,12 +1,10 @@
 //! The top call.
-ghost use Rattle.std.specs.Prelude.{◌≡◌, ◌≢◌, ◌↔◌, ℕ, ◌-◌, ◌^◌, ◌<◌, List, None, Some, IfSome, IfOk, map, string_bytes};
-ghost use Rattle.fz_spec.specs.declared.code.Code.{Code};
-ghost use Rattle.fz_spec.specs.Instance.{Instance};
-ghost use Rattle.fz_language.specs.Reads.{Reads, Accepted};
-ghost use Rattle.fz_language.specs.Reads as reads;
-ghost use Rattle.fz_spec.specs.Words.{options_of, All};
+ghost use Rattle.std.specs.Prelude.{◌≡◌, ◌≢◌, ◌↔◌, ℕ, ◌-◌, ◌^◌, ◌<◌, None, IfSome, IfOk, length, map, string_bytes};
+ghost use Rattle.fz_io.specs.Outside.{one_more};
 ghost use Rattle.fz_print.specs.Refusal.{text_of};
-ghost use Rattle.fzn.specs.Ends.{Runs, HasCause, IsFlushed, IsDoneOrShort, IsRefusedOrShort, IsReadOf, PrintsOf, HasSinkCause, HasStopCause, Answers, AnswersAll, Flushes};
+ghost use Rattle.fz_spec.specs.Words.{options_of};
+ghost use Rattle.fzn.specs.Promises.{AnswersAccepted, AnswersRefused, HasItsCause, HasReadAll, HasSelected, IsFlushed, Runs};
+ghost use Rattle.fzn.specs.Steps.{Answers, AnswersAll, Flushes, HasSinkCause, HasStopCause, IsReadOf, LeavesNothing, PrintsOf, SelectsAt, all_of};
 
 use crate::printer::{Stop, print_refusal, print_solutions};
 use crate::reader::model_of;
@@ -41,25 +39,34 @@ pub fn fzn<T, R: Source, S: Sink, G: Gate>(
     requires source { R.faults source.old < 2 ^ 64 - 1 }
     requires sink { S.faults sink.old < 2 ^ 64 - 1 }
 
-    // Usage comes exactly where the words are refused, and then nothing is read or printed.
+    // Usage comes exactly where the words are refused, and then the source and the sink are not called.
     ensures usage { (result ≡ Status.Usage) ↔ (options_of (map string_bytes words.now) ≡ None) }
-    ensures untouched { result ≡ Status.Usage → (R.left source.new ≡ R.left source.old) × (S.taken sink.new ≡ S.taken sink.old) }
+    ensures untouched { result ≡ Status.Usage → (source.new ≡ source.old) × (sink.new ≡ sink.old) }
 
-    // What is printed of the file's text: at Done the run of all its solutions, at Refused its first refusal; else a front.
+    // Every other run selects one text, once: that of FILE. No call changes the source's texts.
+    ensures once { result ≢ Status.Usage
+        → R.selections source.new ≡ one_more (R.selections source.old) }
+    ensures selected { IfSome (options_of (map string_bytes words.now)) (λ o.
+        HasSelected result (R.is_selected source.new o.file)) }
+    ensures texts { R.texts source.new ≡ R.texts source.old }
+    ensures whole { HasReadAll result (R.left source.new) }
+
+    // What is printed of the file's text: at Done the run of it, at Refused its first refusal; else a front.
     ensures printed { IfSome (options_of (map string_bytes words.now)) (λ o.
-        Runs result o.asked (R.texts source.old o.file) (S.taken sink.old) (S.taken sink.new)) }
-    ensures flushed { IsFlushed result (S.taken sink.new) (S.flushed sink.new) }
+        Runs result o (R.texts source.old o.file) (S.taken sink.old) (S.taken sink.new)) }
+    ensures flushed { IsFlushed result (S.taken sink.old) (S.taken sink.new) (S.flushed sink.new) }
 
     // Each answer has its cause: Done and Refused come only where no count rose, a fault only where its own did.
-    ensures cause { HasCause result (R.faults source.old) (R.faults source.new) (S.faults sink.old) (S.faults sink.new) }
+    ensures cause { HasItsCause result (R.faults source.old) (R.faults source.new)
+        (S.faults sink.old) (S.faults sink.new) }
 
     // Where no count rose, an accepted text is Done and a refused one is Refused, unless memory is refused.
-    ensures accepted { IfSome (options_of (map string_bytes words.now)) (λ o. (text : List ℕ) (m : Instance) →
-        R.texts source.old o.file ≡ Some text → Reads text (Accepted m) →
-        R.faults source.new ≡ R.faults source.old → S.faults sink.new ≡ S.faults sink.old → IsDoneOrShort result) }
-    ensures refused { IfSome (options_of (map string_bytes words.now)) (λ o. (text : List ℕ) (code : Code) (line column : ℕ) →
-        R.texts source.old o.file ≡ Some text → Reads text (reads.Refused code line column) →
-        R.faults source.new ≡ R.faults source.old → S.faults sink.new ≡ S.faults sink.old → IsRefusedOrShort code line column result) }
+    ensures accepted { R.faults source.new ≡ R.faults source.old → S.faults sink.new ≡ S.faults sink.old
+        → IfSome (options_of (map string_bytes words.now)) (λ o.
+        AnswersAccepted result (R.texts source.old o.file)) }
+    ensures refused { R.faults source.new ≡ R.faults source.old → S.faults sink.new ≡ S.faults sink.old
+        → IfSome (options_of (map string_bytes words.now)) (λ o.
+        AnswersRefused result (R.texts source.old o.file)) }
 {
     match file_of(words) {
         Some(file) => run_file(alloc, file, source, sink),
@@ -71,9 +78,15 @@ pub fn fzn<T, R: Source, S: Sink, G: Gate>(
 fn run_file<R: Source, S: Sink>(alloc: Global, file: &str, source: &mut R, sink: &mut S) -> Status
     requires source { R.faults source.old < 2 ^ 64 - 1 }
     requires sink { S.faults sink.old < 2 ^ 64 - 1 }
-    ensures printed { Runs result All (R.texts source.old file.now) (S.taken sink.old) (S.taken sink.new) }
-    ensures flushed { IsFlushed result (S.taken sink.new) (S.flushed sink.new) }
-    ensures cause { HasCause result (R.faults source.old) (R.faults source.new) (S.faults sink.old) (S.faults sink.new) }
+    ensures once { R.selections source.new ≡ one_more (R.selections source.old) }
+    ensures selected { HasSelected result (R.is_selected source.new file.now) }
+    ensures texts { R.texts source.new ≡ R.texts source.old }
+    ensures whole { HasReadAll result (R.left source.new) }
+    ensures printed { Runs result (all_of file.now) (R.texts source.old file.now)
+        (S.taken sink.old) (S.taken sink.new) }
+    ensures flushed { IsFlushed result (S.taken sink.old) (S.taken sink.new) (S.flushed sink.new) }
+    ensures cause { HasItsCause result (R.faults source.old) (R.faults source.new)
+        (S.faults sink.old) (S.faults sink.new) }
     ensures used { result ≢ Status.Usage }
 {
     match read_text(alloc, file, source) {
@@ -86,6 +99,10 @@ fn run_file<R: Source, S: Sink>(alloc: Global, file: &str, source: &mut R, sink:
 /// The text of a file, or the first bytes of one that is too long, of which there is one over the limit.
 fn read_text<R: Source>(alloc: Global, file: &str, source: &mut R) -> Result<Vec<u8>, Stop>
     requires { R.faults source.old < 2 ^ 64 - 1 }
+    ensures once { R.selections source.new ≡ one_more (R.selections source.old) }
+    ensures selected { SelectsAt result (R.is_selected source.new file.now) }
+    ensures texts { R.texts source.new ≡ R.texts source.old }
+    ensures whole { IfOk result (λ text. LeavesNothing (length text.items) (R.left source.new)) }
     ensures read { IfOk result (λ text. IsReadOf (R.texts source.old file.now) text.items) }
     ensures cause { HasStopCause (R.faults source.old) (R.faults source.new) result }
 {
@@ -98,6 +115,10 @@ fn read_text<R: Source>(alloc: Global, file: &str, source: &mut R) -> Result<Vec
 /// The same of the selected text.
 fn read_selected<R: Source>(alloc: Global, source: &mut R) -> Result<Vec<u8>, Stop>
     requires { R.faults source.old < 2 ^ 64 - 1 }
+    ensures once { R.selections source.new ≡ R.selections source.old }
+    ensures selected { R.is_selected source.new ≡ R.is_selected source.old }
+    ensures texts { R.texts source.new ≡ R.texts source.old }
+    ensures whole { IfOk result (λ text. LeavesNothing (length text.items) (R.left source.new)) }
     ensures read { IfOk result (λ text. IsReadOf (R.left source.old) text.items) }
     ensures cause { HasStopCause (R.faults source.old) (R.faults source.new) result }
 {
@@ -113,7 +134,7 @@ fn read_selected<R: Source>(alloc: Global, source: &mut R) -> Result<Vec<u8>, St
 fn run_text<S: Sink>(alloc: Global, text: &[u8], sink: &mut S) -> Status
     requires { S.faults sink.old < 2 ^ 64 - 1 }
     ensures printed { PrintsOf result text.now (S.taken sink.old) (S.taken sink.new) }
-    ensures flushed { IsFlushed result (S.taken sink.new) (S.flushed sink.new) }
+    ensures flushed { IsFlushed result (S.taken sink.old) (S.taken sink.new) (S.flushed sink.new) }
     ensures cause { HasSinkCause result (S.faults sink.old) (S.faults sink.new) }
 {
     match model_of(alloc, text) {
@@ -127,7 +148,7 @@ fn run_text<S: Sink>(alloc: Global, text: &[u8], sink: &mut S) -> Status
 fn run_model<S: Sink>(alloc: Global, model: &Model, sink: &mut S) -> Status
     requires { S.faults sink.old < 2 ^ 64 - 1 }
     ensures printed { AnswersAll result model.now (S.taken sink.old) (S.taken sink.new) }
-    ensures flushed { IsFlushed result (S.taken sink.new) (S.flushed sink.new) }
+    ensures flushed { IsFlushed result (S.taken sink.old) (S.taken sink.new) (S.flushed sink.new) }
     ensures cause { HasSinkCause result (S.faults sink.old) (S.faults sink.new) }
 {
     let Ok(found) = all_solutions(alloc, model) else {
@@ -144,7 +165,7 @@ fn run_model<S: Sink>(alloc: Global, model: &Model, sink: &mut S) -> Status
 fn refuse<S: Sink>(alloc: Global, refused: Refusal, sink: &mut S) -> Status
     requires { S.faults sink.old < 2 ^ 64 - 1 }
     ensures printed { Answers result (Status.Refused refused) (text_of refused) (S.taken sink.old) (S.taken sink.new) }
-    ensures flushed { IsFlushed result (S.taken sink.new) (S.flushed sink.new) }
+    ensures flushed { IsFlushed result (S.taken sink.old) (S.taken sink.new) (S.flushed sink.new) }
     ensures cause { HasSinkCause result (S.faults sink.old) (S.faults sink.new) }
 {
     match print_refusal(alloc, sink, &refused) {

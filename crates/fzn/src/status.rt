@@ -1,6 +1,6 @@
 //! How a run ends.
 ghost use Rattle.std.specs.Prelude.{◌≡◌};
-ghost use Rattle.fzn.specs.Ends.{code_of};
+ghost use Rattle.fzn.specs.Promises.{code_of};
 
 use fz_print::refusal::Refusal;
 

@@ -1,6 +1,6 @@
 //! Whole runs over a source and a sink in memory. Blocks may come in any order, so a text is compared by its blocks in sorted order.
 
-use crate::{Status, fzn};
+use crate::{Status, complaint_of, fzn};
 use fz_io::gate::NoGate;
 use fz_io::memory_sink::MemSink;
 use fz_io::memory_source::MemSource;
@@ -274,6 +274,53 @@ fn the_words_are_one_flag_and_at_most_one_file(rt: HostRuntime) -> Result<(), Fa
         assert_eq!(rt; outcome.source_faults, 0);
         assert_eq!(rt; outcome.printed.len(), 0);
     }
+    Ok(())
+}
+
+#[test]
+fn each_answer_but_done_has_a_line_for_standard_error(rt: HostRuntime) -> Result<(), Fail> {
+    let alloc = rt.alloc();
+    let refusal = |code, line, column| { Status::Refused(Refusal { code, line, column }) };
+    let rows: [(&[&str], Status, &str); 7] = [
+        (
+            &["-a", "m.fzn"],
+            refusal(5, 1, 19),
+            "m.fzn:1:19: unknown name",
+        ),
+        (
+            &["-a"],
+            refusal(11, 20, 3),
+            "standard input:20:3: over a limit",
+        ),
+        (
+            &["-z"],
+            Status::Usage,
+            "usage: fzn [options] [FILE], where the option -a asks for all solutions",
+        ),
+        (
+            &["-a", "m.fzn"],
+            Status::SourceFault,
+            "m.fzn: cannot be opened or read",
+        ),
+        (
+            &["-a", "-"],
+            Status::SourceFault,
+            "standard input: cannot be opened or read",
+        ),
+        (
+            &["-a"],
+            Status::SinkFault,
+            "standard output: a write failed",
+        ),
+        (&["-a"], Status::NoMemory, "fzn: out of memory"),
+    ];
+    for (words, status, line) in rows {
+        let words = strings(alloc, words)?;
+        let got = complaint_of(alloc, &words, &status)?;
+        assert_eq!(rt; got.as_deref(), Some(line));
+    }
+    let words = strings(alloc, &["-a"])?;
+    assert!(rt; complaint_of(alloc, &words, &Status::Done)?.is_none());
     Ok(())
 }
 

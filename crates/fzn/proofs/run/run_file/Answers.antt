@@ -1,17 +1,23 @@
 use Rattle.std.proofs.Common.{List, ℕ, subst}
-use Rattle.fzn.specs.Ends.{PrintsOf}
-use Rattle.fzn.proofs.Outcomes.{runs, runs_source_fault, runs_short}
+use Rattle.fzn.specs.Steps.{PrintsOf}
+use Rattle.fzn.proofs.Outcomes.{reads_all, runs, runs_source_fault, runs_short}
 use Rattle.fzn.proofs.run.run_file.Goals as goal
 
 pub returns-in-Ok-clause-printed : goal.returns-in-Ok-clause-printed
 returns-in-Ok-clause-printed g c =
     let before = g.S.Sink.taken c.args.sink.now in
     let after = g.S.Sink.taken c.run_text.new.sink in
-    runs c.run_text.result _ before after c.in-Ok.text.items c.in-Ok.ensures.read
+    runs c.run_text.result c.args.file.now _ before after c.in-Ok.text.items c.in-Ok.ensures.read
     (subst (λ (u : List ℕ). PrintsOf c.run_text.result u before after) c.deref.ensures.value c.run_text.ensures.printed)
 
 pub returns-in-Err-Fault-clause-printed : goal.returns-in-Err-Fault-clause-printed
-returns-in-Err-Fault-clause-printed g c = runs_source_fault _ _
+returns-in-Err-Fault-clause-printed g c = runs_source_fault _ _ _
 
 pub returns-in-Err-Memory-clause-printed : goal.returns-in-Err-Memory-clause-printed
-returns-in-Err-Memory-clause-printed g c = runs_short _ _
+returns-in-Err-Memory-clause-printed g c = runs_short _ _ _
+
+pub returns-in-Ok-clause-whole : goal.returns-in-Ok-clause-whole
+returns-in-Ok-clause-whole g c =
+    let before = g.S.Sink.taken c.args.sink.now in
+    let after = g.S.Sink.taken c.run_text.new.sink in
+    reads_all c.run_text.result c.in-Ok.text.items before after _ (subst (λ (u : List ℕ). PrintsOf c.run_text.result u before after) c.deref.ensures.value c.run_text.ensures.printed) c.in-Ok.ensures.whole

@@ -1,0 +1,35 @@
+-- What the program says on standard error (fzn's own texts): a line for each answer but Done.
+use Rattle.std.specs.Prelude.{ℕ, Option, Some, None, List, [], ◌++◌, codes, decimal, bytes_eq, slice_get, unwrap_or, map, if◌then◌else◌}
+use Rattle.fz_spec.specs.Words.{Options, options_of}
+use Rattle.fz_print.specs.declared.refusal.Refusal.{Refusal}
+use Rattle.fzn.specs.declared.complaint.TheConstants.{FAULTS, USAGE}
+use Rattle.fzn.specs.declared.status.Status.{Status}
+use Rattle.fzn.specs.declared.status.Status.TheVariants.{Done, Refused, Usage, SourceFault, SinkFault, NoMemory}
+
+-- the file by its name, or standard input
+abbrev pub shown_name : List ℕ → List ℕ
+shown_name file = if bytes_eq file (codes "-") then codes "standard input" else file
+
+abbrev pub name_of : Option Options → List ℕ
+name_of None = []
+name_of (Some o) = shown_name o.file
+
+-- what is wrong, by the number of the code
+abbrev pub fault_text : ℕ → List ℕ
+fault_text code = unwrap_or (slice_get (map (λ text. text.now) FAULTS) code) []
+
+-- "model.fzn:1:19: unknown name"
+abbrev pub refusal_line : List ℕ → Refusal → List ℕ
+refusal_line name r = name ++ codes ":" ++ decimal r.line ++ codes ":" ++ decimal r.column ++ codes ": " ++ fault_text r.code
+
+abbrev pub complaint_text : List ℕ → Status → Option (List ℕ)
+complaint_text name Done = None
+complaint_text name (Refused r) = Some (refusal_line name r)
+complaint_text name Usage = Some USAGE.now
+complaint_text name SourceFault = Some (name ++ codes ": cannot be opened or read")
+complaint_text name SinkFault = Some (codes "standard output: a write failed")
+complaint_text name NoMemory = Some (codes "fzn: out of memory")
+
+-- the complaint of a run of these words
+abbrev pub complaint_of : List (List ℕ) → Status → Option (List ℕ)
+complaint_of words status = complaint_text (name_of (options_of words)) status

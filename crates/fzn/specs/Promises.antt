@@ -1,0 +1,113 @@
+-- What a run promises: what each answer says of the text that was read and of what was printed. `fzn` cites these alone.
+use Rattle.std.specs.Prelude.{◌≡◌, ℕ, ℤ, ◌<◌, ◌⊎◌, Bool, IsTrue, Option, Some, IfSome, List, [], ◌++◌, length}
+use Rattle.fz_spec.specs.declared.code.Code.{Code}
+use Rattle.fz_spec.specs.Codes.{code_number}
+use Rattle.fz_spec.specs.Instance.{Instance}
+use Rattle.fz_spec.specs.Run.{IsRunText, refusal_text}
+use Rattle.fz_spec.specs.Words.{Options}
+use Rattle.fz_language.specs.Reads.{Reads, Accepted}
+use Rattle.fz_language.specs.Reads as reads
+use Rattle.fz_io.specs.Outside.{with_more, AllFlushed}
+use Rattle.fz_print.specs.declared.refusal.Refusal.{Refusal}
+use Rattle.fzn.specs.declared.status.Status.{Status}
+use Rattle.fzn.specs.declared.status.Status.TheVariants.{Done, Refused, Usage, SourceFault, SinkFault, NoMemory}
+
+-- the exit status of each answer
+abbrev pub code_of : Status → ℕ
+code_of Done = 0
+code_of (Refused r) = 1
+code_of Usage = 2
+code_of SourceFault = 3
+code_of SinkFault = 4
+code_of NoMemory = 5
+
+-- the run of an accepted text: its model, the assignments listed, and what is printed
+pub record IsRun (text : List ℕ) (o : Options) (printed : List ℕ) : Type 0 where
+  pub model : Instance
+  pub listed : List (List ℤ)
+  pub accepted : Reads text (Accepted model)
+  pub run : IsRunText model o listed printed
+
+-- a text that is refused so, and what is printed of that
+pub record IsRefusedRun (text : List ℕ) (r : Refusal) (printed : List ℕ) : Type 0 where
+  pub code : Code
+  pub number : r.code ≡ code_number code
+  pub reads : Reads text (reads.Refused code r.line r.column)
+  pub is : printed ≡ refusal_text code r.line r.column
+
+-- what the run of this text may print as a whole
+abbrev pub IsWholeRun : List ℕ → Options → List ℕ → Type 0
+IsWholeRun text o printed = IsRun text o printed ⊎ ((r : Refusal) × IsRefusedRun text r printed)
+
+-- nothing, or a front of that
+abbrev pub IsFront : List ℕ → Options → List ℕ → Type 0
+IsFront text o printed = (printed ≡ []) ⊎ ((more : List ℕ) × IsWholeRun text o (printed ++ more))
+
+-- nothing, or a front of that which lacks one byte at least
+abbrev pub IsStrictFront : List ℕ → Options → List ℕ → Type 0
+IsStrictFront text o printed = (printed ≡ []) ⊎ ((more : List ℕ) × (0 < length more) × IsWholeRun text o (printed ++ more))
+
+-- what is printed of a text, at each answer
+abbrev pub Prints : Status → List ℕ → Options → List ℕ → Type 0
+Prints Done text o printed = IsRun text o printed
+Prints (Refused r) text o printed = IsRefusedRun text r printed
+Prints Usage text o printed = printed ≡ []
+Prints SourceFault text o printed = printed ≡ []
+Prints SinkFault text o printed = IsFront text o printed
+Prints NoMemory text o printed = IsStrictFront text o printed
+
+-- The text is the file's, where the source tells it; what was printed is what the sink took in this call, where it tells that.
+pub record Runs (status : Status) (o : Options) (file before after : Option (List ℕ)) : Type 0 where
+  pub text : List ℕ
+  pub printed : List ℕ
+  pub read : IfSome file (λ t. t ≡ text)
+  pub taken : after ≡ with_more before printed
+  pub prints : Prints status text o printed
+
+-- each answer's cause, by the counts of faults of the source and of the sink before and after
+abbrev pub HasItsCause : Status → ℕ → ℕ → ℕ → ℕ → Type 0
+HasItsCause Done a b c d = (b ≡ a) × (d ≡ c)
+HasItsCause (Refused r) a b c d = (b ≡ a) × (d ≡ c)
+HasItsCause Usage a b c d = (b ≡ a) × (d ≡ c)
+HasItsCause SourceFault a b c d = (a < b) × (d ≡ c)
+HasItsCause SinkFault a b c d = (b ≡ a) × (c < d)
+HasItsCause NoMemory a b c d = (b ≡ a) × (d ≡ c)
+
+-- At Done and at Refused all that was taken is flushed; where memory was refused, that or nothing was taken.
+abbrev pub IsFlushed : Status → Option (List ℕ) → Option (List ℕ) → ℕ → Type 0
+IsFlushed Done before after flushed = AllFlushed after flushed
+IsFlushed (Refused r) before after flushed = AllFlushed after flushed
+IsFlushed Usage before after flushed = after ≡ before
+IsFlushed SourceFault before after flushed = after ≡ before
+IsFlushed SinkFault before after flushed = Unit {0}
+IsFlushed NoMemory before after flushed = AllFlushed after flushed ⊎ (after ≡ before)
+
+-- the file is the one that is selected, unless nothing was read or the source failed
+abbrev pub HasSelected : Status → Bool → Type 0
+HasSelected Done selected = IsTrue selected
+HasSelected (Refused r) selected = IsTrue selected
+HasSelected Usage selected = Unit {0}
+HasSelected SourceFault selected = Unit {0}
+HasSelected SinkFault selected = IsTrue selected
+HasSelected NoMemory selected = IsTrue selected
+
+-- at Done nothing is left of the text
+abbrev pub HasReadAll : Status → Option (List ℕ) → Type 0
+HasReadAll status left = status ≡ Done → IfSome left (λ rest. rest ≡ [])
+
+-- an accepted text is done, unless memory is refused
+abbrev pub IsDoneOrShort : Status → Type 0
+IsDoneOrShort status = (status ≡ Done) ⊎ (status ≡ NoMemory)
+
+-- a text that is refused so is answered so, unless memory is refused
+abbrev pub IsRefusedOrShort : Code → ℕ → ℕ → Status → Type 0
+IsRefusedOrShort code line column status = (status ≡ Refused (record { code = code_number code; line = line; column = column })) ⊎ (status ≡ NoMemory)
+
+-- each accepted text of the file is done, unless memory is refused
+abbrev pub AnswersAccepted : Status → Option (List ℕ) → Type 0
+AnswersAccepted status file = (text : List ℕ) (m : Instance) → file ≡ Some text → Reads text (Accepted m) → IsDoneOrShort status
+
+-- and each refused one is answered by its refusal
+abbrev pub AnswersRefused : Status → Option (List ℕ) → Type 0
+AnswersRefused status file = (text : List ℕ) (code : Code) (line column : ℕ) → file ≡ Some text → Reads text (reads.Refused code line column)
+    → IsRefusedOrShort code line column status

@@ -1,0 +1,59 @@
+//! The program over the real files and streams. No clause reaches what these hold, so it is kept short.
+ghost use Rattle.std.specs.Prelude.{◌≡◌};
+ghost use Rattle.std.specs.Process.{exit_status};
+ghost use Rattle.fzn.specs.Promises.{code_of};
+
+use crate::complaint::complaint_of;
+use crate::run::fzn;
+use crate::status::Status;
+use fz_io::buffered::BufferedSink;
+use fz_io::file::FileSource;
+use fz_io::gate::NoGate;
+use fz_io::output::OutSink;
+use std::env;
+use std::process::ExitCode;
+
+/// Runs the program with its arguments, says on standard error what is wrong, and answers the exit status.
+pub fn program(rt: HostRuntime) -> ExitCode {
+    let Ok(arguments) = env::args(&rt) else {
+        return ending(&rt, &[], Status::Usage);
+    };
+    let Ok(words) = arguments.skip(1).collect::<Vec<String>>(rt.alloc()) else {
+        return ending(&rt, &[], Status::NoMemory);
+    };
+    let status = over_streams(&rt, &words);
+    ending(&rt, &words, status)
+}
+
+/// The run of these words over files and the standard streams.
+fn over_streams(rt: &HostRuntime, words: &[String]) -> Status {
+    let alloc = rt.alloc();
+    let Ok(mut sink) = BufferedSink::new(alloc, OutSink::new(rt.stdout())) else {
+        return Status::NoMemory;
+    };
+    let mut source = FileSource::new(alloc, *rt);
+    fzn(rt, alloc, words, &mut source, &mut sink, &NoGate)
+}
+
+/// Says on standard error what is wrong, and answers the exit status.
+fn ending(rt: &HostRuntime, words: &[String], status: Status) -> ExitCode
+    ensures { exit_status result ≡ code_of status }
+{
+    match complaint_of(rt.alloc(), words, &status) {
+        Ok(None) => {}
+        Ok(Some(line)) => {
+            let _ = eprintln!(rt; "{line}");
+        }
+        Err(_) => {
+            let _ = eprintln!(rt; "fzn: out of memory");
+        }
+    }
+    exit_of(&status)
+}
+
+/// The exit status of an answer.
+pub fn exit_of(status: &Status) -> ExitCode
+    ensures { exit_status result ≡ code_of status.now }
+{
+    ExitCode::from(status.code())
+}

@@ -1,0 +1,85 @@
+//! What the program says on standard error.
+ghost use Rattle.std.specs.Prelude.{◌≡◌, IfOk, map, option_map, string_bytes};
+ghost use Rattle.fz_spec.specs.Words.{options_of};
+ghost use Rattle.fzn.specs.Complaints as complaints;
+
+use crate::status::Status;
+use crate::words::file_of;
+use fz_print::refusal::Refusal;
+use itoa::Buffer;
+use std::alloc::{AllocError, Global};
+
+/// What is wrong with a text, by the number of the code.
+pub const FAULTS: [&str; 12] = [
+    "",
+    "no token begins here",
+    "the number is outside -2147483646..2147483646",
+    "unexpected here",
+    "the name is declared already",
+    "unknown name",
+    "wrong type",
+    "wrong number of arguments",
+    "unknown constraint",
+    "not supported",
+    "the lengths do not fit",
+    "over a limit",
+];
+
+/// How the program is called.
+pub const USAGE: &str = "usage: fzn [options] [FILE], where the option -a asks for all solutions";
+
+/// The line for standard error behind a run of these words, none where it is done.
+pub fn complaint_of(
+    alloc: Global,
+    words: &[String],
+    status: &Status,
+) -> Result<Option<String>, AllocError>
+    ensures { IfOk result (λ line. option_map string_bytes line
+        ≡ complaints.complaint_of (map string_bytes words.now) status.now) }
+{
+    let name = shown_name(words);
+    let line = match status {
+        Status::Done => return Ok(None),
+        Status::Refused(refusal) => refusal_line(alloc, name, refusal)?,
+        Status::Usage => String::from_str(alloc, USAGE)?,
+        Status::SourceFault => format!(in alloc; "{name}: cannot be opened or read")?,
+        Status::SinkFault => String::from_str(alloc, "standard output: a write failed")?,
+        Status::NoMemory => String::from_str(alloc, "fzn: out of memory")?,
+    };
+    Ok(Some(line))
+}
+
+/// The name of the text that the words name.
+fn shown_name(words: &[String]) -> &str
+    ensures { result.now ≡ complaints.name_of (options_of (map string_bytes words.now)) }
+{
+    match file_of(words) {
+        Some("-") => "standard input",
+        Some(file) => file,
+        None => "",
+    }
+}
+
+/// A line as `model.fzn:1:19: unknown name`.
+fn refusal_line(alloc: Global, name: &str, refusal: &Refusal) -> Result<String, AllocError>
+    ensures { IfOk result (λ line. string_bytes line ≡ complaints.refusal_line name.now refusal.now) }
+{
+    let mut number = Buffer::new();
+    let mut text = String::from_str(alloc, name)?;
+    text.push_str(":")?;
+    text.push_str(number.format(refusal.line))?;
+    text.push_str(":")?;
+    text.push_str(number.format(refusal.column))?;
+    text.push_str(": ")?;
+    text.push_str(fault_text(refusal.code))?;
+    Ok(text)
+}
+
+fn fault_text(code: u8) -> &'static str
+    ensures { result.now ≡ complaints.fault_text code }
+{
+    match FAULTS.get(code as usize) {
+        Some(text) => text,
+        None => "",
+    }
+}
