@@ -3,7 +3,7 @@ use Rattle.std.proofs.Common.{◌≡◌, ℕ, ◌+◌, ◌<◌, List, [], ◌∷
 use Rattle.std.proofs.lemmas.List.{length-map, map-append, map_more}
 use Rattle.fz_language.specs.Grammar as grammar
 use Rattle.fz_language.specs.Reads.{argument_of, arguments_of}
-use Rattle.fz_spec.specs.Signatures as language
+use Rattle.fz_language.specs.Signatures as language
 use Rattle.fz_model.specs.Arguments as kept
 use Rattle.fz_model.specs.declared.constraint.Argument.{Argument}
 use Rattle.fz_parse.specs.Parsed.{expression_of}

@@ -9,7 +9,7 @@ use Rattle.fz_spec.specs.declared.code.Code.TheVariants.{UnknownByte, LargeNumbe
 use Rattle.fz_language.specs.Grammar.{Item, Declare, Constrain, Declaration, Constraint}
 use Rattle.fz_language.specs.Reads.{BreaksNone, BreaksRule, ConstraintBreaks, IsFirstBroken, ComesFirst, IsCall, IsOverLimit, HasUnequalLists, all_wrong_leaves, constraint_count, declared_names, element_count, elements_in, is_declared, is_unknown, name_of, names_in}
 use Rattle.fz_spec.specs.declared.limits.TheConstants.{VARIABLE_LIMIT, CONSTRAINT_LIMIT, ELEMENT_LIMIT}
-use Rattle.fz_spec.specs.Signatures.{signature, builtin_of}
+use Rattle.fz_language.specs.Signatures.{signature, builtin_of}
 use Rattle.fz_language.specs.Tokens.{Token}
 use Rattle.fz_check.specs.Draft.{KeepsRules}
 
@@ -17,6 +17,7 @@ use Rattle.fz_check.specs.Draft.{KeepsRules}
 
 pub declaration_keeps : (before : List Item) (d : Declaration) → is_declared before d.name ≡ false → length (declared_names before) < VARIABLE_LIMIT → BreaksNone before (Declare d)
 declaration_keeps before d new few UnknownByte at h = h
+declaration_keeps before d new few Unsupported at h = h
 declaration_keeps before d new few LargeNumber at h = h
 declaration_keeps before d new few UnexpectedToken at h = h
 declaration_keeps before d new few DeclaredTwice at h = both_ways _ new h.0
@@ -32,6 +33,7 @@ declared_before before d t = record { broken = (t, refl); first = by }
   where
     by : (other : Code) (place : ℕ) → BreaksRule before (Declare d) other place → ComesFirst DeclaredTwice d.name.start other place
     by UnknownByte place h = absurd h
+    by Unsupported place h = absurd h
     by LargeNumber place h = absurd h
     by UnexpectedToken place h = absurd h
     by DeclaredTwice place h = inr (refl, omega (arith, h.1))
@@ -47,6 +49,7 @@ one_too_many before d new many = record { broken = (many, refl); first = by }
   where
     by : (other : Code) (place : ℕ) → BreaksRule before (Declare d) other place → ComesFirst OverLimit d.name.start other place
     by UnknownByte place h = absurd h
+    by Unsupported place h = absurd h
     by LargeNumber place h = absurd h
     by UnexpectedToken place h = absurd h
     by DeclaredTwice place h = absurd (both_ways _ new h.0)
@@ -71,6 +74,7 @@ unknown_constraint before c none = record { broken = (none, refl); first = by }
   where
     by : (other : Code) (place : ℕ) → BreaksRule before (Constrain c) other place → ComesFirst UnknownConstraint c.name.start other place
     by UnknownByte place h = absurd h
+    by Unsupported place h = absurd h
     by LargeNumber place h = absurd h
     by UnexpectedToken place h = absurd h
     by DeclaredTwice place h = absurd h
@@ -90,6 +94,7 @@ module _ (before : List Item) (c : Constraint) (b : Builtin) (known : builtin_of
     where
       by : (other : Code) (place : ℕ) → BreaksRule before (Constrain c) other place → ComesFirst WrongArity c.name.start other place
       by UnknownByte place h = absurd h
+      by Unsupported place h = absurd h
       by LargeNumber place h = absurd h
       by UnexpectedToken place h = absurd h
       by DeclaredTwice place h = absurd h
@@ -109,6 +114,7 @@ module _ (before : List Item) (c : Constraint) (b : Builtin) (call : IsCall c b)
     where
       by : (other : Code) (place : ℕ) → BreaksRule before (Constrain c) other place → ComesFirst UnknownName t.start other place
       by UnknownByte place h = absurd h
+      by Unsupported place h = absurd h
       by LargeNumber place h = absurd h
       by UnexpectedToken place h = absurd h
       by DeclaredTwice place h = absurd h
@@ -132,6 +138,7 @@ module _ (before : List Item) (c : Constraint) (b : Builtin) (call : IsCall c b)
       where
         by : (other : Code) (place : ℕ) → BreaksRule before (Constrain c) other place → ComesFirst WrongType t.start other place
         by UnknownByte place h = absurd h
+        by Unsupported place h = absurd h
         by LargeNumber place h = absurd h
         by UnexpectedToken place h = absurd h
         by DeclaredTwice place h = absurd h
@@ -151,6 +158,7 @@ module _ (before : List Item) (c : Constraint) (b : Builtin) (call : IsCall c b)
         where
           by : (other : Code) (place : ℕ) → BreaksRule before (Constrain c) other place → ComesFirst WrongLengths c.name.start other place
           by UnknownByte place h = absurd h
+          by Unsupported place h = absurd h
           by LargeNumber place h = absurd h
           by UnexpectedToken place h = absurd h
           by DeclaredTwice place h = absurd h
@@ -170,6 +178,7 @@ module _ (before : List Item) (c : Constraint) (b : Builtin) (call : IsCall c b)
           where
             by : (other : Code) (place : ℕ) → BreaksRule before (Constrain c) other place → ComesFirst OverLimit at other place
             by UnknownByte place h = absurd h
+            by Unsupported place h = absurd h
             by LargeNumber place h = absurd h
             by UnexpectedToken place h = absurd h
             by DeclaredTwice place h = absurd h
@@ -200,6 +209,7 @@ not_over before c b room at k (inr h) = omega (arith, k.room_is, slice_get_withi
 
 pub constraint_keeps : (before : List Item) (c : Constraint) (b : Builtin) (room : ℕ) → KeepsRules before c b room → BreaksNone before (Constrain c)
 constraint_keeps before c b room k UnknownByte at h = h
+constraint_keeps before c b room k Unsupported at h = h
 constraint_keeps before c b room k LargeNumber at h = h
 constraint_keeps before c b room k UnexpectedToken at h = h
 constraint_keeps before c b room k DeclaredTwice at h = h

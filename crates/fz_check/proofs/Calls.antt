@@ -7,7 +7,7 @@ use Rattle.fz_spec.specs.declared.code.Code.TheVariants.{UnknownName, WrongType,
 use Rattle.fz_language.specs.Grammar.{Item, Constrain}
 use Rattle.fz_language.specs.Reads.{IsCall, HasUnequalLists, all_wrong_leaves, is_unknown, name_of, names_in}
 use Rattle.fz_spec.specs.declared.limits.TheConstants.{CONSTRAINT_LIMIT}
-use Rattle.fz_spec.specs.Signatures.{signature, builtin_of}
+use Rattle.fz_language.specs.Signatures.{signature, builtin_of}
 use Rattle.fz_lex.specs.Lexed.{token_of}
 use Rattle.fz_lex.specs.declared.token.Token.{Token}
 use Rattle.fz_parse.specs.Parsed.{IsLeaf, constraint_of, ConstraintHasLeaves, expression_of}

@@ -9,19 +9,20 @@ use Rattle.std.proofs.lemmas.Int.{ints}
 use Rattle.std.proofs.lemmas.List.{length-map}
 use Rattle.std.proofs.lemmas.List.Folds.{find-append}
 use Rattle.std.proofs.lemmas.Option.{none-some}
+use Rattle.std.proofs.Common.{subst}
 use Rattle.fz_spec.specs.declared.builtin.Builtin.{Builtin}
 use Rattle.fz_spec.specs.declared.builtin.Builtin.TheVariants.{IntNe, IntLinLe}
 use Rattle.fz_spec.specs.declared.term.Term.{Term}
 use Rattle.fz_spec.specs.declared.term.Term.TheVariants.{Num, Var}
 use Rattle.fz_spec.specs.Constraints as meaning
-use Rattle.fz_spec.specs.Constraints.{Argument, One, Numbers, Terms}
+use Rattle.fz_spec.specs.Constraints.{Argument, One, Numbers, Terms, Set}
 use Rattle.fz_language.specs.Grammar.{Basic, Literal, Name, Expression, Scalar, Elements}
 use Rattle.fz_sets.specs.Sets.{IsWithinLimits}
 use Rattle.fz_language.specs.Reads.{argument_of, arguments_of, all_wrong_leaves, basics_of, elements_of, HasUnequalLists, identifiers, leaf_of, name_of, term_of, value_of, wrong_leaves}
 use Rattle.fz_spec.specs.declared.limits.TheConstants.{ELEMENT_LIMIT}
-use Rattle.fz_spec.specs.Signatures.{Asked, Value, Operand, Values, Operands, signature}
+use Rattle.fz_language.specs.Signatures.{Asked, Value, Operand, Values, Operands, builtin_of, signature}
 use Rattle.fz_language.specs.Tokens.{Token, Lexeme, Word, Number, Punct, IsFine}
-use Rattle.fz_model.specs.Kept.{AllFit, AreNumbers, FitsAsked, HaveOneLength, IsConstraint, IsTermOf}
+use Rattle.fz_check.specs.Counted.{AllFit, AreNumbers, FitsAsked, HaveOneLength, IsConstraint, IsRead, IsTermOf}
 use Rattle.fz_parse.specs.Parsed.{basic_of, expression_of, BasicHasLeaf, ExpressionHasLeaves}
 use Rattle.fz_parse.specs.declared.tree.Basic as tree_basic
 use Rattle.fz_parse.specs.declared.tree.Basic.TheVariants as basic
@@ -132,14 +133,25 @@ one_length names (Elements bracket xs ∷ Elements other ys ∷ z ∷ []) arity 
     length-map xs (λ b. value_of (leaf_of b)) ∙ same_length (length xs) (length ys) (cases_eq (length xs) (length ys)) h ∙ sym (length-map ys (term_of names))
 one_length names (x ∷ y ∷ z ∷ w ∷ rest) arity h = absurd (omega arith)
 
-lists_fit : (names : List (List ℕ)) (b : Builtin) (es : List Expression) → length es ≡ length (signature b) → (HasUnequalLists b es → ⊥) → HaveOneLength b (arguments_of names (signature b) es)
-lists_fit names IntNe es arity h = tt
-lists_fit names IntLinLe es arity h = one_length names es arity h
+lists_fit : (names : List (List ℕ)) (b : Builtin) (es : List Expression) → IsRead b → length es ≡ length (signature b) → (HasUnequalLists b es → ⊥) → HaveOneLength b (arguments_of names (signature b) es)
+lists_fit names IntNe es r arity h = tt
+lists_fit names IntLinLe es r arity h = one_length names es arity h
+lists_fit names b es r arity h = absurd r
 
-pub constraint_fits : (names : List (List ℕ)) (text : List ℕ) (b : Builtin) (es : List tree_expression.Expression) → AllByRecursion (ExpressionHasLeaves text) es → length (map (expression_of text) es) ≡ length (signature b) → find (is_absent names) (flat_map identifiers (flat_map basics_of (map (expression_of text) es))) ≡ None → slice_get (all_wrong_leaves (signature b) (map (expression_of text) es)) 0 ≡ None → (HasUnequalLists b (map (expression_of text) es) → ⊥) → length (flat_map elements_of (map (expression_of text) es)) ≤ ELEMENT_LIMIT → IsConstraint (length names) (record { name = b; arguments = arguments_of names (signature b) (map (expression_of text) es) })
-constraint_fits names text b es leaves arity known typed equal few = record {
+-- the constraint of a name is one that is read
+read_if : (p q : Bool) (b : Builtin) → cond p (Some IntNe) (cond q (Some IntLinLe) None) ≡ Some b → IsRead b
+read_if true q b h = let e : IntNe ≡ b = cc in subst IsRead e tt
+read_if false true b h = let e : IntLinLe ≡ b = cc in subst IsRead e tt
+read_if false false b h = absurd (none-some b h)
+
+pub named_is_read : (name : List ℕ) (b : Builtin) → builtin_of name ≡ Some b → IsRead b
+named_is_read name b h = read_if _ _ b h
+
+pub constraint_fits : (names : List (List ℕ)) (text : List ℕ) (b : Builtin) (es : List tree_expression.Expression) → IsRead b → AllByRecursion (ExpressionHasLeaves text) es → length (map (expression_of text) es) ≡ length (signature b) → find (is_absent names) (flat_map identifiers (flat_map basics_of (map (expression_of text) es))) ≡ None → slice_get (all_wrong_leaves (signature b) (map (expression_of text) es)) 0 ≡ None → (HasUnequalLists b (map (expression_of text) es) → ⊥) → length (flat_map elements_of (map (expression_of text) es)) ≤ ELEMENT_LIMIT → IsConstraint (length names) (record { name = b; arguments = arguments_of names (signature b) (map (expression_of text) es) })
+constraint_fits names text b es read leaves arity known typed equal few = record {
+  is_read = read;
   fit = all_fit names (signature b) (map (expression_of text) es) arity (fine_expressions text es leaves) known typed few;
-  lists = lists_fit names b (map (expression_of text) es) arity equal;
+  lists = lists_fit names b (map (expression_of text) es) read arity equal;
 }
 
 -- over more variables it still does
@@ -157,15 +169,19 @@ argument_stays n m Value (One (Num v)) l h = h
 argument_stays n m Value (One (Var v)) l h = absurd h
 argument_stays n m Value (Numbers ns) l h = absurd h
 argument_stays n m Value (Terms ts) l h = absurd h
+argument_stays n m Value (Set set) l h = absurd h
 argument_stays n m Operand (One t) l h = term_stays n m t l h
 argument_stays n m Operand (Numbers ns) l h = absurd h
 argument_stays n m Operand (Terms ts) l h = absurd h
+argument_stays n m Operand (Set set) l h = absurd h
 argument_stays n m Values (One t) l h = absurd h
 argument_stays n m Values (Numbers ns) l h = h
 argument_stays n m Values (Terms ts) l h = absurd h
+argument_stays n m Values (Set set) l h = absurd h
 argument_stays n m Operands (One t) l h = absurd h
 argument_stays n m Operands (Numbers ns) l h = absurd h
 argument_stays n m Operands (Terms ts) l h = (h.0, terms_stay n m ts l h.1)
+argument_stays n m Operands (Set set) l h = absurd h
 
 arguments_stay : (n m : ℕ) (those : List Asked) (xs : List Argument) → n ≤ m → AllFit n those xs → AllFit m those xs
 arguments_stay n m [] [] l h = tt
@@ -175,4 +191,4 @@ arguments_stay n m (a ∷ those) (x ∷ xs) l h = (argument_stays n m a x l h.0,
 
 pub constraints_stay : (n m : ℕ) (cs : List meaning.Constraint) → n ≤ m → AllByRecursion (IsConstraint n) cs → AllByRecursion (IsConstraint m) cs
 constraints_stay n m [] l h = tt
-constraints_stay n m (c ∷ cs) l h = (record { fit = arguments_stay n m (signature c.name) c.arguments l h.0.fit; lists = h.0.lists }, constraints_stay n m cs l h.1)
+constraints_stay n m (c ∷ cs) l h = (record { is_read = h.0.is_read; fit = arguments_stay n m (signature c.name) c.arguments l h.0.fit; lists = h.0.lists }, constraints_stay n m cs l h.1)

@@ -4,7 +4,7 @@ use Rattle.std.specs.List.{flat_map}
 use Rattle.std.proofs.lemmas.List.{append_assoc, append-nil}
 use Rattle.fz_language.specs.Grammar.{Item, Declare, Constrain}
 use Rattle.fz_language.specs.Reads.{declared_names, constraint_count, element_count, elements_in, name_of, output_of, outputs_from, constraint_named, constraints_from, variables_of}
-use Rattle.fz_spec.specs.Signatures.{builtin_of}
+use Rattle.fz_language.specs.Signatures.{builtin_of}
 
 pub names_append : (xs ys : List Item) → declared_names (xs ++ ys) ≡ declared_names xs ++ declared_names ys
 names_append [] ys = refl

@@ -2,6 +2,7 @@ pub mod Annotations
 pub mod Arguments
 pub mod Breaks
 pub mod Calls
+pub mod Converted
 pub mod Done
 pub mod Elements
 pub mod Faults
@@ -11,5 +12,6 @@ pub mod Grown
 pub mod Known
 pub mod Lookups
 pub mod Rows
+pub mod Short
 pub mod Turn
 pub mod Words

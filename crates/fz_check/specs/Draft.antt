@@ -8,12 +8,13 @@ use Rattle.fz_spec.specs.declared.kind.Kind.TheVariants.{Int}
 use Rattle.fz_sets.specs.Sets.{interval}
 use Rattle.fz_language.specs.Tokens.{Token}
 use Rattle.fz_language.specs.Grammar.{Item, Declaration, Constraint, Expression, Elements}
-use Rattle.fz_spec.specs.Instance.{Variable}
+use Rattle.fz_spec.specs.Instance.{Variable, Output}
 use Rattle.fz_language.specs.Reads.{name_of, value_of, is_unknown, declared_names, constraint_count, element_count, names_in, elements_in, all_wrong_leaves, HasUnequalLists, IsCall, IsFirstBroken, AllKeep, variables_of, outputs_from, constraints_from}
-use Rattle.fz_spec.specs.declared.limits.TheConstants.{VARIABLE_LIMIT, CONSTRAINT_LIMIT, ELEMENT_LIMIT}
-use Rattle.fz_spec.specs.Signatures.{signature}
-use Rattle.fz_spec.specs.Signatures as language
-use Rattle.fz_model.specs.Kept.{IsVariable, IsConstraint}
+use Rattle.fz_spec.specs.declared.limits.TheConstants.{TEXT_LIMIT, VARIABLE_LIMIT, CONSTRAINT_LIMIT, ELEMENT_LIMIT}
+use Rattle.fz_language.specs.Signatures.{signature}
+use Rattle.fz_language.specs.Signatures as language
+use Rattle.fz_model.specs.Kept.{IsVariable}
+use Rattle.fz_check.specs.Counted.{IsConstraint}
 use Rattle.fz_lex.specs.Lexed.{IsPlaceOf}
 use Rattle.fz_check.specs.declared.draft.Draft.{Draft}
 use Rattle.fz_check.specs.declared.fault.CheckFault.{CheckFault}
@@ -44,6 +45,10 @@ DifferInLength one other = ⊥
 abbrev pub variable_of : Declaration → Variable
 variable_of d = record { kind = Int; set = interval (value_of d.low) (value_of d.high) }
 
+-- the name that is printed is as long as a text at most
+abbrev pub IsNamed : Output → Type 0
+IsNamed o = length o.name ≤ TEXT_LIMIT
+
 -- These items keep the rules, and this is what is kept of them.
 pub record AreDone (before : List Item) (draft : Draft) : Type 0 where
   pub keep : AllKeep [] before
@@ -54,6 +59,7 @@ pub record AreDone (before : List Item) (draft : Draft) : Type 0 where
   pub variables_are : draft.variables.items ≡ flat_map variables_of before
   pub sets : AllByRecursion IsVariable draft.variables.items
   pub outputs_are : draft.outputs.items ≡ outputs_from 0 before
+  pub named : AllByRecursion IsNamed draft.outputs.items
   pub constraints_are : draft.constraints.items ≡ constraints_from [] before
   pub count_is : length draft.constraints.items ≡ constraint_count before
   pub fit : AllByRecursion (IsConstraint (length draft.variables.items)) draft.constraints.items

@@ -5,7 +5,7 @@ ghost use Rattle.fz_check.specs.Checked.{HasCheckFault};
 
 use crate::draft::Draft;
 use crate::fault::CheckFault;
-use fz_model::model::Model;
+use fz_model::Model;
 use fz_parse::Items;
 use std::alloc::{AllocError, Global};
 
@@ -16,11 +16,12 @@ pub fn check(alloc: Global, items: &Items<'_>) -> Result<Result<Model, CheckFaul
         (λ model. AllKeep [] items.now.program.items × (model ≡ model_of items.now.program))
         (HasCheckFault items.now)) }
 {
+    let _text = items.text();
     let mut draft = Draft::new(alloc);
     for item in items.items() {
         if let Err(fault) = draft.add(alloc, items, item)? {
             return Ok(Err(fault));
         }
     }
-    Ok(Ok(draft.finish()))
+    Ok(Ok(draft.finish(alloc)))
 }

@@ -1,8 +1,8 @@
 //! What a declaration adds to a model.
-ghost use Rattle.std.specs.Prelude.{◌≡◌, IfOk, map};
+ghost use Rattle.std.specs.Prelude.{◌≡◌, ◌∷◌, [], IfOk, false, map};
 ghost use Rattle.std.specs.List.{AllByRecursion, list_any};
 ghost use Rattle.fz_spec.specs.declared.kind.Kind.TheVariants.{Int};
-ghost use Rattle.fz_spec.specs.Instance.{Scalar};
+ghost use Rattle.fz_spec.specs.declared.term.Term.TheVariants.{Var};
 ghost use Rattle.fz_language.specs.Reads.{is_output, name_of};
 ghost use Rattle.fz_lex.specs.Lexed.{token_of};
 ghost use Rattle.fz_model.specs.Kept.{IsVariable};
@@ -12,11 +12,10 @@ ghost use Rattle.fz_check.specs.Draft.{variable_of};
 use crate::leaf::{name, value};
 use fz_dom::Dom;
 use fz_lex::Token;
-use fz_model::output::Output;
-use fz_model::text::Text;
-use fz_model::variable::Variable;
+use fz_model::{Output, Text, Variable};
 use fz_parse::{Annotation, Declaration, Items};
 use fz_spec::kind::Kind;
+use fz_spec::term::Term;
 use std::alloc::{AllocError, Global};
 
 /// The variable that is declared: its set is the numbers from `low` up to `high`, none where `low` is above `high`.
@@ -56,8 +55,16 @@ pub(crate) fn output(
     number: u32,
 ) -> Result<Output, AllocError>
     requires { IsLeaf items.now.text leaf }
-    ensures { IfOk result (λ o. o ≡ Scalar (name_of (token_of items.now.text leaf)) Int number) }
+    ensures { IfOk result (λ o. o ≡ record {
+      name = name_of (token_of items.now.text leaf);
+      kind = Int;
+      array = false;
+      shape = [];
+      terms = Var number ∷ [];
+    }) }
 {
     let name = String::from_str(alloc, name(items, leaf))?;
-    Ok(Output::new(Text::new(name), Kind::Int, number))
+    let mut terms = Vec::with_capacity(alloc, 1)?;
+    terms.push(Term::Var(number))?;
+    Ok(Output::new(Text::new(name), Kind::Int, false, Vec::new(alloc), terms))
 }

@@ -2,8 +2,8 @@
 ghost use Rattle.std.specs.Prelude.{◌≡◌, ◌≤◌, List, length, IfOk, MatchResult, []};
 ghost use Rattle.fz_language.specs.Grammar as grammar;
 ghost use Rattle.fz_spec.specs.declared.limits.TheConstants.{VARIABLE_LIMIT};
-ghost use Rattle.fz_spec.specs.Signatures.{signature};
-ghost use Rattle.fz_model.specs.Kept as kept;
+ghost use Rattle.fz_language.specs.Signatures.{signature};
+ghost use Rattle.fz_language.specs.Reads.{IsShort};
 ghost use Rattle.fz_parse.specs.Parsed.{constraint_of, ConstraintHasLeaves, declaration_of, HasLeaves, item_of, ItemHasLeaves};
 ghost use Rattle.fz_check.specs.Draft.{AreDone, IsFaultOf, IsStep, KeepsRules};
 
@@ -15,14 +15,12 @@ use crate::names::unknown_name;
 use crate::signature::{builtin_of, signature};
 use crate::terms::constraint_of;
 use crate::types::{first_wrong_leaf, has_unequal_lists};
-use fz_model::constraint;
-use fz_model::model::Model;
-use fz_model::output::Output;
-use fz_model::variable::Variable;
+use fz_model::{Model, Output, Variable};
 use fz_parse::{Constraint, Declaration, Item, Items};
-use fz_spec::limits::{CONSTRAINT_LIMIT, ELEMENT_LIMIT, VARIABLE_LIMIT};
 use fz_spec::builtin::Builtin;
 use fz_spec::code::Code;
+use fz_spec::goal::Goal;
+use fz_spec::limits::{CONSTRAINT_LIMIT, ELEMENT_LIMIT, VARIABLE_LIMIT};
 use indexmap::IndexSet;
 use std::alloc::{AllocError, Global};
 
@@ -32,7 +30,7 @@ use std::alloc::{AllocError, Global};
 pub(crate) struct Draft<'i> {
     names: IndexSet<&'i str>,
     variables: Vec<Variable>,
-    constraints: Vec<constraint::Constraint>,
+    constraints: Vec<fz_model::Constraint>,
     outputs: Vec<Output>,
     room: usize,
 }
@@ -58,6 +56,7 @@ impl<'i> Draft<'i> {
         items: &'i Items<'_>,
         item: &Item,
     ) -> Result<Result<(), CheckFault>, AllocError>
+        requires short { IsShort items.now.text }
         requires leaves { ItemHasLeaves items.now.text item.now }
         requires few { length self.old.names.keys ≤ VARIABLE_LIMIT }
         ensures { (before : List grammar.Item) → AreDone before self.old → IfOk result (IsStep items.now.text before (item_of items.now.text item.now) self.new) }
@@ -74,7 +73,8 @@ impl<'i> Draft<'i> {
         items: &'i Items<'_>,
         declaration: &Declaration,
     ) -> Result<Result<(), CheckFault>, AllocError>
-        requires { HasLeaves items.now.text declaration.now }
+        requires short { IsShort items.now.text }
+        requires leaves { HasLeaves items.now.text declaration.now }
         ensures { (before : List grammar.Item) → AreDone before self.old → IfOk result (IsStep items.now.text before (grammar.Declare (declaration_of items.now.text declaration.now)) self.new) }
     {
         let number = self.names.len();
@@ -152,9 +152,15 @@ impl<'i> Draft<'i> {
     }
 
     /// The model of the items.
-    pub(crate) fn finish(self) -> Model
+    pub(crate) fn finish(self, alloc: Global) -> Model
         requires { (before : List grammar.Item) × AreDone before self }
-        ensures { result ≡ kept.model_of self.entry.variables.items self.entry.constraints.items self.entry.outputs.items }
+        ensures { result ≡ record {
+          variables = self.entry.variables.items;
+          constraints = self.entry.constraints.items;
+          goal = Goal.Satisfy;
+          outputs = self.entry.outputs.items;
+          search = [];
+        } }
     {
         let Draft {
             names: _names,
@@ -163,6 +169,7 @@ impl<'i> Draft<'i> {
             outputs,
             room: _room,
         } = self;
-        Model::new(variables, constraints, outputs)
+        let search = Vec::new(alloc);
+        Model::new(variables, constraints, Goal::Satisfy, outputs, search)
     }
 }

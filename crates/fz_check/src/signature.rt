@@ -1,6 +1,6 @@
 //! Names of constraints, and what each asks of its arguments.
 ghost use Rattle.std.specs.Prelude.{◌≡◌, map};
-ghost use Rattle.fz_spec.specs.Signatures.{builtin_of, signature};
+ghost use Rattle.fz_language.specs.Signatures.{builtin_of, signature};
 ghost use Rattle.fz_check.specs.Draft.{asked_of};
 
 use fz_spec::builtin::Builtin;
@@ -38,5 +38,6 @@ pub(crate) fn signature(builtin: Builtin) -> &'static [Asked]
     match builtin {
         Builtin::IntNe => &[Asked::Operand, Asked::Operand],
         Builtin::IntLinLe => &[Asked::Values, Asked::Operands, Asked::Value],
+        _ => &[],
     }
 }

@@ -5,14 +5,14 @@ ghost use Rattle.fz_language.specs.Grammar.{Scalar};
 ghost use Rattle.fz_language.specs.Reads.{argument_of, arguments_of, leaf_of, term_of, value_of};
 ghost use Rattle.fz_spec.specs.declared.limits.TheConstants.{VARIABLE_LIMIT};
 ghost use Rattle.fz_spec.specs.Constraints.{One};
-ghost use Rattle.fz_spec.specs.Signatures.{signature};
+ghost use Rattle.fz_language.specs.Signatures.{signature};
 ghost use Rattle.fz_model.specs.Arguments as kept;
 ghost use Rattle.fz_parse.specs.Parsed.{basic_of, BasicHasLeaf, expression_of, ExpressionHasLeaves};
 ghost use Rattle.fz_check.specs.Draft.{asked_of, texts};
 
 use crate::leaf::{leaf, name, value};
 use crate::signature::{Asked, signature};
-use fz_model::constraint::{Argument, Constraint};
+use fz_model::{Argument, Constraint};
 use fz_parse::{Basic, Expression, Items};
 use fz_spec::builtin::Builtin;
 use fz_spec::term::Term;

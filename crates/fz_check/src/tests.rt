@@ -25,14 +25,22 @@ fn fault_of(alloc: Global, text: &str) -> Result<Option<(Code, u32, u32)>, Alloc
 #[test]
 fn the_first_rule_that_is_broken_is_the_fault(rt: HostRuntime) -> Result<(), Fail> {
     let cases = [
-        ("constraint int_ne(x,1); solve satisfy;", Code::UnknownName, 19),
+        (
+            "constraint int_ne(x,1); solve satisfy;",
+            Code::UnknownName,
+            19,
+        ),
         ("constraint int_ne(1); solve satisfy;", Code::WrongArity, 12),
         (
             "var 1..2: x; constraint foo(x); solve satisfy;",
             Code::UnknownConstraint,
             25,
         ),
-        ("constraint foo(x); solve satisfy;", Code::UnknownConstraint, 12),
+        (
+            "constraint foo(x); solve satisfy;",
+            Code::UnknownConstraint,
+            12,
+        ),
         (
             "constraint int_lin_le([1,2],[3],4); solve satisfy;",
             Code::WrongLengths,
@@ -43,7 +51,11 @@ fn the_first_rule_that_is_broken_is_the_fault(rt: HostRuntime) -> Result<(), Fai
             Code::WrongType,
             37,
         ),
-        ("constraint int_ne([1],2); solve satisfy;", Code::WrongType, 19),
+        (
+            "constraint int_ne([1],2); solve satisfy;",
+            Code::WrongType,
+            19,
+        ),
         (
             "constraint int_lin_le(1,[1],2); solve satisfy;",
             Code::WrongType,
@@ -54,7 +66,11 @@ fn the_first_rule_that_is_broken_is_the_fault(rt: HostRuntime) -> Result<(), Fai
             Code::UnknownName,
             19,
         ),
-        ("var 1..2: x; var 1..2: x; solve satisfy;", Code::DeclaredTwice, 24),
+        (
+            "var 1..2: x; var 1..2: x; solve satisfy;",
+            Code::DeclaredTwice,
+            24,
+        ),
     ];
     for (text, code, column) in cases {
         assert_eq!(rt;

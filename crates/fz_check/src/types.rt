@@ -86,10 +86,10 @@ pub(crate) fn has_unequal_lists(builtin: Builtin, arguments: &[Expression]) -> b
     ensures { (text : List ℕ) → IsTrue result ↔ HasUnequalLists builtin (map (expression_of text) arguments.now) }
 {
     match builtin {
-        Builtin::IntNe => false,
         Builtin::IntLinLe => match arguments {
             [coefficients, variables, _] => differ_in_length(coefficients, variables),
             _ => false,
         },
+        _ => false,
     }
 }

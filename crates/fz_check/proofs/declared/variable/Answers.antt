@@ -1,5 +1,6 @@
 use Rattle.std.proofs.Common.{rules, arith, refl}
 use Rattle.std.proofs.lemmas.Int.{ints, to_z-of_z}
+use Rattle.fz_check.proofs.Short.{interval_few}
 use Rattle.fz_check.proofs.declared.variable.Goals as goal
 
 pub from_ranges-requires : goal.from_ranges-requires
@@ -16,3 +17,15 @@ returns-clause-variable c =
     let high = c.value-high.ensures.value t in
     let e = c.in_ok-set.ensures.one_range _ _ refl in
     grind (arith, ints, to_z-of_z)
+
+pub new-requires : goal.new-requires
+new-requires c =
+    let e = c.in_ok-set.ensures.one_range _ _ refl in
+    let f = interval_few c.value-low.result c.value-high.result in
+    record { ranges = search rules; within = search rules; few = grind (arith, ints, to_z-of_z) }
+
+pub returns-clause-kept : goal.returns-clause-kept
+returns-clause-kept c =
+    let e = c.in_ok-set.ensures.one_range _ _ refl in
+    let f = interval_few c.value-low.result c.value-high.result in
+    rw c.new.ensures (record { ranges = search rules; within = search rules; few = grind (arith, ints, to_z-of_z) })

@@ -2,7 +2,7 @@ use Rattle.std.proofs.Common.{map, ap, sym, ◌∙◌}
 use Rattle.fz_spec.specs.Constraints.{Numbers}
 use Rattle.fz_language.specs.Grammar as grammar
 use Rattle.fz_language.specs.Reads.{argument_of, leaf_of, value_of}
-use Rattle.fz_spec.specs.Signatures as language
+use Rattle.fz_language.specs.Signatures as language
 use Rattle.fz_parse.specs.Parsed.{basic_of, expression_of}
 use Rattle.fz_check.specs.Draft.{asked_of, texts}
 use Rattle.fz_check.proofs.terms.argument.Goals as goal

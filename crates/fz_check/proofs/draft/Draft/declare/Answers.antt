@@ -8,6 +8,7 @@ use Rattle.fz_parse.specs.Parsed.{annotation_of, declaration_of}
 use Rattle.fz_check.proofs.Breaks.{declared_before, one_too_many}
 use Rattle.fz_check.proofs.Done.{declaration_done, output_then, output_else}
 use Rattle.fz_check.proofs.Faults.{fault_of_item}
+use Rattle.fz_check.proofs.Short.{name_short}
 use Rattle.fz_check.proofs.Known.{added, counted, not_added, tested, texts_more}
 use Rattle.fz_check.proofs.draft.Draft.declare.Goals as goal
 
@@ -17,7 +18,7 @@ returns-then-not-branch c = λ before done.
     let d = c.args.declaration.now in
     let fault = c.fault_at in
     let there = not_added _ _ c.in_ok-insert.ensures.added c.if-not-branch.true in
-    fault_of_item text before (Declare (declaration_of text d)) DeclaredTwice d.name fault.result c.requires.name (record { code_is = fault.ensures.code; line_is = fault.ensures.line; column_is = fault.ensures.column })
+    fault_of_item text before (Declare (declaration_of text d)) DeclaredTwice d.name fault.result c.requires.leaves.name (record { code_is = fault.ensures.code; line_is = fault.ensures.line; column_is = fault.ensures.column })
     (declared_before before (declaration_of text d) (tested before c.args.self.now.names.keys done.names_are (token_of text d.name) c.name.result c.name.ensures ∙ there))
 
 pub returns-then-number-ge-VARIABLE_LIMIT : goal.returns-then-number-ge-VARIABLE_LIMIT
@@ -26,7 +27,7 @@ returns-then-number-ge-VARIABLE_LIMIT c = λ before done.
     let d = c.args.declaration.now in
     let fault = c.fault_at-then-number-ge-VARIABLE_LIMIT in
     let new = added _ _ _ _ _ c.in_ok-insert.ensures.added c.if-not-branch.false c.in_ok-insert.ensures.keys in
-    fault_of_item text before (Declare (declaration_of text d)) OverLimit d.name fault.result c.requires.name (record { code_is = fault.ensures.code; line_is = fault.ensures.line; column_is = fault.ensures.column })
+    fault_of_item text before (Declare (declaration_of text d)) OverLimit d.name fault.result c.requires.leaves.name (record { code_is = fault.ensures.code; line_is = fault.ensures.line; column_is = fault.ensures.column })
     (one_too_many before (declaration_of text d) (tested before c.args.self.now.names.keys done.names_are (token_of text d.name) c.name.result c.name.ensures ∙ new.0)
     (omega (arith, counted before c.args.self.now.names.keys done.names_are)))
 
@@ -44,6 +45,7 @@ returns-in_ok-push-2 c = λ before done.
     (tested before old.names.keys done.names_are (token_of text d.name) c.name.result c.name.ensures ∙ new.0) (omega arith)
     (texts_more old.names.keys _ c.name.result (name_of (token_of text d.name)) c.name.ensures new.1) c.in_ok-variable.ensures.variable c.in_ok-variable.ensures.kept c.in_ok-push.ensures.items
     (shown ∙ ap (λ n. old.outputs.items ++ output_of (declaration_of text d) n) number) refl refl
+    (name_short text d.name c.requires.short c.requires.leaves.name)
 
 pub returns-else-is_output : goal.returns-else-is_output
 returns-else-is_output c = λ before done.
@@ -57,3 +59,4 @@ returns-else-is_output c = λ before done.
     (tested before old.names.keys done.names_are (token_of text d.name) c.name.result c.name.ensures ∙ new.0) (omega arith)
     (texts_more old.names.keys _ c.name.result (name_of (token_of text d.name)) c.name.ensures new.1) c.in_ok-variable.ensures.variable c.in_ok-variable.ensures.kept c.in_ok-push.ensures.items
     (output_else (declaration_of text d) (length (declared_names before)) c.is_output.result old.outputs.items old.outputs.items test c.if-is_output.false refl) refl refl
+    (name_short text d.name c.requires.short c.requires.leaves.name)
