@@ -88,10 +88,10 @@ HoldsOfSum name sum c = ⊥
 
 -- among the numbers, and none is below it, or above it
 abbrev pub IsLeastOf : ℤ → List ℤ → Type 0
-IsLeastOf m xs = SomeByRecursion (λ x. m ≡ x) xs × AllByRecursion (λ x. m ≤ℤ x) xs
+IsLeastOf m xs = SomeByRecursion (λ x. x ≡ m) xs × AllByRecursion (λ x. m ≤ℤ x) xs
 
 abbrev pub IsGreatestOf : ℤ → List ℤ → Type 0
-IsGreatestOf m xs = SomeByRecursion (λ x. m ≡ x) xs × AllByRecursion (λ x. x ≤ℤ m) xs
+IsGreatestOf m xs = SomeByRecursion (λ x. x ≡ m) xs × AllByRecursion (λ x. x ≤ℤ m) xs
 
 -- of a number and a list
 abbrev pub HoldsOfExtreme : Builtin → ℤ → List ℤ → Type 0

@@ -1,2 +1,6 @@
-pub mod Sums
 pub mod Declared
+pub mod ListLaws
+pub mod ReifiedLaws
+pub mod Shapes
+pub mod SumLaws
+pub mod TaskLaws

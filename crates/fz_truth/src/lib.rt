@@ -1,11 +1,18 @@
 //! Whether an assignment satisfies a model: each number lies in the set of its variable, and each constraint is true.
-//! Sums are taken in 128 bits, where none of them wraps.
+//! Sums are taken in 128 bits, where none of them wraps. Nothing here takes memory.
 #![tactic(auto)]
 
 mod constraint;
+mod element;
+mod lists;
 pub mod model;
-
-pub use model::holds;
-
+mod numbers;
+mod reified;
+mod sums;
+mod table;
+mod tasks;
+mod terms;
 #[cfg(test)]
 mod tests;
+
+pub use model::holds;
