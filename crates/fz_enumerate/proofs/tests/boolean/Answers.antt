@@ -1,4 +1,4 @@
-use Rattle.std.proofs.Common.{refl, pos}
+use Rattle.std.proofs.Common.{pos, refl}
 use Rattle.fz_enumerate.proofs.tests.boolean.Goals as goal
 
 pub new-requires : goal.new-requires
