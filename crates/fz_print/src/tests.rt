@@ -1,17 +1,35 @@
 //! What no clause says: that calls succeed where memory is ample.
+ghost use Rattle.std.specs.Prelude.{◌≡◌, IfOk};
 
 use crate::block::block;
 use crate::ending::Ending;
 use crate::refusal::Refusal;
 use crate::trailer::{refusal, trailer};
 use fz_dom::Dom;
-use fz_model::assignment::Assignment;
-use fz_model::model::Model;
-use fz_model::output::Output;
-use fz_model::text::Text;
-use fz_model::variable::Variable;
-use fz_spec::kind::Kind;
+use fz_model::{Assignment, Goal, Kind, Model, Output, Term, Text, Variable};
+use std::alloc::{AllocError, Global};
 use std::test::Fail;
+
+fn output(
+    alloc: Global,
+    name: &str,
+    kind: Kind,
+    array: bool,
+    shape: &[(i32, i32)],
+    terms: &[Term],
+) -> Result<Output, AllocError>
+    ensures { IfOk result (λ o. o ≡ record {
+      name = name.now;
+      kind = kind;
+      array = array;
+      shape = shape.now;
+      terms = terms.now;
+    }) }
+{
+    let name = Text::new(String::from_str(alloc, name)?);
+    let shape = Vec::from_slice(alloc, shape)?;
+    Ok(Output::new(name, kind, array, shape, Vec::from_slice(alloc, terms)?))
+}
 
 #[test]
 fn a_block_has_a_line_for_each_output_item(rt: HostRuntime) -> Result<(), Fail> {
@@ -20,13 +38,16 @@ fn a_block_has_a_line_for_each_output_item(rt: HostRuntime) -> Result<(), Fail> 
     variables.push(Variable::new(Kind::Int, Dom::from_ranges(alloc, &[(-7, -7)])?))?;
     variables.push(Variable::new(Kind::Bool, Dom::from_ranges(alloc, &[(0, 1)])?))?;
     let mut outputs = Vec::new(alloc);
-    outputs.push(Output::new(Text::new(String::from_str(alloc, "b")?), Kind::Bool, 1))?;
-    outputs.push(Output::new(Text::new(String::from_str(alloc, "x")?), Kind::Int, 0))?;
-    let model = Model::new(variables, Vec::new(alloc), outputs);
+    outputs.push(output(alloc, "b", Kind::Bool, false, &[], &[Term::Var(1)])?)?;
+    let square = [Term::Num(1), Term::Var(0), Term::Num(3), Term::Num(-4)];
+    outputs.push(output(alloc, "m", Kind::Int, true, &[(1, 2), (0, 1)], &square)?)?;
+    outputs.push(output(alloc, "e", Kind::Int, true, &[(1, 0)], &[])?)?;
+    let (constraints, search) = (Vec::new(alloc), Vec::new(alloc));
+    let model = Model::new(variables, constraints, Goal::Satisfy, outputs, search);
     let text = block(alloc, &model, &Assignment::new(alloc, &[-7, 1])?)?;
     assert_eq!(rt;
         text.as_slice(),
-        b"b = true;\nx = -7;\n----------\n".as_slice()
+        b"b = true;\nm = array2d(1..2, 0..1, [1, -7, 3, -4]);\ne = array1d(1..0, []);\n----------\n".as_slice()
     );
     Ok(())
 }
