@@ -1,8 +1,8 @@
 //! What no clause says: that calls succeed where memory is ample, and that the rules are the ones meant.
 
 use crate::{LexFault, Place, Token, TokenKind, tokens};
-use fz_spec::code::Code;
 use fz_language::sign::Sign;
+use fz_spec::code::Code;
 use std::alloc::{AllocError, Global};
 use std::test::Fail;
 
@@ -100,7 +100,12 @@ fn the_first_fault_is_told_with_its_place(rt: HostRuntime) -> Result<(), Fail> {
     for (text, code, line, column) in [
         ("-2147483647", Code::LargeNumber, 1, 1),
         ("2147483647", Code::LargeNumber, 1, 1),
-        ("x = 123456789012345678901234567890;", Code::LargeNumber, 1, 5),
+        (
+            "x = 123456789012345678901234567890;",
+            Code::LargeNumber,
+            1,
+            5,
+        ),
         ("  var 1..2: x; #", Code::UnknownByte, 1, 16),
         ("x;\r\n\tvar #", Code::UnknownByte, 2, 6),
         ("a.b", Code::UnknownByte, 1, 2),

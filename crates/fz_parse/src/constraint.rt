@@ -6,8 +6,8 @@ use crate::declaration::annotations;
 use crate::expression::expression;
 use crate::steps::{identifier, is_sign, sign};
 use crate::tree::{Constraint, Expression};
-use fz_lex::{Token, Tokens};
 use fz_language::sign::Sign;
+use fz_lex::{Token, Tokens};
 use std::alloc::{AllocError, Global};
 
 /// Takes the name of a constraint and the opening parenthesis. Without them the next token is the first that does not fit.

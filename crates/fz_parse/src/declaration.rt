@@ -4,8 +4,8 @@ ghost use Rattle.fz_parse.specs.Steps.{rest, BreaksIn, declaration_on, annotatio
 
 use crate::steps::{identifier, integer, is_sign, sign};
 use crate::tree::{Annotation, Declaration};
-use fz_lex::{Token, Tokens};
 use fz_language::sign::Sign;
+use fz_lex::{Token, Tokens};
 use std::alloc::{AllocError, Global};
 
 /// What stands in a declaration before its annotations.

@@ -4,8 +4,8 @@ ghost use Rattle.fz_parse.specs.Steps.{rest, BreaksIn, MissesBasic, IsBasic, IsE
 
 use crate::steps::{identifier, integer, is_sign, mark, sign};
 use crate::tree::{Basic, Expression};
-use fz_lex::Tokens;
 use fz_language::sign::Sign;
+use fz_lex::Tokens;
 use std::alloc::{AllocError, Global};
 
 /// Takes the next token if it is an integer or an identifier.

@@ -12,9 +12,9 @@ use crate::fault::SyntaxFault;
 use crate::items::Items;
 use crate::steps::{is_word, sign, word};
 use crate::tree::{Item, Method};
+use fz_language::sign::Sign;
 use fz_lex::Tokens;
 use fz_spec::code::Code;
-use fz_language::sign::Sign;
 use std::alloc::{AllocError, Global};
 
 /// The items that the tokens spell, or the place where the syntax is at fault.

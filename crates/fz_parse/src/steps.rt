@@ -5,8 +5,8 @@ ghost use Rattle.fz_language.specs.Grammar.{Exactly, Identifier, Integer, Marked
 ghost use Rattle.fz_parse.specs.Steps.{Begins, Takes, Misses, MissesEach, rest, IsLeafAt, TakesLeaf};
 
 use crate::keywords::is_keyword;
-use fz_lex::{Token, TokenKind, Tokens};
 use fz_language::sign::Sign;
+use fz_lex::{Token, TokenKind, Tokens};
 
 /// The token of this number, from 0, or none behind the last.
 pub(crate) fn token_at(tokens: &Tokens, index: usize) -> Option<Token>
