@@ -1,0 +1,6 @@
+pub mod Choice
+pub mod Frontier
+pub mod Proper
+pub mod Better
+pub mod Account
+pub mod Book
