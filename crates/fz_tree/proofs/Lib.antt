@@ -1,0 +1,9 @@
+pub mod Counts
+pub mod Choices
+pub mod Times
+pub mod Cuts
+pub mod Propers
+pub mod Orders
+pub mod Same
+pub mod Accounts
+pub mod Books
