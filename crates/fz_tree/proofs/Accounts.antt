@@ -1,22 +1,22 @@
 -- Each call keeps the law of accounts.
-use Rattle.std.proofs.Common.{◌≡◌, ℕ, zero, suc, ◌+◌, ◌-◌, ◌<◌, ◌≤◌, List, [], ◌∷◌, ◌++◌, ◌⊎◌, inl, inr, refl, ap, ap₂, sym, ◌∙◌, arith, Bool, true, false, cond, length, subst}
-use Rattle.std.specs.Prelude.{ℤ, IsTrue, Option, Some, None, IfSome}
-use Rattle.std.specs.List.{AllByRecursion, list_any, count_by, sum_by}
-use Rattle.std.proofs.lemmas.List.Sums.{sum_by-append, sum_by_push}
+use Rattle.std.proofs.Common.{◌≡◌, ◌+◌, List, [], ◌∷◌, ◌++◌, ◌⊎◌, inl, inr, refl, ap, sym, ◌∙◌, arith, true, false, cond, subst}
+use Rattle.std.specs.Prelude.{ℤ, IsTrue, Option, Some, IfSome}
+use Rattle.std.specs.List.{AllByRecursion, list_any, count_by}
+use Rattle.std.proofs.lemmas.List.Sums.{sum_by_push}
 use Rattle.fz_spec.specs.Instance.{Instance, Satisfies, is_same}
 use Rattle.fz_tree.specs.declared.decision.Decision.{Decision}
 use Rattle.fz_tree.specs.declared.mode.Mode.{Mode}
 use Rattle.fz_tree.specs.declared.mode.Mode.TheVariants.{All, Best}
 use Rattle.fz_tree.specs.Choice.{meets, IsChoice}
-use Rattle.fz_tree.specs.Frontier.{Edge, Frontier, AreEdges, times_in, times_in_all, times_below, can_cut, closed, branched, moved, part_of, rest_of}
+use Rattle.fz_tree.specs.Frontier.{Frontier, AreEdges, times_in, times_below, can_cut, closed, branched, moved, part_of}
 use Rattle.fz_tree.specs.Proper.{MeetsTaken, IsReachable, IsProper, Fits, IsHopeless, IsOnly}
-use Rattle.fz_tree.specs.Better.{mode_of, IsBetter, Betters}
-use Rattle.fz_tree.specs.Account.{Account, AccountLaw, SuitsMode, times_found, begun, with_after, with_found, with_given, with_witness, rest_begun}
+use Rattle.fz_tree.specs.Better.{mode_of, Betters}
+use Rattle.fz_tree.specs.Account.{Account, AccountLaw, SuitsMode, begun, with_after, with_found, with_given, with_witness, rest_begun}
 use Rattle.fz_tree.proofs.Counts.{one_if, any_count}
 use Rattle.fz_tree.proofs.Times.{times_met, times_unmet, meets_cases, times_branch, times_next}
 use Rattle.fz_tree.proofs.Cuts.{times_parts, edges_part, edges_rest}
 use Rattle.fz_tree.proofs.Propers.{edges_push, edges_next, proper_push, proper_next, proper_part, proper_rest}
-use Rattle.fz_tree.proofs.Orders.{better_transitive, betters_before}
+use Rattle.fz_tree.proofs.Orders.{betters_before}
 use Rattle.fz_tree.proofs.Same.{differ, alike, one_more, all_push}
 
 pub begins : (m : Instance) (mode : Mode) (f : Frontier) (witness : Option (List ℤ)) → mode ≡ mode_of m.goal → AreEdges f.edges → SuitsMode mode [] witness → IfSome witness (Satisfies m) → AccountLaw (begun m mode f witness)

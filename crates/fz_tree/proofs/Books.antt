@@ -1,19 +1,19 @@
 -- Each call keeps the law of books, and a closed book is complete.
-use Rattle.std.proofs.Common.{◌≡◌, ℕ, zero, suc, ◌+◌, ◌-◌, ◌<◌, ◌≤◌, List, [], ◌∷◌, ◌++◌, ◌⊎◌, inl, inr, refl, ap, ap₂, sym, ◌∙◌, arith, Bool, true, false, cond, length, map, take, drop, subst, append-nil, length-append, get_or, set, ◌||◌}
-use Rattle.std.specs.Prelude.{ℤ, Option, Some, None, IfSome, slice_index_or, slice_set}
-use Rattle.std.specs.List.{AllByRecursion, count_by, sum_by, remove, slice_get}
+use Rattle.std.proofs.Common.{◌≡◌, ℕ, zero, suc, ◌+◌, ◌-◌, ◌<◌, List, [], ◌∷◌, ◌++◌, inl, inr, refl, ap, sym, ◌∙◌, arith, Bool, true, false, cond, length, map, subst, append-nil, length-append, get_or, set}
+use Rattle.std.specs.Prelude.{ℤ, Option, Some, None, IfSome}
+use Rattle.std.specs.List.{AllByRecursion, remove, slice_get}
 use Rattle.std.proofs.lemmas.List.Sums.{sum_by-append, sum_by-cons, sum_by-remove, sum_by-set}
 use Rattle.std.proofs.lemmas.Bool.{or_parts}
-use Rattle.fz_spec.specs.Instance.{Instance, Satisfies, Lists, is_same, occurrences}
+use Rattle.fz_spec.specs.Instance.{Instance, Satisfies, IsBetter, Lists, occurrences}
 use Rattle.fz_tree.specs.declared.mode.Mode.{Mode}
 use Rattle.fz_tree.specs.declared.mode.Mode.TheVariants.{All, Best}
-use Rattle.fz_tree.specs.Frontier.{Edge, Frontier, AreEdges, times_in, times_in_all, times_below, can_cut, has_rest, root}
+use Rattle.fz_tree.specs.Frontier.{Frontier, AreEdges, times_in, times_in_all, times_below, can_cut, has_rest}
 use Rattle.fz_tree.specs.Proper.{IsProper}
-use Rattle.fz_tree.specs.Better.{mode_of, IsBetter, Betters}
+use Rattle.fz_tree.specs.Better.{mode_of, Betters}
 use Rattle.fz_tree.specs.Account.{Account, AccountLaw, SuitsMode, times_found}
 use Rattle.fz_tree.specs.Book.{Part, Book, BookLaw, SuitsRecord, AreImproving, incumbent_of, incumbent, times_recorded_in, times_recorded, times_open, claimed_part, opening, IsAt, Claims, Takes, AddsIn, AddsWitness, left_of, parts_after, taken, with_recorded}
 use Rattle.fz_tree.proofs.Times.{times_of_none}
-use Rattle.fz_tree.proofs.Orders.{better_transitive, better_than_others, betters_before}
+use Rattle.fz_tree.proofs.Orders.{better_than_others, betters_before}
 use Rattle.fz_tree.proofs.Same.{found_both, all_push, all_both}
 
 -- ---- lists
@@ -124,8 +124,15 @@ pub open_after : (ps : List Part) (i : ℕ) (c : Account) (a : List ℤ) → IsA
 open_after ps i c a at =
     let count : Part → ℕ = λ p. times_in p.frontier a in
     let here : times_in (get_or ps i (claimed_part c.before)).frontier a ≡ times_in c.before a = ap (λ (f : Frontier). times_in f a) (at.is (claimed_part c.before)) in
-    omega (arith, here, sum_by-append count (remove ps i) (map claimed_part c.given ++ left_of c.after), sum_by-append count (map claimed_part c.given) (left_of c.after),
-      open_given c.given a, open_left c.after a, sum_by-remove count ps i (claimed_part c.before) at.within)
+    omega (
+      arith,
+      here,
+      sum_by-append count (remove ps i) (map claimed_part c.given ++ left_of c.after),
+      sum_by-append count (map claimed_part c.given) (left_of c.after),
+      open_given c.given a,
+      open_left c.after a,
+      sum_by-remove count ps i (claimed_part c.before) at.within,
+    )
 
 -- the sums of a book of that record and those parts
 abbrev BookSums : Mode → Instance → List (List ℤ) → List Part → Type 0
@@ -177,7 +184,7 @@ taken_best m recorded added ps i c (Some k) (Some w) is_known is_witness of_k of
 taken_best m recorded added ps i c (Some k) (Some w) is_known is_witness of_k of_w (inr add) r sums none at =
     unchanged m recorded added ps i c r sums none at
     (λ a satisfies better. subst (λ (o : Option (List ℤ)). Betters m a o) (sym is_witness)
-        (better_than_others m a w k satisfies of_w of_k add.0 (subst (λ (o : Option (List ℤ)). Betters m a o) is_known better))) add.1
+    (better_than_others m a w k satisfies of_w of_k add.0 (subst (λ (o : Option (List ℤ)). Betters m a o) is_known better))) add.1
 
 some_satisfies : (m : Instance) (o p : Option (List ℤ)) → o ≡ p → IfSome o (Satisfies m) → IfSome p (Satisfies m)
 some_satisfies m o p e h = subst (λ (q : Option (List ℤ)). IfSome q (Satisfies m)) e h
@@ -211,7 +218,7 @@ taken_at b c place added law of_c model mode at adds =
     let was : IsRecord b.mode b.model b.recorded b.parts = record { sound = law.sound; improving = law.improving; sums = law.sums } in
     let new = taken_record b.mode b.model b.recorded added b.parts place c was sums of_found of_witness suits at adds in
     let before : IsProper b.model.variables c.before =
-        subst (λ (f : Frontier). IsProper b.model.variables f) (at.is (claimed_part c.before)) (all_at (λ (p : Part). IsProper b.model.variables p.frontier) b.parts place (claimed_part c.before) at.within law.proper) in
+    subst (λ (f : Frontier). IsProper b.model.variables f) (at.is (claimed_part c.before)) (all_at (λ (p : Part). IsProper b.model.variables p.frontier) b.parts place (claimed_part c.before) at.within law.proper) in
     let proper = subst (λ (m : Instance). IsProper m.variables c.before → AllByRecursion (IsProper m.variables) c.given × IsProper m.variables c.after) model of_c.proper before in
     record {
       own_mode = law.own_mode;

@@ -1,6 +1,6 @@
 -- Counting the members of a list that pass a test.
-use Rattle.std.proofs.Common.{◌≡◌, ℕ, zero, suc, ◌+◌, ◌-◌, ◌<◌, ◌≤◌, List, [], ◌∷◌, ◌++◌, ◌⊎◌, inl, inr, refl, ap, ap₂, sym, ◌∙◌, arith, Bool, true, false, cond, ◌||◌, length, take, drop, Option, Some, None, drop-drop, subst}
-use Rattle.std.specs.List.{list_any, slice_get, count_by, sum_by}
+use Rattle.std.proofs.Common.{◌≡◌, ℕ, zero, suc, ◌+◌, ◌≤◌, List, [], ◌∷◌, ◌++◌, ◌⊎◌, inl, inr, refl, ap, ◌∙◌, arith, Bool, true, false, cond, ◌||◌, take, drop, Option, Some, None, drop-drop}
+use Rattle.std.specs.List.{list_any, slice_get, count_by}
 use Rattle.std.proofs.Math.Seq.{take-add}
 use Rattle.std.proofs.lemmas.List.Sums.{sum_by-append, sum_by-cons, sum_by-take-drop}
 

@@ -7,3 +7,4 @@ pub mod Orders
 pub mod Same
 pub mod Accounts
 pub mod Books
+pub mod Places

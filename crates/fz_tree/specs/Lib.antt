@@ -4,3 +4,4 @@ pub mod Proper
 pub mod Better
 pub mod Account
 pub mod Book
+pub mod Laws

@@ -1,1 +1,47 @@
 //! Laws that the definitions keep: each is the clause of a function that does nothing, so that the clause is proved.
+ghost use Rattle.fz_tree.specs.Laws.{PairIsChoice, PairFits, InIsAtOpenPlace, InIsOnce, CutIsInParts, MovedIsSame, AccountIsExact, ClosedListsAll, ClosedIsBest};
+
+/// A decision and its negation are a choice: an assignment meets at most one of the two.
+pub fn pair_is_choice()
+    ensures { PairIsChoice }
+{}
+
+/// That choice fits every node of a model that has the variable: no satisfying assignment is lost.
+pub fn pair_fits()
+    ensures { PairFits }
+{}
+
+/// Which assignments are in a frontier, in words.
+pub fn in_is_at_open_place()
+    ensures { InIsAtOpenPlace }
+{}
+
+/// The open places of a frontier have no assignment in common.
+pub fn in_is_once()
+    ensures { InIsOnce }
+{}
+
+/// A cut parts a frontier: each of its assignments is in the part or in the rest, and in one of them alone.
+pub fn cut_is_in_parts()
+    ensures { CutIsInParts }
+{}
+
+/// Moving to the next alternative keeps what is in a frontier.
+pub fn moved_is_same()
+    ensures { MovedIsSame }
+{}
+
+/// A lawful account names each satisfying assignment of its frontier once, and no other.
+pub fn account_is_exact()
+    ensures { AccountIsExact }
+{}
+
+/// A lawful closed book of all satisfying assignments has each of them once.
+pub fn closed_lists_all()
+    ensures { ClosedListsAll }
+{}
+
+/// No satisfying assignment betters the incumbent of a lawful closed book.
+pub fn closed_is_best()
+    ensures { ClosedIsBest }
+{}

@@ -1,0 +1,54 @@
+-- Laws that the definitions keep.
+use Rattle.std.specs.Prelude.{◌≡◌, ℕ, ◌+◌, ◌<◌, ◌↔◌, ◌⊎◌, ℤ, true, false, cond, IsTrue, List, [], length, take, slice_index_or, Option}
+use Rattle.std.specs.List.{list_any}
+use Rattle.fz_spec.specs.Instance.{Instance, Satisfies, Lists}
+use Rattle.fz_tree.specs.declared.decision.Decision.{Decision}
+use Rattle.fz_tree.specs.declared.mode.Mode.TheVariants.{All, Best}
+use Rattle.fz_tree.specs.Choice.{meets, pair_of, IsChoice}
+use Rattle.fz_tree.specs.Frontier.{Edge, Frontier, AreEdges, others, is_in, In, times_in, times_in_all, can_cut, moved, part_of, rest_of, AreParts}
+use Rattle.fz_tree.specs.Proper.{MeetsTaken, Fits}
+use Rattle.fz_tree.specs.Better.{Betters}
+use Rattle.fz_tree.specs.Account.{Account, AccountLaw, times_found}
+use Rattle.fz_tree.specs.Book.{Book, BookLaw, incumbent}
+
+-- a decision and its negation are a choice, and it fits every node where the variable is of the model
+abbrev pub PairIsChoice : Type 0
+PairIsChoice = (d : Decision) → IsChoice (pair_of d)
+
+abbrev pub PairFits : Type 0
+PairFits = (m : Instance) (es : List Edge) (known : Option (List ℤ)) (d : Decision) → d.variable < length m.variables → Fits m es known (pair_of d)
+
+-- the open place below the edge at i, at one of its alternatives after the taken one
+pub record IsAtOther (es : List Edge) (a : List ℤ) (i : ℕ) : Type 0 where
+  pub within : i < length es
+  pub taken : MeetsTaken (take i es) a
+  pub other : (d : Edge) → IsTrue (list_any (meets a) (others (slice_index_or es i d)))
+
+-- An assignment is in a frontier exactly where it meets all taken decisions and the place below is open, or for one edge meets
+-- the taken decisions above it and one of its open alternatives after the taken one.
+abbrev pub InIsAtOpenPlace : Type 0
+InIsAtOpenPlace = (f : Frontier) (a : List ℤ) → In f a ↔ ((IsTrue f.current_open × MeetsTaken f.edges a) ⊎ ((i : ℕ) × IsAtOther f.edges a i))
+
+-- It is in one open place then, and else in none.
+abbrev pub InIsOnce : Type 0
+InIsOnce = (f : Frontier) (a : List ℤ) → AreEdges f.edges → times_in f a ≡ cond (is_in f a) 1 0
+
+abbrev pub CutIsInParts : Type 0
+CutIsInParts = (f : Frontier) → AreEdges f.edges → can_cut f ≡ true → AreParts f (part_of f) (rest_of f)
+
+-- moving to the next alternative changes nothing of what is in it
+abbrev pub MovedIsSame : Type 0
+MovedIsSame = (f : Frontier) (a : List ℤ) → f.current_open ≡ false → can_cut f ≡ true → times_in (moved f) a ≡ times_in f a
+
+-- Of a lawful account each satisfying assignment that betters the witness is accounted for once where it was in the frontier, and
+-- else not at all.
+abbrev pub AccountIsExact : Type 0
+AccountIsExact = (c : Account) (a : List ℤ) → AccountLaw c → Satisfies c.model a → Betters c.model a c.witness
+    → times_found c.mode c.model a c.found + times_in_all c.given a + times_in c.after a ≡ cond (is_in c.before a) 1 0
+
+-- A lawful book with nothing open is complete: it records each satisfying assignment once, or none betters its incumbent.
+abbrev pub ClosedListsAll : Type 0
+ClosedListsAll = (b : Book) → BookLaw b → b.mode ≡ All → b.parts ≡ [] → Lists b.model b.recorded
+
+abbrev pub ClosedIsBest : Type 0
+ClosedIsBest = (b : Book) (a : List ℤ) → BookLaw b → b.mode ≡ Best → b.parts ≡ [] → Satisfies b.model a → Betters b.model a (incumbent b) → ⊥
