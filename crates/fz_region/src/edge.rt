@@ -1,0 +1,58 @@
+//! Edges.
+ghost use Rattle.std.specs.Prelude.{◌≡◌, true};
+ghost use Rattle.fz_tree.specs.Frontier.{edge_has_rest, cut_edge, kept_edge};
+
+use crate::choice::Choice;
+use std::marker::Model;
+
+/// An edge of a search tree: the alternative of a choice that the path takes, and the last one that is open.
+#[derive(Clone, Copy)]
+pub struct Edge {
+    pub choice: Choice,
+    pub taken: u32,
+    pub last: u32,
+}
+
+impl Model for Edge {
+    ghost use Rattle.fz_tree.specs.Frontier as frontier;
+
+    ghost Value = { frontier.Edge };
+
+    ghost view = { λ e. record { choice = e.choice; taken = e.taken; last = e.last } };
+
+    ghost inverse = { λ e. record { choice = e.choice; taken = e.taken; last = e.last } };
+}
+
+impl Edge {
+    /// Whether an alternative after the taken one is open.
+    pub fn has_rest(&self) -> bool
+        ensures { result ≡ edge_has_rest self.now }
+    {
+        self.taken < self.last
+    }
+
+    /// The edge of the part that a cut takes here: the last half of the alternatives after the taken one, rounded up, its first
+    /// one taken.
+    pub fn cut(&self) -> Edge
+        requires { edge_has_rest self.now ≡ true }
+        ensures { result ≡ cut_edge self.now }
+    {
+        Edge {
+            choice: self.choice,
+            taken: self.last - (self.last - self.taken).div_ceil(2) + 1,
+            last: self.last,
+        }
+    }
+
+    /// What a cut leaves here.
+    pub fn kept(&self) -> Edge
+        requires { edge_has_rest self.now ≡ true }
+        ensures { result ≡ kept_edge self.now }
+    {
+        Edge {
+            choice: self.choice,
+            taken: self.taken,
+            last: self.last - (self.last - self.taken).div_ceil(2),
+        }
+    }
+}

@@ -1,0 +1,194 @@
+//! Frontiers.
+ghost use Rattle.std.specs.Prelude.{◌≡◌, ◌^◌, ◌≤◌, ◌<◌, ◌++◌, ◌∷◌, [], ◌↔◌, true, false, cond, is_some, length, IfOk, IfSome, IfNone, OnOk, OnErr, OnSome, IsTrue};
+ghost use Rattle.std.specs.Bool.{OnTrue, OnFalse};
+ghost use Rattle.std.specs.List.{list_any};
+ghost use Rattle.fz_tree.specs.Choice.{IsChoice};
+ghost use Rattle.fz_tree.specs.Frontier.{AreEdges, In, is_in, times_in, can_cut, has_rest, closed, branched, moved, part_of, rest_of, AreParts, cut_edge, kept_edge};
+
+use crate::choice::Choice;
+use crate::edge::Edge;
+use crate::places::{deepest, topmost};
+use std::alloc::{AllocError, Global};
+use std::marker::Model;
+
+/// The open part of a search tree: edges from the root down, and whether the place below them is open.
+#[derive(Drop)]
+pub struct Frontier {
+    edges: Vec<Edge>,
+    current_open: bool,
+}
+
+impl Model for Frontier {
+    ghost use Rattle.fz_tree.specs.Frontier as frontier;
+
+    ghost Value = { frontier.Frontier };
+
+    ghost view = { λ f. record { edges = f.edges.items; current_open = f.current_open } };
+
+    ghost invariant = { λ f. frontier.AreEdges f.edges.items };
+}
+
+impl Frontier {
+    /// The whole tree. It takes no memory.
+    pub fn root(alloc: Global) -> Frontier
+        ensures { result ≡ record { edges = []; current_open = true } }
+    {
+        Frontier {
+            edges: Vec::new(alloc),
+            current_open: true,
+        }
+    }
+
+    /// The edges, from the root down.
+    pub fn edges(&self) -> &[Edge]
+        ensures edges { result.now ≡ self.now.edges }
+        ensures kept { AreEdges self.now.edges }
+    {
+        &self.edges
+    }
+
+    /// Whether the place below the edges is open.
+    pub fn is_current_open(&self) -> bool
+        ensures open_below { result ≡ self.now.current_open }
+        ensures kept { AreEdges self.now.edges }
+    {
+        self.current_open
+    }
+
+    /// Whether some edge has an open alternative after the taken one.
+    pub fn can_cut(&self) -> bool
+        ensures { result ≡ can_cut self.now }
+    {
+        deepest(&self.edges).is_some()
+    }
+
+    /// Whether anything is open.
+    pub fn has_rest(&self) -> bool
+        ensures { result ≡ has_rest self.now }
+    {
+        self.current_open || self.can_cut()
+    }
+
+    /// Adds an edge below the others. The place below it is open where the place below the others was.
+    ///
+    /// # Errors
+    /// `AllocError` where there is no memory; the frontier is as before.
+    pub fn push(&mut self, choice: Choice, taken: u32, last: u32) -> Result<(), AllocError>
+        requires order { taken ≤ last }
+        requires below { last < length choice }
+        ensures ok { OnOk result (self.new ≡ record { edges = self.old.edges ++ record { choice = choice; taken = taken; last = last } ∷ []; current_open = self.old.current_open }) }
+        ensures err { OnErr result (self.new ≡ self.old) }
+    {
+        let _ = choice.len();
+        self.edges.push(Edge {
+            choice,
+            taken,
+            last,
+        })?;
+        Ok(())
+    }
+
+    /// The place below, which is open, is done.
+    pub fn close(&mut self)
+        ensures { self.new ≡ closed self.old }
+    {
+        self.current_open = false;
+    }
+
+    /// Moves to the deepest open alternative after a taken one, and drops the edges below it. It says whether there was one;
+    /// where there was none, the frontier is as before.
+    pub fn advance(&mut self) -> bool
+        ensures moved { OnTrue result (self.new ≡ moved self.old) }
+        ensures some { result ≡ can_cut self.old }
+        ensures none { OnFalse result (self.new ≡ self.old) }
+    {
+        let Some(i) = deepest(&self.edges) else {
+            return false;
+        };
+        let edge = self.edges[i];
+        self.edges[i] = Edge {
+            choice: edge.choice,
+            taken: edge.taken + 1,
+            last: edge.last,
+        };
+        self.edges.truncate(i + 1);
+        self.current_open = true;
+        true
+    }
+
+    /// What a cut takes: the edges above the topmost one that has open alternatives after the taken one, and at that one the
+    /// last half of them, rounded up. `None` exactly where there is no such edge.
+    ///
+    /// # Errors
+    /// `AllocError` where there is no memory.
+    pub fn part(&self) -> Result<Option<Frontier>, AllocError>
+        ensures part { IfOk result (λ o. IfSome o (λ f. f ≡ part_of self.now)) }
+        ensures some { IfOk result (λ o. is_some o ≡ can_cut self.now) }
+    {
+        let Some(i) = topmost(&self.edges) else {
+            return Ok(None);
+        };
+        let edges = front_with(*self.edges.allocator(), &self.edges[..i], self.edges[i].cut())?;
+        Ok(Some(Frontier {
+            edges,
+            current_open: true,
+        }))
+    }
+
+    /// Leaves out what a cut takes. It takes no memory.
+    pub fn drop_part(&mut self)
+        requires { can_cut self.old ≡ true }
+        ensures { self.new ≡ rest_of self.old }
+    {
+        if let Some(i) = topmost(&self.edges) {
+            self.edges[i] = self.edges[i].kept();
+        }
+    }
+
+    /// Cuts a part off and hands it out. `None` exactly where no edge has open alternatives after the taken one; the frontier is
+    /// then as before.
+    ///
+    /// # Errors
+    /// `AllocError` where there is no memory; the frontier is as before.
+    pub fn cut_last(&mut self) -> Result<Option<Frontier>, AllocError>
+        ensures part { IfOk result (λ o. IfSome o (λ f. f ≡ part_of self.old)) }
+        ensures rest { IfOk result (λ o. OnSome o (self.new ≡ rest_of self.old)) }
+        ensures parts { IfOk result (λ o. IfSome o (λ f. AreParts self.old f self.new)) }
+        ensures some { IfOk result (λ o. is_some o ≡ can_cut self.old) }
+        ensures none { IfOk result (λ o. IfNone o (self.new ≡ self.old)) }
+        ensures err { OnErr result (self.new ≡ self.old) }
+    {
+        let _ = &self.edges;
+        let Some(part) = self.part()? else {
+            return Ok(None);
+        };
+        self.drop_part();
+        Ok(Some(part))
+    }
+
+    /// Another frontier that is the same.
+    ///
+    /// # Errors
+    /// `AllocError` where there is no memory.
+    pub fn copy(&self) -> Result<Frontier, AllocError>
+        ensures copy { IfOk result (λ f. f ≡ self.now) }
+        ensures kept { AreEdges self.now.edges }
+    {
+        let edges = Vec::from_slice(*self.edges.allocator(), &self.edges)?;
+        Ok(Frontier {
+            edges,
+            current_open: self.current_open,
+        })
+    }
+}
+
+/// Some edges, and one below them.
+fn front_with(alloc: Global, edges: &[Edge], below: Edge) -> Result<Vec<Edge>, AllocError>
+    requires { length edges.now < 2 ^ 63 }
+    ensures { IfOk result (λ v. v.items ≡ edges.now ++ below ∷ []) }
+{
+    let mut path = Vec::with_capacity(alloc, edges.len() + 1)?;
+    path.extend_from_slice(edges)?;
+    path.push(below)?;
+    Ok(path)
+}

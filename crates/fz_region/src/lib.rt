@@ -1,0 +1,11 @@
+//! Regions of a search tree: decisions, choices, and the frontier of what is open (Schulte, Tack, Lagerkvist: "Modeling and
+//! Programming with Gecode", "Search"). A frontier is a path of edges from the root; at each edge the alternatives after the
+//! taken one are open, up to a last. What it means stands in fz_tree.
+#![tactic(auto)]
+
+pub mod choice;
+pub mod edge;
+pub mod frontier;
+mod places;
+
+pub use fz_tree::decision::{Comparison, Decision};
