@@ -1,6 +1,8 @@
 -- Modes, and which assignments are better than what is known.
 use Rattle.std.specs.Prelude.{ℤ, List, Option, Some, None}
-use Rattle.fz_spec.specs.Instance.{Instance, Goal, Satisfy, Minimize, Maximize, IsBetter}
+use Rattle.fz_spec.specs.declared.goal.Goal.{Goal}
+use Rattle.fz_spec.specs.declared.goal.Goal.TheVariants.{Satisfy, Minimize, Maximize}
+use Rattle.fz_spec.specs.Instance.{Instance, IsBetter}
 use Rattle.fz_tree.specs.declared.mode.Mode.{Mode}
 use Rattle.fz_tree.specs.declared.mode.Mode.TheVariants.{All, Best}
 

@@ -39,7 +39,7 @@ impl Comparison {
 
 /// A test on one variable, as `x = 3` or `x > 5` ("Modeling and Programming with Gecode": an alternative of a choice). An
 /// assignment without the variable doesn't meet it.
-#[derive(Clone, Copy, Debug)]
+#[derive(Clone, Copy, Debug, PartialEq, Eq)]
 pub struct Decision {
     /// The number of the variable, in order of declaration.
     pub variable: u32,
