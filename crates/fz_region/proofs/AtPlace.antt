@@ -1,10 +1,13 @@
 -- What moving and cutting make of the edges, at the place where they do it.
 use Rattle.std.proofs.Common.{◌≡◌, ℕ, zero, suc, ◌+◌, ◌-◌, ◌<◌, ◌≤◌, List, [], ◌∷◌, ◌++◌, refl, ap, sym, ◌∙◌, arith, Bool, true, false, cond, ◌||◌, length, take, drop, set, get_or, subst, Option, Some, None}
-use Rattle.std.specs.Prelude.{MatchOption, is_some}
+use Rattle.std.specs.Prelude.{ℤ, MatchOption, is_some}
+use Rattle.std.proofs.lemmas.List.{get_or-take, get_or-drop, length-take, length-drop, take_all}
+use Rattle.fz_tree.specs.declared.decision.Decision.{Decision}
+use Rattle.fz_tree.specs.Choice.{meets}
 use Rattle.std.specs.List.{list_any}
-use Rattle.std.proofs.lemmas.Bool.{or_parts, cond-true, cond-false, or_left}
-use Rattle.std.proofs.lemmas.List.Folds.{list_any_at}
-use Rattle.fz_tree.specs.Frontier.{Edge, Frontier, AreEdges, AreParts, edge_has_rest, can_cut, next_edges, cut_part, cut_rest, cut_edge, kept_edge, part_of, rest_of}
+use Rattle.std.proofs.lemmas.Bool.{or_parts, cond-true, cond-false, or_from}
+use Rattle.std.proofs.lemmas.List.Folds.{list_any_at, list_any_more}
+use Rattle.fz_tree.specs.Frontier.{Edge, Frontier, AreEdges, AreParts, others, edge_has_rest, can_cut, next_edges, cut_part, cut_rest, cut_edge, kept_edge, part_of, rest_of}
 use Rattle.fz_tree.proofs.Cuts.{cut_parts}
 use Rattle.fz_region.specs.Places.{IsTopmost, IsDeepest}
 
@@ -75,3 +78,33 @@ some_topmost (e ∷ es) (Some i) h = sym (topmost_some (e ∷ es) i e h)
 pub parts_code : (whole part rest : Frontier) → AreEdges whole.edges → can_cut whole ≡ true → part ≡ part_of whole → rest ≡ rest_of whole → AreParts whole part rest
 parts_code whole part rest edges some is_part is_rest =
     subst (λ (f : Frontier). AreParts whole f rest) (sym is_part) (subst (λ (g : Frontier). AreParts whole (part_of whole) g) (sym is_rest) (cut_parts whole edges some))
+
+-- ---- an alternative after the taken one
+
+other_at : (e : Edge) (i : ℕ) (d : Decision) → e.taken < i → i ≤ e.last → get_or (others e) (i - (e.taken + 1)) d ≡ get_or e.choice i d
+other_at e i d after upto =
+    let within : i - (e.taken + 1) < e.last - e.taken = omega (arith, after, upto) in
+    let place : e.taken + 1 + (i - (e.taken + 1)) ≡ i = omega (arith, after) in
+    get_or-take (e.last - e.taken) (drop (e.taken + 1) e.choice) (i - (e.taken + 1)) d within
+    ∙ get_or-drop (e.taken + 1) e.choice (i - (e.taken + 1)) d ∙ ap (λ k. get_or e.choice k d) place
+
+other_within : (e : Edge) (i : ℕ) → e.taken < i → i ≤ e.last → e.last < length e.choice → i - (e.taken + 1) < length (others e)
+other_within e i after upto last =
+    omega (arith, after, upto, last, length-take (e.last - e.taken) (drop (e.taken + 1) e.choice), length-drop (e.taken + 1) e.choice)
+
+pub other_met : (e : Edge) (i : ℕ) (a : List ℤ) (d : Decision) → e.taken < i → i ≤ e.last → e.last < length e.choice → d ≡ get_or e.choice i d → meets a d ≡ true → list_any (meets a) (others e) ≡ true
+other_met e i a d after upto last is met =
+    list_any_at (meets a) (others e) (i - (e.taken + 1)) d (other_within e i after upto last) (ap (meets a) (other_at e i d after upto ∙ sym is) ∙ met)
+
+pub other_unmet : (e : Edge) (i : ℕ) (a : List ℤ) (d : Decision) → e.taken < i → i ≤ e.last → e.last < length e.choice → d ≡ get_or e.choice i d → meets a d ≡ false
+    → list_any (meets a) (take (i - (e.taken + 1)) (others e)) ≡ false → list_any (meets a) (take (i + 1 - (e.taken + 1)) (others e)) ≡ false
+other_unmet e i a d after upto last is unmet before =
+    let size : i + 1 - (e.taken + 1) ≡ i - (e.taken + 1) + 1 = omega (arith, after) in
+    let here : meets a (get_or (others e) (i - (e.taken + 1)) d) ≡ false = ap (meets a) (other_at e i d after upto ∙ sym is) ∙ unmet in
+    ap (λ n. list_any (meets a) (take n (others e))) size
+    ∙ list_any_more (meets a) (others e) (i - (e.taken + 1)) d (other_within e i after upto last) ∙ or_from (list_any (meets a) (take (i - (e.taken + 1)) (others e))) (meets a (get_or (others e) (i - (e.taken + 1)) d)) before here
+
+-- all were tried
+pub others_unmet : (e : Edge) (i : ℕ) (a : List ℤ) → e.last < i → list_any (meets a) (take (i - (e.taken + 1)) (others e)) ≡ false → list_any (meets a) (others e) ≡ false
+others_unmet e i a past before =
+    ap (list_any (meets a)) (sym (take_all (i - (e.taken + 1)) (others e) (omega (arith, past, length-take (e.last - e.taken) (drop (e.taken + 1) e.choice))))) ∙ before

@@ -1,5 +1,5 @@
 //! Choices.
-ghost use Rattle.std.specs.Prelude.{◌≡◌, ◌<◌, length, slice_index_or};
+ghost use Rattle.std.specs.Prelude.{◌≡◌, ◌<◌, ◌↔◌, length, slice_index_or, IsTrue};
 ghost use Rattle.fz_tree.specs.Choice.{pair_of, IsChoice};
 
 use fz_tree::decision::Decision;
@@ -55,5 +55,12 @@ impl Choice {
         } else {
             self.decision.negated()
         }
+    }
+
+    /// Whether the two have the same alternatives.
+    pub fn same(&self, other: &Choice) -> bool
+        ensures { IsTrue result ↔ (self.now ≡ other.now) }
+    {
+        self.decision == other.decision
     }
 }

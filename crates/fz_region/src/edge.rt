@@ -1,6 +1,8 @@
 //! Edges.
-ghost use Rattle.std.specs.Prelude.{◌≡◌, true};
-ghost use Rattle.fz_tree.specs.Frontier.{edge_has_rest, cut_edge, kept_edge};
+ghost use Rattle.std.specs.Prelude.{◌≡◌, ◌↔◌, true, IsTrue};
+ghost use Rattle.std.specs.List.{list_any};
+ghost use Rattle.fz_tree.specs.Choice.{meets};
+ghost use Rattle.fz_tree.specs.Frontier.{IsEdge, edge_has_rest, meets_taken, others, cut_edge, kept_edge};
 
 use crate::choice::Choice;
 use std::marker::Model;
@@ -54,5 +56,34 @@ impl Edge {
             taken: self.taken,
             last: self.last - (self.last - self.taken).div_ceil(2),
         }
+    }
+
+    /// Whether the numbers of an assignment meet the taken decision.
+    pub fn taken_is_met_by(&self, numbers: &[i32]) -> bool
+        requires { IsEdge self.now }
+        ensures { result ≡ meets_taken numbers.now self.now }
+    {
+        self.choice.decision(self.taken).is_met_by(numbers)
+    }
+
+    /// Whether they meet an open alternative after the taken one.
+    pub fn other_is_met_by(&self, numbers: &[i32]) -> bool
+        requires { IsEdge self.now }
+        ensures { result ≡ list_any (meets numbers.now) (others self.now) }
+    {
+        let _ = self.choice.len();
+        for alternative in self.taken + 1..self.last + 1 {
+            if self.choice.decision(alternative).is_met_by(numbers) {
+                return true;
+            }
+        }
+        false
+    }
+
+    /// Whether the two are the same.
+    pub fn same(&self, other: &Edge) -> bool
+        ensures { IsTrue result ↔ (self.now ≡ other.now) }
+    {
+        self.choice.same(&other.choice) && self.taken == other.taken && self.last == other.last
     }
 }

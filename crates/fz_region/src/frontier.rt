@@ -3,7 +3,7 @@ ghost use Rattle.std.specs.Prelude.{◌≡◌, ◌^◌, ◌≤◌, ◌<◌, ◌+
 ghost use Rattle.std.specs.Bool.{OnTrue, OnFalse};
 ghost use Rattle.std.specs.List.{list_any};
 ghost use Rattle.fz_tree.specs.Choice.{IsChoice};
-ghost use Rattle.fz_tree.specs.Frontier.{AreEdges, In, is_in, times_in, can_cut, has_rest, closed, branched, moved, part_of, rest_of, AreParts, cut_edge, kept_edge};
+ghost use Rattle.fz_tree.specs.Frontier.{AreEdges, In, is_in, is_below, times_in, can_cut, has_rest, closed, branched, moved, part_of, rest_of, AreParts, cut_edge, kept_edge};
 
 use crate::choice::Choice;
 use crate::edge::Edge;
@@ -166,6 +166,22 @@ impl Frontier {
         Ok(Some(part))
     }
 
+    /// Whether the numbers of an assignment are in the frontier: they meet all taken decisions and the place below is open, or for
+    /// one edge they meet the taken decisions above it and one of its open alternatives after the taken one.
+    pub fn contains(&self, numbers: &[i32]) -> bool
+        ensures inside { IsTrue result ↔ In self.now numbers.now }
+        ensures once { times_in self.now numbers.now ≡ cond result 1 0 }
+    {
+        is_inside(&self.edges, self.current_open, numbers)
+    }
+
+    /// Whether the two are the same.
+    pub fn same(&self, other: &Frontier) -> bool
+        ensures { IsTrue result ↔ (self.now ≡ other.now) }
+    {
+        self.current_open == other.current_open && same_edges(&self.edges, &other.edges)
+    }
+
     /// Another frontier that is the same.
     ///
     /// # Errors
@@ -191,4 +207,35 @@ fn front_with(alloc: Global, edges: &[Edge], below: Edge) -> Result<Vec<Edge>, A
     path.extend_from_slice(edges)?;
     path.push(below)?;
     Ok(path)
+}
+
+/// Whether the numbers are in an open place of the edges, or in the one below them if it is open.
+fn is_inside(edges: &[Edge], current_open: bool, numbers: &[i32]) -> bool
+    requires { AreEdges edges.now }
+    ensures { result ≡ is_below edges.now current_open numbers.now }
+{
+    for edge in edges {
+        if edge.other_is_met_by(numbers) {
+            return true;
+        }
+        if !edge.taken_is_met_by(numbers) {
+            return false;
+        }
+    }
+    current_open
+}
+
+/// Whether the two paths are the same.
+fn same_edges(these: &[Edge], those: &[Edge]) -> bool
+    ensures { IsTrue result ↔ (these.now ≡ those.now) }
+{
+    if these.len() != those.len() {
+        return false;
+    }
+    for (i, this) in these.iter().enumerate() {
+        if !this.same(&those[i]) {
+            return false;
+        }
+    }
+    true
 }
