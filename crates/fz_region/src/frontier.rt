@@ -8,6 +8,7 @@ ghost use Rattle.fz_tree.specs.Frontier.{AreEdges, In, is_in, is_below, times_in
 use crate::choice::Choice;
 use crate::edge::Edge;
 use crate::places::{deepest, topmost};
+use fz_model::assignment::Assignment;
 use std::alloc::{AllocError, Global};
 use std::marker::Model;
 
@@ -45,6 +46,13 @@ impl Frontier {
         ensures kept { AreEdges self.now.edges }
     {
         &self.edges
+    }
+
+    /// The allocator that it was made with.
+    pub fn allocator(&self) -> Global
+        ensures { AreEdges self.now.edges }
+    {
+        *self.edges.allocator()
     }
 
     /// Whether the place below the edges is open.
@@ -166,13 +174,13 @@ impl Frontier {
         Ok(Some(part))
     }
 
-    /// Whether the numbers of an assignment are in the frontier: they meet all taken decisions and the place below is open, or for
-    /// one edge they meet the taken decisions above it and one of its open alternatives after the taken one.
-    pub fn contains(&self, numbers: &[i32]) -> bool
-        ensures inside { IsTrue result ↔ In self.now numbers.now }
-        ensures once { times_in self.now numbers.now ≡ cond result 1 0 }
+    /// Whether an assignment is in the frontier: it meets all taken decisions and the place below is open, or for one edge it meets
+    /// the taken decisions above it and one of its open alternatives after the taken one.
+    pub fn contains(&self, assignment: &Assignment) -> bool
+        ensures inside { IsTrue result ↔ In self.now assignment.now }
+        ensures once { times_in self.now assignment.now ≡ cond result 1 0 }
     {
-        is_inside(&self.edges, self.current_open, numbers)
+        is_inside(&self.edges, self.current_open, assignment.values())
     }
 
     /// Whether the two are the same.

@@ -1,0 +1,260 @@
+//! Accounts.
+ghost use Rattle.std.specs.Prelude.{◌≡◌, true, false, is_some, [], option_copied, IfOk, IfErr, IfSome, IfNone, OnOk, OnErr, OnSome};
+ghost use Rattle.std.specs.Bool.{OnTrue, OnFalse};
+ghost use Rattle.std.specs.List.{AllByRecursion};
+ghost use Rattle.std.specs.Arc.{arc_value};
+ghost use Rattle.fz_spec.specs.Instance.{Satisfies};
+ghost use Rattle.fz_tree.specs.declared.mode.Mode.TheVariants.{All};
+ghost use Rattle.fz_tree.specs.Frontier.{can_cut, has_rest, closed, branched, moved, part_of};
+ghost use Rattle.fz_tree.specs.Proper.{IsReachable, Fits, IsHopeless, IsOnly};
+ghost use Rattle.fz_tree.specs.Better.{mode_of};
+ghost use Rattle.fz_tree.specs.Account.{AccountLaw, SuitsMode, begun, with_after, with_found, with_given, rest_begun};
+
+use fz_model::assignment::Assignment;
+use fz_region::choice::Choice;
+use fz_region::frontier::Frontier;
+use fz_tree::mode::Mode;
+use std::alloc::{AllocError, AllocFailed};
+use std::marker::Model;
+use std::mem;
+use std::sync::Arc;
+
+/// An account of a frontier.
+#[derive(Drop)]
+pub struct Account {
+    model: Arc<fz_model::model::Model>,
+    mode: Mode,
+    before: Frontier,
+    found: Vec<Assignment>,
+    witness: Option<Assignment>,
+    given: Vec<Frontier>,
+    after: Frontier,
+}
+
+impl Model for Account {
+    ghost use Rattle.fz_tree.specs.Account as account;
+
+    ghost Value = { account.Account };
+
+    ghost use Rattle.fz_account.specs.Inside.{account_of};
+
+    ghost view = { account_of };
+
+    ghost invariant = { λ a. account.AccountLaw (account_of a) };
+}
+
+/// What an account was to be begun with.
+#[derive(Drop)]
+pub struct Unbegun {
+    pub model: Arc<fz_model::model::Model>,
+    pub frontier: Frontier,
+    pub witness: Option<Assignment>,
+}
+
+impl Account {
+    /// An account of a frontier of which all is left, and of the best assignment that is known, if one is.
+    ///
+    /// # Errors
+    /// `Unbegun` with what was passed, where there is no memory for the copy of the frontier.
+    pub fn begin(
+        model: Arc<fz_model::model::Model>,
+        mode: Mode,
+        frontier: Frontier,
+        witness: Option<Assignment>,
+    ) -> Result<Account, Unbegun>
+        requires mode { mode ≡ mode_of (arc_value model).goal }
+        requires witness { IfSome witness (Satisfies (arc_value model)) }
+        requires suits { SuitsMode mode [] witness }
+        ensures ok { IfOk result (λ c. c ≡ begun (arc_value model) mode frontier witness) }
+        ensures err { IfErr result (λ u. u ≡ record { model = model; frontier = frontier; witness = witness }) }
+    {
+        match frontier.copy() {
+            Ok(before) => Ok(Account {
+                found: Vec::new(before.allocator()),
+                given: Vec::new(before.allocator()),
+                model,
+                mode,
+                before,
+                witness,
+                after: frontier,
+            }),
+            Err(_) => Err(Unbegun {
+                model,
+                frontier,
+                witness,
+            }),
+        }
+    }
+
+    /// The model whose assignments it accounts for.
+    pub fn model(&self) -> &Arc<fz_model::model::Model>
+        ensures model { arc_value result.now ≡ self.now.model }
+        ensures law { AccountLaw self.now }
+    {
+        &self.model
+    }
+
+    /// What is searched for.
+    pub fn mode(&self) -> Mode
+        ensures mode { result ≡ self.now.mode }
+        ensures law { AccountLaw self.now }
+    {
+        self.mode
+    }
+
+    /// The frontier that it is an account of.
+    pub fn before(&self) -> &Frontier
+        ensures before { result.now ≡ self.now.before }
+        ensures law { AccountLaw self.now }
+    {
+        &self.before
+    }
+
+    /// The satisfying assignments that were found, in the order in which they were. In a search for the best one they are none.
+    pub fn found(&self) -> &[Assignment]
+        ensures found { result.now ≡ self.now.found }
+        ensures law { AccountLaw self.now }
+    {
+        &self.found
+    }
+
+    /// The best satisfying assignment that is known.
+    pub fn witness(&self) -> Option<&Assignment>
+        ensures witness { option_copied result ≡ self.now.witness }
+        ensures law { AccountLaw self.now }
+    {
+        self.witness.as_ref()
+    }
+
+    /// The parts that were given away, in the order in which they were.
+    pub fn given(&self) -> &[Frontier]
+        ensures given { result.now ≡ self.now.given }
+        ensures law { AccountLaw self.now }
+    {
+        &self.given
+    }
+
+    /// What is left.
+    pub fn after(&self) -> &Frontier
+        ensures after { result.now ≡ self.now.after }
+        ensures law { AccountLaw self.now }
+    {
+        &self.after
+    }
+
+    /// Divides the place below, which is open, among the alternatives of a choice, and takes the first. Each is met by a declared
+    /// assignment there, and each satisfying assignment there that betters the witness meets one of them.
+    ///
+    /// # Errors
+    /// `AllocError` where there is no memory; the account is as before.
+    pub fn branch(&mut self, choice: Choice) -> Result<(), AllocError>
+        requires current { self.old.after.current_open ≡ true }
+        requires reachable { AllByRecursion (IsReachable self.old.model.variables self.old.after.edges) choice }
+        requires fits { Fits self.old.model self.old.after.edges self.old.witness choice }
+        ensures ok { OnOk result (self.new ≡ with_after self.old (branched self.old.after choice)) }
+        ensures err { OnErr result (self.new ≡ self.old) }
+    {
+        let last = choice.len() - 1;
+        self.after.push(choice, 0, last)?;
+        Ok(())
+    }
+
+    /// Closes the place below, which is open and where no satisfying assignment betters the witness.
+    pub fn fail(&mut self)
+        requires current { self.old.after.current_open ≡ true }
+        requires hopeless { IsHopeless self.old.model self.old.after.edges self.old.witness }
+        ensures { self.new ≡ with_after self.old (closed self.old.after) }
+    {
+        self.after.close();
+    }
+
+    /// Records an assignment, the one satisfying assignment at the place below, and closes that place, which is open.
+    ///
+    /// # Errors
+    /// `AllocFailed` with the assignment where there is no memory; the account is as before.
+    pub fn add_found(&mut self, assignment: Assignment) -> Result<(), AllocFailed<Assignment>>
+        requires mode { self.old.mode ≡ All }
+        requires current { self.old.after.current_open ≡ true }
+        requires only { IsOnly self.old.model self.old.after.edges assignment }
+        ensures ok { OnOk result (self.new ≡ with_found self.old assignment) }
+        ensures err { OnErr result (self.new ≡ self.old) }
+        ensures back { IfErr result (λ refused. refused.value ≡ assignment) }
+    {
+        self.found.push(assignment)?;
+        self.after.close();
+        Ok(())
+    }
+
+    /// Moves to the deepest open alternative, where the place below is done. It says whether there was one; where there was none,
+    /// the account is as before.
+    pub fn advance(&mut self) -> bool
+        requires { self.old.after.current_open ≡ false }
+        ensures moved { OnTrue result (self.new ≡ with_after self.old (moved self.old.after)) }
+        ensures some { result ≡ has_rest self.old.after }
+        ensures none { OnFalse result (self.new ≡ self.old) }
+    {
+        if !self.after.advance() {
+            return false;
+        }
+        true
+    }
+
+    /// Cuts a part off what is left, lists it as given, and hands it out. `None` exactly where no edge has open alternatives after
+    /// the taken one; the account is then as before.
+    ///
+    /// # Errors
+    /// `AllocError` where there is no memory; the account is as before.
+    pub fn give(&mut self) -> Result<Option<Frontier>, AllocError>
+        ensures part { IfOk result (λ o. IfSome o (λ f. f ≡ part_of self.old.after)) }
+        ensures given { IfOk result (λ o. OnSome o (self.new ≡ with_given self.old)) }
+        ensures some { IfOk result (λ o. is_some o ≡ can_cut self.old.after) }
+        ensures none { IfOk result (λ o. IfNone o (self.new ≡ self.old)) }
+        ensures err { OnErr result (self.new ≡ self.old) }
+    {
+        let Some(part) = self.after.part()? else {
+            return Ok(None);
+        };
+        self.given.push(part.copy()?)?;
+        self.after.drop_part();
+        Ok(Some(part))
+    }
+
+    /// Hands out the account as it stands. Here an account of what is left stays.
+    ///
+    /// # Errors
+    /// `AllocError` where there is no memory; the account is as before.
+    pub fn hand_out(&mut self) -> Result<Account, AllocError>
+        ensures stood { IfOk result (λ c. c ≡ self.old) }
+        ensures anew { OnOk result (self.new ≡ rest_begun self.old) }
+        ensures err { OnErr result (self.new ≡ self.old) }
+    {
+        let rest = self.rest()?;
+        Ok(mem::replace(self, rest))
+    }
+
+    /// An account of what is left.
+    fn rest(&self) -> Result<Account, AllocError>
+        ensures { IfOk result (λ c. c ≡ rest_begun self.now) }
+    {
+        let model = self.model.clone()?;
+        let witness = copy_of(&self.witness)?;
+        Ok(Account {
+            found: Vec::new(*self.found.allocator()),
+            given: Vec::new(*self.given.allocator()),
+            model,
+            mode: self.mode,
+            before: self.after.copy()?,
+            witness,
+            after: self.after.copy()?,
+        })
+    }
+}
+
+fn copy_of(witness: &Option<Assignment>) -> Result<Option<Assignment>, AllocError>
+    ensures { IfOk result (λ o. o ≡ witness.now) }
+{
+    match witness {
+        Some(assignment) => Ok(Some(assignment.copy()?)),
+        None => Ok(None),
+    }
+}
