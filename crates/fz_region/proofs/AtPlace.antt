@@ -1,5 +1,5 @@
 -- What moving and cutting make of the edges, at the place where they do it.
-use Rattle.std.proofs.Common.{◌≡◌, ℕ, zero, suc, ◌+◌, ◌-◌, ◌<◌, ◌≤◌, List, [], ◌∷◌, ◌++◌, refl, ap, sym, ◌∙◌, arith, Bool, true, false, cond, ◌||◌, length, take, drop, set, get_or, subst, Option, Some, None}
+use Rattle.std.proofs.Common.{◌≡◌, ℕ, zero, suc, ◌+◌, ◌-◌, ◌<◌, ◌≤◌, List, [], ◌∷◌, ◌++◌, ap, sym, ◌∙◌, arith, true, false, length, take, drop, set, get_or, subst, Option, Some, None}
 use Rattle.std.specs.Prelude.{ℤ, MatchOption, is_some}
 use Rattle.std.proofs.lemmas.List.{get_or-take, get_or-drop, length-take, length-drop, take_all}
 use Rattle.fz_tree.specs.declared.decision.Decision.{Decision}

@@ -136,7 +136,11 @@ impl Frontier {
         let Some(i) = topmost(&self.edges) else {
             return Ok(None);
         };
-        let edges = front_with(*self.edges.allocator(), &self.edges[..i], self.edges[i].cut())?;
+        let edges = front_with(
+            *self.edges.allocator(),
+            &self.edges[..i],
+            self.edges[i].cut(),
+        )?;
         Ok(Some(Frontier {
             edges,
             current_open: true,

@@ -7,5 +7,10 @@ pub mod choice;
 pub mod edge;
 pub mod frontier;
 mod places;
+#[cfg(test)]
+mod tests;
 
+pub use choice::Choice;
+pub use edge::Edge;
+pub use frontier::Frontier;
 pub use fz_tree::decision::{Comparison, Decision};

@@ -1,4 +1,4 @@
-use Rattle.std.proofs.Common.{◌≡◌, ◌∙◌, ap, sym, subst, true, Option, is_some}
+use Rattle.std.proofs.Common.{◌≡◌, ◌∙◌, ap, sym, subst, Option, is_some}
 use Rattle.std.specs.Prelude.{IfSome}
 use Rattle.fz_tree.specs.Frontier.{Frontier, AreEdges, part_of}
 use Rattle.fz_region.proofs.AtPlace.{parts_code}

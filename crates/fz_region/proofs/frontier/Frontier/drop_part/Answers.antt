@@ -1,4 +1,4 @@
-use Rattle.std.proofs.Common.{ap, ◌∙◌, subst, List, true, set}
+use Rattle.std.proofs.Common.{ap, ◌∙◌, subst, List, set}
 use Rattle.fz_tree.specs.Frontier.{Edge, Frontier, rest_of}
 use Rattle.fz_region.specs.Places.{IsTopmost}
 use Rattle.fz_region.proofs.AtPlace.{rest_code}
