@@ -8,11 +8,11 @@ ghost use Rattle.fz_tree.specs.declared.mode.Mode.TheVariants.{All};
 ghost use Rattle.fz_tree.specs.Frontier.{can_cut, has_rest, closed, branched, moved, part_of};
 ghost use Rattle.fz_tree.specs.Proper.{IsReachable, Fits, IsHopeless, IsOnly};
 ghost use Rattle.fz_tree.specs.Better.{mode_of};
+ghost use Rattle.fz_account.specs.Parts.{AreParts};
 ghost use Rattle.fz_tree.specs.Account.{AccountLaw, SuitsMode, begun, with_after, with_found, with_given, rest_begun};
 
-use fz_model::assignment::Assignment;
-use fz_region::choice::Choice;
-use fz_region::frontier::Frontier;
+use fz_model::Assignment;
+use fz_region::{Choice, Frontier};
 use fz_tree::mode::Mode;
 use std::alloc::{AllocError, AllocFailed};
 use std::marker::Model;
@@ -22,7 +22,7 @@ use std::sync::Arc;
 /// An account of a frontier.
 #[derive(Drop)]
 pub struct Account {
-    model: Arc<fz_model::model::Model>,
+    model: Arc<fz_model::Model>,
     mode: Mode,
     before: Frontier,
     found: Vec<Assignment>,
@@ -43,10 +43,19 @@ impl Model for Account {
     ghost invariant = { λ a. account.AccountLaw (account_of a) };
 }
 
+/// What an account holds.
+#[derive(Drop)]
+pub struct Parts {
+    pub found: Vec<Assignment>,
+    pub witness: Option<Assignment>,
+    pub given: Vec<Frontier>,
+    pub after: Frontier,
+}
+
 /// What an account was to be begun with.
 #[derive(Drop)]
 pub struct Unbegun {
-    pub model: Arc<fz_model::model::Model>,
+    pub model: Arc<fz_model::Model>,
     pub frontier: Frontier,
     pub witness: Option<Assignment>,
 }
@@ -57,7 +66,7 @@ impl Account {
     /// # Errors
     /// `Unbegun` with what was passed, where there is no memory for the copy of the frontier.
     pub fn begin(
-        model: Arc<fz_model::model::Model>,
+        model: Arc<fz_model::Model>,
         mode: Mode,
         frontier: Frontier,
         witness: Option<Assignment>,
@@ -87,8 +96,8 @@ impl Account {
     }
 
     /// The model whose assignments it accounts for.
-    pub fn model(&self) -> &Arc<fz_model::model::Model>
-        ensures model { arc_value result.now ≡ self.now.model }
+    pub fn model(&self) -> &fz_model::Model
+        ensures model { result.now ≡ self.now.model }
         ensures law { AccountLaw self.now }
     {
         &self.model
@@ -230,6 +239,19 @@ impl Account {
     {
         let rest = self.rest()?;
         Ok(mem::replace(self, rest))
+    }
+
+    /// What it found, what it knows, what it gave and what is left. It takes no memory.
+    pub fn into_parts(self) -> Parts
+        ensures parts { AreParts self result }
+        ensures law { AccountLaw self }
+    {
+        Parts {
+            found: self.found,
+            witness: self.witness,
+            given: self.given,
+            after: self.after,
+        }
     }
 
     /// An account of what is left.
