@@ -1,0 +1,5 @@
+pub mod Room
+pub mod Inside
+pub mod Places
+pub mod Outcomes
+pub mod Needs

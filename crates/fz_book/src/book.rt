@@ -1,0 +1,171 @@
+//! Books.
+ghost use Rattle.std.specs.Prelude.{◌≡◌, ◌≤◌, ◌+◌, ◌<◌, ◌↔◌, ◌⊎◌, ◌≢◌, ◌++◌, ◌∷◌, [], true, false, length, option_copied, option_map, map, IsTrue, IfOk, IfErr, IfSome, IfNone, OnOk, OnErr};
+ghost use Rattle.std.specs.List.{list_all, slice_get, AllByRecursion};
+ghost use Rattle.std.specs.Arc.{arc_value};
+ghost use Rattle.std.specs.Vec.{vec_len, vec_capacity};
+ghost use Rattle.fz_tree.specs.Better.{mode_of};
+ghost use Rattle.fz_tree.specs.Account.{AccountLaw};
+ghost use Rattle.fz_tree.specs.Book.{BookLaw, Claims, Takes, IsOpen, opening, incumbent, is_claimed, parts_after};
+ghost use Rattle.fz_book.specs.Outcomes.{IsTaken, IsStranger, IsForeign, LacksMemory, GivesBack};
+ghost use Rattle.fz_book.specs.Needs.{found_needed, given_needed};
+
+use crate::part::{OpenPart, place_of, unclaimed_place};
+use crate::taken::Taken;
+use fz_account::account::Account;
+use fz_model::Assignment;
+use fz_region::Frontier;
+use fz_tree::mode::Mode;
+use std::alloc::{AllocError, AllocFailed, Global};
+use std::marker::Model;
+use std::sync::Arc;
+
+/// A book of a model. Contracts see beside it how many more assignments and parts it has room for.
+#[derive(Drop)]
+pub struct Book {
+    model: Arc<fz_model::Model>,
+    mode: Mode,
+    recorded: Vec<Assignment>,
+    parts: Vec<OpenPart>,
+}
+
+impl Model for Book {
+    ghost use Rattle.fz_book.specs.Room.{Roomy};
+
+    ghost Value = { Roomy };
+
+    ghost use Rattle.fz_book.specs.Inside.{book_of, roomy_of};
+    ghost use Rattle.fz_tree.specs.Book as book;
+
+    ghost view = { roomy_of };
+
+    ghost invariant = { λ b. book.BookLaw (book_of b) };
+}
+
+impl Book {
+    /// The book of a model in which nothing is recorded and the whole tree is open and unclaimed.
+    ///
+    /// # Errors
+    /// `AllocFailed` with the model, where there is no memory.
+    pub fn begin(
+        alloc: Global,
+        model: Arc<fz_model::Model>,
+        mode: Mode,
+    ) -> Result<Book, AllocFailed<Arc<fz_model::Model>>>
+        requires { mode ≡ mode_of (arc_value model).goal }
+        ensures ok { IfOk result (λ b. b.book ≡ opening (arc_value model) mode) }
+        ensures err { IfErr result (λ refused. refused.value ≡ model) }
+    {
+        let mut parts = Vec::new(alloc);
+        let root = OpenPart {
+            frontier: Frontier::root(alloc),
+            claimed: false,
+        };
+        match parts.push(root) {
+            Ok(()) => Ok(Book {
+                model,
+                mode,
+                recorded: Vec::new(alloc),
+                parts,
+            }),
+            Err(_) => Err(AllocFailed { value: model }),
+        }
+    }
+
+    /// The model that it is of.
+    pub fn model(&self) -> &fz_model::Model
+        ensures model { result.now ≡ self.now.book.model }
+        ensures law { BookLaw self.now.book }
+    {
+        &self.model
+    }
+
+    /// What is searched for.
+    pub fn mode(&self) -> Mode
+        ensures mode { result ≡ self.now.book.mode }
+        ensures law { BookLaw self.now.book }
+    {
+        self.mode
+    }
+
+    /// What is recorded, in order: in a search for all satisfying assignments what was found, else each that was better than
+    /// those before it.
+    pub fn recorded(&self) -> &[Assignment]
+        ensures recorded { result.now ≡ self.now.book.recorded }
+        ensures law { BookLaw self.now.book }
+    {
+        &self.recorded
+    }
+
+    /// The best that is recorded. A search for all satisfying assignments has none.
+    pub fn incumbent(&self) -> Option<&Assignment>
+        ensures incumbent { option_copied result ≡ incumbent self.now.book }
+        ensures law { BookLaw self.now.book }
+    {
+        match self.mode {
+            Mode::All => None,
+            Mode::Best => self.recorded.last(),
+        }
+    }
+
+    /// How many frontiers are open.
+    pub fn open_count(&self) -> u64
+        ensures { result ≡ length self.now.book.parts }
+    {
+        self.parts.len() as u64
+    }
+
+    /// The first open frontier.
+    pub fn first_open(&self) -> Option<&Frontier>
+        ensures { option_copied result ≡ option_map (λ p. p.frontier) (slice_get self.now.book.parts 0) }
+    {
+        match self.parts.first() {
+            Some(part) => Some(&part.frontier),
+            None => None,
+        }
+    }
+
+    /// Whether no frontier is open.
+    pub fn is_closed(&self) -> bool
+        ensures closed { IsTrue result ↔ (self.now.book.parts ≡ []) }
+        ensures law { BookLaw self.now.book }
+    {
+        self.parts.is_empty()
+    }
+
+    /// Claims the first open frontier that nobody has claimed, and hands out a copy. `None` exactly where there is none; the book
+    /// is then as before.
+    ///
+    /// # Errors
+    /// `AllocError` where there is no memory; the book is as before.
+    pub fn claim(&mut self) -> Result<Option<Frontier>, AllocError>
+        ensures some { IfOk result (λ o. IfSome o (λ f. Claims self.old.book f self.new.book)) }
+        ensures none { IfOk result (λ o. IfNone o (list_all is_claimed self.old.book.parts ≡ true)) }
+        ensures same { IfOk result (λ o. IfNone o (self.new ≡ self.old)) }
+        ensures err { OnErr result (self.new ≡ self.old) }
+    {
+        let Some(i) = unclaimed_place(&self.parts) else {
+            return Ok(None);
+        };
+        let frontier = self.parts[i].frontier.copy()?;
+        let claimed = self.parts[i].frontier.copy()?;
+        self.parts[i] = OpenPart {
+            frontier: claimed,
+            claimed: true,
+        };
+        Ok(Some(frontier))
+    }
+
+    /// Makes the room at least so much: for assignments that are found, and for frontiers that were given.
+    ///
+    /// # Errors
+    /// `AllocError` where there is no memory; the book is as before, but for its room.
+    pub fn make_room(&mut self, found: u64, given: u32) -> Result<(), AllocError>
+        ensures found { OnOk result (found ≤ self.new.found_room) }
+        ensures given { OnOk result (given ≤ self.new.given_room) }
+        ensures book { self.new.book ≡ self.old.book }
+    {
+        self.recorded.reserve(found as usize)?;
+        self.parts.reserve(given as usize)?;
+        Ok(())
+    }
+}

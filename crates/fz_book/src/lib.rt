@@ -1,0 +1,15 @@
+//! Books: what is recorded of a model's satisfying assignments, and which frontiers of its search tree are open.
+//!
+//! The law of books stands in fz_tree and holds of every book: in a search for all satisfying assignments each is recorded or in
+//! one open frontier, once in all; in a search for the best one so is each that betters the incumbent. So a book with nothing
+//! open is complete.
+#![tactic(auto)]
+
+
+pub mod book;
+mod part;
+pub mod taken;
+
+
+pub use book::Book;
+pub use taken::Taken;
