@@ -1,5 +1,5 @@
 -- How much room an account needs.
-use Rattle.std.specs.Prelude.{ℕ, ◌+◌, length, Option, Some, None, List, ℤ}
+use Rattle.std.specs.Prelude.{ℕ, ◌+◌, length, Bool, true, false, Option, Some, None, List, [], ◌∷◌, ℤ}
 use Rattle.fz_tree.specs.Account.{Account}
 
 -- a witness counts as one more that is found
@@ -12,3 +12,9 @@ found_needed c = length c.found + one_if_some c.witness
 
 abbrev pub given_needed : Account → ℕ
 given_needed c = length c.given
+
+-- the witness, where it is to be recorded
+abbrev pub witness_if : Bool → Option (List ℤ) → List (List ℤ)
+witness_if true (Some w) = w ∷ []
+witness_if true None = []
+witness_if false witness = []

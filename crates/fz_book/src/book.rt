@@ -1,17 +1,18 @@
 //! Books.
-ghost use Rattle.std.specs.Prelude.{◌≡◌, ◌≤◌, ◌+◌, ◌<◌, ◌↔◌, ◌⊎◌, ◌≢◌, ◌++◌, ◌∷◌, [], true, false, length, option_copied, option_map, map, IsTrue, IfOk, IfErr, IfSome, IfNone, OnOk, OnErr};
+ghost use Rattle.std.specs.Prelude.{◌≡◌, ◌≤◌, ◌+◌, ◌-◌, ◌<◌, ◌↔◌, ◌⊎◌, ◌≢◌, ◌++◌, ◌∷◌, [], true, false, length, option_copied, option_map, map, IsTrue, IsSomeAnd, IfOk, IfErr, IfSome, IfNone, OnOk, OnErr};
 ghost use Rattle.std.specs.List.{list_all, slice_get, AllByRecursion};
 ghost use Rattle.std.specs.Arc.{arc_value};
 ghost use Rattle.std.specs.Vec.{vec_len, vec_capacity};
-ghost use Rattle.fz_tree.specs.Better.{mode_of};
+ghost use Rattle.fz_tree.specs.Better.{mode_of, Betters};
 ghost use Rattle.fz_tree.specs.Account.{AccountLaw};
-ghost use Rattle.fz_tree.specs.Book.{BookLaw, Claims, Takes, IsOpen, opening, incumbent, is_claimed, parts_after};
+ghost use Rattle.fz_tree.specs.Book.{BookLaw, Claims, Takes, IsAt, IsOpen, PrefersClaimed, opening, incumbent, is_claimed, claimed_part, parts_after};
 ghost use Rattle.fz_book.specs.Outcomes.{IsTaken, IsStranger, IsForeign, LacksMemory, GivesBack};
-ghost use Rattle.fz_book.specs.Needs.{found_needed, given_needed};
+ghost use Rattle.fz_book.specs.Needs.{found_needed, given_needed, witness_if};
 
 use crate::part::{OpenPart, place_of, unclaimed_place};
 use crate::taken::Taken;
-use fz_account::account::Account;
+use fz_account::account::{Account, Parts};
+use fz_better::better;
 use fz_model::Assignment;
 use fz_region::Frontier;
 use fz_tree::mode::Mode;
@@ -167,5 +168,129 @@ impl Book {
         self.recorded.reserve(found as usize)?;
         self.parts.reserve(given as usize)?;
         Ok(())
+    }
+
+    /// Takes an account of an open frontier: in its place come the parts that it gave and what it left, all claimed, and what it
+    /// found is recorded, or its witness where that is better than the incumbent. Where it isn't taken it is handed back, and the
+    /// book is as before, but for its room.
+    pub fn take(&mut self, account: Account) -> Taken
+        ensures taken { IsTaken result → Takes self.old.book account self.new.book }
+        ensures same { (IsTaken result → ⊥) → self.new.book ≡ self.old.book }
+        ensures foreign { IsForeign result ↔ (self.old.book.model ≢ account.model) }
+        ensures stranger { IsStranger result ↔ ((self.old.book.model ≡ account.model) × (IsOpen self.old.book account.before → ⊥)) }
+        ensures room { LacksMemory result → (self.old.found_room < found_needed account) ⊎ (self.old.given_room < given_needed account) }
+        ensures back { GivesBack result account }
+    {
+        if !self.model.same(account.model()) {
+            return Taken::Foreign(account);
+        }
+        let Some(place) = place_of(&self.parts, account.before()) else {
+            return Taken::Stranger(account);
+        };
+        self.take_at(place, account)
+    }
+
+    /// Takes an account of the part at a place.
+    fn take_at(&mut self, place: usize, account: Account) -> Taken
+        requires model { self.old.book.model ≡ account.model }
+        requires place { IsAt self.old.book.parts account.before place }
+        requires prefers { PrefersClaimed self.old.book.parts account.before place }
+        ensures outcome { IsTaken result ⊎ LacksMemory result }
+        ensures taken { IsTaken result → Takes self.old.book account self.new.book }
+        ensures same { LacksMemory result → self.new.book ≡ self.old.book }
+        ensures room { LacksMemory result → (self.old.found_room < found_needed account) ⊎ (self.old.given_room < given_needed account) }
+        ensures back { GivesBack result account }
+    {
+        let adds_witness = self.is_bettered_by(&account);
+        if room_for(&mut self.recorded, &mut self.parts, &account).is_err() {
+            return Taken::NoMemory(account);
+        }
+        settle(
+            &mut self.recorded,
+            &mut self.parts,
+            place,
+            account,
+            adds_witness,
+        );
+        Taken::Taken
+    }
+
+    /// Whether the account has a witness that is better than the incumbent.
+    fn is_bettered_by(&self, account: &Account) -> bool
+        ensures better { IsTrue result ↔ IsSomeAnd account.now.witness (λ w. Betters self.now.book.model w (incumbent self.now.book)) }
+        ensures law { AccountLaw account.now }
+    {
+        match (account.witness(), self.incumbent()) {
+            (None, _) => false,
+            (Some(_), None) => true,
+            (Some(witness), Some(incumbent)) => better(&self.model, witness, incumbent),
+        }
+    }
+}
+
+/// Makes room for what an account found, knows and gave.
+fn room_for(
+    recorded: &mut Vec<Assignment>,
+    parts: &mut Vec<OpenPart>,
+    account: &Account,
+) -> Result<(), AllocError>
+    ensures record_room { OnOk result (vec_len recorded.new + found_needed account.now ≤ vec_capacity recorded.new) }
+    ensures part_room { OnOk result (vec_len parts.new + given_needed account.now ≤ vec_capacity parts.new) }
+    ensures recorded { recorded.new.items ≡ recorded.old.items }
+    ensures parts { parts.new.items ≡ parts.old.items }
+    ensures err { OnErr result ((vec_capacity recorded.old - vec_len recorded.old < found_needed account.now) ⊎ (vec_capacity parts.old - vec_len parts.old < given_needed account.now)) }
+{
+    let found = account.found().len() + usize::from(account.witness().is_some());
+    recorded.reserve(found)?;
+    parts.reserve(account.given().len())?;
+    Ok(())
+}
+
+/// Puts what an account found, gave and left in the place of a part. There is room, so it takes no memory.
+fn settle(
+    recorded: &mut Vec<Assignment>,
+    parts: &mut Vec<OpenPart>,
+    place: usize,
+    account: Account,
+    adds_witness: bool,
+)
+    requires place { place < vec_len parts.old }
+    requires record_room { vec_len recorded.old + found_needed account ≤ vec_capacity recorded.old }
+    requires part_room { vec_len parts.old + given_needed account ≤ vec_capacity parts.old }
+    ensures recorded { recorded.new.items ≡ recorded.old.items ++ (account.found ++ witness_if adds_witness account.witness) }
+    ensures parts { parts.new.items ≡ parts_after parts.old.items place account }
+{
+    let Parts {
+        mut found,
+        witness,
+        given,
+        after,
+    } = account.into_parts();
+    let _ = recorded.append(&mut found);
+    if adds_witness && let Some(witness) = witness {
+        let _ = recorded.push(witness);
+    }
+    parts.remove(place);
+    give(parts, given);
+    if after.has_rest() {
+        let _ = parts.push(OpenPart {
+            frontier: after,
+            claimed: true,
+        });
+    }
+}
+
+/// Adds claimed parts. There is room, so it takes no memory.
+fn give(parts: &mut Vec<OpenPart>, given: Vec<Frontier>)
+    requires { vec_len parts.old + vec_len given ≤ vec_capacity parts.old }
+    ensures parts { parts.new.items ≡ parts.old.items ++ map claimed_part given.items }
+    ensures len { vec_len parts.new ≡ vec_len parts.old + vec_len given }
+    ensures capacity { vec_capacity parts.old ≤ vec_capacity parts.new }
+{
+    for frontier in given {
+        let _ = parts.push(OpenPart {
+            frontier,
+            claimed: true,
+        });
     }
 }
