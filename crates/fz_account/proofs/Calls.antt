@@ -3,12 +3,11 @@ use Rattle.std.proofs.Common.{◌≡◌, ◌∙◌, ◌++◌, ◌∷◌, [], ap,
 use Rattle.std.specs.Prelude.{ℤ, is_some, IfSome}
 use Rattle.std.specs.List.{AllByRecursion}
 use Rattle.fz_tree.specs.declared.decision.Decision.{Decision}
-use Rattle.fz_tree.specs.declared.mode.Mode.{Mode}
 use Rattle.fz_tree.specs.declared.mode.Mode.TheVariants.{All}
 use Rattle.fz_tree.specs.Choice.{IsChoice}
 use Rattle.fz_tree.specs.Frontier.{Frontier, can_cut, closed, branched, moved, part_of, rest_of}
 use Rattle.fz_tree.specs.Proper.{IsReachable, Fits, IsHopeless, IsOnly}
-use Rattle.fz_tree.specs.Account.{Account, AccountLaw, with_after, with_found, with_given}
+use Rattle.fz_tree.specs.Account.{Account, AccountLaw, with_after}
 use Rattle.fz_tree.proofs.Accounts.{branches, fails, adds, moves, gives}
 
 pub fail_code : (now k : Account) (after : Frontier) → k ≡ now → AccountLaw k → now.after.current_open ≡ true → IsHopeless now.model now.after.edges now.witness → after ≡ closed k.after → AccountLaw (with_after k after)
@@ -36,7 +35,7 @@ pub add_code : (now k : Account) (x : List ℤ) (found : List (List ℤ)) (after
     → found ≡ k.found ++ x ∷ [] → after ≡ closed k.after → AccountLaw (with_both k found after)
 add_code now k x found after same law all current only is_found is_after =
     subst (λ (l : List (List ℤ)). AccountLaw (with_both k l after)) (sym is_found) (subst (λ (f : Frontier). AccountLaw (with_both k (k.found ++ x ∷ []) f)) (sym is_after)
-      (adds k x law (ap (λ (c : Account). c.mode) same ∙ all) (ap (λ (c : Account). c.after.current_open) same ∙ current) (subst (λ (c : Account). IsOnly c.model c.after.edges x) (sym same) only)))
+    (adds k x law (ap (λ (c : Account). c.mode) same ∙ all) (ap (λ (c : Account). c.after.current_open) same ∙ current) (subst (λ (c : Account). IsOnly c.model c.after.edges x) (sym same) only)))
 
 -- what is given and what is left are replaced
 abbrev pub with_parts : Account → List Frontier → Frontier → Account

@@ -5,11 +5,12 @@
 //! open is complete.
 #![tactic(auto)]
 
-
 pub mod book;
 mod part;
 pub mod taken;
 
-
 pub use book::Book;
 pub use taken::Taken;
+
+#[cfg(test)]
+mod tests;

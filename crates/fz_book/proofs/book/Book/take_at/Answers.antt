@@ -1,4 +1,4 @@
-use Rattle.std.proofs.Common.{◌≡◌, ◌∙◌, ◌↔◌, ◌++◌, ap, sym, subst, List, Option}
+use Rattle.std.proofs.Common.{◌≡◌, ◌∙◌, ◌↔◌, ◌++◌, ap, sym, subst, List}
 use Rattle.std.specs.Prelude.{ℤ, IsTrue, IsSomeAnd}
 use Rattle.fz_tree.specs.Better.{Betters}
 use Rattle.fz_tree.specs.Book.{Part, Book, IsAt, PrefersClaimed, Takes, incumbent, parts_after}
@@ -16,7 +16,7 @@ taking c =
     let at : IsAt b.parts c.args.account.before c.args.place = subst (λ (k : Book). IsAt k.parts c.args.account.before c.args.place) (sym same) c.requires.place in
     let prefers : PrefersClaimed b.parts c.args.account.before c.args.place = subst (λ (k : Book). PrefersClaimed k.parts c.args.account.before c.args.place) (sym same) c.requires.prefers in
     let test : IsTrue c.is_bettered_by-adds_witness.result ↔ IsSomeAnd c.args.account.witness (λ w. Betters b.model w (incumbent b)) =
-        subst (λ (k : Book). IsTrue c.is_bettered_by-adds_witness.result ↔ IsSomeAnd c.args.account.witness (λ w. Betters k.model w (incumbent k))) (sym same) c.is_bettered_by-adds_witness.ensures.better in
+    subst (λ (k : Book). IsTrue c.is_bettered_by-adds_witness.result ↔ IsSomeAnd c.args.account.witness (λ w. Betters k.model w (incumbent k))) (sym same) c.is_bettered_by-adds_witness.ensures.better in
     take_code b c.args.account c.settle.new.recorded.items c.settle.new.parts.items c.args.place c.is_bettered_by-adds_witness.result c.self.invariant c.is_bettered_by-adds_witness.ensures.law
     (ap (λ (k : Book). k.model) same ∙ c.requires.model) at prefers test
     (c.settle.ensures.recorded ∙ ap (λ (l : List (List ℤ)). l ++ (c.args.account.found ++ witness_if c.is_bettered_by-adds_witness.result c.args.account.witness)) c.room_for.ensures.recorded)
