@@ -14,7 +14,13 @@ use std::test::Fail;
 
 /// `solve satisfy;`
 fn empty(alloc: Global) -> Result<Arc<Model>, AllocError>
-    ensures { IfOk result (λ m. arc_value m ≡ record { variables = []; constraints = []; goal = Goal.Satisfy; outputs = []; search = [] }) }
+    ensures { IfOk result (λ m. arc_value m ≡ record {
+      variables = [];
+      constraints = [];
+      goal = Goal.Satisfy;
+      outputs = [];
+      search = [];
+    }) }
 {
     let model = Model::new(
         Vec::new(alloc),
