@@ -3,12 +3,11 @@ use Rattle.std.proofs.Common.{◌≡◌, ◌∙◌, ◌++◌, ◌∷◌, [], ap,
 use Rattle.std.specs.Prelude.{ℤ, is_some, IfSome}
 use Rattle.std.specs.List.{AllByRecursion}
 use Rattle.fz_tree.specs.declared.decision.Decision.{Decision}
-use Rattle.fz_tree.specs.declared.mode.Mode.{Mode}
 use Rattle.fz_tree.specs.declared.mode.Mode.TheVariants.{All}
 use Rattle.fz_tree.specs.Choice.{IsChoice}
 use Rattle.fz_tree.specs.Frontier.{Frontier, can_cut, closed, branched, moved, part_of, rest_of}
 use Rattle.fz_tree.specs.Proper.{IsReachable, Fits, IsHopeless, IsOnly}
-use Rattle.fz_tree.specs.Account.{Account, AccountLaw, with_after, with_found, with_given}
+use Rattle.fz_tree.specs.Account.{Account, AccountLaw, with_after}
 use Rattle.fz_tree.proofs.Accounts.{branches, fails, adds, moves, gives}
 
 pub fail_code : (now k : Account) (after : Frontier) → k ≡ now → AccountLaw k → now.after.current_open ≡ true → IsHopeless now.model now.after.edges now.witness → after ≡ closed k.after → AccountLaw (with_after k after)

@@ -75,7 +75,8 @@ impl Account {
         requires witness { IfSome witness (Satisfies (arc_value model)) }
         requires suits { SuitsMode mode [] witness }
         ensures ok { IfOk result (λ c. c ≡ begun (arc_value model) mode frontier witness) }
-        ensures err { IfErr result (λ u. u ≡ record { model = model; frontier = frontier; witness = witness }) }
+        ensures err { IfErr result (λ u. u ≡
+            record { model = model; frontier = frontier; witness = witness }) }
     {
         match frontier.copy() {
             Ok(before) => Ok(Account {

@@ -7,4 +7,8 @@
 
 pub mod account;
 
+pub use account::{Account, Parts, Unbegun};
 pub use fz_tree::mode::Mode;
+
+#[cfg(test)]
+mod tests;

@@ -5,3 +5,6 @@
 pub mod order;
 
 pub use order::better;
+
+#[cfg(test)]
+mod tests;

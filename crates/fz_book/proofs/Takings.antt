@@ -1,13 +1,13 @@
 -- What taking an account makes of a book, as the code says it.
-use Rattle.std.proofs.Common.{◌≡◌, ◌∙◌, ◌++◌, ◌∷◌, [], ap, sym, refl, subst, inl, inr, ◌⊎◌, ◌↔◌, List, Bool, true, false, Option, Some, None, append-nil, ℕ}
+use Rattle.std.proofs.Common.{◌≡◌, ◌∙◌, ◌++◌, [], ap, sym, refl, subst, inl, inr, ◌↔◌, List, Bool, true, false, Option, Some, None, append-nil, ℕ}
 use Rattle.std.specs.Prelude.{ℤ, IsTrue, IsSomeAnd}
-use Rattle.fz_spec.specs.Instance.{Instance, IsBetter}
+use Rattle.fz_spec.specs.Instance.{Instance}
 use Rattle.fz_tree.specs.declared.mode.Mode.{Mode}
 use Rattle.fz_tree.specs.declared.mode.Mode.TheVariants.{All, Best}
 use Rattle.fz_tree.specs.Frontier.{Frontier}
 use Rattle.fz_tree.specs.Better.{mode_of, Betters}
 use Rattle.fz_tree.specs.Account.{Account, AccountLaw, SuitsMode}
-use Rattle.fz_tree.specs.Book.{Part, Book, BookLaw, IsAt, IsOpen, PrefersClaimed, AddsIn, AddsWitness, Takes, incumbent_of, incumbent, parts_after, claimed_part}
+use Rattle.fz_tree.specs.Book.{Part, Book, BookLaw, IsAt, IsOpen, PrefersClaimed, AddsIn, AddsWitness, Takes, incumbent, parts_after, claimed_part}
 use Rattle.fz_book.specs.Needs.{witness_if}
 use Rattle.fz_book.specs.Places.{IsNowhere}
 

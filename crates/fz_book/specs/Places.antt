@@ -1,8 +1,7 @@
 -- Places among the open parts.
 use Rattle.std.specs.Prelude.{◌≡◌, ℕ, ◌<◌, true, List, length, slice_index_or}
-use Rattle.std.specs.List.{list_all}
 use Rattle.fz_tree.specs.Frontier.{Frontier}
-use Rattle.fz_tree.specs.Book.{Part, IsAt, IsFirstUnclaimed, is_claimed}
+use Rattle.fz_tree.specs.Book.{Part, IsAt, IsFirstUnclaimed}
 
 -- no part is this frontier; no claimed one is
 abbrev pub IsNowhere : List Part → Frontier → Type 0

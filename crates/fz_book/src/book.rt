@@ -177,8 +177,10 @@ impl Book {
         ensures taken { IsTaken result → Takes self.old.book account self.new.book }
         ensures same { (IsTaken result → ⊥) → self.new.book ≡ self.old.book }
         ensures foreign { IsForeign result ↔ (self.old.book.model ≢ account.model) }
-        ensures stranger { IsStranger result ↔ ((self.old.book.model ≡ account.model) × (IsOpen self.old.book account.before → ⊥)) }
-        ensures room { LacksMemory result → (self.old.found_room < found_needed account) ⊎ (self.old.given_room < given_needed account) }
+        ensures stranger { IsStranger result ↔
+            ((self.old.book.model ≡ account.model) × (IsOpen self.old.book account.before → ⊥)) }
+        ensures room { LacksMemory result → (self.old.found_room < found_needed account)
+            ⊎ (self.old.given_room < given_needed account) }
         ensures back { GivesBack result account }
     {
         if !self.model.same(account.model()) {
@@ -198,7 +200,8 @@ impl Book {
         ensures outcome { IsTaken result ⊎ LacksMemory result }
         ensures taken { IsTaken result → Takes self.old.book account self.new.book }
         ensures same { LacksMemory result → self.new.book ≡ self.old.book }
-        ensures room { LacksMemory result → (self.old.found_room < found_needed account) ⊎ (self.old.given_room < given_needed account) }
+        ensures room { LacksMemory result → (self.old.found_room < found_needed account)
+            ⊎ (self.old.given_room < given_needed account) }
         ensures back { GivesBack result account }
     {
         let adds_witness = self.is_bettered_by(&account);
@@ -217,7 +220,8 @@ impl Book {
 
     /// Whether the account has a witness that is better than the incumbent.
     fn is_bettered_by(&self, account: &Account) -> bool
-        ensures better { IsTrue result ↔ IsSomeAnd account.now.witness (λ w. Betters self.now.book.model w (incumbent self.now.book)) }
+        ensures better { IsTrue result ↔ IsSomeAnd account.now.witness
+            (λ w. Betters self.now.book.model w (incumbent self.now.book)) }
         ensures law { AccountLaw account.now }
     {
         match (account.witness(), self.incumbent()) {
@@ -234,11 +238,15 @@ fn room_for(
     parts: &mut Vec<OpenPart>,
     account: &Account,
 ) -> Result<(), AllocError>
-    ensures record_room { OnOk result (vec_len recorded.new + found_needed account.now ≤ vec_capacity recorded.new) }
-    ensures part_room { OnOk result (vec_len parts.new + given_needed account.now ≤ vec_capacity parts.new) }
+    ensures record_room { OnOk result
+        (vec_len recorded.new + found_needed account.now ≤ vec_capacity recorded.new) }
+    ensures part_room { OnOk result
+        (vec_len parts.new + given_needed account.now ≤ vec_capacity parts.new) }
     ensures recorded { recorded.new.items ≡ recorded.old.items }
     ensures parts { parts.new.items ≡ parts.old.items }
-    ensures err { OnErr result ((vec_capacity recorded.old - vec_len recorded.old < found_needed account.now) ⊎ (vec_capacity parts.old - vec_len parts.old < given_needed account.now)) }
+    ensures err { OnErr result
+        ((vec_capacity recorded.old - vec_len recorded.old < found_needed account.now)
+        ⊎ (vec_capacity parts.old - vec_len parts.old < given_needed account.now)) }
 {
     let found = account.found().len() + usize::from(account.witness().is_some());
     recorded.reserve(found)?;
@@ -257,7 +265,8 @@ fn settle(
     requires place { place < vec_len parts.old }
     requires record_room { vec_len recorded.old + found_needed account ≤ vec_capacity recorded.old }
     requires part_room { vec_len parts.old + given_needed account ≤ vec_capacity parts.old }
-    ensures recorded { recorded.new.items ≡ recorded.old.items ++ (account.found ++ witness_if adds_witness account.witness) }
+    ensures recorded { recorded.new.items ≡
+        recorded.old.items ++ (account.found ++ witness_if adds_witness account.witness) }
     ensures parts { parts.new.items ≡ parts_after parts.old.items place account }
 {
     let Parts {

@@ -11,3 +11,6 @@ pub mod taken;
 
 pub use book::Book;
 pub use taken::Taken;
+
+#[cfg(test)]
+mod tests;

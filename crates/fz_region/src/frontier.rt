@@ -84,7 +84,10 @@ impl Frontier {
     pub fn push(&mut self, choice: Choice, taken: u32, last: u32) -> Result<(), AllocError>
         requires order { taken ≤ last }
         requires below { last < length choice }
-        ensures ok { OnOk result (self.new ≡ record { edges = self.old.edges ++ record { choice = choice; taken = taken; last = last } ∷ []; current_open = self.old.current_open }) }
+        ensures ok { OnOk result (self.new ≡ record {
+          edges = self.old.edges ++ record { choice = choice; taken = taken; last = last } ∷ [];
+          current_open = self.old.current_open;
+        }) }
         ensures err { OnErr result (self.new ≡ self.old) }
     {
         let _ = choice.len();

@@ -1,4 +1,4 @@
-use Rattle.std.proofs.Common.{◌≡◌, ◌∙◌, ◌↔◌, ◌++◌, ap, sym, subst, List, Option}
+use Rattle.std.proofs.Common.{◌≡◌, ◌∙◌, ◌↔◌, ◌++◌, ap, sym, subst, List}
 use Rattle.std.specs.Prelude.{ℤ, IsTrue, IsSomeAnd}
 use Rattle.fz_tree.specs.Better.{Betters}
 use Rattle.fz_tree.specs.Book.{Part, Book, IsAt, PrefersClaimed, Takes, incumbent, parts_after}
