@@ -1,0 +1,6 @@
+pub mod Sets
+pub mod Laws
+pub mod Fronts
+pub mod Steps
+pub mod Levels
+pub mod One
