@@ -1,5 +1,5 @@
 -- The comparison of names of constraints.
-use Rattle.std.proofs.Common.{◌≡◌, sym}
+use Rattle.std.proofs.Common.{◌≡◌}
 use Rattle.std.specs.Bool.{Decides}
 use denote.Enum.Bare.{same_true, true_same}
 use Rattle.fz_spec.specs.declared.builtin.Builtin.{Builtin}

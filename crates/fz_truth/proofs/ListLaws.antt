@@ -1,7 +1,7 @@
 -- What is said of the elements of a list one by one, and of the values that they are mapped to.
 use Rattle.std.proofs.Common.{◌≡◌, ℕ, ◌+◌, ◌<◌, ◌≤◌, zero, suc, ℤ, List, [], ◌∷◌, map, take, drop, length, get_or, arith, refl, sym, ap, ◌∙◌, subst, inl, inr, ◌-◌, add-one, length-drop}
 use Rattle.std.proofs.lemmas.List.{take_all, length-map}
-use Rattle.std.specs.Prelude.{◌↔◌, Bool, IsTrue, pos, Option, Some, slice_get, option_map}
+use Rattle.std.specs.Prelude.{◌↔◌, Bool, IsTrue, pos, Some, slice_get, option_map}
 use Rattle.std.proofs.lemmas.Option.{slice_get-map}
 use Rattle.std.specs.List.{All, Any, AllByRecursion}
 use Rattle.fz_spec.specs.Truth.{SomeByRecursion, AreDifferent, IsElement}

@@ -1,6 +1,5 @@
 -- Lists of arguments that are longer than any constraint's are false.
-use Rattle.std.proofs.Common.{ℕ, ◌≤◌, ℤ, List, [], ◌∷◌, length, map, arith, subst}
-use Rattle.std.proofs.lemmas.List.{length-map}
+use Rattle.std.proofs.Common.{◌≤◌, ℤ, List, [], ◌∷◌, length, arith}
 use Rattle.fz_spec.specs.declared.builtin.Builtin.{Builtin}
 use Rattle.fz_spec.specs.declared.term.Term.{Term}
 use Rattle.fz_spec.specs.Constraints.{Argument, One, Numbers, Terms, Set, Holds}

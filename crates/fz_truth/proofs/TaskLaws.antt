@@ -1,5 +1,5 @@
 -- The tasks of three lists, place by place, and their load.
-use Rattle.std.proofs.Common.{◌≡◌, ℕ, ◌+◌, ◌*◌, ◌^◌, ◌<◌, ◌≤◌, zero, suc, min, ℤ, pos, List, [], ◌∷◌, map, take, length, get_or, arith, refl, sym, ap, ◌∙◌, subst, add-one}
+use Rattle.std.proofs.Common.{◌≡◌, ℕ, ◌+◌, ◌*◌, ◌^◌, ◌<◌, ◌≤◌, zero, suc, min, ℤ, pos, List, [], ◌∷◌, map, take, length, get_or, arith, refl, sym, ap, ◌∙◌, add-one}
 use Rattle.std.specs.Prelude.{◌+ℤ◌, ◌<ℤ◌, ◌≤ℤ◌}
 use Rattle.std.specs.Int.{w128}
 use Rattle.std.specs.Int.RustNames.{FitsSigned, unsigned_abs}

@@ -1,6 +1,5 @@
 -- Tasks as the code reads them.
-use Rattle.std.specs.Prelude.{ℤ, List}
-use Rattle.fz_spec.specs.declared.term.Term.{Term}
+use Rattle.std.specs.Prelude.{List}
 use Rattle.fz_spec.specs.Constraints.{term_values}
 use Rattle.fz_spec.specs.Truth as truth
 use Rattle.fz_truth.specs.declared.tasks.Task.{Task}

@@ -1,5 +1,4 @@
 use Rattle.std.proofs.Common.{◌≡◌, get_or, refl, rules, pos, ◌∙◌, sym}
-use Rattle.std.specs.Prelude.{◌↔◌, IsTrue}
 use Rattle.fz_spec.specs.declared.term.Term.TheVariants.{Num}
 use Rattle.fz_spec.specs.Constraints.{term_value}
 use Rattle.fz_truth.proofs.ListLaws.{row_more, row_differs}

@@ -1,4 +1,4 @@
-use Rattle.std.proofs.Common.{◌≡◌, ℕ, ◌<◌, ◌+◌, ◌*◌, length}
+use Rattle.std.proofs.Common.{◌≡◌, ℕ, ◌<◌, ◌+◌, ◌*◌}
 use Rattle.std.specs.Prelude.{slice_range}
 use Rattle.fz_spec.specs.Constraints.{term_values}
 use Rattle.fz_truth.proofs.table.is_row_of.Given as goal

@@ -1,4 +1,3 @@
-use Rattle.std.proofs.Common.{◌≡◌, take}
 use Rattle.fz_truth.specs.Listed.{listed}
 use Rattle.fz_truth.proofs.TaskLaws.{IsLoaded}
 use Rattle.fz_truth.proofs.tasks.load.Given as goal

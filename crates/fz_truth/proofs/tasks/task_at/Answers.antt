@@ -1,4 +1,4 @@
-use Rattle.std.proofs.Common.{◌≡◌, ℤ, rules, pos, ◌∙◌, SFits, w32}
+use Rattle.std.proofs.Common.{rules, pos, ◌∙◌, SFits, w32}
 use Rattle.std.proofs.Math.Facts.{to_z-of_z}
 use Rattle.fz_spec.specs.declared.term.Term.TheVariants.{Num}
 use Rattle.fz_spec.specs.Constraints.{term_value}

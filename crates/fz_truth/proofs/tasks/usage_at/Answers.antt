@@ -1,4 +1,4 @@
-use Rattle.std.proofs.Common.{ℤ, rules, ◌+ℤ◌, ◌≤ℤ◌}
+use Rattle.std.proofs.Common.{rules, ◌+ℤ◌, ◌≤ℤ◌}
 use Rattle.fz_truth.specs.Listed.{task_of}
 use Rattle.fz_truth.proofs.TaskLaws.{ended}
 use Rattle.fz_truth.proofs.tasks.usage_at.Goals as goal

@@ -1,5 +1,5 @@
 use Rattle.std.proofs.Common.{◌≡◌, ℤ, rules}
-use Rattle.std.specs.Prelude.{◌↔◌, IsTrue, ◌≤ℤ◌}
+use Rattle.std.specs.Prelude.{◌↔◌, IsTrue}
 use Rattle.std.specs.List.{All}
 use Rattle.fz_spec.specs.Constraints.{term_value}
 use Rattle.fz_truth.proofs.ListLaws.{all_mapped, iff_through}

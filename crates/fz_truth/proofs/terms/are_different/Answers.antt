@@ -1,4 +1,4 @@
-use Rattle.std.proofs.Common.{◌≡◌, refl, rules, suc, sym, subst, add-one, map, drop, SFits, w32}
+use Rattle.std.proofs.Common.{refl, rules, sym, subst, add-one, map, drop, SFits, w32}
 use Rattle.std.proofs.Math.Facts.{to_z-of_z}
 use Rattle.fz_spec.specs.Constraints.{term_value}
 use Rattle.fz_spec.specs.Truth.{AreDifferent}

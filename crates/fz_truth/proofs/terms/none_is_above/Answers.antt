@@ -1,4 +1,4 @@
-use Rattle.std.proofs.Common.{◌≡◌, ℤ, rules}
+use Rattle.std.proofs.Common.{ℤ, rules}
 use Rattle.std.specs.Prelude.{◌↔◌, IsTrue, ◌≤ℤ◌}
 use Rattle.std.specs.List.{All}
 use Rattle.fz_spec.specs.Constraints.{term_value}
