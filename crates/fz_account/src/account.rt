@@ -260,9 +260,7 @@ impl Account {
     fn is_news(&self, assignment: &Assignment) -> bool
         ensures { IsTrue result ↔ IsNews self.now assignment.now }
     {
-        self.mode == Mode::Best
-            && holds(&self.model, assignment)
-            && self.is_bettered_by(assignment)
+        self.mode == Mode::Best && holds(&self.model, assignment) && self.is_bettered_by(assignment)
     }
 
     /// Whether an assignment betters the witness.

@@ -242,9 +242,7 @@ impl Book {
     fn is_improved_by(&self, assignment: &Assignment) -> bool
         ensures { IsTrue result ↔ IsImprovement self.now.book assignment.now }
     {
-        self.mode == Mode::Best
-            && holds(&self.model, assignment)
-            && self.is_topped_by(assignment)
+        self.mode == Mode::Best && holds(&self.model, assignment) && self.is_topped_by(assignment)
     }
 
     /// Whether an assignment betters the incumbent.
