@@ -7,8 +7,9 @@ use Rattle.fz_tree.specs.declared.mode.Mode.TheVariants.{All}
 use Rattle.fz_tree.specs.Choice.{IsChoice}
 use Rattle.fz_tree.specs.Frontier.{Frontier, can_cut, closed, branched, moved, part_of, rest_of}
 use Rattle.fz_tree.specs.Proper.{IsReachable, Fits, IsHopeless, IsOnly}
-use Rattle.fz_tree.specs.Account.{Account, AccountLaw, with_after}
-use Rattle.fz_tree.proofs.Accounts.{branches, fails, adds, moves, gives}
+use Rattle.fz_tree.specs.Account.{Account, AccountLaw, with_after, with_witness}
+use Rattle.fz_tree.proofs.Accounts.{branches, fails, adds, moves, gives, learns}
+use Rattle.fz_account.specs.Learning.{IsNews}
 
 pub fail_code : (now k : Account) (after : Frontier) → k ≡ now → AccountLaw k → now.after.current_open ≡ true → IsHopeless now.model now.after.edges now.witness → after ≡ closed k.after → AccountLaw (with_after k after)
 fail_code now k after same law current hopeless made =
@@ -49,3 +50,8 @@ give_code k part copy cut given after law is some of_part is_copy is_given is_af
     let all : given ≡ k.given ++ part_of k.after ∷ [] = is_given ∙ ap (λ (f : Frontier). k.given ++ f ∷ []) (is_copy ∙ is_part) in
     subst (λ (l : List Frontier). AccountLaw (with_parts k l after)) (sym all)
     (subst (λ (f : Frontier). AccountLaw (with_parts k (k.given ++ part_of k.after ∷ []) f)) (sym is_after) (gives k law can))
+
+pub learn_code : (now k : Account) (w copy : List ℤ) → k ≡ now → AccountLaw k → IsNews now w → copy ≡ w → AccountLaw (with_witness k copy)
+learn_code now k w copy same law news is_copy =
+    let of_k : IsNews k w = subst (λ (c : Account). IsNews c w) (sym same) news in
+    subst (λ (v : List ℤ). AccountLaw (with_witness k v)) (sym is_copy) (learns k w law of_k.best of_k.satisfies of_k.better)

@@ -1,5 +1,5 @@
 //! Accounts.
-ghost use Rattle.std.specs.Prelude.{◌≡◌, true, false, is_some, [], option_copied, IfOk, IfErr, IfSome, IfNone, OnOk, OnErr, OnSome};
+ghost use Rattle.std.specs.Prelude.{◌≡◌, ◌↔◌, IsTrue, true, false, is_some, [], option_copied, IfOk, IfErr, IfSome, IfNone, OnOk, OnErr, OnSome};
 ghost use Rattle.std.specs.Bool.{OnTrue, OnFalse};
 ghost use Rattle.std.specs.List.{AllByRecursion};
 ghost use Rattle.std.specs.Arc.{arc_value};
@@ -7,13 +7,16 @@ ghost use Rattle.fz_spec.specs.Instance.{Satisfies};
 ghost use Rattle.fz_tree.specs.declared.mode.Mode.TheVariants.{All};
 ghost use Rattle.fz_tree.specs.Frontier.{can_cut, has_rest, closed, branched, moved, part_of};
 ghost use Rattle.fz_tree.specs.Proper.{IsReachable, Fits, IsHopeless, IsOnly};
-ghost use Rattle.fz_tree.specs.Better.{mode_of};
+ghost use Rattle.fz_tree.specs.Better.{mode_of, Betters};
 ghost use Rattle.fz_account.specs.Parts.{AreParts};
+ghost use Rattle.fz_account.specs.Learning.{IsNews, Learns};
 ghost use Rattle.fz_tree.specs.Account.{AccountLaw, SuitsMode, begun, with_after, with_found, with_given, rest_begun};
 
+use fz_better::better;
 use fz_model::Assignment;
 use fz_region::{Choice, Frontier};
 use fz_tree::mode::Mode;
+use fz_truth::holds;
 use std::alloc::{AllocError, AllocFailed};
 use std::marker::Model;
 use std::mem;
@@ -41,6 +44,13 @@ impl Model for Account {
     ghost view = { account_of };
 
     ghost invariant = { λ a. account.AccountLaw (account_of a) };
+}
+
+/// What became of an assignment that was to be learned.
+#[derive(Clone, Copy, Debug, PartialEq, Eq)]
+pub enum Learned {
+    Learned,
+    Ignored,
 }
 
 /// What an account holds.
@@ -227,6 +237,40 @@ impl Account {
         self.given.push(part.copy()?)?;
         self.after.drop_part();
         Ok(Some(part))
+    }
+
+    /// Takes note of an assignment as the witness, in a search for the best one: `Ignored` exactly where it doesn't satisfy, all are
+    /// sought, or it isn't better than the witness; the account is then as before.
+    ///
+    /// # Errors
+    /// `AllocError` where there is no memory; the account is as before.
+    pub fn learn(&mut self, assignment: &Assignment) -> Result<Learned, AllocError>
+        ensures ok { IfOk result (λ l. Learns l self.old assignment.now self.new) }
+        ensures err { OnErr result (self.new ≡ self.old) }
+    {
+        if !self.is_news(assignment) {
+            return Ok(Learned::Ignored);
+        }
+        let witness = assignment.copy()?;
+        self.witness = Some(witness);
+        Ok(Learned::Learned)
+    }
+
+    /// Whether an assignment is to be the witness.
+    fn is_news(&self, assignment: &Assignment) -> bool
+        ensures { IsTrue result ↔ IsNews self.now assignment.now }
+    {
+        self.mode == Mode::Best && holds(&self.model, assignment) && self.is_bettered_by(assignment)
+    }
+
+    /// Whether an assignment betters the witness.
+    fn is_bettered_by(&self, assignment: &Assignment) -> bool
+        ensures { IsTrue result ↔ Betters self.now.model assignment.now self.now.witness }
+    {
+        match &self.witness {
+            Some(witness) => better(&self.model, assignment, witness),
+            None => true,
+        }
     }
 
     /// Hands out the account as it stands. Here an account of what is left stays.

@@ -5,9 +5,9 @@ ghost use Rattle.fz_tree.specs.Choice.{pair_of};
 ghost use Rattle.fz_tree.specs.Frontier.{root, branched};
 ghost use Rattle.fz_tree.specs.Account.{begun, with_after};
 
-use crate::account::Account;
+use crate::account::{Account, Learned};
 use fz_dom::Dom;
-use fz_model::{Assignment, Goal, Kind, Model, Variable};
+use fz_model::{Assignment, Goal, Kind, Model, Term, Variable};
 use fz_region::{Choice, Comparison, Decision, Frontier};
 use fz_tree::mode::Mode;
 use std::alloc::{AllocError, Global};
@@ -72,5 +72,55 @@ fn what_is_given_found_and_left_adds_up(rt: HostRuntime) -> Result<(), Fail> {
     assert_eq!(rt; last.found().len(), 1);
     assert_eq!(rt; last.found()[0].values(), [1].as_slice());
     assert!(rt; !last.after().has_rest());
+    Ok(())
+}
+
+/// `var 1..3: x; solve minimize x;`
+fn least_of_three(alloc: Global) -> Result<Arc<Model>, AllocError>
+    ensures { IfOk result (λ m. (arc_value m).goal ≡ Goal.Minimize (Term.Var 0)) }
+{
+    let mut variables = Vec::new(alloc);
+    variables.push(Variable::new(Kind::Int, Dom::from_ranges(alloc, &[(1, 3)])?))?;
+    let model = Model::new(
+        variables,
+        Vec::new(alloc),
+        Goal::Minimize(Term::Var(0)),
+        Vec::new(alloc),
+        Vec::new(alloc),
+    );
+    Ok(Arc::new(alloc, model)?)
+}
+
+/// The account of the whole tree of that model.
+fn of_the_least(alloc: Global) -> Result<Account, AllocError> {
+    match Account::begin(
+        least_of_three(alloc)?,
+        Mode::Best,
+        Frontier::root(alloc),
+        None,
+    ) {
+        Ok(account) => Ok(account),
+        Err(_) => Err(AllocError),
+    }
+}
+
+#[test]
+fn what_satisfies_and_is_better_is_learned(rt: HostRuntime) -> Result<(), Fail> {
+    let alloc = rt.alloc();
+    let mut account = of_the_least(alloc)?;
+    assert_eq!(rt;
+        account.learn(&Assignment::new(alloc, &[2])?)?,
+        Learned::Learned
+    );
+    for ignored in [3, 2, 9] {
+        assert_eq!(rt;
+            account.learn(&Assignment::new(alloc, &[ignored])?)?,
+            Learned::Ignored
+        );
+    }
+    assert_eq!(rt;
+        account.learn(&Assignment::new(alloc, &[1])?)?,
+        Learned::Learned
+    );
     Ok(())
 }

@@ -1,5 +1,5 @@
 -- What taking an account makes of a book, as the code says it.
-use Rattle.std.proofs.Common.{◌≡◌, ◌∙◌, ◌++◌, [], ap, sym, refl, subst, inl, inr, ◌↔◌, List, Bool, true, false, Option, Some, None, append-nil, ℕ}
+use Rattle.std.proofs.Common.{◌≡◌, ◌∙◌, ◌∷◌, ◌++◌, [], ap, sym, refl, subst, inl, inr, ◌↔◌, List, Bool, true, false, Option, Some, None, append-nil, ℕ}
 use Rattle.std.specs.Prelude.{ℤ, IsTrue, IsSomeAnd}
 use Rattle.fz_spec.specs.Instance.{Instance}
 use Rattle.fz_tree.specs.declared.mode.Mode.{Mode}
@@ -8,6 +8,8 @@ use Rattle.fz_tree.specs.Frontier.{Frontier}
 use Rattle.fz_tree.specs.Better.{mode_of, Betters}
 use Rattle.fz_tree.specs.Account.{Account, AccountLaw, SuitsMode}
 use Rattle.fz_tree.specs.Book.{Part, Book, BookLaw, IsAt, IsOpen, PrefersClaimed, AddsIn, AddsWitness, Takes, incumbent, parts_after, claimed_part}
+use Rattle.fz_tree.proofs.Books.{offers}
+use Rattle.fz_book.specs.Offering.{IsImprovement}
 use Rattle.fz_book.specs.Needs.{witness_if}
 use Rattle.fz_book.specs.Places.{IsNowhere}
 
@@ -50,3 +52,8 @@ take_code b c recorded parts place adds law of_c model at prefers test is_record
 
 pub not_open : (b : Book) (f : Frontier) → IsNowhere b.parts f → IsOpen b f → ⊥
 not_open b f nowhere is_open = nowhere is_open.0 is_open.1.within (claimed_part f) (is_open.1.is (claimed_part f))
+
+pub offer_code : (now k : Book) (w : List ℤ) (recorded : List (List ℤ)) → k ≡ now → BookLaw k → IsImprovement now w → recorded ≡ k.recorded ++ w ∷ [] → BookLaw (after_taking k recorded k.parts)
+offer_code now k w recorded same law improvement is_recorded =
+    let of_k : IsImprovement k w = subst (λ (b : Book). IsImprovement b w) (sym same) improvement in
+    subst (λ (l : List (List ℤ)). BookLaw (after_taking k l k.parts)) (sym is_recorded) (offers k w law of_k.best of_k.satisfies of_k.better)

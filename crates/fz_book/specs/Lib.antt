@@ -3,3 +3,4 @@ pub mod Inside
 pub mod Places
 pub mod Outcomes
 pub mod Needs
+pub mod Offering

@@ -7,8 +7,10 @@ ghost use Rattle.fz_tree.specs.Better.{mode_of, Betters};
 ghost use Rattle.fz_tree.specs.Account.{AccountLaw};
 ghost use Rattle.fz_tree.specs.Book.{BookLaw, Claims, Takes, IsAt, IsOpen, PrefersClaimed, opening, incumbent, is_claimed, claimed_part, parts_after};
 ghost use Rattle.fz_book.specs.Outcomes.{IsTaken, IsStranger, IsForeign, LacksMemory, GivesBack};
+ghost use Rattle.fz_book.specs.Offering.{IsImprovement, Offers};
 ghost use Rattle.fz_book.specs.Needs.{found_needed, given_needed, witness_if};
 
+use crate::offered::Offered;
 use crate::part::{OpenPart, place_of, unclaimed_place};
 use crate::taken::Taken;
 use fz_account::account::{Account, Parts};
@@ -16,6 +18,7 @@ use fz_better::better;
 use fz_model::Assignment;
 use fz_region::Frontier;
 use fz_tree::mode::Mode;
+use fz_truth::holds;
 use std::alloc::{AllocError, AllocFailed, Global};
 use std::marker::Model;
 use std::sync::Arc;
@@ -216,6 +219,40 @@ impl Book {
             adds_witness,
         );
         Taken::Taken
+    }
+
+    /// Records an assignment that is better than the incumbent, in a search for the best one: `NotBetter` exactly where it doesn't
+    /// satisfy, all are sought, or it isn't better; it is then handed back, and the book is as before.
+    ///
+    /// # Errors
+    /// `AllocFailed` with the assignment where there is no memory; the book is as before, but for its room.
+    pub fn offer(&mut self, assignment: Assignment) -> Result<Offered, AllocFailed<Assignment>>
+        ensures ok { IfOk result (λ o. Offers o self.old.book assignment self.new.book) }
+        ensures err { OnErr result (self.new.book ≡ self.old.book) }
+        ensures back { IfErr result (λ refused. refused.value ≡ assignment) }
+    {
+        if !self.is_improved_by(&assignment) {
+            return Ok(Offered::NotBetter(assignment));
+        }
+        self.recorded.push(assignment)?;
+        Ok(Offered::Better)
+    }
+
+    /// Whether an assignment is to be recorded.
+    fn is_improved_by(&self, assignment: &Assignment) -> bool
+        ensures { IsTrue result ↔ IsImprovement self.now.book assignment.now }
+    {
+        self.mode == Mode::Best && holds(&self.model, assignment) && self.is_topped_by(assignment)
+    }
+
+    /// Whether an assignment betters the incumbent.
+    fn is_topped_by(&self, assignment: &Assignment) -> bool
+        ensures { IsTrue result ↔ Betters self.now.book.model assignment.now (incumbent self.now.book) }
+    {
+        match self.incumbent() {
+            Some(incumbent) => better(&self.model, assignment, incumbent),
+            None => true,
+        }
     }
 
     /// Whether the account has a witness that is better than the incumbent.

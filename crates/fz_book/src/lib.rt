@@ -6,10 +6,12 @@
 #![tactic(auto)]
 
 pub mod book;
+pub mod offered;
 mod part;
 pub mod taken;
 
 pub use book::Book;
+pub use offered::Offered;
 pub use taken::Taken;
 
 #[cfg(test)]

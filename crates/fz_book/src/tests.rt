@@ -4,9 +4,10 @@ ghost use Rattle.std.specs.Arc.{arc_value};
 ghost use Rattle.fz_tree.specs.Account.{begun};
 ghost use Rattle.fz_tree.specs.Frontier.{root};
 
-use crate::{Book, Taken};
+use crate::{Book, Offered, Taken};
 use fz_account::{Account, Mode};
-use fz_model::{Assignment, Goal, Model};
+use fz_dom::Dom;
+use fz_model::{Assignment, Goal, Kind, Model, Term, Variable};
 use fz_region::Frontier;
 use std::alloc::{AllocError, Global};
 use std::sync::Arc;
@@ -56,5 +57,37 @@ fn an_account_is_taken_once(rt: HostRuntime) -> Result<(), Fail> {
     assert_eq!(rt; book.recorded().len(), 1);
     assert!(rt; book.incumbent().is_none());
     assert!(rt; matches!(book.take(of_the_root(alloc)?), Taken::Stranger(_)));
+    Ok(())
+}
+
+/// `var 1..3: x; solve minimize x;`
+fn least_of_three(alloc: Global) -> Result<Arc<Model>, AllocError>
+    ensures { IfOk result (λ m. (arc_value m).goal ≡ Goal.Minimize (Term.Var 0)) }
+{
+    let mut variables = Vec::new(alloc);
+    variables.push(Variable::new(Kind::Int, Dom::from_ranges(alloc, &[(1, 3)])?))?;
+    let model = Model::new(
+        variables,
+        Vec::new(alloc),
+        Goal::Minimize(Term::Var(0)),
+        Vec::new(alloc),
+        Vec::new(alloc),
+    );
+    Ok(Arc::new(alloc, model)?)
+}
+
+#[test]
+fn each_that_is_better_is_recorded(rt: HostRuntime) -> Result<(), Fail> {
+    let alloc = rt.alloc();
+    let mut book = Book::begin(alloc, least_of_three(alloc)?, Mode::Best)?;
+    let two = Assignment::new(alloc, &[2])?;
+    let one = Assignment::new(alloc, &[1])?;
+    assert!(rt; matches!(book.offer(two.copy()?)?, Offered::Better));
+    assert!(rt; matches!(book.offer(two)?, Offered::NotBetter(_)));
+    assert!(rt; matches!(book.offer(one)?, Offered::Better));
+    assert_eq!(rt; book.recorded().len(), 2);
+    assert_eq!(rt; book.recorded()[0].values(), [2].as_slice());
+    assert_eq!(rt; book.recorded()[1].values(), [1].as_slice());
+    assert!(rt; matches!(book.take(of_the_root(alloc)?), Taken::Foreign(_)));
     Ok(())
 }
