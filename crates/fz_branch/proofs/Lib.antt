@@ -1,0 +1,4 @@
+pub mod Picking
+pub mod Medians
+pub mod Numbers
+pub mod Choosing
