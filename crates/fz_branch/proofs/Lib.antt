@@ -2,3 +2,4 @@ pub mod Picking
 pub mod Medians
 pub mod Numbers
 pub mod Choosing
+pub mod Keeping

@@ -4,9 +4,13 @@
 #![tactic(auto)]
 
 pub mod choose;
+pub mod laws;
 mod pick;
 pub mod plan;
 mod value;
 
 pub use choose::choose_among;
 pub use plan::Plan;
+
+#[cfg(test)]
+mod tests;
