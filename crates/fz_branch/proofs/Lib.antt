@@ -1,0 +1,5 @@
+pub mod Picking
+pub mod Medians
+pub mod Numbers
+pub mod Choosing
+pub mod Keeping

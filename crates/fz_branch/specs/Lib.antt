@@ -1,0 +1,4 @@
+pub mod Values
+pub mod Picks
+pub mod Plans
+pub mod Keeping

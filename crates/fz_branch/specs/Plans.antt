@@ -1,0 +1,36 @@
+-- Plans, and what is chosen by one.
+use Rattle.std.specs.Prelude.{◌≡◌, ℕ, ◌<◌, ℤ, List, [], ◌∷◌, ◌++◌, length, slice_index, slice_index_or}
+use Rattle.std.specs.List.{range_with_len}
+use Rattle.fz_spec.specs.declared.search.Pick.TheVariants.{InputOrder}
+use Rattle.fz_spec.specs.declared.search.Value.TheVariants.{IndomainMin}
+use Rattle.fz_spec.specs.Instance.{Instance, SearchPart}
+use Rattle.fz_tree.specs.declared.decision.Decision.{Decision}
+use Rattle.fz_tree.specs.Choice.{pair_of}
+use Rattle.fz_branch.specs.Picks.{IsDone, IsPicked, domain_of}
+use Rattle.fz_branch.specs.Values.{decision_of}
+
+-- all variables in order of declaration, the least value first
+abbrev pub declared_part : Instance → SearchPart
+declared_part m = record { variables = range_with_len 0 (length m.variables); pick = InputOrder; value = IndomainMin }
+
+-- the search parts, and behind them all variables
+abbrev pub plan_of : Instance → List SearchPart
+plan_of m = m.search ++ declared_part m ∷ []
+
+-- no variable of a part has more than one value left
+abbrev pub AreDone : List (List (ℤ × ℤ)) → List SearchPart → Type 0
+AreDone ds [] = Unit {0}
+AreDone ds (p ∷ ps) = IsDone ds p.variables × AreDone ds ps
+
+-- The variable that is picked of a part, and the choice by its domain.
+pub record IsChosenOf (ds : List (List (ℤ × ℤ))) (p : SearchPart) (choice : List Decision) : Type 0 where
+  pub place : ℕ
+  pub picked : IsPicked p.pick ds p.variables place
+  pub divides : choice ≡ pair_of (decision_of p.value (slice_index p.variables place) (domain_of ds p.variables place))
+
+-- of the first part that isn't done
+pub record IsChosen (ps : List SearchPart) (ds : List (List (ℤ × ℤ))) (choice : List Decision) : Type 0 where
+  pub part : ℕ
+  pub within : part < length ps
+  pub before : (k : ℕ) → k < part → (d : SearchPart) → IsDone ds (slice_index_or ps k d).variables
+  pub of_part : (d : SearchPart) → IsChosenOf ds (slice_index_or ps part d) choice

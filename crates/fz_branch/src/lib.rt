@@ -1,0 +1,16 @@
+//! Branching: which variable a search divides, and how (Schulte, Tack, Lagerkvist: "Modeling and Programming with Gecode",
+//! "Branching"). A plan follows the search parts of a model in order; behind them come all variables in order of declaration, the
+//! least value first.
+#![tactic(auto)]
+
+pub mod choose;
+pub mod laws;
+mod pick;
+pub mod plan;
+mod value;
+
+pub use choose::choose_among;
+pub use plan::Plan;
+
+#[cfg(test)]
+mod tests;

@@ -1,0 +1,71 @@
+//! Plans.
+ghost use Rattle.std.specs.Prelude.{◌≡◌, ◌≤◌, ◌^◌, length, map, IfOk};
+ghost use Rattle.std.specs.List.{range_with_len};
+ghost use Rattle.fz_branch.specs.Plans.{plan_of};
+
+use fz_model::{Part, SearchPart};
+use fz_spec::search::{Pick, Value};
+use std::alloc::{AllocError, Global};
+use std::marker::Model;
+
+/// In which order a search divides variables: parts, each followed until none of its variables has more than one value left.
+#[derive(Drop)]
+pub struct Plan {
+    parts: Vec<SearchPart>,
+}
+
+impl Model for Plan {
+    ghost use Rattle.std.specs.Prelude.{List};
+    ghost use Rattle.fz_spec.specs.Instance as instance;
+
+    ghost Value = { List instance.SearchPart };
+
+    ghost view = { λ p. p.parts.items };
+}
+
+impl Plan {
+    /// The plan of a model: its search parts, and behind them all variables.
+    ///
+    /// # Errors
+    /// `AllocError` where there is no memory.
+    pub fn of(alloc: Global, model: &fz_model::Model) -> Result<Plan, AllocError>
+        ensures { IfOk result (λ p. p ≡ plan_of model.now) }
+    {
+        let mut parts = copies(alloc, model.search())?;
+        let variables = all_variables(alloc, model.variables().len() as u32)?;
+        parts.push(SearchPart::new(variables, Pick::InputOrder, Value::IndomainMin))?;
+        Ok(Plan { parts })
+    }
+
+    /// The allocator that it was made with.
+    pub fn allocator(&self) -> Global {
+        *self.parts.allocator()
+    }
+
+    /// The parts, in order.
+    pub fn parts(&self) -> &[SearchPart]
+        ensures { result.now ≡ self.now }
+    {
+        &self.parts
+    }
+}
+
+fn copies(alloc: Global, parts: &[SearchPart]) -> Result<Vec<SearchPart>, AllocError>
+    ensures { IfOk result (λ v. v.items ≡ parts.now) }
+{
+    let mut copies = Vec::with_capacity(alloc, parts.len() + 1)?;
+    for part in parts {
+        copies.push(part.copy()?)?;
+    }
+    Ok(copies)
+}
+
+fn all_variables(alloc: Global, count: u32) -> Result<Vec<u32>, AllocError>
+    ensures { IfOk result (λ v. v.items ≡ range_with_len 0 count) }
+{
+    let mut variables = Vec::with_capacity(alloc, count as usize)?;
+    for variable in 0..count {
+        variables.push(variable)?;
+    }
+    Ok(variables)
+}
