@@ -38,7 +38,7 @@ impl Plan {
     }
 
     /// The allocator that it was made with.
-    pub fn allocator(&self) -> Global {
+    pub(crate) fn allocator(&self) -> Global {
         *self.parts.allocator()
     }
 
