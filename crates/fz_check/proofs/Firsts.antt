@@ -1,57 +1,95 @@
--- The first element of lists in a row, from one list to the next.
-use Rattle.std.proofs.Common.{◌≡◌, ℕ, ◌+◌, ◌-◌, ◌<◌, ◌≤◌, zero, suc, Option, Some, None, List, [], ◌∷◌, ◌++◌, length, drop, get_or, refl, sym, ap, ◌∙◌, arith}
-use Rattle.std.specs.Prelude.{slice_get}
-use Rattle.std.specs.List.{AllByRecursion}
-use Rattle.std.specs.Option.{option_or}
-use Rattle.std.proofs.lemmas.List.{at_drop_more, at_drop_all}
+-- The first place that a list of parts has, looked for part by part.
+use Rattle.std.proofs.Common.{◌≡◌, ℕ, ◌+◌, ◌<◌, ◌≤◌, zero, suc, List, [], ◌∷◌, ◌++◌, map, take, length, get_or, refl, sym, ap, ◌∙◌, subst, arith, add-one}
+use Rattle.std.proofs.lemmas.List.{take_all}
+use Rattle.std.specs.Prelude.{Bool, true, false, cond, Option, Some, None, option_map, find, flat_map, slice_get}
 
-pub get_append : {X : Type 0} (xs ys : List X) → slice_get (xs ++ ys) 0 ≡ option_or (slice_get xs 0) (slice_get ys 0)
-get_append [] ys = refl
-get_append (x ∷ xs) ys = refl
+-- the places of the parts so far
+abbrev pub IsNoneSoFar : {X Y : Type 0} → (Y → List ℕ) → (X → Y) → List X → ℕ → Type 0
+IsNoneSoFar places f xs i = flat_map places (map f (take i xs)) ≡ []
 
--- F is the first of a row, G that of one element
-module _ {X Y : Type 0} (F : List X → Option Y) (G : X → Option Y) (step : (x : X) (xs : List X) → F (x ∷ xs) ≡ option_or (G x) (F xs)) (xs : List X) (i : ℕ) (d : X) (within : i < length xs) (so_far : F (drop i xs) ≡ F xs) where
-  at_place : F (drop i xs) ≡ option_or (G (get_or xs i d)) (F (drop (i + 1) xs))
-  at_place = at_drop_more F xs i d within ∙ step (get_or xs i d) (drop (i + 1) xs)
+empty : (ps : List ℕ) → None ≡ slice_get ps 0 → ps ≡ []
+empty [] e = refl
+empty (p ∷ ps) e = cc
 
-  pub passed : G (get_or xs i d) ≡ None → F (drop (i + 1) xs) ≡ F xs
-  passed none = sym (at_place ∙ ap (λ o. option_or o (F (drop (i + 1) xs))) none) ∙ so_far
+step : {X Y : Type 0} (places : Y → List ℕ) (f : X → Y) (xs : List X) (i : ℕ) (d : X) → i < length xs → places (f (get_or xs i d)) ≡ [] → flat_map places (map f (take i xs)) ≡ [] → flat_map places (map f (take (suc i) xs)) ≡ []
+step places f [] i d h e n = absurd (omega (arith, h))
+step places f (x ∷ xs) zero d h e n = ap (λ u. u ++ []) e
+step places f (x ∷ xs) (suc i) d h e n =
+    ap (λ u. u ++ flat_map places (map f (take (suc i) xs))) (front (places (f x)) (flat_map places (map f (take i xs))) n)
+    ∙ step places f xs i d (omega (arith, h)) e (back (places (f x)) (flat_map places (map f (take i xs))) n)
+  where
+    front : (ps qs : List ℕ) → ps ++ qs ≡ [] → ps ≡ []
+    front [] qs e = refl
+    front (p ∷ ps) qs e = cc
 
-  pub stopped : (y : Y) → G (get_or xs i d) ≡ Some y → F xs ≡ Some y
-  stopped y some = sym so_far ∙ at_place ∙ ap (λ o. option_or o (F (drop (i + 1) xs))) some
+    back : (ps qs : List ℕ) → ps ++ qs ≡ [] → qs ≡ []
+    back [] qs e = e
+    back (p ∷ ps) qs e = cc
 
--- the same of two rows at once
-module _ {W X Y : Type 0} (F : List W → List X → Option Y) (G : W → X → Option Y) (step : (w : W) (ws : List W) (x : X) (xs : List X) → F (w ∷ ws) (x ∷ xs) ≡ option_or (G w x) (F ws xs)) (ws : List W) (xs : List X) (i : ℕ) (c : W) (d : X) (inside : i < length ws) (within : i < length xs) (so_far : F (drop i ws) (drop i xs) ≡ F ws xs) where
-  both_at_place : F (drop i ws) (drop i xs) ≡ option_or (G (get_or ws i c) (get_or xs i d)) (F (drop (i + 1) ws) (drop (i + 1) xs))
-  both_at_place =
-      at_drop_more (λ l. F l (drop i xs)) ws i c inside ∙ at_drop_more (F (get_or ws i c ∷ drop (i + 1) ws)) xs i d within
-      ∙ step (get_or ws i c) (drop (i + 1) ws) (get_or xs i d) (drop (i + 1) xs)
+pub none_more : {X Y : Type 0} (places : Y → List ℕ) (f : X → Y) (xs : List X) (i : ℕ) (d : X) → i < length xs → None ≡ slice_get (places (f (get_or xs i d))) 0 → IsNoneSoFar places f xs i → IsNoneSoFar places f xs (i + 1)
+none_more places f xs i d h e n = rw add-one (step places f xs i d h (empty (places (f (get_or xs i d))) e) n)
 
-  pub both_passed : G (get_or ws i c) (get_or xs i d) ≡ None → F (drop (i + 1) ws) (drop (i + 1) xs) ≡ F ws xs
-  both_passed none = sym (both_at_place ∙ ap (λ o. option_or o (F (drop (i + 1) ws) (drop (i + 1) xs))) none) ∙ so_far
+front_of : (ps qs : List ℕ) (at : ℕ) → slice_get ps 0 ≡ Some at → slice_get (ps ++ qs) 0 ≡ Some at
+front_of [] qs at e = cc
+front_of (p ∷ ps) qs at e = e
 
-  pub both_stopped : (y : Y) → G (get_or ws i c) (get_or xs i d) ≡ Some y → F ws xs ≡ Some y
-  both_stopped y some = sym so_far ∙ both_at_place ∙ ap (λ o. option_or o (F (drop (i + 1) ws) (drop (i + 1) xs))) some
+behind : (ps qs rs : List ℕ) (at : ℕ) → ps ++ qs ≡ [] → (qs ≡ [] → slice_get rs 0 ≡ Some at) → slice_get (ps ++ rs) 0 ≡ Some at
+behind [] qs rs at m k = k m
+behind (p ∷ ps) qs rs at m k = cc
 
--- at the end of the row
-pub ended : {X Y : Type 0} (F : List X → Option Y) (xs : List X) (i : ℕ) → length xs ≤ i → F [] ≡ None → F (drop i xs) ≡ F xs → F xs ≡ None
-ended F xs i all none so_far = sym so_far ∙ at_drop_all F xs i all ∙ none
+found_at : {X Y : Type 0} (places : Y → List ℕ) (f : X → Y) (xs : List X) (i : ℕ) (d : X) (at : ℕ) → i < length xs → slice_get (places (f (get_or xs i d))) 0 ≡ Some at → flat_map places (map f (take i xs)) ≡ []
+    → slice_get (flat_map places (map f xs)) 0 ≡ Some at
+found_at places f [] i d at h e n = absurd (omega (arith, h))
+found_at places f (x ∷ xs) zero d at h e n = front_of (places (f x)) (flat_map places (map f xs)) at e
+found_at places f (x ∷ xs) (suc i) d at h e n =
+    behind (places (f x)) (flat_map places (map f (take i xs))) (flat_map places (map f xs)) at n (λ m. found_at places f xs i d at (omega (arith, h)) e m)
 
-pub all_at : {X : Type 0} (P : X → Type 0) (xs : List X) (i : ℕ) (d : X) → AllByRecursion P xs → i < length xs → P (get_or xs i d)
-all_at P [] i d h l = absurd (omega arith)
-all_at P (x ∷ xs) zero d h l = h.0
-all_at P (x ∷ xs) (suc i) d h l = all_at P xs i d h.1 (omega arith)
+pub found : {X Y : Type 0} (places : Y → List ℕ) (f : X → Y) (xs : List X) (i : ℕ) (d : X) (at : ℕ) → i < length xs → Some at ≡ slice_get (places (f (get_or xs i d))) 0 → IsNoneSoFar places f xs i
+    → Some at ≡ slice_get (flat_map places (map f xs)) 0
+found places f xs i d at h e n = sym (found_at places f xs i d at h (sym e) n)
 
--- places in two lists in a row
-pub get_left : {X : Type 0} (xs ys : List X) (i : ℕ) → i < length xs → slice_get (xs ++ ys) i ≡ slice_get xs i
-get_left [] ys i l = absurd (omega arith)
-get_left (x ∷ xs) ys zero l = refl
-get_left (x ∷ xs) ys (suc i) l = get_left xs ys i (omega arith)
+pub none_found : {X Y : Type 0} (places : Y → List ℕ) (f : X → Y) (xs : List X) (i : ℕ) → length xs ≤ i → IsNoneSoFar places f xs i → None ≡ slice_get (flat_map places (map f xs)) 0
+none_found places f xs i h n = ap (λ ps. slice_get ps 0) (sym (subst (λ (ys : List _). flat_map places (map f ys) ≡ []) (all xs i h) n))
+  where
+    all : {X : Type 0} (xs : List X) (i : ℕ) → length xs ≤ i → take i xs ≡ xs
+    all [] zero h = refl
+    all [] (suc i) h = refl
+    all (x ∷ xs) zero h = absurd (omega (arith, h))
+    all (x ∷ xs) (suc i) h = ap (λ ys. x ∷ ys) (all xs i (omega (arith, h)))
 
-pub get_right : {X : Type 0} (xs ys : List X) (i : ℕ) → length xs ≤ i → slice_get (xs ++ ys) i ≡ slice_get ys (i - length xs)
-get_right [] ys i l = ap (slice_get ys) (omega arith)
-get_right (x ∷ xs) ys zero l = absurd (omega arith)
-get_right (x ∷ xs) ys (suc i) l = get_right xs ys i (omega arith) ∙ ap (slice_get ys) (omega arith)
+-- the same of an element that is read
+pub found_item : {X Y : Type 0} (places : Y → List ℕ) (f : X → Y) (xs : List X) (i : ℕ) (x : X) (at : ℕ) → i < length xs → x ≡ get_or xs i x → Some at ≡ slice_get (places (f x)) 0 → IsNoneSoFar places f xs i
+    → Some at ≡ slice_get (flat_map places (map f xs)) 0
+found_item {X} places f xs i x at h is e n = found places f xs i x at h (subst (λ (y : X). Some at ≡ slice_get (places (f y)) 0) is e) n
 
-pub both_ended : {W X Y : Type 0} (F : List W → List X → Option Y) (ws : List W) (xs : List X) (i : ℕ) → length ws ≤ i → length xs ≤ i → F [] [] ≡ None → F (drop i ws) (drop i xs) ≡ F ws xs → F ws xs ≡ None
-both_ended F ws xs i those all none so_far = sym so_far ∙ at_drop_all (λ l. F l (drop i xs)) ws i those ∙ at_drop_all (F []) xs i all ∙ none
+pub none_item : {X Y : Type 0} (places : Y → List ℕ) (f : X → Y) (xs : List X) (i : ℕ) (x : X) → i < length xs → x ≡ get_or xs i x → None ≡ slice_get (places (f x)) 0 → IsNoneSoFar places f xs i → IsNoneSoFar places f xs (i + 1)
+none_item {X} places f xs i x h is e n = none_more places f xs i x h (subst (λ (y : X). None ≡ slice_get (places (f y)) 0) is e) n
+
+-- ---- the first that passes a test of what elements are mapped to
+
+chosen_not : {Y : Type 0} (b : Bool) (y : Y) (o : Option Y) → cond b (Some y) o ≡ None → (b ≡ false) × (o ≡ None)
+chosen_not true y o e = cc
+chosen_not false y o e = (refl, e)
+
+none_step : {X Y : Type 0} (p : Y → Bool) (f : X → Y) (xs : List X) (i : ℕ) (d : X) → i < length xs → p (f (get_or xs i d)) ≡ false → find p (map f (take i xs)) ≡ None → find p (map f (take (suc i) xs)) ≡ None
+none_step p f [] i d h e n = absurd (omega (arith, h))
+none_step p f (x ∷ xs) zero d h e n = ap (λ b. cond b (Some (f x)) None) e
+none_step p f (x ∷ xs) (suc i) d h e n =
+    let c = chosen_not (p (f x)) (f x) (find p (map f (take i xs))) n in
+    ap (λ b. cond b (Some (f x)) (find p (map f (take (suc i) xs)))) c.0 ∙ none_step p f xs i d (omega (arith, h)) e c.1
+
+first_step : {X Y : Type 0} (p : Y → Bool) (f : X → Y) (xs : List X) (i : ℕ) (d : X) → i < length xs → p (f (get_or xs i d)) ≡ true → find p (map f (take i xs)) ≡ None → find p (map f xs) ≡ Some (f (get_or xs i d))
+first_step p f [] i d h e n = absurd (omega (arith, h))
+first_step p f (x ∷ xs) zero d h e n = ap (λ b. cond b (Some (f x)) (find p (map f xs))) e
+first_step p f (x ∷ xs) (suc i) d h e n =
+    let c = chosen_not (p (f x)) (f x) (find p (map f (take i xs))) n in
+    ap (λ b. cond b (Some (f x)) (find p (map f xs))) c.0 ∙ first_step p f xs i d (omega (arith, h)) e c.1
+
+pub passes_not : {X Y : Type 0} (p : Y → Bool) (f : X → Y) (xs : List X) (i : ℕ) (x : X) → i < length xs → x ≡ get_or xs i x → p (f x) ≡ false → find p (map f (take i xs)) ≡ None → find p (map f (take (i + 1) xs)) ≡ None
+passes_not p f xs i x h is e n = rw add-one (none_step p f xs i x h (ap (λ y. p (f y)) (sym is) ∙ e) n)
+
+pub passes_first : {X Y : Type 0} (p : Y → Bool) (f : X → Y) (xs : List X) (i : ℕ) (x : X) → i < length xs → x ≡ get_or xs i x → p (f x) ≡ true → find p (map f (take i xs)) ≡ None → Some (f x) ≡ find p (map f xs)
+passes_first p f xs i x h is e n = ap (λ y. Some (f y)) is ∙ sym (first_step p f xs i x h (ap (λ y. p (f y)) (sym is) ∙ e) n)
+
+pub passes_none : {X Y : Type 0} (p : Y → Bool) (f : X → Y) (xs : List X) (i : ℕ) → length xs ≤ i → find p (map f (take i xs)) ≡ None → None ≡ find p (map f xs)
+passes_none {X} p f xs i h n = sym (subst (λ (ys : List X). find p (map f ys) ≡ None) (take_all i xs h) n)

@@ -1,3 +1,2 @@
-pub mod Counted
-pub mod Checked
-pub mod Draft
+pub mod Meant
+pub mod Rooms

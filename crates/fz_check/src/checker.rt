@@ -1,27 +1,23 @@
-//! The reading of a model.
-ghost use Rattle.std.specs.Prelude.{◌≡◌, [], IfOk, MatchResult};
-ghost use Rattle.fz_language.specs.Reads.{AllKeep, model_of};
-ghost use Rattle.fz_check.specs.Checked.{HasCheckFault};
-
-use crate::draft::Draft;
-use crate::fault::CheckFault;
+//! From a program to a model.
+use crate::draft::{Draft, Stop};
+use crate::fault::Fault;
 use fz_model::Model;
-use fz_parse::Items;
+use fz_syntax::Program;
 use std::alloc::{AllocError, Global};
 
-/// The model of items that keep the rules, or the first rule that is broken: that of the first item in the text's order that
-/// breaks one.
-pub fn check(alloc: Global, items: &Items<'_>) -> Result<Result<Model, CheckFault>, AllocError>
-    ensures { IfOk result (λ found. MatchResult found
-        (λ model. AllKeep [] items.now.program.items × (model ≡ model_of items.now.program))
-        (HasCheckFault items.now)) }
-{
-    let _text = items.text();
-    let mut draft = Draft::new(alloc);
-    for item in items.items() {
-        if let Err(fault) = draft.add(alloc, items, item)? {
-            return Ok(Err(fault));
-        }
+/// The model of a program, or the first rule that its first item breaks.
+pub fn check(alloc: Global, program: &Program<'_>) -> Result<Result<Model, Fault>, AllocError> {
+    match checked(alloc, program) {
+        Ok(model) => Ok(Ok(model)),
+        Err(Stop::Broken(fault)) => Ok(Err(fault)),
+        Err(Stop::Memory) => Err(AllocError),
     }
-    Ok(Ok(draft.finish(alloc)))
+}
+
+fn checked(alloc: Global, program: &Program<'_>) -> Result<Model, Stop> {
+    let mut draft = Draft::new(alloc);
+    for item in &program.items {
+        draft.add(alloc, item)?;
+    }
+    draft.finish(alloc, &program.solve)
 }

@@ -1,13 +1,14 @@
-//! The fault of items that break a rule.
-use fz_spec::code::Code;
+//! The rule that a program breaks.
+use fz_language::fault::RuleFault;
 
-/// The first rule that an item breaks, and where. Of a declaration: a name that is declared twice (E04), or a variable over the
-/// limit (E11), each at the name. Of a constraint: an unknown name of a constraint (E08), a wrong number of arguments (E07), or lists
-/// that differ in length (E10), each at the name; a name that isn't declared (E05); an argument of a wrong type (E06); a constraint
-/// or an element of a list literal over the limit (E11). Line and column are counted from 1, and a column is a count of bytes.
+/// The first rule that a program breaks, and the place where it does: the count of bytes before it.
 #[derive(Clone, Copy, Debug, PartialEq, Eq)]
-pub struct CheckFault {
-    pub code: Code,
-    pub line: u32,
-    pub column: u32,
+pub struct Fault {
+    pub rule: RuleFault,
+    pub at: u32,
+}
+
+/// The fault of a rule, if it is broken at some place.
+pub(crate) fn fault_at(rule: RuleFault, at: Option<u32>) -> Option<Fault> {
+    at.map(|at| Fault { rule, at })
 }

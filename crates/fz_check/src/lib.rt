@@ -1,19 +1,22 @@
-//! The model of items, or the first rule that they break: names, types of arguments and limits (MiniZinc Handbook, "FlatZinc" and
-//! "FlatZinc builtins"; the codes and their order are fzn's own rule).
+//! The rules of a FlatZinc program: names, types, lengths and limits (fzn's own rules; the types are those of the MiniZinc
+//! Handbook, "FlatZinc"). A program that keeps them is a model; else the first rule that its first item breaks is told, with the
+//! place.
 #![tactic(auto)]
 
+mod annotations;
+mod call;
 pub mod checker;
-mod declared;
 mod draft;
+mod entry;
 pub mod fault;
-mod leaf;
+mod floats;
 mod limits;
 mod names;
-mod signature;
-mod terms;
-#[cfg(test)]
-mod tests;
+mod resolve;
+mod rows;
+mod rules;
+mod search;
 mod types;
 
 pub use checker::check;
-pub use fault::CheckFault;
+pub use fault::Fault;

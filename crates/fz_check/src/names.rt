@@ -1,62 +1,90 @@
-//! The names of variables.
-ghost use Rattle.std.specs.Prelude.{◌≡◌, IfSome, find, map, option_map};
-ghost use Rattle.std.specs.List.{AllByRecursion, flat_map};
-ghost use Rattle.fz_language.specs.Reads.{basics_of, identifiers};
-ghost use Rattle.fz_lex.specs.Lexed.{token_of};
-ghost use Rattle.fz_parse.specs.Parsed.{basic_of, BasicHasLeaf, expression_of, ExpressionHasLeaves, IsLeaf};
-ghost use Rattle.fz_check.specs.Draft.{is_absent, texts};
+//! The names that are declared.
+ghost use Rattle.std.specs.Prelude.{◌≡◌, OnOk, None, option_copied, option_map, map, flat_map, slice_get};
+ghost use Rattle.fz_language.specs.Entries.{nothing_declared, with_entry};
+ghost use Rattle.fz_language.specs.Rules.{unknown_in, unknown_of};
+ghost use Rattle.fz_syntax.specs.Trees.{basic_of, expression_of};
+ghost use Rattle.fz_check.specs.Meant.{environment_of, meant};
 
-use crate::leaf::{basics, name};
-use fz_lex::Token;
-use fz_parse::{Basic, Expression, Items};
-use indexmap::IndexSet;
+use crate::entry::Entry;
+use fz_syntax::{Basic, Expression, Name};
+use std::alloc::{AllocError, Global};
+use std::collections::BTreeMap;
 
-/// The identifier, if it is one that isn't among the names.
-fn unknown_basic(items: &Items<'_>, names: &IndexSet<&str>, basic: Basic) -> Option<Token>
-    requires { BasicHasLeaf items.now.text basic }
-    ensures found { option_map (token_of items.now.text) result ≡ find (is_absent (texts names.now.keys)) (identifiers (basic_of items.now.text basic)) }
-    ensures leaf { IfSome result (IsLeaf items.now.text) }
-{
-    match basic {
-        Basic::Literal(_) => None,
-        Basic::Name(leaf) => {
-            if names.contains(name(items, leaf)) {
-                None
-            } else {
-                Some(leaf)
+/// An entry for each name, found by its bytes in time that no input makes longer than the logarithm of their number.
+#[derive(Drop)]
+pub(crate) struct Names<'a> {
+    known: BTreeMap<&'a [u8], Entry>,
+}
+
+impl<'a> Names<'a> {
+    /// No name.
+    pub(crate) fn new(alloc: Global) -> Names<'a>
+        ensures { environment_of result ≡ nothing_declared }
+    {
+        Names {
+            known: BTreeMap::new(alloc),
+        }
+    }
+
+    /// What a name stands for.
+    pub(crate) fn entry(&self, name: Name<'_>) -> Option<&Entry>
+        ensures { option_map meant (option_copied result) ≡ environment_of self.now name.entry.bytes.now }
+    {
+        self.known.get(name.bytes)
+    }
+
+    /// Gives a name an entry.
+    pub(crate) fn declare(&mut self, name: Name<'a>, entry: Entry) -> Result<(), AllocError>
+        ensures { OnOk result (environment_of self.new ≡ with_entry name.entry.bytes.now (meant entry) (environment_of self.old)) }
+    {
+        self.known.insert(name.bytes, entry)?;
+        Ok(())
+    }
+
+    /// The place of the name that an expression is, if it isn't declared.
+    pub(crate) fn unknown(&self, basic: &Basic<'_>) -> Option<u32>
+        ensures { result ≡ slice_get (unknown_in (environment_of self.now) (basic_of basic.now)) 0 }
+    {
+        match basic {
+            Basic::Named(name) => match self.entry(*name) {
+                Some(_) => None,
+                None => Some(name.at),
+            },
+            Basic::Truth { .. } | Basic::Numeral(_) | Basic::Literal(_) => None,
+        }
+    }
+
+    /// The same of the elements of a list.
+    pub(crate) fn unknown_element(&self, elements: &[Basic<'_>]) -> Option<u32>
+        ensures { result ≡ slice_get (flat_map (unknown_in (environment_of self.now)) (map basic_of elements.now)) 0 }
+    {
+        for element in elements {
+            if let Some(at) = self.unknown(element) {
+                return Some(at);
             }
         }
+        None
     }
-}
 
-/// The first identifier that isn't among the names.
-fn unknown_among(items: &Items<'_>, names: &IndexSet<&str>, basics: &[Basic]) -> Option<Token>
-    requires { AllByRecursion (BasicHasLeaf items.now.text) basics.now }
-    ensures found { option_map (token_of items.now.text) result ≡ find (is_absent (texts names.now.keys)) (flat_map identifiers (map (basic_of items.now.text) basics.now)) }
-    ensures leaf { IfSome result (IsLeaf items.now.text) }
-{
-    for basic in basics {
-        if let Some(leaf) = unknown_basic(items, names, *basic) {
-            return Some(leaf);
+    /// The same of an argument of a constraint.
+    fn unknown_of(&self, argument: &Expression<'_>) -> Option<u32>
+        ensures { result ≡ slice_get (unknown_of (environment_of self.now) (expression_of argument.now)) 0 }
+    {
+        match argument {
+            Expression::Scalar(basic) => self.unknown(basic),
+            Expression::Listed(list) => self.unknown_element(&list.elements),
         }
     }
-    None
-}
 
-/// The first identifier of the arguments that isn't among the names.
-pub(crate) fn unknown_name(
-    items: &Items<'_>,
-    names: &IndexSet<&str>,
-    arguments: &[Expression],
-) -> Option<Token>
-    requires { AllByRecursion (ExpressionHasLeaves items.now.text) arguments.now }
-    ensures found { option_map (token_of items.now.text) result ≡ find (is_absent (texts names.now.keys)) (flat_map identifiers (flat_map basics_of (map (expression_of items.now.text) arguments.now))) }
-    ensures leaf { IfSome result (IsLeaf items.now.text) }
-{
-    for argument in arguments {
-        if let Some(leaf) = unknown_among(items, names, basics(argument)) {
-            return Some(leaf);
+    /// The same of the arguments of a constraint.
+    pub(crate) fn unknown_argument(&self, arguments: &[Expression<'_>]) -> Option<u32>
+        ensures { result ≡ slice_get (flat_map (unknown_of (environment_of self.now)) (map expression_of arguments.now)) 0 }
+    {
+        for argument in arguments {
+            if let Some(at) = self.unknown_of(argument) {
+                return Some(at);
+            }
         }
+        None
     }
-    None
 }

@@ -1,95 +1,78 @@
-//! The types of arguments.
-ghost use Rattle.std.specs.Prelude.{◌≡◌, ◌↔◌, ℕ, List, length, IfSome, IsTrue, map, option_map, slice_get};
-ghost use Rattle.std.specs.List.{AllByRecursion};
-ghost use Rattle.fz_language.specs.Grammar.{Elements, Scalar};
-ghost use Rattle.fz_language.specs.Reads.{all_wrong_leaves, HasUnequalLists, wrong_leaves};
-ghost use Rattle.fz_lex.specs.Lexed.{token_of};
-ghost use Rattle.fz_parse.specs.Parsed.{basic_of, BasicHasLeaf, expression_of, ExpressionHasLeaves, IsLeaf};
-ghost use Rattle.fz_check.specs.Draft.{asked_of, DifferInLength};
+//! Types of declarations.
+ghost use Rattle.std.specs.Prelude.{◌≡◌, slice_get};
+ghost use Rattle.fz_language.specs.Rules as rules;
+ghost use Rattle.fz_syntax.specs.Trees.{type_of};
 
-use crate::leaf::{first_identifier, identifier, leaf};
-use crate::signature::Asked;
-use fz_lex::Token;
-use fz_parse::{Basic, Expression};
-use fz_spec::builtin::Builtin;
+use crate::floats::first_float_of_set;
+use fz_spec::asked::{Asked, Element};
+use fz_spec::kind::Kind;
+use fz_syntax::{Plain, ValueType};
 
-/// Where a number or an identifier isn't what is asked.
-fn wrong_scalar(asked: Asked, basic: Basic) -> Option<Token>
-    ensures found { (text : List ℕ) → option_map (token_of text) result ≡ slice_get (wrong_leaves (asked_of asked) (Scalar (basic_of text basic))) 0 }
-    ensures leaf { (text : List ℕ) → BasicHasLeaf text basic → IfSome result (IsLeaf text) }
+/// What the values of a type are.
+pub(crate) fn kind_of(value_type: &ValueType) -> Kind
+    ensures { result ≡ rules.kind_of (type_of value_type.now) }
 {
-    match asked {
-        Asked::Value => identifier(basic),
-        Asked::Operand => None,
-        Asked::Values | Asked::Operands => Some(leaf(basic)),
+    match value_type {
+        ValueType::One(Plain::AnyBool { .. }) => Kind::Bool,
+        ValueType::One(_) | ValueType::SetOf { .. } => Kind::Int,
     }
 }
 
-/// Where a list literal first isn't what is asked.
-fn wrong_list(asked: Asked, bracket: Token, elements: &[Basic]) -> Option<Token>
-    ensures found { (text : List ℕ) → option_map (token_of text) result ≡ slice_get (wrong_leaves (asked_of asked) (Elements (token_of text bracket) (map (basic_of text) elements.now))) 0 }
-    ensures leaf { (text : List ℕ) → IsLeaf text bracket → AllByRecursion (BasicHasLeaf text) elements.now → IfSome result (IsLeaf text) }
+/// What the value of a variable of this type is asked to be.
+pub(crate) fn term_asked(value_type: &ValueType) -> Element
+    ensures { result ≡ rules.term_asked (type_of value_type.now) }
 {
-    match asked {
-        Asked::Value | Asked::Operand => Some(bracket),
-        Asked::Values => first_identifier(elements),
-        Asked::Operands => None,
+    Element {
+        kind: kind_of(value_type),
+        may_vary: true,
     }
 }
 
-/// Where an argument first isn't what is asked.
-fn wrong_leaf(asked: Asked, argument: &Expression) -> Option<Token>
-    ensures found { (text : List ℕ) → option_map (token_of text) result ≡ slice_get (wrong_leaves (asked_of asked) (expression_of text argument.now)) 0 }
-    ensures leaf { (text : List ℕ) → ExpressionHasLeaves text argument.now → IfSome result (IsLeaf text) }
+/// What the value of a parameter of this type is asked to be.
+pub(crate) fn value_asked(value_type: &ValueType) -> Asked
+    ensures { result ≡ rules.value_asked (type_of value_type.now) }
 {
-    match argument {
-        Expression::Scalar(basic) => wrong_scalar(asked, *basic),
-        Expression::Elements { bracket, elements } => wrong_list(asked, *bracket, elements),
+    match value_type {
+        ValueType::One(_) => Asked::One(Element {
+            kind: kind_of(value_type),
+            may_vary: false,
+        }),
+        ValueType::SetOf { .. } => Asked::Set,
     }
 }
 
-/// Where the arguments, as many as are asked, first aren't what is asked.
-pub(crate) fn first_wrong_leaf(asked: &[Asked], arguments: &[Expression]) -> Option<Token>
-    requires { length arguments.now ≡ length asked.now }
-    ensures found { (text : List ℕ) → option_map (token_of text) result ≡ slice_get (all_wrong_leaves (map asked_of asked.now) (map (expression_of text) arguments.now)) 0 }
-    ensures leaf { (text : List ℕ) → AllByRecursion (ExpressionHasLeaves text) arguments.now → IfSome result (IsLeaf text) }
+/// Where the type of a variable is not supported: a variable is a Boolean, an integer, or one of a set of integers.
+pub(crate) fn bad_variable_type(value_type: &ValueType) -> Option<u32>
+    ensures { result ≡ slice_get (rules.bad_variable_type (type_of value_type.now)) 0 }
 {
-    for (i, argument) in arguments.iter().enumerate() {
-        if let Some(leaf) = wrong_leaf(asked[i], argument) {
-            return Some(leaf);
-        }
-    }
-    None
-}
-
-/// Whether the two are list literals that differ in length.
-fn differ_in_length(one: &Expression, other: &Expression) -> bool
-    ensures { (text : List ℕ) → IsTrue result ↔ DifferInLength (expression_of text one.now) (expression_of text other.now) }
-{
-    match (one, other) {
-        (
-            Expression::Elements {
-                elements: these,
-                ..
-            },
-            Expression::Elements {
-                elements: those,
-                ..
-            },
-        ) => these.len() != those.len(),
-        _ => false,
+    match value_type {
+        ValueType::One(Plain::AnyBool { .. }) | ValueType::One(Plain::AnyInt { .. }) => None,
+        ValueType::One(Plain::AnyFloat { at }) => Some(*at),
+        ValueType::One(Plain::Within(set)) => first_float_of_set(set),
+        ValueType::SetOf { at, .. } => Some(*at),
     }
 }
 
-/// Whether lists of one constraint differ in length.
-pub(crate) fn has_unequal_lists(builtin: Builtin, arguments: &[Expression]) -> bool
-    ensures { (text : List ℕ) → IsTrue result ↔ HasUnequalLists builtin (map (expression_of text) arguments.now) }
+/// Where the type of a parameter is not supported: a parameter is a Boolean, an integer, or a set of integers.
+pub(crate) fn bad_parameter_type(value_type: &ValueType) -> Option<u32>
+    ensures { result ≡ slice_get (rules.bad_parameter_type (type_of value_type.now)) 0 }
 {
-    match builtin {
-        Builtin::IntLinLe => match arguments {
-            [coefficients, variables, _] => differ_in_length(coefficients, variables),
-            _ => false,
-        },
+    match value_type {
+        ValueType::One(Plain::AnyBool { .. }) | ValueType::One(Plain::AnyInt { .. }) => None,
+        ValueType::SetOf {
+            plain: Plain::AnyInt { .. },
+            ..
+        } => None,
+        _ => Some(value_type.at()),
+    }
+}
+
+/// Whether the type binds each element of an array of variables.
+pub(crate) fn is_bound(value_type: &ValueType) -> bool
+    ensures { result ≡ rules.is_bound (type_of value_type.now) }
+{
+    match value_type {
+        ValueType::One(Plain::Within(_)) => true,
         _ => false,
     }
 }

@@ -1,3 +1,9 @@
 pub mod Ranges
-pub mod Kept
 pub mod Merging
+pub mod Places
+pub mod Words
+pub mod Heads
+pub mod Changes
+pub mod Lists
+pub mod Runs
+pub mod Kept

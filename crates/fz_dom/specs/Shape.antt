@@ -1,7 +1,6 @@
--- What the readers of a domain answer, and how a domain is kept: its ends and its size always, its ranges only where
--- there are two or more.
-use Rattle.std.specs.Prelude.{◌≡◌, ℕ, ℤ, pos, ◌≤ℤ◌, ◌<ℤ◌, List, [], ◌∷◌, nat_eq, if◌then◌else◌}
-use Rattle.fz_sets.specs.Sets.{AreRanges, AreWithinLimits, IsInSet, set_size}
+-- What the readers of a domain answer.
+use Rattle.std.specs.Prelude.{ℤ, pos, ◌≤ℤ◌, ◌<ℤ◌, List, [], ◌∷◌}
+use Rattle.fz_sets.specs.Sets.{AreRanges, AreWithinLimits, IsInSet}
 
 -- what holds of the ranges of every domain
 abbrev pub IsDomain : List (ℤ × ℤ) → Type 0
@@ -31,23 +30,3 @@ IsNoneFrom rs v = (z : ℤ) → IsInSet rs z → z <ℤ v
 
 abbrev pub IsNoneAbove : List (ℤ × ℤ) → ℤ → Type 0
 IsNoneAbove rs v = (z : ℤ) → IsInSet rs z → z ≤ℤ v
-
--- the ranges where there are two or more, else none
-abbrev pub several : List (ℤ × ℤ) → List (ℤ × ℤ)
-several [] = []
-several (r ∷ []) = []
-several (r ∷ s ∷ rs) = r ∷ s ∷ rs
-
--- the ranges of a domain that is kept as these
-abbrev pub ranges_of : ℤ → ℤ → ℕ → List (ℤ × ℤ) → List (ℤ × ℤ)
-ranges_of low high size [] = if nat_eq size 0 then [] else (low, high) ∷ []
-ranges_of low high size (r ∷ rs) = r ∷ rs
-
--- what is kept, from the ranges that it stands for
-pub record IsKept (low high : ℤ) (size : ℕ) (rest ranges : List (ℤ × ℤ)) : Type 0 where
-  pub are_ranges : AreRanges ranges
-  pub within : AreWithinLimits ranges
-  pub low_is : low ≡ least ranges
-  pub high_is : high ≡ greatest ranges
-  pub size_is : size ≡ set_size ranges
-  pub rest_is : rest ≡ several ranges

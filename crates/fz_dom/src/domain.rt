@@ -1,9 +1,14 @@
 //! The domain of a variable.
-ghost use Rattle.std.specs.Prelude.{◌≡◌, ℕ, ℤ, pos, ◌≤ℤ◌, ◌≤◌, ◌<◌, ◌↔◌, List, [], ◌∷◌, length, IfOk, IsOk, IsTrue, slice_index_or, MatchOption};
+ghost use Rattle.std.specs.Prelude.{◌≡◌, ℕ, ℤ, pos, ◌≤ℤ◌, ◌<ℤ◌, ◌+ℤ◌, ◌≤◌, ◌<◌, ◌↔◌, ◌⊎◌, ◌≢◌, List, [], ◌∷◌, length, IfOk, IsOk, OnOk, OnErr, IsTrue, IsNone, IsSome, IfSome, slice_index_or, MatchOption};
 ghost use Rattle.fz_sets.specs.Sets.{AreRanges, AreWithinLimits, AreOneSet, IsInSet, IsWithinLimits, set_size, interval};
 ghost use Rattle.fz_dom.specs.Shape.{IsDomain, least, greatest, IsNextFrom, IsNextAbove, IsNoneFrom, IsNoneAbove};
+ghost use Rattle.fz_dom.specs.Changes.{IsChange, IsFromTo};
+ghost use Rattle.fz_dom.specs.Kept.{kept_ranges, IsKept};
+ghost use Rattle.fz_dom.specs.Wide.{IsPart};
 
-use crate::rising::{next_in, size_of};
+use crate::change::Change;
+use crate::head::Head;
+use crate::rising::{cut, has_between, keep_between, next_in};
 use crate::union::union_of;
 use smallvec::SmallVec;
 use std::alloc::{AllocError, Global};
@@ -15,25 +20,20 @@ use std::marker::Model;
 /// between one and the next that isn't in the set.
 #[derive(Drop)]
 pub struct Dom {
-    /// The least number, or 0 where there is none.
-    low: i32,
-    /// The greatest number, or 0 where there is none.
-    high: i32,
-    /// How many numbers there are.
-    size: u32,
-    /// The ranges where there are two or more, else nothing.
+    head: Head,
+    /// The ranges where they are several and more than 64 wide, else nothing.
     rest: SmallVec<(i32, i32), 2>,
 }
 
 impl Model for Dom {
     ghost use Rattle.std.specs.Prelude.{ℤ, List};
-    ghost use Rattle.fz_dom.specs.Shape.{ranges_of, IsKept};
+    ghost use Rattle.fz_dom.specs.Kept.{kept_ranges, IsKept};
 
     ghost Value = { List (ℤ × ℤ) };
 
-    ghost view = { λ d. ranges_of d.low d.high d.size d.rest.items };
+    ghost view = { λ d. kept_ranges d.head d.rest.items };
 
-    ghost invariant = { λ d. IsKept d.low d.high d.size d.rest.items (ranges_of d.low d.high d.size d.rest.items) };
+    ghost invariant = { λ d. IsKept d.head d.rest.items };
 }
 
 impl Dom {
@@ -63,9 +63,7 @@ impl Dom {
         ensures { result ≡ [] }
     {
         Dom {
-            low: 0,
-            high: 0,
-            size: 0,
+            head: Head::empty(),
             rest: SmallVec::new(alloc),
         }
     }
@@ -79,9 +77,7 @@ impl Dom {
             return Dom::empty(alloc);
         }
         Dom {
-            low,
-            high,
-            size: high.abs_diff(low) + 1,
+            head: Head::interval(low, high),
             rest: SmallVec::new(alloc),
         }
     }
@@ -91,16 +87,10 @@ impl Dom {
         requires within { AreWithinLimits ranges.now }
         ensures { IfOk result (λ d. d ≡ ranges.now) }
     {
-        match ranges {
-            [] => Ok(Dom::empty(alloc)),
-            [(low, high)] => Ok(Dom::interval(alloc, *low, *high)),
-            [first, .., last] => Ok(Dom {
-                low: first.0,
-                high: last.1,
-                size: size_of(ranges),
-                rest: SmallVec::from_slice(alloc, ranges)?,
-            }),
+        if ranges.is_empty() {
+            return Ok(Dom::empty(alloc));
         }
+        Ok(Dom::from_several(SmallVec::from_slice(alloc, ranges)?))
     }
 
     /// Whether no number is in the set.
@@ -109,7 +99,7 @@ impl Dom {
         ensures no_member { IsTrue result ↔ ((x : ℤ) → IsInSet self.now x → ⊥) }
         ensures domain { IsDomain self.now }
     {
-        self.size == 0
+        self.head.size == 0
     }
 
     /// The least number in the set, which isn't empty.
@@ -121,7 +111,7 @@ impl Dom {
         ensures limits { IsWithinLimits result }
         ensures domain { IsDomain self.now }
     {
-        self.low
+        self.head.low
     }
 
     /// The greatest number in the set, which isn't empty.
@@ -133,7 +123,7 @@ impl Dom {
         ensures limits { IsWithinLimits result }
         ensures domain { IsDomain self.now }
     {
-        self.high
+        self.head.high
     }
 
     /// How many numbers are in the set.
@@ -142,7 +132,7 @@ impl Dom {
         ensures bound { result ≤ 4294967293 }
         ensures domain { IsDomain self.now }
     {
-        u64::from(self.size)
+        u64::from(self.head.size)
     }
 
     /// Whether exactly one number is in the set.
@@ -151,7 +141,7 @@ impl Dom {
         ensures one { IsTrue result ↔ ((x : ℤ) × (self.now ≡ (x, x) ∷ [])) }
         ensures domain { IsDomain self.now }
     {
-        self.size == 1
+        self.head.size == 1
     }
 
     /// How many ranges the set has.
@@ -160,7 +150,7 @@ impl Dom {
         ensures domain { IsDomain self.now }
     {
         if self.rest.is_empty() {
-            usize::from(self.size != 0)
+            self.head.range_count()
         } else {
             self.rest.len()
         }
@@ -173,7 +163,7 @@ impl Dom {
         ensures domain { IsDomain self.now }
     {
         if self.rest.is_empty() {
-            (self.low, self.high)
+            self.head.range_at(index)
         } else {
             self.rest[index]
         }
@@ -182,24 +172,40 @@ impl Dom {
     /// Another domain of the same numbers.
     ///
     /// # Errors
-    /// `AllocError` where there is no memory for its ranges. A domain of at most one range takes none.
+    /// `AllocError` where there is no memory for its ranges. A domain of at most one range, or at most 64 wide, takes none.
     pub fn copy(&self) -> Result<Dom, AllocError>
         ensures same { IfOk result (λ d. d ≡ self.now) }
         ensures succeeds { length self.now ≤ 1 → IsOk result }
+        ensures narrow { greatest self.now ≤ℤ (least self.now +ℤ pos 63) → IsOk result }
         ensures domain { IsDomain self.now }
     {
         let alloc = *self.rest.allocator();
-        let rest = if self.rest.is_empty() {
-            SmallVec::new(alloc)
-        } else {
-            SmallVec::from_slice(alloc, self.rest.as_slice())?
-        };
+        let rest = SmallVec::from_slice(alloc, self.rest.as_slice())?;
         Ok(Dom {
-            low: self.low,
-            high: self.high,
-            size: self.size,
+            head: self.head,
             rest,
         })
+    }
+
+    /// Writes the numbers of another domain over its own, and keeps its room for ranges.
+    ///
+    /// # Errors
+    /// `AllocError` where there is no memory for the ranges; it is then left as it was. A domain of at most one range, or
+    /// at most 64 wide, takes none.
+    pub fn copy_from(&mut self, other: &Dom) -> Result<(), AllocError>
+        ensures same { OnOk result (self.new ≡ other.now) }
+        ensures err { OnErr result (self.new ≡ self.old) }
+        ensures succeeds { length other.now ≤ 1 → IsOk result }
+        ensures narrow { greatest other.now ≤ℤ (least other.now +ℤ pos 63) → IsOk result }
+        ensures domain { IsDomain other.now }
+    {
+        if !other.rest.is_empty() {
+            self.rest.reserve(other.rest.len())?;
+        }
+        self.rest.clear();
+        self.rest.extend_from_slice(other.rest.as_slice())?;
+        self.head = other.head;
+        Ok(())
     }
 
     /// Whether the two are the same set.
@@ -208,18 +214,27 @@ impl Dom {
         ensures one_set { IsTrue result ↔ AreOneSet self.now other.now }
         ensures domain { IsDomain self.now }
     {
-        self.is_kept_alike(other)
+        if self.size() != other.size() {
+            return false;
+        }
+        self.has_ranges_of(other)
     }
 
-    fn is_kept_alike(&self, other: &Dom) -> bool
+    fn has_ranges_of(&self, other: &Dom) -> bool
         ensures same { IsTrue result ↔ (self.now ≡ other.now) }
         ensures domain { IsDomain self.now }
         ensures other_domain { IsDomain other.now }
     {
-        if self.low != other.low || self.high != other.high || self.size != other.size {
+        let count = self.range_count();
+        if other.range_count() != count {
             return false;
         }
-        self.rest.as_slice() == other.rest.as_slice()
+        for i in 0..count {
+            if self.range_at(i) != other.range_at(i) {
+                return false;
+            }
+        }
+        true
     }
 
     /// Whether a number is in the set.
@@ -227,7 +242,10 @@ impl Dom {
         ensures member { IsTrue result ↔ IsInSet self.now value }
         ensures domain { IsDomain self.now }
     {
-        match self.next_from(value) {
+        if self.rest.is_empty() {
+            return self.head.contains(value);
+        }
+        match next_in(self.rest.as_slice(), value) {
             Some(next) => next == value,
             None => false,
         }
@@ -238,13 +256,13 @@ impl Dom {
         ensures next { MatchOption result (IsNoneFrom self.now value) (λ y. IsNextFrom self.now value y) }
         ensures domain { IsDomain self.now }
     {
-        if self.size == 0 || value > self.high {
+        if self.head.size == 0 || value > self.head.high {
             return None;
         }
-        if value <= self.low {
-            Some(self.low)
+        if value <= self.head.low {
+            Some(self.head.low)
         } else if self.rest.is_empty() {
-            Some(value)
+            Some(self.head.next_from(value))
         } else {
             next_in(self.rest.as_slice(), value)
         }
@@ -255,9 +273,175 @@ impl Dom {
         ensures next { MatchOption result (IsNoneAbove self.now value) (λ y. IsNextAbove self.now value y) }
         ensures domain { IsDomain self.now }
     {
-        if self.size == 0 || value >= self.high {
+        if self.head.size == 0 || value >= self.head.high {
             return None;
         }
         self.next_from(value + 1)
     }
+
+    /// Keeps the numbers at or above a value.
+    pub fn keep_from(&mut self, value: i32) -> Change
+        ensures change { IsChange result (λ x. value ≤ℤ x) self.old self.new }
+        ensures domain { IsDomain self.new }
+    {
+        self.keep_range(value, i32::MAX)
+    }
+
+    /// Keeps the numbers at or below a value.
+    pub fn keep_to(&mut self, value: i32) -> Change
+        ensures change { IsChange result (λ x. x ≤ℤ value) self.old self.new }
+        ensures domain { IsDomain self.new }
+    {
+        self.keep_range(i32::MIN, value)
+    }
+
+    /// Keeps one number.
+    pub fn keep_only(&mut self, value: i32) -> Change
+        ensures change { IsChange result (λ x. x ≡ value) self.old self.new }
+        ensures domain { IsDomain self.new }
+    {
+        self.keep_range(value, value)
+    }
+
+    /// Keeps the numbers from a low to a high, both among them.
+    pub fn keep_range(&mut self, low: i32, high: i32) -> Change
+        ensures change { IsChange result (λ x. IsFromTo low high x) self.old self.new }
+        ensures domain { IsDomain self.new }
+        ensures old_domain { IsDomain self.old }
+    {
+        if self.rest.is_empty() {
+            return self.head.keep_range(low, high);
+        }
+        if !has_between(self.rest.as_slice(), low, high) {
+            return Change::Wiped;
+        }
+        if low <= self.head.low && self.head.high <= high {
+            return Change::Same;
+        }
+        let (low, high) = (low.max(self.head.low), high.min(self.head.high));
+        keep_between(&mut self.rest, low, high);
+        self.head = settle(&mut self.rest);
+        Change::Changed
+    }
+
+    /// Removes a number.
+    ///
+    /// # Errors
+    /// `AllocError` where there is no memory for its ranges; it is then left as it was. A domain that is at most 64 wide,
+    /// or has no hole, takes none.
+    pub fn remove(&mut self, value: i32) -> Result<Change, AllocError>
+        ensures change { IfOk result (λ r. IsChange r (λ x. x ≢ value) self.old self.new) }
+        ensures err { OnErr result (self.new ≡ self.old) }
+        ensures one { length self.old ≤ 1 → IsOk result }
+        ensures narrow { greatest self.old ≤ℤ (least self.old +ℤ pos 63) → IsOk result }
+        ensures domain { IsDomain self.new }
+    {
+        self.remove_range(value, value)
+    }
+
+    /// Removes the numbers from a low to a high, both among them.
+    ///
+    /// # Errors
+    /// `AllocError` where there is no memory for its ranges; it is then left as it was. A domain that is at most 64 wide,
+    /// or has no hole, takes none.
+    pub fn remove_range(&mut self, low: i32, high: i32) -> Result<Change, AllocError>
+        ensures change { IfOk result (λ r. IsChange r (λ x. IsFromTo low high x → ⊥) self.old self.new) }
+        ensures err { OnErr result (self.new ≡ self.old) }
+        ensures one { length self.old ≤ 1 → IsOk result }
+        ensures narrow { greatest self.old ≤ℤ (least self.old +ℤ pos 63) → IsOk result }
+        ensures domain { IsDomain self.new }
+    {
+        if high < low || high < self.head.low || self.head.high < low {
+            return Ok(if self.head.size == 0 {
+                Change::Wiped
+            } else {
+                Change::Same
+            });
+        }
+        if self.head.high <= high {
+            if low <= self.head.low {
+                return Ok(Change::Wiped);
+            }
+            let first = self.head.low;
+            return Ok(self.keep_range(first, low - 1));
+        }
+        if low <= self.head.low {
+            let last = self.head.high;
+            return Ok(self.keep_range(high + 1, last));
+        }
+        self.cut(low, high)
+    }
+
+    /// Removes numbers between its ends.
+    fn cut(&mut self, low: i32, high: i32) -> Result<Change, AllocError>
+        requires from { least self.old <ℤ low }
+        requires to { high <ℤ greatest self.old }
+        requires order { low ≤ℤ high }
+        ensures change { IfOk result (λ r. IsChange r (λ x. IsFromTo low high x → ⊥) self.old self.new) }
+        ensures err { OnErr result (self.new ≡ self.old) }
+        ensures narrow { greatest self.old ≤ℤ (least self.old +ℤ pos 63) → IsOk result }
+        ensures one { length self.old ≤ 1 → IsOk result }
+        ensures domain { IsDomain self.new }
+    {
+        if self.rest.is_empty() && self.head.high.abs_diff(self.head.low) < 64 {
+            return Ok(self.head.cut(low, high));
+        }
+        let Some(ranges) = self.cut_ranges(low, high)? else {
+            return Ok(Change::Same);
+        };
+        *self = Dom::from_several(ranges);
+        Ok(Change::Changed)
+    }
+
+    /// The ranges without numbers between its ends, where it is more than 64 wide; `None` where it has none of them.
+    fn cut_ranges(&self, low: i32, high: i32) -> Result<Option<SmallVec<(i32, i32), 2>>, AllocError>
+        requires wide { (least self.now +ℤ pos 63) <ℤ greatest self.now }
+        requires from { least self.now <ℤ low }
+        requires to { high <ℤ greatest self.now }
+        requires order { low ≤ℤ high }
+        ensures none { IfOk result
+            (λ o. IsNone o → (x : ℤ) → IsInSet self.now x → IsFromTo low high x → ⊥) }
+        ensures some { IfOk result
+            (λ o. IfSome o (λ v. IsPart (λ x. IsFromTo low high x → ⊥) self.now v.items)) }
+        ensures member { IfOk result
+            (λ o. IsSome o → (x : ℤ) × IsInSet self.now x × IsFromTo low high x) }
+        ensures one { length self.now ≤ 1 → IsOk result }
+    {
+        let alloc = *self.rest.allocator();
+        if self.rest.is_empty() {
+            let left = (self.head.low, low - 1);
+            let right = (high + 1, self.head.high);
+            return Ok(Some(SmallVec::from_buf(alloc, [left, right])));
+        }
+        if !has_between(self.rest.as_slice(), low, high) {
+            return Ok(None);
+        }
+        Ok(Some(cut(alloc, self.rest.as_slice(), low, high)?))
+    }
+
+    fn from_several(ranges: SmallVec<(i32, i32), 2>) -> Dom
+        requires ranges { AreRanges ranges.items }
+        requires within { AreWithinLimits ranges.items }
+        requires some { 0 < length ranges.items }
+        ensures { result ≡ ranges.items }
+    {
+        let mut rest = ranges;
+        let head = settle(&mut rest);
+        Dom { head, rest }
+    }
+}
+
+/// What is kept of ranges, and drops them where that is all.
+fn settle(ranges: &mut SmallVec<(i32, i32), 2>) -> Head
+    requires ranges { AreRanges ranges.old.items }
+    requires within { AreWithinLimits ranges.old.items }
+    requires some { 0 < length ranges.old.items }
+    ensures kept { IsKept result ranges.new.items }
+    ensures set { kept_ranges result ranges.new.items ≡ ranges.old.items }
+{
+    let head = Head::of(ranges.as_slice());
+    if ranges.len() == 1 || head.bits != 0 {
+        ranges.clear();
+    }
+    head
 }

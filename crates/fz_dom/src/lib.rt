@@ -2,10 +2,14 @@
 //! A domain is made from any list of ranges and read by its ends, its size, its members and its ranges.
 #![tactic(auto)]
 
+mod change;
 mod domain;
+mod head;
 mod rising;
 mod union;
+mod word;
 
+pub use change::Change;
 pub use domain::Dom;
 
 #[cfg(test)]

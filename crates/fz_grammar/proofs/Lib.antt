@@ -4,3 +4,4 @@ pub mod Fronts
 pub mod Steps
 pub mod Levels
 pub mod One
+pub mod Carrying

@@ -2,3 +2,4 @@ pub mod Grammar
 pub mod Reading
 pub mod Tables
 pub mod Verdict
+pub mod Carried

@@ -1,8 +1,9 @@
-pub mod Lexing
-pub mod LexemeLaws
-pub mod TokenLaws
-pub mod GrammarLaws
-pub mod ReadingLaws
-pub mod TokenTests
-pub mod ExampleLemmas
-pub mod ConstraintExamples
+pub mod Tables
+pub mod KindLaws
+pub mod RuleLaws
+pub mod SyntaxProofs
+pub mod Bytes
+pub mod LexemeProofs
+pub mod TokenProofs
+pub mod WithinProofs
+pub mod ReadProofs

@@ -1,82 +1,125 @@
--- How some texts are read.
-use Rattle.std.specs.Prelude.{◌≡◌, ℕ, pos, List, [], ◌∷◌, codes, false}
-use Rattle.fz_spec.specs.declared.kind.Kind.TheVariants.{Int}
-use Rattle.fz_spec.specs.declared.code.Code.{Code}
-use Rattle.fz_spec.specs.declared.code.Code.TheVariants.{UnknownByte, LargeNumber, UnexpectedToken, DeclaredTwice, UnknownName, WrongType, WrongArity, UnknownConstraint, Unsupported, WrongLengths}
-use Rattle.fz_spec.specs.declared.builtin.Builtin.TheVariants.{IntNe}
-use Rattle.fz_spec.specs.declared.term.Term.TheVariants.{Var}
-use Rattle.fz_spec.specs.Constraints.{One}
-use Rattle.fz_spec.specs.declared.goal.Goal.TheVariants.{Satisfy}
-use Rattle.fz_spec.specs.Instance.{Instance}
-use Rattle.fz_language.specs.Tokens.{HasFault}
-use Rattle.fz_language.specs.Reads.{Reads, Accepted, Refused}
+-- Programs whose rules come in the order that is meant, and what an accepted one means.
+use Rattle.std.specs.Prelude.{◌≡◌, ℕ, ℤ, pos, Bool, true, false, List, [], ◌∷◌, Some, None, codes}
+use Rattle.fz_spec.specs.declared.kind.Kind.TheVariants as kinds
+use Rattle.fz_spec.specs.declared.builtin.Builtin.TheVariants.{IntEq, IntLinLe, SetIn}
+use Rattle.fz_spec.specs.declared.term.Term.TheVariants.{Num, Var}
+use Rattle.fz_spec.specs.declared.goal.Goal.TheVariants as goals
+use Rattle.fz_spec.specs.Constraints as meaning
+use Rattle.fz_language.specs.declared.fault.RuleFault.{RuleFault}
+use Rattle.fz_language.specs.declared.fault.RuleFault.TheVariants.{Unsupported, UnknownConstraint, WrongArity, UnknownName, WrongType, WrongLengths, DeclaredTwice}
+use Rattle.fz_language.specs.Trees.{Name, Integer, Number, Whole, Float, SetLiteral, Range, Plain, AnyInt, Within, ValueType, One, Basic, Truth, Numeral, Named, Expression, Scalar, Listed, Annotation, Item, Variable, Array, Constraint, Satisfy, Program}
+use Rattle.fz_language.specs.Trees as trees
+use Rattle.fz_language.specs.Rules.{Fault}
+use Rattle.fz_language.specs.Models.{model_of}
+use Rattle.fz_language.specs.Reads.{program_faults}
 
--- a variable of three values, which is printed
-abbrev pub three_values : List ℕ
-three_values = codes "var 1..3: x :: output_var; solve satisfy;"
+abbrev pub name : List ℕ → ℕ → Name
+name bytes at = record { bytes = bytes; at = at }
 
-abbrev pub three_values_model : Instance
-three_values_model = record {
-  variables = record { kind = Int; set = (pos 1, pos 3) ∷ [] } ∷ [];
-  constraints = [];
-  goal = Satisfy;
-  outputs = record { name = codes "x"; kind = Int; array = false; shape = []; terms = Var 0 ∷ [] } ∷ [];
-  search = [];
-}
+abbrev pub number : ℤ → ℕ → Number
+number value at = Whole (record { value = value; at = at })
 
-abbrev pub ThreeValues : Type 0
-ThreeValues = Reads three_values (Accepted three_values_model)
+abbrev pub named : List ℕ → ℕ → Basic
+named bytes at = Named (name bytes at)
 
-abbrev pub EmptyModel : Type 0
-EmptyModel = Reads (codes "solve satisfy;") (Accepted (record { variables = []; constraints = []; goal = Satisfy; outputs = []; search = [] }))
+abbrev pub numeral : ℤ → ℕ → Basic
+numeral value at = Numeral (number value at)
 
-abbrev pub EmptySet : Type 0
-EmptySet = Reads (codes "var 3..1: x; solve satisfy;") (Accepted (record { variables = record { kind = Int; set = [] } ∷ []; constraints = []; goal = Satisfy; outputs = []; search = [] }))
+abbrev pub list : ℕ → List Basic → Expression
+list at elements = Listed (record { at = at; elements = elements })
 
-abbrev pub LargeNumberText : Type 0
-LargeNumberText = Reads (codes "var 1..2147483647: x; solve satisfy;") (Refused LargeNumber 1 8)
+abbrev pub call : Name → List Expression → Item
+call n arguments = Constraint (record { name = n; arguments = arguments; annotations = [] })
 
-abbrev pub NoLastSemicolon : Type 0
-NoLastSemicolon = Reads (codes "solve satisfy") (Refused UnexpectedToken 1 14)
+-- `var 1..2: NAME;` with its set at a place
+abbrev pub one_or_two : ℕ → Name → Item
+one_or_two at n = Variable (record { value_type = One (Within (Range (number (pos 1) at) (number (pos 2) at))); name = n; annotations = []; value = None })
 
-abbrev pub EmptyText : Type 0
-EmptyText = Reads [] (Refused UnexpectedToken 1 1)
+abbrev pub program : List Item → Program
+program items = record { items = items; solve = record { annotations = []; method = Satisfy 0 } }
 
-abbrev pub DeclaredTwiceText : Type 0
-DeclaredTwiceText = Reads (codes "var 1..2: x; var 1..2: x; solve satisfy;") (Refused DeclaredTwice 1 24)
+abbrev pub fault : RuleFault → ℕ → Fault
+fault rule at = record { rule = rule; at = at }
 
--- a byte that begins no token, and no fault before it
-abbrev pub unknown_byte : List ℕ
-unknown_byte = codes "  var 1..2: x; #"
+-- `constraint int_ne(x);`: the number of arguments comes before the unknown name
+abbrev pub ArityBeforeNames : Type 0
+ArityBeforeNames = program_faults (program (call (name (codes "int_ne") 11) (Scalar (named (codes "x") 18) ∷ []) ∷ [])) ≡ fault WrongArity 11 ∷ fault UnknownName 18 ∷ []
 
-abbrev pub UnknownByteText : Type 0
-UnknownByteText = HasFault unknown_byte UnknownByte 15 × ((code : Code) (at : ℕ) → HasFault unknown_byte code at → at ≡ 15)
+-- `constraint int_ne(true,x);`: the unknown name comes before the Boolean, though it stands behind it
+abbrev pub NamesBeforeTypes : Type 0
+NamesBeforeTypes = program_faults (program (call (name (codes "int_ne") 11) (Scalar (Truth true 18) ∷ Scalar (named (codes "x") 23) ∷ []) ∷ [])) ≡ fault UnknownName 23 ∷ fault WrongType 18 ∷ fault WrongType 23 ∷ []
 
--- a constraint that two variables differ
-abbrev pub not_equal_model : Instance
-not_equal_model = record {
-  variables = record { kind = Int; set = (pos 1, pos 2) ∷ [] } ∷ record { kind = Int; set = (pos 1, pos 2) ∷ [] } ∷ [];
-  constraints = record { name = IntNe; arguments = One (Var 0) ∷ One (Var 1) ∷ [] } ∷ [];
-  goal = Satisfy;
-  outputs = record { name = codes "x"; kind = Int; array = false; shape = []; terms = Var 0 ∷ [] } ∷ record { name = codes "y"; kind = Int; array = false; shape = []; terms = Var 1 ∷ [] } ∷ [];
-  search = [];
-}
+-- `constraint int_lin_le([1,true],[3],4);`: the element of a wrong type, at its place
+abbrev pub TypesOfElements : Type 0
+TypesOfElements = program_faults (program (call (name (codes "int_lin_le") 11) (list 22 (numeral (pos 1) 23 ∷ Truth true 25 ∷ []) ∷ list 31 (numeral (pos 3) 32 ∷ []) ∷ Scalar (numeral (pos 4) 35) ∷ []) ∷ [])) ≡ fault WrongType 25 ∷ []
 
-abbrev pub NotEqual : Type 0
-NotEqual = Reads (codes "var 1..2: x :: output_var; var 1..2: y :: output_var; constraint int_ne(x,y); solve satisfy;") (Accepted not_equal_model)
-
-abbrev pub UnknownNameText : Type 0
-UnknownNameText = Reads (codes "constraint int_ne(x,1); solve satisfy;") (Refused UnknownName 1 19)
-
-abbrev pub TooFewArguments : Type 0
-TooFewArguments = Reads (codes "constraint int_ne(1); solve satisfy;") (Refused WrongArity 1 12)
-
-abbrev pub UnknownConstraintText : Type 0
-UnknownConstraintText = Reads (codes "var 1..2: x; constraint foo(x); solve satisfy;") (Refused UnknownConstraint 1 25)
-
+-- `constraint int_lin_le([1,2],[3],4);`: the lists differ in length
 abbrev pub UnequalLists : Type 0
-UnequalLists = Reads (codes "constraint int_lin_le([1,2],[3],4); solve satisfy;") (Refused WrongLengths 1 12)
+UnequalLists = program_faults (program (call (name (codes "int_lin_le") 11) (list 22 (numeral (pos 1) 23 ∷ numeral (pos 2) 25 ∷ []) ∷ list 28 (numeral (pos 3) 29 ∷ []) ∷ Scalar (numeral (pos 4) 32) ∷ []) ∷ [])) ≡ fault WrongLengths 11 ∷ []
 
--- a variable where a number is asked
-abbrev pub WrongTypeText : Type 0
-WrongTypeText = Reads (codes "var 1..2: x; constraint int_lin_le([x],[x],4); solve satisfy;") (Refused WrongType 1 37)
+-- `constraint foo(1.5);`: the float comes before the unknown constraint; `constraint set_union(x);` isn't supported
+abbrev pub FloatsBeforeConstraints : Type 0
+FloatsBeforeConstraints = program_faults (program (call (name (codes "foo") 11) (Scalar (Numeral (Float 15)) ∷ []) ∷ [])) ≡ fault Unsupported 15 ∷ fault UnknownConstraint 11 ∷ []
+
+abbrev pub UnsupportedConstraint : Type 0
+UnsupportedConstraint = program_faults (program (call (name (codes "set_union") 11) [] ∷ call (name (codes "int_le_imp") 40) [] ∷ [])) ≡ fault Unsupported 11 ∷ fault Unsupported 40 ∷ []
+
+-- `array [2..3] of int: x = [1,2];` behind `var 1..2: x;`: the index set comes before the name that is declared twice
+abbrev pub LengthsBeforeTwice : Type 0
+LengthsBeforeTwice =
+    program_faults
+    (program
+    (one_or_two 4 (name (codes "x") 10)
+    ∷ Array
+    (record {
+      low = record { value = pos 2; at = 20 };
+      high = record { value = pos 3; at = 23 };
+      variable = false;
+      value_type = One (AnyInt 29);
+      name = name (codes "x") 34;
+      annotations = [];
+      list = record { at = 38; elements = numeral (pos 1) 39 ∷ numeral (pos 2) 41 ∷ [] };
+    })
+    ∷ [])) ≡ fault WrongLengths 34 ∷ fault DeclaredTwice 34 ∷ []
+
+-- `var 1..2: x; constraint int_lin_le([2],[x],3);` is accepted, and this is its model
+abbrev pub linear : Program
+linear = program (one_or_two 4 (name (codes "x") 10) ∷ call (name (codes "int_lin_le") 24) (list 35 (numeral (pos 2) 36 ∷ []) ∷ list 39 (named (codes "x") 40 ∷ []) ∷ Scalar (numeral (pos 3) 43) ∷ []) ∷ [])
+
+pub record LinearIsRead : Type 0 where
+  pub keeps : program_faults linear ≡ []
+  pub model : model_of linear ≡ record {
+    variables = record { kind = kinds.Int; set = (pos 1, pos 2) ∷ [] } ∷ [];
+    constraints = record { name = IntLinLe; arguments = meaning.Numbers (pos 2 ∷ []) ∷ meaning.Terms (Var 0 ∷ []) ∷ meaning.One (Num (pos 3)) ∷ [] } ∷ [];
+    goal = goals.Satisfy;
+    outputs = [];
+    search = [];
+  }
+
+-- `var 1..2: x; var 1..2: y = x; array [1..1] of var 4..5: a :: output_array([1..1]) = [y];`: the constraints that declarations add, in order, and
+-- the array that is printed
+abbrev pub bound : Program
+bound =
+    program
+    (one_or_two 4 (name (codes "x") 10)
+    ∷ Variable (record { value_type = One (Within (Range (number (pos 1) 17) (number (pos 2) 20))); name = name (codes "y") 23; annotations = []; value = Some (named (codes "x") 27) })
+    ∷ Array
+    (record {
+      low = record { value = pos 1; at = 37 };
+      high = record { value = pos 1; at = 40 };
+      variable = true;
+      value_type = One (Within (Range (number (pos 4) 50) (number (pos 5) 53)));
+      name = name (codes "a") 56;
+      annotations = record {
+        name = name (codes "output_array") 61;
+        arguments = Some (trees.More (trees.Brackets 74 (trees.More (trees.Simple (trees.Literal (Range (number (pos 1) 75) (number (pos 1) 78)))) trees.Nil)) trees.Nil);
+      } ∷ [];
+      list = record { at = 84; elements = named (codes "y") 85 ∷ [] };
+    })
+    ∷ [])
+
+pub record BoundIsRead : Type 0 where
+  pub keeps : program_faults bound ≡ []
+  pub constraints : (model_of bound).constraints ≡ record { name = IntEq; arguments = meaning.One (Var 1) ∷ meaning.One (Var 0) ∷ [] }
+      ∷ record { name = SetIn; arguments = meaning.One (Var 1) ∷ meaning.Set ((pos 4, pos 5) ∷ []) ∷ [] } ∷ []
+  pub outputs : (model_of bound).outputs ≡ record { name = codes "a"; kind = kinds.Int; array = true; shape = (pos 1, pos 1) ∷ []; terms = Var 1 ∷ [] } ∷ []

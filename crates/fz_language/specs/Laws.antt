@@ -1,16 +1,16 @@
 -- Laws that the definitions keep.
-use Rattle.std.specs.Prelude.{◌≡◌, ℕ, List}
-use Rattle.fz_language.specs.Tokens.{Token, AreTokensOf}
-use Rattle.fz_language.specs.Grammar.{Program, Spells}
-use Rattle.fz_language.specs.Reads.{Reading, Reads}
+use Rattle.std.specs.Prelude.{◌≡◌, ◌⊎◌, ℕ, List, []}
+use Rattle.fz_spec.specs.declared.code.Code.{Code}
+use Rattle.fz_language.specs.Trees.{Program}
+use Rattle.fz_language.specs.Reads.{program_faults, IsFirst, Reading, Reads}
 
--- a text has one list of tokens at most
-abbrev pub TokensAreOne : Type 0
-TokensAreOne = (text : List ℕ) (ts us : List Token) → AreTokensOf text ts → AreTokensOf text us → ts ≡ us
+-- a program keeps all rules, or it has a first one that it breaks
+abbrev pub EachIsJudged : Type 0
+EachIsJudged = (p : Program) → (program_faults p ≡ []) ⊎ ((c : Code) × (at : ℕ) × IsFirst (program_faults p) c at)
 
--- tokens spell one program at most
-abbrev pub SpellingIsOne : Type 0
-SpellingIsOne = (ts : List Token) (p q : Program) → Spells ts p → Spells ts q → p ≡ q
+-- and one such rule at most
+abbrev pub OneFirstRule : Type 0
+OneFirstRule = (p : Program) (c d : Code) (a b : ℕ) → IsFirst (program_faults p) c a → IsFirst (program_faults p) d b → (c ≡ d) × (a ≡ b)
 
 -- a text has one reading at most
 abbrev pub ReadingIsOne : Type 0

@@ -7,5 +7,8 @@
 #![tactic(auto)]
 
 pub mod examples;
+pub mod fault;
+pub mod keyword;
 pub mod laws;
 pub mod sign;
+pub mod token_kind;

@@ -1,6 +1,7 @@
 pub mod Runs
-pub mod Places
 pub mod Numbers
+pub mod NumberTokens
+pub mod Signs
+pub mod Strings
 pub mod Founds
-pub mod Wholes
-pub mod Callers
+pub mod Blanks

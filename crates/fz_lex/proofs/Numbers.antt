@@ -1,133 +1,333 @@
--- From runs of digits to numbers.
-use Rattle.std.proofs.Common.{◌≡◌, ◌≢◌, ℕ, ℤ, pos, ◌-ℤ◌, ◌≤ℤ◌, ◌+◌, ◌<◌, ◌≤◌, ◌⊎◌, min, Bool, true, false, List, ◌∷◌, length, IsTrue, slice_index, slice_range, subst, sym, ap, ◌∙◌, inl, inr, arith, refl}
-use Rattle.std.proofs.lemmas.Bool.{both_ways}
-use Rattle.std.proofs.lemmas.List.{get_or_past}
-use Rattle.std.proofs.lemmas.Int.{ints}
-use Rattle.std.specs.Char.{is_ascii_digit}
-use Rattle.fz_sets.specs.Sets.{IsWithinLimits, GREATEST, LEAST}
-use Rattle.fz_language.specs.Tokens.{is_space, is_word_start, digits_value, IsNumber, BeginsNoToken, BeginsLargeNumber}
-use Rattle.fz_language.proofs.Lexing.{are_digits, slice_cons, number_is_token, begins_no_token, begins_sign}
-use Rattle.fz_lex.specs.declared.token.TokenKind.TheVariants as kind
-use Rattle.fz_lex.specs.Steps.{Passes, IsRun, IsFoundAt}
+-- Numbers at a place.
+use Rattle.std.proofs.Common.{◌≡◌, ◌≢◌, ℕ, ◌+◌, ◌<◌, ◌≤◌, ◌⊎◌, min, Bool, true, false, List, [], ◌∷◌, ◌++◌, length, slice_index, slice_range, subst, sym, ap, ◌∙◌, ◌||◌, ◌==◌, Option, Some, None, MatchOption, eq-eqb, eqb-true, true≢false, refl, inl, inr, arith}
+use Rattle.std.specs.List.{list_all}
+use Rattle.std.specs.Char.{is_ascii_digit, is_ascii_hexdigit}
+use Rattle.std.proofs.lemmas.Bool.{cases_lt, both_ways}
+use Rattle.std.proofs.lemmas.List.{get_or_past, append-nil}
+use Rattle.fz_language.specs.Tokens.{AreDigits, IsExponent, IsTail, IsBased, is_octal_digit, digits_value}
+use Rattle.fz_language.proofs.Bytes.{head_of, cons_from, split, slice_none, slice_length, slice_all_at, join}
+use Rattle.fz_lex.specs.declared.run.DigitRun.{DigitRun}
+use Rattle.fz_lex.specs.declared.run.TheConstants.{OVER}
+use Rattle.fz_lex.specs.Steps.{IsRun, IsLongest, HasNone, HasNoBased, IsBasedAt, IsBehindSign}
+use Rattle.fz_lex.proofs.Runs.{run_bound, run_exact, run_some, run_digits}
 
--- the first digit of a number: behind a minus, or where the number begins
-abbrev pub StartsNumber : List ℕ → ℕ → ℕ → Type 0
-StartsNumber text at from = ((slice_index text at ≡ 45) × (from ≡ at + 1)) ⊎ (IsTrue (is_ascii_digit (slice_index text at)) × (from ≡ at))
+clash : (p : ℕ → Bool) (x y : ℕ) → x ≡ y → p x ≡ true → p y ≡ false → ⊥
+clash p x y e t f = both_ways (p y) f (subst (λ (n : ℕ). p n ≡ true) e t)
 
-below : (n : ℕ) → 2147483647 ≤ n → LEAST ≤ℤ (pos 0 -ℤ pos n) → ⊥
-below n h f = omega (arith, ints, f)
+-- a byte that passes a test that 0 fails is one of the text
+pub inside : (p : ℕ → Bool) (text : List ℕ) (at : ℕ) → p 0 ≡ false → p (slice_index text at) ≡ true → at < length text
+inside p text at z t = elim (cases_lt at (length text)) [
+  | inl l ↦ l
+  | inr g ↦ absurd (clash p (slice_index text at) 0 (get_or_past text at 0 g) t z)
+]
 
-above : (n : ℕ) → 2147483647 ≤ n → pos n ≤ℤ GREATEST → ⊥
-above n h f = omega (arith, ints, f)
+-- digits that stand somewhere begin with one
+pub first_digit : (p : ℕ → Bool) (text : List ℕ) (start stop : ℕ) → stop ≤ length text → AreDigits p (slice_range text start stop) → (start < stop) × (p (slice_index text start) ≡ true)
+first_digit p text start stop w d = elim (cases_lt start stop) [
+  | inl l ↦ (l, slice_all_at p text start stop start w d.1 (omega arith) l)
+  | inr g ↦ let e : length (slice_range text start stop) ≡ 0 = ap length (slice_none text start stop g) in absurd (omega (arith, d.0, e))
+]
 
-pub within_plain : (n : ℕ) (z : ℤ) → n < 2147483647 → z ≡ pos n → IsWithinLimits z
-within_plain n z h e = (omega (arith, ints), omega (arith, ints))
+-- exponents
 
-pub within_minus : (n : ℕ) (z : ℤ) → n < 2147483647 → z ≡ pos 0 -ℤ pos n → IsWithinLimits z
-within_minus n z h e = (omega (arith, ints), omega (arith, ints))
+-- the parts of an exponent that stands at a place
+pub record ExponentAt (text : List ℕ) (at end : ℕ) : Type 0 where
+  pub letter : (slice_index text at ≡ 101) ⊎ (slice_index text at ≡ 69)
+  pub from : ℕ
+  pub sign : ((from ≡ at + 1) × (is_ascii_digit (slice_index text (at + 1)) ≡ true)) ⊎ ((from ≡ at + 2) × ((slice_index text (at + 1) ≡ 43) ⊎ (slice_index text (at + 1) ≡ 45)))
+  pub digits : AreDigits is_ascii_digit (slice_range text from end)
 
-pub plain_number : (text : List ℕ) (at stop : ℕ) (z : ℤ) → Passes is_ascii_digit text at stop → at < stop → z ≡ pos (digits_value (slice_range text at stop)) → IsNumber z (slice_range text at stop)
-plain_number text at stop z h l e = inl (are_digits text at stop l h.within h.each, e)
+letter_is : (text : List ℕ) (at e : ℕ) → slice_index text at ≡ e → (e ≡ 101) ⊎ (e ≡ 69) → (slice_index text at ≡ 101) ⊎ (slice_index text at ≡ 69)
+letter_is text at e b (inl i) = inl (b ∙ i)
+letter_is text at e b (inr i) = inr (b ∙ i)
 
-pub minus_number : (text : List ℕ) (at stop : ℕ) (z : ℤ) → slice_index text at ≡ 45 → Passes is_ascii_digit text (at + 1) stop → at + 1 < stop → z ≡ pos 0 -ℤ pos (digits_value (slice_range text (at + 1) stop)) → IsNumber z (slice_range text at stop)
-minus_number text at stop z m h l e =
-    let w : stop ≤ length text = h.within in
-    let s : slice_range text at stop ≡ 45 ∷ slice_range text (at + 1) stop =
-    slice_cons text at stop (omega arith) w ∙ ap (λ b. b ∷ slice_range text (at + 1) stop) m in
-    inr (slice_range text (at + 1) stop, s, are_digits text (at + 1) stop l w h.each, e)
+two : (at : ℕ) → (at + 1) + 1 ≡ at + 2
+two at = omega arith
 
-pub number_found : (text : List ℕ) (at from stop : ℕ) (z : ℤ) → at ≤ from → from < stop → IsRun is_ascii_digit text from stop → IsNumber z (slice_range text at stop) → IsWithinLimits z → IsFoundAt text at (record { kind = kind.Number z; stop = stop })
-number_found text at from stop z o l r n f = record {
-  some = omega arith;
-  token = number_is_token text at stop z r.pass.within n r.ends;
-  fine = f;
+signed : (text : List ℕ) (at end s e : ℕ) (ds : List ℕ) → end ≤ length text → (e ≡ 101) ⊎ (e ≡ 69) → AreDigits is_ascii_digit ds → (s ≡ 43) ⊎ (s ≡ 45) → slice_range text at end ≡ e ∷ s ∷ ds → ExponentAt text at end
+signed text at end s e ds w l d i q =
+    let h = head_of text at end e (s ∷ ds) w q in
+    let k = head_of text (at + 1) end s ds w h.others in
+    record {
+      letter = letter_is text at e h.byte l;
+      from = at + 2;
+      sign = inr (refl, elim i [ inl a ↦ inl (k.byte ∙ a) | inr a ↦ inr (k.byte ∙ a) ]);
+      digits = subst (λ (n : ℕ). AreDigits is_ascii_digit (slice_range text n end)) (two at) (subst (AreDigits is_ascii_digit) (sym k.others) d);
+    }
+
+pub exponent_at : (text : List ℕ) (at end : ℕ) → end ≤ length text → IsExponent (slice_range text at end) → ExponentAt text at end
+exponent_at text at end w x = elim x.4 [
+  | inl q ↦
+      let h = head_of text at end x.0 x.1 w q in
+      let d : AreDigits is_ascii_digit (slice_range text (at + 1) end) = subst (AreDigits is_ascii_digit) (sym h.others) x.3 in
+      record { letter = letter_is text at x.0 h.byte x.2; from = at + 1; sign = inl (refl, (first_digit is_ascii_digit text (at + 1) end w d).1); digits = d }
+  | inr r ↦ elim r [
+    | inl q ↦ signed text at end 43 x.0 x.1 w x.2 x.3 (inl refl) q
+    | inr q ↦ signed text at end 45 x.0 x.1 w x.2 x.3 (inr refl) q
+  ]
+]
+
+-- its digits begin behind the sign, if there is one
+same_start : (text : List ℕ) (at from end : ℕ) → IsBehindSign text at from → (x : ExponentAt text at end) → x.from ≡ from
+same_start text at from end b x = elim b [
+  | inl s ↦ elim x.sign [
+    | inl d ↦ elim s.0 [
+      | inl e ↦ absurd (clash is_ascii_digit (slice_index text (at + 1)) 43 e d.1 refl)
+      | inr e ↦ absurd (clash is_ascii_digit (slice_index text (at + 1)) 45 e d.1 refl)
+    ]
+    | inr d ↦ d.0 ∙ sym s.1
+  ]
+  | inr s ↦ elim x.sign [
+    | inl d ↦ d.0 ∙ sym s.2
+    | inr d ↦ elim d.1 [ inl e ↦ absurd (s.0 e) | inr e ↦ absurd (s.1 e) ]
+  ]
+]
+
+pub no_letter : (text : List ℕ) (at : ℕ) → slice_index text at ≢ 101 → slice_index text at ≢ 69 → HasNone IsExponent text at
+no_letter text at m n end w x = elim (exponent_at text at end w x).letter [ inl e ↦ m e | inr e ↦ n e ]
+
+pub no_exponent : (text : List ℕ) (at from : ℕ) → IsBehindSign text at from → is_ascii_digit (slice_index text from) ≡ false → HasNone IsExponent text at
+no_exponent text at from b f end w x =
+    let y = exponent_at text at end w x in
+    let s = same_start text at from end b y in
+    let d : AreDigits is_ascii_digit (slice_range text from end) = subst (λ (n : ℕ). AreDigits is_ascii_digit (slice_range text n end)) s y.digits in
+    both_ways (is_ascii_digit (slice_index text from)) f (first_digit is_ascii_digit text from end w d).1
+
+pub longest_exponent : (text : List ℕ) (at from stop : ℕ) → (slice_index text at ≡ 101) ⊎ (slice_index text at ≡ 69) → IsBehindSign text at from → is_ascii_digit (slice_index text from) ≡ true → IsRun is_ascii_digit text from stop → IsLongest IsExponent text at stop
+longest_exponent text at from stop l b t r =
+    let w : from < length text = inside is_ascii_digit text from refl t in
+    let some = run_some r w t in
+    let d = run_digits r some in
+    record {
+      within = r.pass.within;
+      is = (
+        slice_index text at,
+        slice_range text from stop,
+        l,
+        d,
+        elim b [
+          | inl s ↦ elim s.0 [
+            | inl e ↦ inr (inl (cons_from text at stop _ _ (omega (arith, s.1)) r.pass.within refl (cons_from text (at + 1) stop 43 _ (omega (arith, s.1)) r.pass.within e (ap (λ (n : ℕ). slice_range text n stop) (two at ∙ sym s.1)))))
+            | inr e ↦ inr (inr (cons_from text at stop _ _ (omega (arith, s.1)) r.pass.within refl (cons_from text (at + 1) stop 45 _ (omega (arith, s.1)) r.pass.within e (ap (λ (n : ℕ). slice_range text n stop) (two at ∙ sym s.1)))))
+          ]
+          | inr s ↦ inl (cons_from text at stop _ _ (omega (arith, s.2)) r.pass.within refl (ap (λ (n : ℕ). slice_range text n stop) (sym s.2)))
+        ],
+      );
+      longest = λ end e x.
+          let y = exponent_at text at end e x in
+          run_bound end r e (subst (λ (n : ℕ). list_all is_ascii_digit (slice_range text n end) ≡ true) (same_start text at from end b y) y.digits.1);
+    }
+
+-- what stands behind the digits of a float
+
+-- a point with its digits, at a place
+record PointAt (text : List ℕ) (at end : ℕ) : Type 0 where
+  point : slice_index text at ≡ 46
+  mid : ℕ
+  high : mid ≤ end
+  digits : AreDigits is_ascii_digit (slice_range text (at + 1) mid)
+  others : (mid ≡ end) ⊎ IsExponent (slice_range text mid end)
+
+no_length : (xs : List ℕ) → xs ≡ [] → length xs ≡ 0
+no_length xs e = ap length e
+
+point_at : (text : List ℕ) (at end : ℕ) → end ≤ length text → (part exponent : List ℕ) → slice_range text at end ≡ 46 ∷ (part ++ exponent) → AreDigits is_ascii_digit part → (exponent ≡ []) ⊎ IsExponent exponent → PointAt text at end
+point_at text at end w part exponent q d x =
+    let h = head_of text at end 46 (part ++ exponent) w q in
+    let s = split text (at + 1) end part exponent (omega (arith, h.some)) w h.others in
+    record {
+      point = h.byte;
+      mid = s.mid;
+      high = s.high;
+      digits = subst (AreDigits is_ascii_digit) (sym s.left) d;
+      others = elim x [
+        | inl e ↦ inl (let n = slice_length text s.mid end w in let z = no_length _ (s.right ∙ e) in omega (arith, s.high, n, z))
+        | inr e ↦ inr (subst IsExponent (sym s.right) e)
+      ];
+    }
+
+pub letter_no_digit : (b : ℕ) → (b ≡ 101) ⊎ (b ≡ 69) → is_ascii_digit b ≡ false
+letter_no_digit b (inl e) = subst (λ (n : ℕ). is_ascii_digit n ≡ false) (sym e) refl
+letter_no_digit b (inr e) = subst (λ (n : ℕ). is_ascii_digit n ≡ false) (sym e) refl
+
+letter_no_point : (b : ℕ) → (b ≡ 101) ⊎ (b ≡ 69) → b ≡ 46 → ⊥
+letter_no_point b (inl e) q = omega (arith, e, q)
+letter_no_point b (inr e) q = omega (arith, e, q)
+
+-- the digits end where the run of digits does, if an exponent follows
+point_mid : (text : List ℕ) (at part end : ℕ) → end ≤ length text → IsRun is_ascii_digit text (at + 1) part → (y : PointAt text at end) → IsExponent (slice_range text y.mid end) → y.mid ≡ part
+point_mid text at part end w r y x =
+    let e = exponent_at text y.mid end w x in
+    let d = first_digit is_ascii_digit text (at + 1) y.mid (omega (arith, y.high)) y.digits in
+    run_exact y.mid r (omega (arith, d.0)) (omega (arith, y.high)) y.digits.1 (letter_no_digit (slice_index text y.mid) e.letter)
+
+pub exponent_some : (text : List ℕ) (at end : ℕ) → end ≤ length text → IsExponent (slice_range text at end) → at < end
+exponent_some text at end w x =
+    let e = exponent_at text at end w x in
+    let d = first_digit is_ascii_digit text e.from end w e.digits in
+    elim e.sign [ inl s ↦ omega (arith, s.0, d.0) | inr s ↦ omega (arith, s.0, d.0) ]
+
+pub point_tail : (text : List ℕ) (at part stop : ℕ) → slice_index text at ≡ 46 → IsRun is_ascii_digit text (at + 1) part → at + 1 < part → IsLongest IsExponent text part stop → IsLongest IsTail text at stop
+point_tail text at part stop p r some x =
+    let l = exponent_some text part stop x.within x.is in
+    record {
+      within = x.within;
+      is = inl (
+        slice_range text (at + 1) part,
+        slice_range text part stop,
+        cons_from text at stop 46 _ (omega (arith, l)) x.within p (sym (join text (at + 1) part stop (omega arith) (omega (arith, l)))),
+        run_digits r some,
+        inr x.is,
+      );
+      longest = λ end w t. elim t [
+        | inl q ↦
+            let y = point_at text at end w q.0 q.1 q.2 q.3 q.4 in
+            elim y.others [
+              | inl e ↦ let b = run_bound y.mid r (omega (arith, y.high)) y.digits.1 in omega (arith, b, e, l)
+              | inr e ↦ x.longest end w (subst (λ (n : ℕ). IsExponent (slice_range text n end)) (point_mid text at part end w r y e) e)
+            ]
+        | inr q ↦ absurd (letter_no_point (slice_index text at) (exponent_at text at end w q).letter p)
+      ];
+    }
+
+pub point_alone : (text : List ℕ) (at part : ℕ) → slice_index text at ≡ 46 → IsRun is_ascii_digit text (at + 1) part → at + 1 < part → HasNone IsExponent text part → IsLongest IsTail text at part
+point_alone text at part p r some x = record {
+  within = r.pass.within;
+  is = inl (
+    slice_range text (at + 1) part,
+    [],
+    cons_from text at part 46 _ (omega arith) r.pass.within p (sym (append-nil (slice_range text (at + 1) part))),
+    run_digits r some,
+    inl refl,
+  );
+  longest = λ end w t. elim t [
+    | inl q ↦
+        let y = point_at text at end w q.0 q.1 q.2 q.3 q.4 in
+        elim y.others [
+          | inl e ↦ let b = run_bound y.mid r (omega (arith, y.high)) y.digits.1 in omega (arith, b, e)
+          | inr e ↦ absurd (x end w (subst (λ (n : ℕ). IsExponent (slice_range text n end)) (point_mid text at part end w r y e) e))
+        ]
+    | inr q ↦ absurd (letter_no_point (slice_index text at) (exponent_at text at end w q).letter p)
+  ];
 }
 
--- what a test says of a minus, it says of the byte
-at_minus : (p : ℕ → Bool) (b : ℕ) (t : Bool) → b ≡ 45 → p 45 ≡ t → p b ≡ t
-at_minus p b t e h = ap p e ∙ h
+no_point : (text : List ℕ) (at end : ℕ) → end ≤ length text → (slice_index text at ≡ 46 → is_ascii_digit (slice_index text (at + 1)) ≡ false) → PointAt text at end → ⊥
+no_point text at end w n y = both_ways (is_ascii_digit (slice_index text (at + 1))) (n y.point) (first_digit is_ascii_digit text (at + 1) y.mid (omega (arith, y.high)) y.digits).1
 
--- a minus with no digit behind it
-lone_minus : (text : List ℕ) (at : ℕ) → at < length text → slice_index text at ≡ 45 → IsRun is_ascii_digit text (at + 1) (at + 1) → BeginsNoToken text at
-lone_minus text at w m r =
-    let b = slice_index text at in
-    begins_no_token text at w (at_minus is_space b false m refl) (record {
-      no_word = at_minus is_word_start b false m refl;
-      no_digit = at_minus is_ascii_digit b false m refl;
-      no_sign = at_minus begins_sign b false m refl;
-      no_minus = λ _. elim r.ends [ inl e ↦ ap is_ascii_digit (get_or_past text (at + 1) 0 (omega arith)) | inr f ↦ f ];
-      no_dots = λ d. absurd (let x : 45 ≡ 46 = sym m ∙ d in omega (arith, x));
-    })
+pub exponent_tail : (text : List ℕ) (at stop : ℕ) → (slice_index text at ≡ 46 → is_ascii_digit (slice_index text (at + 1)) ≡ false) → IsLongest IsExponent text at stop → IsLongest IsTail text at stop
+exponent_tail text at stop n x = record {
+  within = x.within;
+  is = inr x.is;
+  longest = λ end w t. elim t [ inl q ↦ absurd (no_point text at end w n (point_at text at end w q.0 q.1 q.2 q.3 q.4)) | inr q ↦ x.longest end w q ];
+}
 
-pub no_digits : (text : List ℕ) (at from : ℕ) → at < length text → StartsNumber text at from → IsRun is_ascii_digit text from from → BeginsNoToken text at
-no_digits text at from w start r =
-    elim start [
-      | inl m ↦ lone_minus text at w m.0 (subst (λ (n : ℕ). IsRun is_ascii_digit text n n) m.1 r)
-      | inr d ↦ absurd (elim r.ends [
-        | inl e ↦ omega (arith, d.1)
-        | inr f ↦ both_ways (is_ascii_digit (slice_index text from)) f (subst (λ (n : ℕ). is_ascii_digit (slice_index text n) ≡ true) (sym d.1) d.0)
-      ])
-    ]
+pub no_tail : (text : List ℕ) (at : ℕ) → (slice_index text at ≡ 46 → is_ascii_digit (slice_index text (at + 1)) ≡ false) → HasNone IsExponent text at → HasNone IsTail text at
+no_tail text at n x end w t = elim t [ inl q ↦ no_point text at end w n (point_at text at end w q.0 q.1 q.2 q.3 q.4) | inr q ↦ x end w q ]
 
--- a number of digits whose value is over the limit
-pub large_number : (text : List ℕ) (at from stop : ℕ) → StartsNumber text at from → IsRun is_ascii_digit text from stop → from < stop → 2147483647 ≤ digits_value (slice_range text from stop) → BeginsLargeNumber text at
-large_number text at from stop start r l big =
-    elim start [
-      | inl m ↦
-          let run : IsRun is_ascii_digit text (at + 1) stop = subst (λ (n : ℕ). IsRun is_ascii_digit text n stop) m.1 r in
-          let large : 2147483647 ≤ digits_value (slice_range text (at + 1) stop) = subst (λ (n : ℕ). 2147483647 ≤ digits_value (slice_range text n stop)) m.1 big in
-          let z : ℤ = pos 0 -ℤ pos (digits_value (slice_range text (at + 1) stop)) in
-          record {
-            value = z;
-            stop = stop;
-            token = number_is_token text at stop z run.pass.within (minus_number text at stop z m.0 run.pass (omega (arith, m.1)) refl) run.ends;
-            large = λ f. below (digits_value (slice_range text (at + 1) stop)) large f.0;
-          }
-      | inr d ↦
-          let run : IsRun is_ascii_digit text at stop = subst (λ (n : ℕ). IsRun is_ascii_digit text n stop) d.1 r in
-          let large : 2147483647 ≤ digits_value (slice_range text at stop) = subst (λ (n : ℕ). 2147483647 ≤ digits_value (slice_range text n stop)) d.1 big in
-          let z : ℤ = pos (digits_value (slice_range text at stop)) in
-          record {
-            value = z;
-            stop = stop;
-            token = number_is_token text at stop z run.pass.within (plain_number text at stop z run.pass (omega (arith, d.1)) refl) run.ends;
-            large = λ f. above (digits_value (slice_range text at stop)) large f.1;
-          }
-    ]
+-- other bases
 
-pub start_digit : (b : ℕ) → IsTrue (is_ascii_digit b) ⊎ (b ≡ 45) → b ≢ 45 → IsTrue (is_ascii_digit b)
-start_digit b h n = elim h [ inl d ↦ d | inr m ↦ absurd (n m) ]
+pub record OtherAt (p : ℕ → Bool) (letter : ℕ) (text : List ℕ) (from end : ℕ) : Type 0 where
+  pub zero_is : slice_index text from ≡ 48
+  pub letter_is : slice_index text (from + 1) ≡ letter
+  pub digits : AreDigits p (slice_range text (from + 2) end)
 
-pub minus_starts : (text : List ℕ) (at from : ℕ) → StartsNumber text at from → slice_index text at ≡ 45 → from ≡ at + 1
-minus_starts text at from h m =
-    elim h [
-      | inl a ↦ a.1
-      | inr d ↦ absurd (both_ways (is_ascii_digit (slice_index text at)) (at_minus is_ascii_digit (slice_index text at) false m refl) d.0)
-    ]
+other_at : (p : ℕ → Bool) (letter : ℕ) (text : List ℕ) (from end : ℕ) (ds : List ℕ) → end ≤ length text → slice_range text from end ≡ 48 ∷ letter ∷ ds → AreDigits p ds → OtherAt p letter text from end
+other_at p letter text from end ds w q d =
+    let h = head_of text from end 48 (letter ∷ ds) w q in
+    let k = head_of text (from + 1) end letter ds w h.others in
+    record {
+      zero_is = h.byte;
+      letter_is = k.byte;
+      digits = subst (λ (n : ℕ). AreDigits p (slice_range text n end)) (two from) (subst (AreDigits p) (sym k.others) d);
+    }
 
-pub digit_starts : (text : List ℕ) (at from : ℕ) → StartsNumber text at from → slice_index text at ≢ 45 → from ≡ at
-digit_starts text at from h n = elim h [ inl a ↦ absurd (n a.0) | inr d ↦ d.1 ]
+pub based_at : (n : ℕ) (text : List ℕ) (from end : ℕ) → end ≤ length text → IsBased n (slice_range text from end) → OtherAt is_ascii_hexdigit 120 text from end ⊎ OtherAt is_octal_digit 111 text from end
+based_at n text from end w b = elim b [
+  | inl q ↦ inl (other_at is_ascii_hexdigit 120 text from end q.0 w q.1 q.2)
+  | inr q ↦ inr (other_at is_octal_digit 111 text from end q.0 w q.1 q.2)
+]
 
-below_cap : (n value : ℕ) → value ≡ min n 2147483647 → value ≢ 2147483647 → (n < 2147483647) × (value ≡ n)
-below_cap n value e h = (omega arith, omega arith)
+-- a based number has one decimal digit, a zero
+pub one_digit : (p : ℕ → Bool) (letter : ℕ) (text : List ℕ) (from whole end : ℕ) → IsRun is_ascii_digit text from whole → is_ascii_digit letter ≡ false → OtherAt p letter text from end → end ≤ length text → from + 1 ≡ whole
+one_digit p letter text from whole end r f y w =
+    let d = first_digit p text (from + 2) end w y.digits in
+    let s : slice_range text from (from + 1) ≡ 48 ∷ [] = cons_from text from (from + 1) 48 [] (omega arith) (omega (arith, d.0)) y.zero_is (slice_none text (from + 1) (from + 1) (omega arith)) in
+    let t : list_all is_ascii_digit (slice_range text from (from + 1)) ≡ true = ap (list_all is_ascii_digit) s in
+    run_exact (from + 1) r (omega arith) (omega (arith, d.0)) t (subst (λ (b : ℕ). is_ascii_digit b ≡ false) (sym y.letter_is) f)
 
-pub over_cap : (n value : ℕ) → value ≡ min n 2147483647 → value ≡ 2147483647 → 2147483647 ≤ n
-over_cap n value e h = omega arith
+pub no_zero : (text : List ℕ) (from whole : ℕ) → IsRun is_ascii_digit text from whole → ((whole ≡ from + 1) → slice_index text from ≡ 48 → ⊥) → HasNoBased text from
+no_zero text from whole r none n end w b = elim (based_at n text from end w b) [
+  | inl y ↦ none (sym (one_digit is_ascii_hexdigit 120 text from whole end r refl y w)) y.zero_is
+  | inr y ↦ none (sym (one_digit is_octal_digit 111 text from whole end r refl y w)) y.zero_is
+]
 
-pub minus_found : (text : List ℕ) (at from stop value : ℕ) (z : ℤ) → slice_index text at ≡ 45 → from ≡ at + 1 → IsRun is_ascii_digit text from stop → stop ≢ from → value ≡ min (digits_value (slice_range text from stop)) 2147483647 → value ≢ 2147483647 → z ≡ pos 0 -ℤ pos value → IsFoundAt text at (record { kind = kind.Number z; stop = stop })
-minus_found text at from stop value z m f r some e small is =
-    let run : IsRun is_ascii_digit text (at + 1) stop = subst (λ (n : ℕ). IsRun is_ascii_digit text n stop) f r in
-    let v : value ≡ min (digits_value (slice_range text (at + 1) stop)) 2147483647 = subst (λ (n : ℕ). value ≡ min (digits_value (slice_range text n stop)) 2147483647) f e in
-    let cap = below_cap (digits_value (slice_range text (at + 1) stop)) value v small in
-    let l : at + 1 < stop = omega (arith, run.pass.ordered) in
-    let s : z ≡ pos 0 -ℤ pos (digits_value (slice_range text (at + 1) stop)) = is ∙ ap (λ n. pos 0 -ℤ pos n) cap.1 in
-    number_found text at (at + 1) stop z (omega arith) l run (minus_number text at stop z m run.pass l s) (within_minus (digits_value (slice_range text (at + 1) stop)) z cap.0 s)
+pub no_base_letter : (text : List ℕ) (from : ℕ) → slice_index text (from + 1) ≢ 120 → slice_index text (from + 1) ≢ 111 → HasNoBased text from
+no_base_letter text from m o n end w b = elim (based_at n text from end w b) [ inl y ↦ m y.letter_is | inr y ↦ o y.letter_is ]
 
-pub plain_found : (text : List ℕ) (at from stop value : ℕ) (z : ℤ) → from ≡ at → IsRun is_ascii_digit text from stop → stop ≢ from → value ≡ min (digits_value (slice_range text from stop)) 2147483647 → value ≢ 2147483647 → z ≡ pos value → IsFoundAt text at (record { kind = kind.Number z; stop = stop })
-plain_found text at from stop value z f r some e small is =
-    let run : IsRun is_ascii_digit text at stop = subst (λ (n : ℕ). IsRun is_ascii_digit text n stop) f r in
-    let v : value ≡ min (digits_value (slice_range text at stop)) 2147483647 = subst (λ (n : ℕ). value ≡ min (digits_value (slice_range text n stop)) 2147483647) f e in
-    let cap = below_cap (digits_value (slice_range text at stop)) value v small in
-    let l : at < stop = omega (arith, run.pass.ordered) in
-    let s : z ≡ pos (digits_value (slice_range text at stop)) = is ∙ ap (λ n. pos n) cap.1 in
-    number_found text at at stop z (omega arith) l run (plain_number text at stop z run.pass l s) (within_plain (digits_value (slice_range text at stop)) z cap.0 s)
+differ : (b : ℕ) → b ≡ 120 → b ≡ 111 → ⊥
+differ b e f = omega (arith, e, f)
+
+pub no_hex : (text : List ℕ) (from : ℕ) → slice_index text (from + 1) ≡ 120 → is_ascii_hexdigit (slice_index text (from + 2)) ≡ false → HasNoBased text from
+no_hex text from l f n end w b = elim (based_at n text from end w b) [
+  | inl y ↦ both_ways (is_ascii_hexdigit (slice_index text (from + 2))) f (first_digit is_ascii_hexdigit text (from + 2) end w y.digits).1
+  | inr y ↦ differ (slice_index text (from + 1)) l y.letter_is
+]
+
+pub no_octal : (text : List ℕ) (from : ℕ) → slice_index text (from + 1) ≡ 111 → is_octal_digit (slice_index text (from + 2)) ≡ false → HasNoBased text from
+no_octal text from l f n end w b = elim (based_at n text from end w b) [
+  | inl y ↦ differ (slice_index text (from + 1)) y.letter_is l
+  | inr y ↦ both_ways (is_octal_digit (slice_index text (from + 2))) f (first_digit is_octal_digit text (from + 2) end w y.digits).1
+]
+
+prefixed : (letter : ℕ) (text : List ℕ) (from stop : ℕ) → slice_index text from ≡ 48 → slice_index text (from + 1) ≡ letter → from + 2 < stop → stop ≤ length text → slice_range text from stop ≡ 48 ∷ letter ∷ slice_range text (from + 2) stop
+prefixed letter text from stop z l s w =
+    cons_from text from stop 48 _ (omega arith) w z (cons_from text (from + 1) stop letter _ (omega arith) w l (ap (λ (n : ℕ). slice_range text n stop) (two from)))
+
+pub hex_found : (text : List ℕ) (from : ℕ) (run : DigitRun) → slice_index text from ≡ 48 → slice_index text (from + 1) ≡ 120 → IsRun is_ascii_hexdigit text (from + 2) run.stop
+    → is_ascii_hexdigit (slice_index text (from + 2)) ≡ true → run.value ≡ min (digits_value 16 (slice_range text (from + 2) run.stop)) OVER → IsBasedAt text from run
+hex_found text from run z l r t v =
+    let some = run_some r (inside is_ascii_hexdigit text (from + 2) refl t) t in
+    record {
+      within = r.pass.within;
+      number = digits_value 16 (slice_range text (from + 2) run.stop);
+      is = inl (slice_range text (from + 2) run.stop, prefixed 120 text from run.stop z l some r.pass.within, run_digits r some, refl);
+      value = v;
+      longest = λ n end w b. elim (based_at n text from end w b) [
+        | inl y ↦ run_bound end r w y.digits.1
+        | inr y ↦ absurd (differ (slice_index text (from + 1)) l y.letter_is)
+      ];
+    }
+
+pub octal_found : (text : List ℕ) (from : ℕ) (run : DigitRun) → slice_index text from ≡ 48 → slice_index text (from + 1) ≡ 111 → IsRun is_octal_digit text (from + 2) run.stop
+    → is_octal_digit (slice_index text (from + 2)) ≡ true → run.value ≡ min (digits_value 8 (slice_range text (from + 2) run.stop)) OVER → IsBasedAt text from run
+octal_found text from run z l r t v =
+    let some = run_some r (inside is_octal_digit text (from + 2) refl t) t in
+    record {
+      within = r.pass.within;
+      number = digits_value 8 (slice_range text (from + 2) run.stop);
+      is = inr (slice_range text (from + 2) run.stop, prefixed 111 text from run.stop z l some r.pass.within, run_digits r some, refl);
+      value = v;
+      longest = λ n end w b. elim (based_at n text from end w b) [
+        | inl y ↦ absurd (differ (slice_index text (from + 1)) y.letter_is l)
+        | inr y ↦ run_bound end r w y.digits.1
+      ];
+    }
+
+-- what a call found, and what it means
+pub match_map : {A : Type 0} {N M : Type 0} {P Q : A → Type 0} (r : Option A) → (N → M) → ((x : A) → P x → Q x) → MatchOption r N P → MatchOption r M Q
+match_map None f g h = f h
+match_map (Some x) f g h = g x h
+
+pub letter_from : (b : ℕ) → ((b == 101) || (b == 69)) ≡ true → (b ≡ 101) ⊎ (b ≡ 69)
+letter_from b h = either (b == 101) refl h
+  where
+    either : (c : Bool) → (b == 101) ≡ c → (c || (b == 69)) ≡ true → (b ≡ 101) ⊎ (b ≡ 69)
+    either true e h = inl (eqb-true b 101 e)
+    either false e h = inr (eqb-true b 69 h)
+
+pub no_letter_from : (b : ℕ) → ((b == 101) || (b == 69)) ≡ false → (b ≢ 101) × (b ≢ 69)
+no_letter_from b h = (λ e. absurd (true≢false (sym (ap (λ (c : Bool). c || (b == 69)) (eq-eqb b 101 e)) ∙ h)), λ e. absurd (true≢false (sym (or_right (b == 101) (b == 69) (eq-eqb b 69 e)) ∙ h)))
+  where
+    or_right : (c d : Bool) → d ≡ true → (c || d) ≡ true
+    or_right true d e = refl
+    or_right false d e = e

@@ -1,22 +1,17 @@
 //! The tokens of a text of the language, or its first fault.
 //!
-//! A text is read once, from its first byte to its last or to the fault, in time linear in its length. What a token is, what
-//! a fault is, and how lines and columns are counted is defined in fz_spec.
+//! A text is read once, from its first byte to its last or to the fault, in time linear in its length. What a token is and
+//! what a fault is is defined in fz_language.
 #![tactic(auto)]
 
-mod cursor;
-pub mod fault;
-pub mod lexed;
+mod number;
 pub mod place;
 mod reading;
+mod run;
 pub mod scan;
 mod spelling;
 #[cfg(test)]
 mod tests;
-pub mod token;
 
-pub use fault::LexFault;
-pub use lexed::Tokens;
-pub use place::Place;
-pub use scan::tokens;
-pub use token::{Token, TokenKind};
+pub use place::{Place, place_of};
+pub use scan::{LexFault, tokens};

@@ -1,58 +1,83 @@
 //! From a text to its tokens.
-ghost use Rattle.std.specs.Prelude.{◌≡◌, IfOk, MatchResult};
-ghost use Rattle.fz_lex.specs.Lexed.{IsLexed, HasFirstFault};
+ghost use Rattle.std.specs.Prelude.{◌≡◌, ◌≤◌, ◌<◌, ℕ, IfOk, MatchResult, length, slice_index, false};
+ghost use Rattle.fz_spec.specs.declared.limits.TheConstants.{TEXT_LIMIT};
+ghost use Rattle.fz_language.specs.Tokens.{IsGap, IsComment, HasFault};
+ghost use Rattle.fz_language.specs.Tokens as spec;
+ghost use Rattle.fz_tokens.specs.Lexed.{IsLexed};
+ghost use Rattle.fz_lex.specs.Steps.{EndsGap};
 
-use crate::cursor::Cursor;
-use crate::fault::LexFault;
-use crate::lexed::Tokens;
-use crate::place::Place;
 use crate::reading::token_at;
-use crate::token::Token;
-use fz_spec::code::Code;
-use fz_spec::limits::TEXT_LIMIT;
+use fz_language::fault::TokenFault;
+use fz_tokens::{Token, Tokens};
 use std::alloc::{AllocError, Global};
 
-/// The tokens of a text, or its first fault. A text that is too long has that fault, whatever its bytes. An `AllocError`
-/// says that memory ran out.
-pub fn tokens(alloc: Global, text: &[u8]) -> Result<Result<Tokens<'_>, LexFault>, AllocError>
-    ensures { IfOk result (λ found. MatchResult found (λ t. (t.text ≡ text.now) × IsLexed t) (HasFirstFault text.now)) }
-{
-    if text.len() > TEXT_LIMIT {
-        let over = Cursor::start(text).walk(text, TEXT_LIMIT);
-        return Ok(Err(fault_at(Code::OverLimit, over)));
-    }
-    let mut found: Vec<Token> = Vec::new(alloc);
-    let mut cursor = Cursor::start(text).skip_space(text);
-    'text: while cursor.at < text.len() {
-        let next = match token_at(text, cursor.at) {
-            Ok(next) => next,
-            Err(code) => return Ok(Err(fault_at(code, cursor))),
-        };
-        found.push(Token {
-            kind: next.kind,
-            start: cursor.at as u32,
-            stop: next.stop as u32,
-            line: cursor.line,
-            column: cursor.column,
-        })?;
-        cursor = cursor.along(text, next.stop).skip_space(text);
-    }
-    let end = Place {
-        line: cursor.line,
-        column: cursor.column,
-    };
-    Ok(Ok(Tokens::new(text, found, end)))
+/// Why and where a text has no tokens: at the first byte that begins none, or at the first large number, as the count of bytes
+/// before it.
+#[derive(Clone, Copy, Debug, PartialEq, Eq)]
+pub struct LexFault {
+    pub cause: TokenFault,
+    pub at: u32,
 }
 
-/// The fault at a place.
-fn fault_at(code: Code, cursor: Cursor) -> LexFault
-    ensures code { result.code ≡ code }
-    ensures line { result.line ≡ cursor.line }
-    ensures column { result.column ≡ cursor.column }
+/// The tokens of a text, or its first fault. An `AllocError` says that memory ran out.
+pub fn tokens(alloc: Global, text: &[u8]) -> Result<Result<Tokens<'_>, LexFault>, AllocError>
+    requires short { length text.now ≤ TEXT_LIMIT }
+    ensures { IfOk result (λ found. MatchResult found
+        (λ t. (t.text ≡ text.now) × IsLexed t) (λ fault. HasFault text.now fault.cause fault.at)) }
 {
-    LexFault {
-        code,
-        line: cursor.line,
-        column: cursor.column,
+    let mut found: Vec<Token> = Vec::new(alloc);
+    let mut at = skip_blanks(text, 0);
+    'text: while at < text.len() {
+        let next = match token_at(text, at) {
+            Ok(next) => next,
+            Err(cause) => return Ok(Err(LexFault {
+                cause,
+                at: at as u32,
+            })),
+        };
+        found.push(Token {
+            lexeme: next.lexeme,
+            at: at as u32,
+        })?;
+        at = skip_blanks(text, next.stop);
     }
+    Ok(Ok(Tokens::new(text, found)))
+}
+
+/// Behind the white space and the comments that stand from a place on.
+fn skip_blanks(text: &[u8], from: usize) -> usize
+    requires within { from ≤ length text.now }
+    ensures gap { IsGap text.now from result }
+    ensures end { EndsGap text.now result }
+{
+    let mut at = from;
+    'blanks: while at < text.len() {
+        if is_space(text[at]) {
+            at += 1;
+        } else if text[at] == b'%' {
+            at = comment_end(text, at);
+        } else {
+            return at;
+        }
+    }
+    at
+}
+
+/// The end of the comment that begins with a percent sign.
+fn comment_end(text: &[u8], from: usize) -> usize
+    requires within { from < length text.now }
+    requires percent { slice_index text.now from ≡ 37 }
+    ensures { IsComment text.now from result }
+{
+    let mut at = from + 1;
+    'line: while at < text.len() && text[at] != b'\n' {
+        at += 1;
+    }
+    at
+}
+
+fn is_space(byte: u8) -> bool
+    ensures { result ≡ spec.is_space byte }
+{
+    byte == b' ' || byte == b'\t' || byte == b'\r' || byte == b'\n'
 }

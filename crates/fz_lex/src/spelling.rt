@@ -1,21 +1,11 @@
-//! What the bytes at a place spell.
-ghost use Rattle.std.specs.Prelude.{◌≡◌, ℕ, ◌+◌, ◌<◌, ◌≤◌, length, slice_index, slice_range, min, MatchOption};
-ghost use Rattle.std.specs.Char.{is_ascii_digit};
-ghost use Rattle.fz_language.specs.Tokens.{digits_value, sign_bytes};
+//! What words and signs spell.
+ghost use Rattle.std.specs.Prelude.{◌≡◌, ℕ, length, MatchOption};
+ghost use Rattle.fz_language.specs.Tokens.{sign_bytes, keyword_bytes};
 ghost use Rattle.fz_language.specs.Tokens as spec;
-ghost use Rattle.fz_lex.specs.Steps.{IsRun, FitsSign, FitsNoSign};
+ghost use Rattle.fz_lex.specs.Steps.{FitsSign, FitsNoSign, IsFree};
 
+use fz_language::keyword::Keyword;
 use fz_language::sign::Sign;
-
-/// One more than the greatest number.
-pub(crate) const OVER: u64 = 2_147_483_647;
-
-/// The byte at a place, or 0 past the end.
-pub(crate) fn byte_at(text: &[u8], at: usize) -> u8
-    ensures { result ≡ slice_index text.now at }
-{
-    if at < text.len() { text[at] } else { 0 }
-}
 
 /// Whether a word may begin with the byte.
 pub(crate) fn is_word_start(byte: u8) -> bool
@@ -24,45 +14,28 @@ pub(crate) fn is_word_start(byte: u8) -> bool
     byte.is_ascii_alphabetic() || byte == b'_'
 }
 
-fn is_word_byte(byte: u8) -> bool
-    ensures { result ≡ spec.is_word_byte byte }
+/// The word of the language of these bytes, if there is one.
+pub(crate) fn keyword_of(bytes: &[u8]) -> Option<Keyword>
+    ensures { MatchOption result (IsFree bytes.now) (λ k. bytes.now ≡ keyword_bytes k) }
 {
-    byte.is_ascii_alphanumeric() || byte == b'_'
-}
-
-/// The end of the bytes of a word that stand from a place on.
-pub(crate) fn word_end(text: &[u8], from: usize) -> usize
-    requires { from ≤ length text.now }
-    ensures { IsRun spec.is_word_byte text.now from result }
-{
-    let mut stop = from;
-    'word: while stop < text.len() && is_word_byte(text[stop]) {
-        stop += 1;
+    match bytes {
+        b"array" => Some(Keyword::Array),
+        b"bool" => Some(Keyword::Bool),
+        b"constraint" => Some(Keyword::Constraint),
+        b"false" => Some(Keyword::False),
+        b"float" => Some(Keyword::Float),
+        b"int" => Some(Keyword::Int),
+        b"maximize" => Some(Keyword::Maximize),
+        b"minimize" => Some(Keyword::Minimize),
+        b"of" => Some(Keyword::Of),
+        b"predicate" => Some(Keyword::Predicate),
+        b"satisfy" => Some(Keyword::Satisfy),
+        b"set" => Some(Keyword::Set),
+        b"solve" => Some(Keyword::Solve),
+        b"true" => Some(Keyword::True),
+        b"var" => Some(Keyword::Var),
+        _ => None,
     }
-    stop
-}
-
-/// DigitRun up to `stop`, and their value, or `OVER` where it is greater.
-#[derive(Clone, Copy)]
-pub(crate) struct DigitRun {
-    pub stop: usize,
-    pub value: u64,
-}
-
-/// The digits that stand from a place on, maybe none.
-pub(crate) fn digits(text: &[u8], from: usize) -> DigitRun
-    requires { from ≤ length text.now }
-    ensures run { IsRun is_ascii_digit text.now from result.stop }
-    ensures value { result.value ≡ min (digits_value (slice_range text.now from result.stop)) OVER }
-{
-    let mut stop = from;
-    let mut value: u64 = 0;
-    'digits: while stop < text.len() && text[stop].is_ascii_digit() {
-        let digit = u64::from(text[stop] - b'0');
-        value = (10 * value + digit).min(OVER);
-        stop += 1;
-    }
-    DigitRun { stop, value }
 }
 
 /// The longest sign that begins with the first byte, or with both.

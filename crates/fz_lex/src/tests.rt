@@ -1,28 +1,15 @@
 //! What no clause says: that calls succeed where memory is ample, and that the rules are the ones meant.
-
-use crate::{LexFault, Place, Token, TokenKind, tokens};
+use crate::{LexFault, Place, place_of, tokens};
+use fz_language::fault::TokenFault;
+use fz_language::keyword::Keyword;
 use fz_language::sign::Sign;
-use fz_spec::code::Code;
+use fz_language::token_kind::TokenKind;
 use std::alloc::{AllocError, Global};
 use std::test::Fail;
 
-/// A token of the first line.
-fn token(kind: TokenKind, start: u16, stop: u16) -> Token {
-    let start = u32::from(start);
-    let stop = u32::from(stop);
-    Token {
-        kind,
-        start,
-        stop,
-        line: 1,
-        column: start + 1,
-    }
-}
-
-/// The code and place of the text's fault.
-fn fault_of(alloc: Global, text: &str) -> Result<Option<(Code, u32, u32)>, AllocError> {
-    let fault = tokens(alloc, text.as_bytes())?.err();
-    Ok(fault.map(|fault| (fault.code, fault.line, fault.column)))
+/// The text's fault.
+fn fault_of(alloc: Global, text: &str) -> Result<Option<LexFault>, AllocError> {
+    Ok(tokens(alloc, text.as_bytes())?.err())
 }
 
 /// How many tokens a text has, or none where it has a fault.
@@ -35,89 +22,84 @@ fn count_of(alloc: Global, text: &str) -> Result<Option<usize>, AllocError> {
 }
 
 #[test]
-fn a_declaration_has_nine_tokens(rt: HostRuntime) -> Result<(), Fail> {
-    let text = b"var 1..3: x :: output_var;";
-    let lexed = tokens(rt.alloc(), text)??;
-    assert_eq!(rt; lexed.text(), text.as_slice());
-    assert_eq!(rt; lexed.len(), 9);
+fn an_annotation_with_a_string_has_eight_tokens(rt: HostRuntime) -> Result<(), Fail> {
+    let lexed = tokens(rt.alloc(), b"x :: a(\"q%\",-0x1F)%c")??;
+    assert_eq!(rt; lexed.len(), 8);
     assert!(rt; !lexed.is_empty());
     let want = [
-        token(TokenKind::Word, 0, 3),
-        token(TokenKind::Number(1), 4, 5),
-        token(TokenKind::Sign(Sign::DoubleDot), 5, 7),
-        token(TokenKind::Number(3), 7, 8),
-        token(TokenKind::Sign(Sign::Colon), 8, 9),
-        token(TokenKind::Word, 10, 11),
-        token(TokenKind::Sign(Sign::DoubleColon), 12, 14),
-        token(TokenKind::Word, 15, 25),
-        token(TokenKind::Sign(Sign::Semicolon), 25, 26),
+        (TokenKind::Identifier, 0),
+        (TokenKind::Sign(Sign::DoubleColon), 2),
+        (TokenKind::Identifier, 5),
+        (TokenKind::Sign(Sign::LeftParenthesis), 6),
+        (TokenKind::Text, 7),
+        (TokenKind::Sign(Sign::Comma), 11),
+        (TokenKind::Integer, 12),
+        (TokenKind::Sign(Sign::RightParenthesis), 17),
+        (TokenKind::End, 20),
     ];
-    for (index, want) in want.iter().enumerate() {
-        assert!(rt; index < lexed.len());
-        assert_eq!(rt; lexed.at(index), *want);
+    for (index, (kind, at)) in want.into_iter().enumerate() {
+        assert_eq!(rt; lexed.kind(index), kind);
+        assert_eq!(rt; lexed.place(index), at);
     }
-    assert_eq!(rt; lexed.bytes_of(7), b"output_var".as_slice());
+    assert_eq!(rt; lexed.integer(6).map(|integer| integer.value), Some(-31));
+    assert_eq!(rt; lexed.name(2).map(|name| name.bytes), Some(b"a".as_slice()));
     Ok(())
 }
 
 #[test]
-fn places_go_on_behind_a_line_end(rt: HostRuntime) -> Result<(), Fail> {
-    let lexed = tokens(rt.alloc(), b"x\r\n\t-7 {}\n ")??;
-    assert_eq!(rt; lexed.len(), 4);
-    assert_eq!(rt; lexed.bytes_of(1), b"-7".as_slice());
-    assert_eq!(rt; lexed.at(1).kind, TokenKind::Number(-7));
-    for (index, line, column) in [(0, 1, 1), (1, 2, 2), (2, 2, 5), (3, 2, 6), (4, 3, 2)] {
-        assert!(rt; index <= lexed.len());
-        assert_eq!(rt; lexed.place(index), Place { line, column });
-    }
+fn a_word_of_the_language_is_no_identifier(rt: HostRuntime) -> Result<(), Fail> {
+    let lexed = tokens(rt.alloc(), b"var vars solve")??;
+    assert_eq!(rt; lexed.kind(0), TokenKind::Keyword(Keyword::Var));
+    assert_eq!(rt; lexed.kind(1), TokenKind::Identifier);
+    assert_eq!(rt; lexed.kind(2), TokenKind::Keyword(Keyword::Solve));
     Ok(())
 }
 
 #[test]
-fn the_longest_token_counts(rt: HostRuntime) -> Result<(), Fail> {
-    for (text, want) in [
-        ("", 0),
-        (" \t\r\n", 0),
-        ("::", 1),
-        (": :", 2),
-        (":::", 2),
+fn each_token_is_the_longest(rt: HostRuntime) -> Result<(), Fail> {
+    let cases = [
         ("1..2", 3),
-        ("_a1_B", 1),
-        ("1a", 2),
-        ("x-5", 2),
-        ("-2147483646", 1),
-        ("2147483646", 1),
-        ("000000000000000000000000000007", 1),
-        (";,()[]{}=", 9),
-    ] {
-        assert_eq!(rt; count_of(rt.alloc(), text)?, Some(want), "at {text}");
+        ("1.5..2", 3),
+        ("0x", 2),
+        ("00x1", 2),
+        ("0o8", 2),
+        ("0xFg", 2),
+        ("1e5", 1),
+        ("1e", 2),
+        ("-1.5E-3", 1),
+        ("007", 1),
+        ("a::b:c", 5),
+        ("\"a\\\"b\"", 1),
+        ("% only a comment", 0),
+        ("x%c\ny", 2),
+    ];
+    for (text, count) in cases {
+        assert_eq!(rt; count_of(rt.alloc(), text)?, Some(count), "at {text}");
     }
     Ok(())
 }
 
 #[test]
-fn the_first_fault_is_told_with_its_place(rt: HostRuntime) -> Result<(), Fail> {
-    for (text, code, line, column) in [
-        ("-2147483647", Code::LargeNumber, 1, 1),
-        ("2147483647", Code::LargeNumber, 1, 1),
-        (
-            "x = 123456789012345678901234567890;",
-            Code::LargeNumber,
-            1,
-            5,
-        ),
-        ("  var 1..2: x; #", Code::UnknownByte, 1, 16),
-        ("x;\r\n\tvar #", Code::UnknownByte, 2, 6),
-        ("a.b", Code::UnknownByte, 1, 2),
-        ("1...2", Code::UnknownByte, 1, 4),
-        ("-", Code::UnknownByte, 1, 1),
-        ("- 1", Code::UnknownByte, 1, 1),
-        ("x\n# 2147483647", Code::UnknownByte, 2, 1),
-        ("x\n2147483647 #", Code::LargeNumber, 2, 1),
-    ] {
+fn a_fault_stands_at_the_first_byte_of_its_token(rt: HostRuntime) -> Result<(), Fail> {
+    let cases = [
+        ("var 1..2: x; #", TokenFault::UnknownByte, 13),
+        ("a - 1", TokenFault::UnknownByte, 2),
+        ("1.5e+", TokenFault::UnknownByte, 4),
+        ("1 . 2", TokenFault::UnknownByte, 2),
+        ("a \"open", TokenFault::UnknownByte, 2),
+        ("\"a\nb\"", TokenFault::UnknownByte, 0),
+        ("\"a\\\nb\"", TokenFault::UnknownByte, 0),
+        ("\"a\\", TokenFault::UnknownByte, 0),
+        ("x\u{e4}", TokenFault::UnknownByte, 1),
+        ("2147483647", TokenFault::LargeNumber, 0),
+        (" -0x7FFFFFFF", TokenFault::LargeNumber, 1),
+        ("0o17777777777", TokenFault::LargeNumber, 0),
+        ("2147483647 #", TokenFault::LargeNumber, 0),
+    ];
+    for (text, cause, at) in cases {
         assert_eq!(rt;
             fault_of(rt.alloc(), text)?,
-            Some((code, line, column)),
+            Some(LexFault { cause, at }),
             "at {text}"
         );
     }
@@ -125,15 +107,31 @@ fn the_first_fault_is_told_with_its_place(rt: HostRuntime) -> Result<(), Fail> {
 }
 
 #[test]
-fn a_text_over_the_limit_is_refused_at_its_end(rt: HostRuntime) -> Result<(), Fail> {
-    let mut text = vec![in rt.alloc(); b' '; 67_108_864]?;
-    assert!(rt; tokens(rt.alloc(), &text)??.is_empty());
-    text.push(b' ')?;
-    let want = LexFault {
-        code: Code::OverLimit,
-        line: 1,
-        column: 67_108_865,
-    };
-    assert_eq!(rt; tokens(rt.alloc(), &text)?.err(), Some(want));
+fn bytes_of_other_scripts_stand_in_comments_and_strings(rt: HostRuntime) -> Result<(), Fail> {
+    assert_eq!(rt; count_of(rt.alloc(), "% \u{e4}\nx \"\u{e4}\"")?, Some(2));
+    Ok(())
+}
+
+#[test]
+fn the_greatest_and_the_least_number_are_read(rt: HostRuntime) -> Result<(), Fail> {
+    let lexed = tokens(rt.alloc(), b"2147483646 -2147483646 0x7ffffffe")??;
+    for (index, value) in [2_147_483_646, -2_147_483_646, 2_147_483_646]
+        .into_iter()
+        .enumerate()
+    {
+        assert_eq!(rt;
+            lexed.integer(index).map(|integer| integer.value),
+            Some(value)
+        );
+    }
+    Ok(())
+}
+
+#[test]
+fn a_place_is_a_line_and_a_column(rt: HostRuntime) -> Result<(), Fail> {
+    let text = b"ab\n\ncd";
+    for (at, line, column) in [(0, 1, 1), (2, 1, 3), (3, 2, 1), (4, 3, 1), (6, 3, 3)] {
+        assert_eq!(rt; place_of(text, at), Place { line, column });
+    }
     Ok(())
 }

@@ -1,8 +1,5 @@
-pub mod Faults
+pub mod Follows
+pub mod Takes
 pub mod Lists
-pub mod Declarations
-pub mod Constraints
-pub mod Programs
-pub mod Solves
-pub mod Leaves
-pub mod Trees
+pub mod Depths
+pub mod Verdicts

@@ -1,266 +1,128 @@
--- Lemmas on lists of parts with commas between, up to a closing sign, and where they break.
-use Rattle.std.proofs.Common.{◌≡◌, List, [], ◌∷◌, ◌++◌, refl, sym, ◌∙◌, ap, subst, append_assoc, append-nil, map}
-use Rattle.std.specs.List.{flat_map}
+-- Lists: what is left to read goes on as the whole did.
+use Rattle.std.proofs.Common.{◌≡◌, ℕ, List, [], ◌∷◌, ◌++◌, map, append_assoc, Bool, true, false, refl, sym, ap, subst, ◌∙◌}
 use Rattle.std.proofs.lemmas.List.{map-append}
-use Rattle.fz_language.specs.declared.sign.Sign.{Sign}
-use Rattle.fz_language.specs.declared.sign.Sign.TheVariants.{Comma}
-use Rattle.fz_language.specs.Tokens.{Token, Punct}
-use Rattle.fz_language.specs.Grammar.{Piece, AllFit, sign, separated}
-use Rattle.fz_parse.specs.Steps.{Begins, Takes, Spans, Misses, GoOnAs, BreaksIn, behind_comma, more_on, list_on, part_on}
-use Rattle.fz_parse.proofs.Faults.{joined, parts, spans_next, spans_both, first_goes_on, begins_first, begins_more, begins_along, breaks_here, AreApart, breaks_behind_items}
+use Rattle.fz_language.specs.Tokens.{Token}
+use Rattle.fz_language.specs.Trees as trees
+use Rattle.fz_language.specs.Grammar.{Part, Tree, flatzinc, rules, Element, Parameters, Indexes, Members, Elements, Expressions, Arguments, Listed, More, Index, IndexSets, Items, OneItem, Annotations, Annotation, part_of, TreesOf, none_of, more_of}
+use Rattle.fz_grammar.specs.Grammar.{Leaf, Rule}
+use Rattle.fz_grammar.specs.Reading.{head, has, chosen}
+use Rattle.fz_parse.specs.declared.stop.Stop.{Stop}
+use Rattle.fz_syntax.specs.Trees.{joined}
+use Rattle.fz_parse.specs.Steps.{Read, Halts}
+use Rattle.fz_parse.proofs.Follows.{leaf_then, rule_then, ended, here, leaf_behind, rule_behind, reads_by, halts_by, front, tail, first, later}
 
--- What fits a part says where it ends, no part begins with the closing sign, and that is no comma.
-pub record AreListed {X : Type 0} (item : X → List Piece) (closer : Sign) : Type 0 where
-  pub peeled : (x y : X) (ps : List Piece) (front ts : List Token) → AllFit (item x) front → AllFit (item y ++ ps) (front ++ ts) → AllFit ps ts
-  pub starts : (x : X) (front ts : List Token) → AllFit (item x) front → Begins (sign closer) (front ++ ts) → ⊥
-  pub other : Comma ≡ closer → ⊥
+-- these elements before others
+abbrev pub glued : (e : Element) → List (Tree (part_of e)) → TreesOf e → TreesOf e
+glued e [] w = w
+glued e (x ∷ xs) w = more_of e x (glued e xs w)
 
-pub no_two_signs : (t : Token) (a b : Sign) → t.lexeme ≡ Punct a → t.lexeme ≡ Punct b → a ≡ b
-no_two_signs t a b h i = cc
+glued_push : (e : Element) (xs : List (Tree (part_of e))) (x : Tree (part_of e)) (w : TreesOf e) → glued e (xs ++ x ∷ []) w ≡ glued e xs (more_of e x w)
+glued_push e [] x w = refl
+glued_push e (y ∷ xs) x w = ap (more_of e y) (glued_push e xs x w)
 
-no_two_starts : (a b : Sign) (ts : List Token) → (a ≡ b → ⊥) → Begins (sign a) ts → Begins (sign b) ts → ⊥
-no_two_starts a b [] n h i = h
-no_two_starts a b (t ∷ ts) n h i = n (no_two_signs t a b h i)
+-- the reading of a rule goes on as the reading of another that begins here, with trees made of its tree
+pub record Goes (l : ℕ) (n : Part) (old : List Token) (m : Part) (mid : List Token) (f : Tree m → Tree n) : Type 0 where
+  pub reads : (new : List Token) (w : Tree m) → Read l (Rule m ∷ []) (w, tt) mid new → Read l (Rule n ∷ []) (f w, tt) old new
+  pub stops : (why : Stop) (new : List Token) → Halts l (Rule m ∷ []) mid new why → Halts l (Rule n ∷ []) old new why
 
--- no part begins as the list is closed
-no_part : {X : Type 0} (item : X → List Piece) (closer : Sign) → AreListed item closer → (x : X) (ps : List Piece) (ts : List Token) → AllFit (item x ++ ps) ts → Begins (sign closer) ts → ⊥
-no_part item closer h x ps ts i b =
-    let p = parts (item x) ps ts i in h.starts x p.front p.back p.first (subst (λ (us : List Token). Begins (sign closer) us) p.are b)
+-- elements that stand behind others, with a comma before each
+pub record GoesOn (e : Element) (l : ℕ) (n : Part) (old mid : List Token) (f : TreesOf e → Tree n) (xs : List (Tree (part_of e))) : Type 0 where
+  pub goes : Goes l n old (More e) mid (λ w. f (glued e xs w))
 
--- the list with its first part apart
-separated_is : {X : Type 0} (item : X → List Piece) (x : X) (xs : List X) → separated (map item (x ∷ xs)) ≡ item x ++ flat_map (behind_comma item) xs
-separated_is item x [] = sym (append-nil (item x))
-separated_is item x (y ∷ ys) = ap (λ (ps : List Piece). item x ++ (sign Comma ∷ ps)) (separated_is item y ys)
-
-list_is : {X : Type 0} (item : X → List Piece) (x : X) (xs : List X) (ps : List Piece) → separated (map item (x ∷ xs)) ++ ps ≡ item x ++ (flat_map (behind_comma item) xs ++ ps)
-list_is item x xs ps =
-    ap (λ (qs : List Piece). qs ++ ps) (separated_is item x xs) ∙ append_assoc (item x) (flat_map (behind_comma item) xs) ps
-
-fits_list : {X : Type 0} (item : X → List Piece) (x : X) (xs : List X) (ps : List Piece) (ts : List Token) → AllFit (item x ++ (flat_map (behind_comma item) xs ++ ps)) ts → AllFit (separated (map item (x ∷ xs)) ++ ps) ts
-fits_list item x xs ps ts h = subst (λ (qs : List Piece). AllFit qs ts) (sym (list_is item x xs ps)) h
-
-fits_parts : {X : Type 0} (item : X → List Piece) (x : X) (xs : List X) (ps : List Piece) (ts : List Token) → AllFit (separated (map item (x ∷ xs)) ++ ps) ts → AllFit (item x ++ (flat_map (behind_comma item) xs ++ ps)) ts
-fits_parts item x xs ps ts h = subst (λ (qs : List Piece). AllFit qs ts) (list_is item x xs ps) h
-
-fits_more : {X : Type 0} (item : X → List Piece) (x : X) (xs : List X) (ps : List Piece) (ts : List Token) → AllFit (item x ++ (flat_map (behind_comma item) xs ++ ps)) ts → AllFit ((item x ++ flat_map (behind_comma item) xs) ++ ps) ts
-fits_more item x xs ps ts h = subst (λ (qs : List Piece). AllFit qs ts) (sym (append_assoc (item x) (flat_map (behind_comma item) xs) ps)) h
-
-fits_next : {X : Type 0} (item : X → List Piece) (x : X) (xs : List X) (ps : List Piece) (ts : List Token) → AllFit ((item x ++ flat_map (behind_comma item) xs) ++ ps) ts → AllFit (item x ++ (flat_map (behind_comma item) xs ++ ps)) ts
-fits_next item x xs ps ts h = subst (λ (qs : List Piece). AllFit qs ts) (append_assoc (item x) (flat_map (behind_comma item) xs) ps) h
-
--- parts behind commas, as items up to an end
-
-comma_peeled : {X : Type 0} (item : X → List Piece) (closer : Sign) → AreListed item closer → (x y : X) (ps : List Piece) (front ts : List Token) → AllFit (behind_comma item x) front → AllFit (behind_comma item y ++ ps) (front ++ ts) → AllFit ps ts
-comma_peeled item closer h x y ps [] ts i j = absurd i
-comma_peeled item closer h x y ps (t ∷ front) ts i j = h.peeled x y ps front ts i.1 j.1
-
-comma_apart : {X E : Type 0} (item : X → List Piece) (closer : Sign) (end : E → List Piece) → AreListed item closer → (x : X) (e : E) (front ts : List Token) → AllFit (behind_comma item x) front → AllFit (sign closer ∷ end e) (front ++ ts) → ⊥
-comma_apart item closer end h x e [] ts i j = absurd i
-comma_apart item closer end h x e (t ∷ front) ts i j = h.other (no_two_signs t Comma closer i.0 j.0)
-
-commas_apart : {X E : Type 0} (item : X → List Piece) (closer : Sign) (end : E → List Piece) → AreListed item closer → AreApart (behind_comma item) (λ (e : E). sign closer ∷ end e)
-commas_apart item closer end h = record { peeled = comma_peeled item closer h; apart = comma_apart item closer end h }
-
--- a break in the first part, where the list isn't closed
-no_list : {X E : Type 0} (item : X → List Piece) (closer : Sign) (end : E → List Piece) (old new : List Token) → (Begins (sign closer) old → ⊥) → (b : BreaksIn (part_on item (λ (e : E). sign closer ∷ end e)) old new) → (others : List Token) (xs : List X) (e : E) → GoOnAs new others → AllFit (separated (map item xs) ++ (sign closer ∷ end e)) (b.before ++ others) → ⊥
-no_list item closer end old new c b others [] e g h =
-    c (begins_along (sign closer) old b.before new others b.are g (begins_first (sign closer) (end e) (b.before ++ others) h))
-no_list item closer end old new c b others (x ∷ xs) e g h =
-    b.breaks others (x, (xs, e)) g (fits_parts item x xs (sign closer ∷ end e) (b.before ++ others) h)
-
-pub first_breaks : {X E : Type 0} (item : X → List Piece) (closer : Sign) (end : E → List Piece) (old new : List Token) → (Begins (sign closer) old → ⊥) → BreaksIn (part_on item (λ (e : E). sign closer ∷ end e)) old new → BreaksIn (list_on item (λ (e : E). sign closer ∷ end e)) old new
-first_breaks item closer end old new c b = record {
-  before = b.before;
-  are = b.are;
-  more = b.more;
-  example = (b.example.0 ∷ b.example.1.0, b.example.1.1);
-  front = fits_list item b.example.0 b.example.1.0 (sign closer ∷ end b.example.1.1) (b.before ++ b.more) b.front;
-  breaks = λ others a g h. no_list item closer end old new c b others a.0 a.1 g h;
+pub goes_next : (e : Element) {l : ℕ} {n : Part} {old mid comma next : List Token} {f : TreesOf e → Tree n} {xs : List (Tree (part_of e))} {t : Token} {x : Tree (part_of e)} {b : Bool}
+    → GoesOn e l n old mid f xs → b ≡ has (8 ∷ []) (head flatzinc mid) → b ≡ true → Read l (Leaf 8 ∷ []) (t, tt) mid comma → Read l (Rule (part_of e) ∷ []) (x, tt) comma next
+    → GoesOn e l n old next f (xs ++ x ∷ [])
+goes_next e {l} {n} {old} {mid} {comma} {next} {f} {xs} {t} {x} g k h c r = record {
+  goes = record {
+    reads = λ new w q.
+        subst (λ (v : TreesOf e). Read l (Rule n ∷ []) (f v, tt) old new) (sym (glued_push e xs x w))
+        (g.goes.reads new (more_of e x w) (reads_by (first (rules (More e)) (head flatzinc mid) k h) (leaf_then c (rule_then r q))));
+    stops = λ why new q. g.goes.stops why new (halts_by (first (rules (More e)) (head flatzinc mid) k h) (leaf_behind c (rule_behind r q)));
+  };
 }
 
--- a break in the part behind a comma
-no_more : {X E : Type 0} (item : X → List Piece) (closer : Sign) (end : E → List Piece) → (Comma ≡ closer → ⊥) → (t : Token) → t.lexeme ≡ Punct Comma → (old new : List Token) (b : BreaksIn (part_on item (λ (e : E). sign closer ∷ end e)) old new) (others : List Token) (xs : List X) (e : E) → GoOnAs new others → AllFit (flat_map (behind_comma item) xs ++ (sign closer ∷ end e)) (t ∷ (b.before ++ others)) → ⊥
-no_more item closer end n t is old new b others [] e g h = n (no_two_signs t Comma closer is h.0)
-no_more item closer end n t is old new b others (x ∷ xs) e g h =
-    b.breaks others (x, (xs, e)) g (fits_next item x xs (sign closer ∷ end e) (b.before ++ others) h.1)
+-- the reading stops at a comma, or at an element
+pub stops_comma : (e : Element) {l : ℕ} {n : Part} {old mid new : List Token} {f : TreesOf e → Tree n} {xs : List (Tree (part_of e))} {b : Bool} {why : Stop}
+    → GoesOn e l n old mid f xs → b ≡ has (8 ∷ []) (head flatzinc mid) → b ≡ true → Halts l (Leaf 8 ∷ []) mid new why → Halts l (Rule n ∷ []) old new why
+stops_comma e {l} {n} {old} {mid} {new} {f} {xs} {b} {why} g k h q = g.goes.stops why new (halts_by (first (rules (More e)) (head flatzinc mid) k h) (here q))
 
-pub next_breaks : {X E : Type 0} (item : X → List Piece) (closer : Sign) (end : E → List Piece) → AreListed item closer → (old between new : List Token) → Takes (sign Comma) old between → BreaksIn (part_on item (λ (e : E). sign closer ∷ end e)) between new → BreaksIn (more_on item (λ (e : E). sign closer ∷ end e)) old new
-next_breaks item closer end l old between new t b = record {
-  before = t.token ∷ b.before;
-  are = t.are ∙ ap (λ (ts : List Token). t.token ∷ ts) b.are;
-  more = b.more;
-  example = (b.example.0 ∷ b.example.1.0, b.example.1.1);
-  front = (t.fits, fits_more item b.example.0 b.example.1.0 (sign closer ∷ end b.example.1.1) (b.before ++ b.more) b.front);
-  breaks = λ others a g h. no_more item closer end l.other t.token t.fits between new b others a.0 a.1 g h;
+pub stops_next : (e : Element) {l : ℕ} {n : Part} {old mid comma new : List Token} {f : TreesOf e → Tree n} {xs : List (Tree (part_of e))} {t : Token} {b : Bool} {why : Stop}
+    → GoesOn e l n old mid f xs → b ≡ has (8 ∷ []) (head flatzinc mid) → b ≡ true → Read l (Leaf 8 ∷ []) (t, tt) mid comma → Halts l (Rule (part_of e) ∷ []) comma new why
+    → Halts l (Rule n ∷ []) old new why
+stops_next e {l} {n} {old} {mid} {comma} {new} {f} {xs} {t} {b} {why} g k h c q =
+    g.goes.stops why new (halts_by (first (rules (More e)) (head flatzinc mid) k h) (leaf_behind c (here q)))
+
+-- no comma stands there
+pub reads_end : (e : Element) {l : ℕ} {n : Part} {old mid : List Token} {f : TreesOf e → Tree n} {xs : List (Tree (part_of e))} {b : Bool}
+    → GoesOn e l n old mid f xs → b ≡ has (8 ∷ []) (head flatzinc mid) → b ≡ false → Read l (Rule n ∷ []) (f (glued e xs (none_of e)), tt) old mid
+reads_end e {l} {n} {old} {mid} g k h = g.goes.reads mid (none_of e) (reads_by (later (rules (More e)) (head flatzinc mid) k h) ended)
+
+-- the first element of a list that may be empty
+pub goes_first : (e : Element) {l : ℕ} {old mid : List Token} {x : Tree (part_of e)}
+    → chosen (rules (Listed e)) (head flatzinc old) ≡ front (tail (rules (Listed e))) → Read l (Rule (part_of e) ∷ []) (x, tt) old mid → GoesOn e l (Listed e) old mid (λ w. w) (x ∷ [])
+goes_first e k r = record { goes = record { reads = λ new w q. reads_by k (rule_then r q); stops = λ why new q. halts_by k (rule_behind r q) } }
+
+pub stops_first : (e : Element) {l : ℕ} {old new : List Token} {why : Stop}
+    → chosen (rules (Listed e)) (head flatzinc old) ≡ front (tail (rules (Listed e))) → Halts l (Rule (part_of e) ∷ []) old new why → Halts l (Rule (Listed e) ∷ []) old new why
+stops_first e k q = halts_by k (here q)
+
+-- the first of index sets
+pub goes_index : {l : ℕ} {old mid : List Token} {x : Tree Index} → Read l (Rule Index ∷ []) (x, tt) old mid → GoesOn Indexes l IndexSets old mid (λ w. w) (x ∷ [])
+goes_index r = record { goes = record { reads = λ new w q. reads_by {n = IndexSets} refl (rule_then r q); stops = λ why new q. halts_by {n = IndexSets} refl (rule_behind r q) } }
+
+-- all elements, as the trees that have them keep them
+pub all_members : (xs : List (Tree (part_of Members))) → glued Members xs [] ≡ xs
+all_members [] = refl
+all_members (x ∷ xs) = ap (λ (ys : List (Tree (part_of Members))). x ∷ ys) (all_members xs)
+
+pub all_elements : (xs : List (Tree (part_of Elements))) → glued Elements xs [] ≡ xs
+all_elements [] = refl
+all_elements (x ∷ xs) = ap (λ (ys : List (Tree (part_of Elements))). x ∷ ys) (all_elements xs)
+
+pub all_expressions : (xs : List (Tree (part_of Expressions))) → glued Expressions xs [] ≡ xs
+all_expressions [] = refl
+all_expressions (x ∷ xs) = ap (λ (ys : List (Tree (part_of Expressions))). x ∷ ys) (all_expressions xs)
+
+pub all_parameters : (xs : List (Tree (part_of Parameters))) → glued Parameters xs [] ≡ xs
+all_parameters [] = refl
+all_parameters (x ∷ xs) = ap (λ (ys : List (Tree (part_of Parameters))). x ∷ ys) (all_parameters xs)
+
+pub all_indexes : (xs : List (Tree (part_of Indexes))) → glued Indexes xs [] ≡ xs
+all_indexes [] = refl
+all_indexes (x ∷ xs) = ap (λ (ys : List (Tree (part_of Indexes))). x ∷ ys) (all_indexes xs)
+
+-- lists of the code, by what was pushed
+pub first_pushed : {A B : Type 0} (f : A → B) (ys zs : List A) (x : A) → zs ≡ [] → ys ≡ zs ++ x ∷ [] → f x ∷ [] ≡ map f ys
+first_pushed f ys zs x e p = sym (ap (map f) (p ∙ ap (λ (us : List _). us ++ x ∷ []) e))
+
+pub pushed : {A B : Type 0} (f : A → B) (ys xs : List A) (x : A) → ys ≡ xs ++ x ∷ [] → map f xs ++ f x ∷ [] ≡ map f ys
+pushed f ys xs x p = sym (ap (map f) p ∙ map-append f xs (x ∷ []))
+
+-- items, and annotations, one behind another
+
+pub items_next : {old mid next : List Token} {f : List trees.Item → List trees.Item} {x : trees.Item} {b : Bool}
+    → Goes 0 Items old Items mid f → b ≡ has (front (rules Items)).begins (head flatzinc mid) → b ≡ true → Read 0 (Rule OneItem ∷ []) (x, tt) mid next
+    → Goes 0 Items old Items next (λ w. f (x ∷ w))
+items_next {old} {mid} {next} {f} {x} g k h r = record {
+  reads = λ new w q. g.reads new (x ∷ w) (reads_by (first (rules Items) (head flatzinc mid) k h) (rule_then r q));
+  stops = λ why new q. g.stops why new (halts_by (first (rules Items) (head flatzinc mid) k h) (rule_behind r q));
 }
 
--- neither a comma nor the end
-no_end : {X E : Type 0} (item : X → List Piece) (closer : Sign) (end : E → List Piece) (old : List Token) → (Begins (sign Comma) old → ⊥) → (Begins (sign closer) old → ⊥) → (xs : List X) (e : E) (ts : List Token) → AllFit (flat_map (behind_comma item) xs ++ (sign closer ∷ end e)) ts → GoOnAs old ts → ⊥
-no_end item closer end old c s [] e ts h g = s (first_goes_on (sign closer) [] old ts g (begins_first (sign closer) (end e) ts h))
-no_end item closer end old c s (x ∷ xs) e ts h g =
-    c (first_goes_on (sign Comma) [] old ts g (begins_first (sign Comma) ((item x ++ flat_map (behind_comma item) xs) ++ (sign closer ∷ end e)) ts h))
-
-pub close_breaks : {X E : Type 0} (item : X → List Piece) (closer : Sign) (end : E → List Piece) (example : E) (more : List Token) → AllFit (sign closer ∷ end example) more → (old new : List Token) → (Begins (sign Comma) old → ⊥) → Misses (sign closer) old new → BreaksIn (more_on item (λ (e : E). sign closer ∷ end e)) old new
-close_breaks item closer end example more fit old new c m =
-    breaks_here (more_on item (λ e. sign closer ∷ end e)) ([], example) more old new fit m.same (λ a ts h g. no_end item closer end old c m.none a.0 a.1 ts h g)
-
--- a break behind the first part
-no_list_behind : {X E : Type 0} (item : X → List Piece) (closer : Sign) (end : E → List Piece) → AreListed item closer → (x : X) (front : List Token) → AllFit (item x) front → (old new : List Token) (b : BreaksIn (more_on item (λ (e : E). sign closer ∷ end e)) old new) (others : List Token) (ys : List X) (e : E) → GoOnAs new others → AllFit (separated (map item ys) ++ (sign closer ∷ end e)) ((front ++ b.before) ++ others) → ⊥
-no_list_behind item closer end l x front fit old new b others [] e g i =
-    l.starts x front (b.before ++ others) fit
-    (begins_first (sign closer) (end e) (front ++ (b.before ++ others)) (subst (λ (ts : List Token). AllFit (sign closer ∷ end e) ts) (append_assoc front b.before others) i))
-no_list_behind item closer end l x front fit old new b others (y ∷ ys) e g i =
-    let ps = flat_map (behind_comma item) ys ++ (sign closer ∷ end e) in
-    let j : AllFit (item y ++ ps) (front ++ (b.before ++ others)) =
-    subst (λ (ts : List Token). AllFit (item y ++ ps) ts) (append_assoc front b.before others) (fits_parts item y ys (sign closer ∷ end e) ((front ++ b.before) ++ others) i) in
-    b.breaks others (ys, e) g (l.peeled x y ps front (b.before ++ others) fit j)
-
-behind_first : {X E : Type 0} (item : X → List Piece) (closer : Sign) (end : E → List Piece) → AreListed item closer → (x : X) (front : List Token) → AllFit (item x) front → (old new : List Token) → BreaksIn (more_on item (λ (e : E). sign closer ∷ end e)) old new → BreaksIn (list_on item (λ (e : E). sign closer ∷ end e)) (front ++ old) new
-behind_first item closer end l x front fit old new b = record {
-  before = front ++ b.before;
-  are = ap (λ (ts : List Token). front ++ ts) b.are ∙ sym (append_assoc front b.before new);
-  more = b.more;
-  example = (x ∷ b.example.0, b.example.1);
-  front =
-      fits_list item x b.example.0 (sign closer ∷ end b.example.1) ((front ++ b.before) ++ b.more)
-      (subst (λ (ts : List Token). AllFit (item x ++ (flat_map (behind_comma item) b.example.0 ++ (sign closer ∷ end b.example.1))) ts) (sym (append_assoc front b.before b.more))
-      (joined (item x) (flat_map (behind_comma item) b.example.0 ++ (sign closer ∷ end b.example.1)) front (b.before ++ b.more) fit b.front));
-  breaks = λ others a g i. no_list_behind item closer end l x front fit old new b others a.0 a.1 g i;
+pub annotations_next : {old mid colons next : List Token} {f : List trees.Annotation → List trees.Annotation} {t : Token} {x : trees.Annotation} {b : Bool}
+    → Goes 0 Annotations old Annotations mid f → b ≡ has (7 ∷ []) (head flatzinc mid) → b ≡ true → Read 0 (Leaf 7 ∷ []) (t, tt) mid colons
+    → Read 0 (Rule Annotation ∷ []) (x, tt) colons next → Goes 0 Annotations old Annotations next (λ w. f (x ∷ w))
+annotations_next {old} {mid} {colons} {next} {f} {t} {x} g k h c r = record {
+  reads = λ new w q. g.reads new (x ∷ w) (reads_by (first (rules Annotations) (head flatzinc mid) k h) (leaf_then c (rule_then r q)));
+  stops = λ why new q. g.stops why new (halts_by (first (rules Annotations) (head flatzinc mid) k h) (leaf_behind c (rule_behind r q)));
 }
 
--- a break behind some parts
-pub behind_parts : {X E : Type 0} (item : X → List Piece) (closer : Sign) (end : E → List Piece) → AreListed item closer → (xs : List X) → (xs ≡ [] → ⊥) → (old between new : List Token) → Spans (separated (map item xs)) old between → BreaksIn (more_on item (λ (e : E). sign closer ∷ end e)) between new → BreaksIn (list_on item (λ (e : E). sign closer ∷ end e)) old new
-behind_parts item closer end l [] n old between new s b = absurd (n refl)
-behind_parts item closer end l (x ∷ xs) n old between new s b =
-    let p = parts (item x) (flat_map (behind_comma item) xs) s.between (subst (λ (ps : List Piece). AllFit ps s.between) (separated_is item x xs) s.fit) in
-    let m : BreaksIn (more_on item (λ e. sign closer ∷ end e)) (p.back ++ between) new =
-    breaks_behind_items (behind_comma item) (λ e. sign closer ∷ end e) (commas_apart item closer end l) xs (p.back ++ between) between new (record { between = p.back; are = refl; fit = p.second }) b in
-    let e : p.front ++ (p.back ++ between) ≡ old =
-    sym (append_assoc p.front p.back between) ∙ ap (λ (us : List Token). us ++ between) (sym p.are) ∙ sym s.are in
-    subst (λ (us : List Token). BreaksIn (list_on item (λ e. sign closer ∷ end e)) us new) e (behind_first item closer end l x p.front p.first (p.back ++ between) new m)
+pub goes_none : {l : ℕ} {n : Part} {old : List Token} → Goes l n old n old (λ w. w)
+goes_none = record { reads = λ new w q. q; stops = λ why new q. q }
 
--- a break behind the closing sign
-no_more_behind : {X E : Type 0} (item : X → List Piece) (closer : Sign) (end : E → List Piece) → AreListed item closer → (t : Token) → t.lexeme ≡ Punct closer → (old new : List Token) (b : BreaksIn end old new) (others : List Token) (xs : List X) (e : E) → GoOnAs new others → AllFit (flat_map (behind_comma item) xs ++ (sign closer ∷ end e)) (t ∷ (b.before ++ others)) → ⊥
-no_more_behind item closer end l t is old new b others [] e g h = b.breaks others e g h.1
-no_more_behind item closer end l t is old new b others (x ∷ xs) e g h = l.other (no_two_signs t Comma closer h.0 is)
+-- what is read so far stands before the rest
+pub push_before : {A B : Type 0} (f : A → B) (ys xs : List A) (x : A) (w : List B) → ys ≡ xs ++ x ∷ [] → map f xs ++ (f x ∷ w) ≡ map f ys ++ w
+push_before f ys xs x w p = sym (ap (λ (zs : List _). zs ++ w) (sym (pushed f ys xs x p)) ∙ append_assoc (map f xs) (f x ∷ []) w)
 
-behind_close : {X E : Type 0} (item : X → List Piece) (closer : Sign) (end : E → List Piece) → AreListed item closer → (old between new : List Token) → Takes (sign closer) old between → BreaksIn end between new → BreaksIn (more_on item (λ (e : E). sign closer ∷ end e)) old new
-behind_close item closer end l old between new t b = record {
-  before = t.token ∷ b.before;
-  are = t.are ∙ ap (λ (ts : List Token). t.token ∷ ts) b.are;
-  more = b.more;
-  example = ([], b.example);
-  front = (t.fits, b.front);
-  breaks = λ others a g h. no_more_behind item closer end l t.token t.fits between new b others a.0 a.1 g h;
-}
-
-no_list_closed : {X E : Type 0} (item : X → List Piece) (closer : Sign) (end : E → List Piece) → AreListed item closer → (t : Token) → t.lexeme ≡ Punct closer → (old new : List Token) (b : BreaksIn end old new) (others : List Token) (xs : List X) (e : E) → GoOnAs new others → AllFit (separated (map item xs) ++ (sign closer ∷ end e)) (t ∷ (b.before ++ others)) → ⊥
-no_list_closed item closer end l t is old new b others [] e g h = b.breaks others e g h.1
-no_list_closed item closer end l t is old new b others (x ∷ xs) e g h =
-    no_part item closer l x (flat_map (behind_comma item) xs ++ (sign closer ∷ end e)) (t ∷ (b.before ++ others)) (fits_parts item x xs (sign closer ∷ end e) (t ∷ (b.before ++ others)) h) is
-
-behind_none : {X E : Type 0} (item : X → List Piece) (closer : Sign) (end : E → List Piece) → AreListed item closer → (old between new : List Token) → Takes (sign closer) old between → BreaksIn end between new → BreaksIn (list_on item (λ (e : E). sign closer ∷ end e)) old new
-behind_none item closer end l old between new t b = record {
-  before = t.token ∷ b.before;
-  are = t.are ∙ ap (λ (ts : List Token). t.token ∷ ts) b.are;
-  more = b.more;
-  example = ([], b.example);
-  front = (t.fits, b.front);
-  breaks = λ others a g h. no_list_closed item closer end l t.token t.fits between new b others a.0 a.1 g h;
-}
-
-takes_of : (x : Piece) (old new ts : List Token) → old ≡ ts ++ new → AllFit (x ∷ []) ts → Takes x old new
-takes_of x old new [] are fit = absurd fit
-takes_of x old new (t ∷ []) are fit = record { token = t; are = are; fits = fit.0 }
-takes_of x old new (t ∷ u ∷ ts) are fit = absurd fit.1
-
-pub takes_one : (x : Piece) (old new : List Token) → Spans (x ∷ []) old new → Takes x old new
-takes_one x old new s = takes_of x old new s.between s.are s.fit
-
-record Halves (ps qs : List Piece) (old new : List Token) : Type 0 where
-  between : List Token
-  first : Spans ps old between
-  second : Spans qs between new
-
-halves : (ps qs : List Piece) (old new : List Token) → Spans (ps ++ qs) old new → Halves ps qs old new
-halves ps qs old new s =
-    let p = parts ps qs s.between s.fit in
-    record {
-      between = p.back ++ new;
-      first = record { between = p.front; are = s.are ∙ ap (λ (us : List Token). us ++ new) p.are ∙ append_assoc p.front p.back new; fit = p.first };
-      second = record { between = p.back; are = refl; fit = p.second };
-    }
-
--- a break behind the whole list
-pub behind_list : {X E : Type 0} (item : X → List Piece) (closer : Sign) (end : E → List Piece) → AreListed item closer → (xs : List X) (old between new : List Token) → Spans (separated (map item xs) ++ sign closer ∷ []) old between → BreaksIn end between new → BreaksIn (list_on item (λ (e : E). sign closer ∷ end e)) old new
-behind_list item closer end l [] old between new s b = behind_none item closer end l old between new (takes_one (sign closer) old between s) b
-behind_list item closer end l (x ∷ xs) old between new s b =
-    let p = halves (separated (map item (x ∷ xs))) (sign closer ∷ []) old between s in
-    behind_parts item closer end l (x ∷ xs) (λ e. cc) old p.between new p.first (behind_close item closer end l p.between between new (takes_one (sign closer) p.between between p.second) b)
-
--- two lists that begin alike end alike
-
-pub record Peeled (A ps : List Piece) (B : List Piece) (ts : List Token) : Type 0 where
-  pub front : List Token
-  pub first : AllFit A front
-  pub second : AllFit (B ++ ps) (front ++ ts)
-
-more_peeled : {X : Type 0} (item : X → List Piece) (closer : Sign) → AreListed item closer → (xs ys : List X) (A B ps : List Piece) (front ts : List Token) → AllFit (flat_map (behind_comma item) xs ++ (sign closer ∷ A)) front → AllFit (flat_map (behind_comma item) ys ++ (sign closer ∷ (B ++ ps))) (front ++ ts) → Peeled A ps B ts
-more_peeled item closer l [] [] A B ps [] ts h i = absurd h
-more_peeled item closer l [] [] A B ps (t ∷ front) ts h i = record { front = front; first = h.1; second = i.1 }
-more_peeled item closer l [] (y ∷ ys) A B ps [] ts h i = absurd h
-more_peeled item closer l [] (y ∷ ys) A B ps (t ∷ front) ts h i = absurd (l.other (no_two_signs t Comma closer i.0 h.0))
-more_peeled item closer l (x ∷ xs) ys A B ps [] ts h i = absurd h
-more_peeled item closer l (x ∷ xs) [] A B ps (t ∷ front) ts h i = absurd (l.other (no_two_signs t Comma closer h.0 i.0))
-more_peeled item closer l (x ∷ xs) (y ∷ ys) A B ps (t ∷ front) ts h i =
-    let p = parts (item x) (flat_map (behind_comma item) xs ++ (sign closer ∷ A)) front (fits_next item x xs (sign closer ∷ A) front h.1) in
-    let rest = flat_map (behind_comma item) ys ++ (sign closer ∷ (B ++ ps)) in
-    let e : front ++ ts ≡ p.front ++ (p.back ++ ts) = ap (λ (us : List Token). us ++ ts) p.are ∙ append_assoc p.front p.back ts in
-    let j : AllFit (item y ++ rest) (p.front ++ (p.back ++ ts)) =
-    subst (λ (us : List Token). AllFit (item y ++ rest) us) e (fits_next item y ys (sign closer ∷ (B ++ ps)) (front ++ ts) i.1) in
-    more_peeled item closer l xs ys A B ps p.back ts p.second (l.peeled x y rest p.front (p.back ++ ts) p.first j)
-
-pub list_peeled : {X : Type 0} (item : X → List Piece) (closer : Sign) → AreListed item closer → (xs ys : List X) (A B ps : List Piece) (front ts : List Token) → AllFit (separated (map item xs) ++ (sign closer ∷ A)) front → AllFit (separated (map item ys) ++ (sign closer ∷ (B ++ ps))) (front ++ ts) → Peeled A ps B ts
-list_peeled item closer l [] [] A B ps front ts h i = more_peeled item closer l [] [] A B ps front ts h i
-list_peeled item closer l [] (y ∷ ys) A B ps front ts h i =
-    absurd
-    (no_part item closer l y (flat_map (behind_comma item) ys ++ (sign closer ∷ (B ++ ps))) (front ++ ts) (fits_parts item y ys (sign closer ∷ (B ++ ps)) (front ++ ts) i)
-    (begins_more (sign closer) front ts (begins_first (sign closer) A front h)))
-list_peeled item closer l (x ∷ xs) [] A B ps front ts h i =
-    let p = parts (item x) (flat_map (behind_comma item) xs ++ (sign closer ∷ A)) front (fits_parts item x xs (sign closer ∷ A) front h) in
-    let e : front ++ ts ≡ p.front ++ (p.back ++ ts) = ap (λ (us : List Token). us ++ ts) p.are ∙ append_assoc p.front p.back ts in
-    absurd (l.starts x p.front (p.back ++ ts) p.first (subst (λ (us : List Token). Begins (sign closer) us) e (begins_first (sign closer) (B ++ ps) (front ++ ts) i)))
-list_peeled item closer l (x ∷ xs) (y ∷ ys) A B ps front ts h i =
-    let p = parts (item x) (flat_map (behind_comma item) xs ++ (sign closer ∷ A)) front (fits_parts item x xs (sign closer ∷ A) front h) in
-    let rest = flat_map (behind_comma item) ys ++ (sign closer ∷ (B ++ ps)) in
-    let e : front ++ ts ≡ p.front ++ (p.back ++ ts) = ap (λ (us : List Token). us ++ ts) p.are ∙ append_assoc p.front p.back ts in
-    let j : AllFit (item y ++ rest) (p.front ++ (p.back ++ ts)) =
-    subst (λ (us : List Token). AllFit (item y ++ rest) us) e (fits_parts item y ys (sign closer ∷ (B ++ ps)) (front ++ ts) i) in
-    more_peeled item closer l xs ys A B ps p.back ts p.second (l.peeled x y rest p.front (p.back ++ ts) p.first j)
-
--- one more part
-
-separated_more : (x : List Piece) (xs : List (List Piece)) (y : List Piece) → separated ((x ∷ xs) ++ y ∷ []) ≡ separated (x ∷ xs) ++ (sign Comma ∷ y)
-separated_more x [] y = refl
-separated_more x (z ∷ zs) y =
-    ap (λ (ps : List Piece). x ++ (sign Comma ∷ ps)) (separated_more z zs y) ∙ sym (append_assoc x (sign Comma ∷ separated (z ∷ zs)) (sign Comma ∷ y))
-
-separated_behind : (xs : List (List Piece)) (y : List Piece) → (xs ≡ [] → ⊥) → separated (xs ++ y ∷ []) ≡ separated xs ++ (sign Comma ∷ y)
-separated_behind [] y n = absurd (n refl)
-separated_behind (x ∷ xs) y n = separated_more x xs y
-
-pub map_some : {X Y : Type 0} (f : X → Y) (xs : List X) → (xs ≡ [] → ⊥) → map f xs ≡ [] → ⊥
-map_some f [] n e = n refl
-map_some f (x ∷ xs) n e = cc
-
-pub some_more : {X : Type 0} (xs ys : List X) (y : X) → ys ≡ xs ++ y ∷ [] → ys ≡ [] → ⊥
-some_more [] ys y e n = cc
-some_more (x ∷ xs) ys y e n = cc
-
-pub next_part : {X Y : Type 0} (item : X → List Piece) (f : Y → X) (xs ys : List Y) (y : Y) (old first second new : List Token) → ys ≡ xs ++ y ∷ [] → (xs ≡ [] → ⊥) → Spans (separated (map item (map f xs))) old first → Takes (sign Comma) first second → Spans (item (f y)) second new → Spans (separated (map item (map f ys))) old new
-next_part item f xs ys y old first second new e n s t i =
-    let all : separated (map item (map f ys)) ≡ separated (map item (map f xs)) ++ (sign Comma ∷ item (f y)) =
-    ap (λ (zs : List _). separated (map item (map f zs))) e ∙ ap (λ (zs : List _). separated (map item zs)) (map-append f xs (y ∷ []))
-    ∙ ap separated (map-append item (map f xs) (f y ∷ [])) ∙ separated_behind (map item (map f xs)) (item (f y)) (map_some item (map f xs) (map_some f xs n)) in
-    subst (λ (ps : List Piece). Spans ps old new) (sym all)
-    (spans_both (separated (map item (map f xs))) (sign Comma ∷ item (f y)) old first new s (spans_next (sign Comma) (item (f y)) first second new t i))
+pub all_arguments : (xs : List (Tree (part_of Arguments))) → glued Arguments xs trees.Nil ≡ joined xs
+all_arguments [] = refl
+all_arguments (x ∷ xs) = ap (trees.More x) (all_arguments xs)

@@ -1,88 +1,62 @@
-//! The reading of a constraint.
-ghost use Rattle.std.specs.Prelude.{◌≡◌, ◌≤◌, IfOk, MatchOption, length};
-ghost use Rattle.fz_parse.specs.Steps.{rest, BreaksIn, IsCallHead, AreArguments, IsConstraint, arguments_on, constraint_on};
+//! The reading of constraint items.
+ghost use Rattle.std.specs.Prelude.{◌≡◌, ◌≤◌, ◌<◌, OnOk, map};
+ghost use Rattle.fz_language.specs.Grammar as grammar;
+ghost use Rattle.fz_syntax.specs.Trees.{expression_of, constraint_item_of};
+ghost use Rattle.fz_parse.specs.Steps.{rest, ParsesLow, ParsesAt};
 
-use crate::declaration::annotations;
+use crate::annotation::annotations;
 use crate::expression::expression;
-use crate::steps::{identifier, is_sign, sign};
-use crate::tree::{Constraint, Expression};
+use crate::steps::{identifier, is, take};
+use crate::stop::Stop;
+use fz_language::keyword::Keyword;
 use fz_language::sign::Sign;
-use fz_lex::{Token, Tokens};
-use std::alloc::{AllocError, Global};
+use fz_language::token_kind::TokenKind;
+use fz_syntax::{ConstraintItem, Expression};
+use fz_tokens::Tokens;
+use std::alloc::Global;
 
-/// Takes the name of a constraint and the opening parenthesis. Without them the next token is the first that does not fit.
-fn called(tokens: &Tokens, next: &mut usize) -> Option<Token>
-    requires { next.old ≤ length tokens.now.tokens }
-    ensures taken { MatchOption result (BreaksIn constraint_on (rest tokens.now next.old) (rest tokens.now next.new))
-        (IsCallHead tokens.now next.old next.new) }
-    ensures forward { next.old ≤ next.new }
-    ensures within { next.new ≤ length tokens.now.tokens }
-{
-    let name = identifier(tokens, next)?;
-    sign(tokens, next, Sign::LeftParenthesis)?;
-    Some(name)
-}
-
-/// Takes the arguments of a constraint and the closing parenthesis. Without them the next token is the first that does not fit.
-fn arguments(
+/// Takes the arguments of a constraint, up to the closing parenthesis.
+fn expressions<'a>(
     alloc: Global,
-    tokens: &Tokens,
+    tokens: &Tokens<'a>,
     next: &mut usize,
-) -> Result<Option<Vec<Expression>>, AllocError>
-    requires { next.old ≤ length tokens.now.tokens }
-    ensures taken { IfOk result (λ found. MatchOption found
-        (BreaksIn arguments_on (rest tokens.now next.old) (rest tokens.now next.new))
-        (λ arguments. AreArguments tokens.now next.old next.new arguments.items)) }
-    ensures forward { next.old ≤ next.new }
-    ensures within { next.new ≤ length tokens.now.tokens }
+) -> Result<Vec<Expression<'a>>, Stop>
+    ensures taken { ParsesLow (grammar.Listed grammar.Expressions) (λ e. map expression_of e.items)
+        (rest tokens.now next.old) (rest tokens.now next.new) result }
+    ensures forward { OnOk result (next.old ≤ next.new) }
 {
     let mut found = Vec::new(alloc);
-    if is_sign(tokens, *next, Sign::RightParenthesis) {
-        *next += 1;
-        return Ok(Some(found));
+    if is(tokens, *next, TokenKind::Sign(Sign::RightParenthesis)) {
+        return Ok(found);
     }
-    let Some(first) = expression(alloc, tokens, next)? else {
-        return Ok(None);
-    };
-    found.push(first)?;
-    'arguments: while is_sign(tokens, *next, Sign::Comma) {
-        *next += 1;
-        let Some(argument) = expression(alloc, tokens, next)? else {
-            return Ok(None);
-        };
-        found.push(argument)?;
+    found.push(expression(alloc, tokens, next)?)?;
+    'expressions: while is(tokens, *next, TokenKind::Sign(Sign::Comma)) {
+        take(tokens, next, TokenKind::Sign(Sign::Comma))?;
+        found.push(expression(alloc, tokens, next)?)?;
     }
-    match sign(tokens, next, Sign::RightParenthesis) {
-        Some(()) => Ok(Some(found)),
-        None => Ok(None),
-    }
+    Ok(found)
 }
 
-/// Takes a constraint behind its `constraint`. Without it the next token is the first that does not fit.
-pub(crate) fn constraint(
+/// Takes a constraint item.
+pub(crate) fn constraint_item<'a>(
     alloc: Global,
-    tokens: &Tokens,
+    tokens: &Tokens<'a>,
     next: &mut usize,
-) -> Result<Option<Constraint>, AllocError>
-    requires { next.old ≤ length tokens.now.tokens }
-    ensures taken { IfOk result (λ found. MatchOption found
-        (BreaksIn constraint_on (rest tokens.now next.old) (rest tokens.now next.new))
-        (IsConstraint tokens.now next.old next.new)) }
-    ensures forward { next.old ≤ next.new }
-    ensures within { next.new ≤ length tokens.now.tokens }
+) -> Result<ConstraintItem<'a>, Stop>
+    ensures taken { ParsesAt 0 grammar.ConstraintItem constraint_item_of
+        (rest tokens.now next.old) (rest tokens.now next.new) result }
+    ensures forward { OnOk result (next.old < next.new) }
 {
-    let Some(name) = called(tokens, next) else {
-        return Ok(None);
-    };
-    let Some(arguments) = arguments(alloc, tokens, next)? else {
-        return Ok(None);
-    };
-    match annotations(alloc, tokens, next)? {
-        Some(annotations) => Ok(Some(Constraint {
-            name,
-            arguments,
-            annotations,
-        })),
-        None => Ok(None),
-    }
+    take(tokens, next, TokenKind::Keyword(Keyword::Constraint))?;
+    let name = identifier(tokens, next)?;
+    take(tokens, next, TokenKind::Sign(Sign::LeftParenthesis))?;
+    let arguments = expressions(alloc, tokens, next)?;
+    take(tokens, next, TokenKind::Sign(Sign::RightParenthesis))?;
+    let annotations = annotations(alloc, tokens, next)?;
+    take(tokens, next, TokenKind::Sign(Sign::Semicolon))?;
+    Ok(ConstraintItem {
+        name,
+        arguments,
+        annotations,
+    })
 }

@@ -1,88 +1,122 @@
-//! The reading of a declaration.
-ghost use Rattle.std.specs.Prelude.{◌≡◌, ◌≤◌, IfOk, MatchOption, length};
-ghost use Rattle.fz_parse.specs.Steps.{rest, BreaksIn, declaration_on, annotations_on, IsHeader, AreAnnotations, IsDeclaration};
+//! The reading of declarations.
+ghost use Rattle.std.specs.Prelude.{◌≡◌, ◌≤◌, ◌<◌, OnOk, map};
+ghost use Rattle.fz_language.specs.Grammar as grammar;
+ghost use Rattle.fz_syntax.specs.Trees.{basic_of, variable_item_of, parameter_item_of, array_item_of};
+ghost use Rattle.fz_parse.specs.Steps.{rest, Parses, ParsesAt, option_of};
 
-use crate::steps::{identifier, integer, is_sign, sign};
-use crate::tree::{Annotation, Declaration};
+use crate::annotation::annotations;
+use crate::expression::{basic, list_literal};
+use crate::predicate::variability;
+use crate::steps::{identifier, integer, is, take};
+use crate::stop::Stop;
+use crate::value_type::value_type;
+use fz_language::keyword::Keyword;
 use fz_language::sign::Sign;
-use fz_lex::{Token, Tokens};
-use std::alloc::{AllocError, Global};
+use fz_language::token_kind::TokenKind;
+use fz_syntax::{ArrayItem, Basic, ParameterItem, VariableItem};
+use fz_tokens::Tokens;
+use std::alloc::Global;
 
-/// What stands in a declaration before its annotations.
-#[derive(Clone, Copy)]
-pub(crate) struct Head {
-    pub(crate) low: Token,
-    pub(crate) high: Token,
-    pub(crate) name: Token,
-}
-
-/// Takes what stands in a declaration between its `var` and its annotations. Without it the next token is the first that does
-/// not fit.
-pub(crate) fn header(tokens: &Tokens, next: &mut usize) -> Option<Head>
-    requires { next.old ≤ length tokens.now.tokens }
-    ensures taken { MatchOption result (BreaksIn declaration_on (rest tokens.now next.old) (rest tokens.now next.new))
-        (IsHeader tokens.now next.old next.new) }
-    ensures forward { next.old ≤ next.new }
-    ensures within { next.new ≤ length tokens.now.tokens }
-{
-    let low = integer(tokens, next)?;
-    sign(tokens, next, Sign::DoubleDot)?;
-    let high = integer(tokens, next)?;
-    sign(tokens, next, Sign::Colon)?;
-    let name = identifier(tokens, next)?;
-    Some(Head { low, high, name })
-}
-
-/// Takes the annotations of an item and its semicolon. Without them the next token is the first that does not fit.
-pub(crate) fn annotations(
+/// Takes the value of a variable, if one stands there.
+fn optional_value<'a>(
     alloc: Global,
-    tokens: &Tokens,
+    tokens: &Tokens<'a>,
     next: &mut usize,
-) -> Result<Option<Vec<Annotation>>, AllocError>
-    requires { next.old ≤ length tokens.now.tokens }
-    ensures taken { IfOk result (λ found. MatchOption found
-        (BreaksIn annotations_on (rest tokens.now next.old) (rest tokens.now next.new))
-        (λ annotations. AreAnnotations tokens.now next.old next.new annotations.items)) }
-    ensures forward { next.old ≤ next.new }
-    ensures within { next.new ≤ length tokens.now.tokens }
+) -> Result<Option<Basic<'a>>, Stop>
+    ensures taken { Parses grammar.OptionalValue (option_of basic_of)
+        (rest tokens.now next.old) (rest tokens.now next.new) result }
+    ensures forward { OnOk result (next.old ≤ next.new) }
 {
-    let mut found = Vec::new(alloc);
-    'annotations: while is_sign(tokens, *next, Sign::DoubleColon) {
-        *next += 1;
-        let Some(name) = identifier(tokens, next) else {
-            return Ok(None);
-        };
-        found.push(Annotation { name })?;
-    }
-    match sign(tokens, next, Sign::Semicolon) {
-        Some(()) => Ok(Some(found)),
-        None => Ok(None),
-    }
-}
-
-/// Takes a declaration behind its `var`. Without it the next token is the first that does not fit.
-pub(crate) fn declaration(
-    alloc: Global,
-    tokens: &Tokens,
-    next: &mut usize,
-) -> Result<Option<Declaration>, AllocError>
-    requires { next.old ≤ length tokens.now.tokens }
-    ensures taken { IfOk result (λ found. MatchOption found
-        (BreaksIn declaration_on (rest tokens.now next.old) (rest tokens.now next.new))
-        (IsDeclaration tokens.now next.old next.new)) }
-    ensures forward { next.old ≤ next.new }
-    ensures within { next.new ≤ length tokens.now.tokens }
-{
-    let Some(header) = header(tokens, next) else {
+    if !is(tokens, *next, TokenKind::Sign(Sign::Equals)) {
         return Ok(None);
-    };
-    match annotations(alloc, tokens, next)? {
-        Some(annotations) => Ok(Some(Declaration {
-            low: header.low,
-            high: header.high,
-            name: header.name,
-            annotations,
-        })),
-        None => Ok(None),
     }
+    take(tokens, next, TokenKind::Sign(Sign::Equals))?;
+    let value = basic(alloc, tokens, next)?;
+    Ok(Some(value))
+}
+
+/// Takes a declaration of a variable.
+pub(crate) fn variable_item<'a>(
+    alloc: Global,
+    tokens: &Tokens<'a>,
+    next: &mut usize,
+) -> Result<VariableItem<'a>, Stop>
+    ensures taken { ParsesAt 0 grammar.VariableItem variable_item_of
+        (rest tokens.now next.old) (rest tokens.now next.new) result }
+    ensures forward { OnOk result (next.old < next.new) }
+{
+    take(tokens, next, TokenKind::Keyword(Keyword::Var))?;
+    let value_type = value_type(alloc, tokens, next)?;
+    take(tokens, next, TokenKind::Sign(Sign::Colon))?;
+    let name = identifier(tokens, next)?;
+    let annotations = annotations(alloc, tokens, next)?;
+    let value = optional_value(alloc, tokens, next)?;
+    take(tokens, next, TokenKind::Sign(Sign::Semicolon))?;
+    Ok(VariableItem {
+        value_type,
+        name,
+        annotations,
+        value,
+    })
+}
+
+/// Takes a declaration of a parameter.
+pub(crate) fn parameter_item<'a>(
+    alloc: Global,
+    tokens: &Tokens<'a>,
+    next: &mut usize,
+) -> Result<ParameterItem<'a>, Stop>
+    ensures taken { ParsesAt 0 grammar.ParameterItem parameter_item_of
+        (rest tokens.now next.old) (rest tokens.now next.new) result }
+    ensures forward { OnOk result (next.old < next.new) }
+{
+    let value_type = value_type(alloc, tokens, next)?;
+    take(tokens, next, TokenKind::Sign(Sign::Colon))?;
+    let name = identifier(tokens, next)?;
+    let annotations = annotations(alloc, tokens, next)?;
+    take(tokens, next, TokenKind::Sign(Sign::Equals))?;
+    let value = basic(alloc, tokens, next)?;
+    take(tokens, next, TokenKind::Sign(Sign::Semicolon))?;
+    Ok(ParameterItem {
+        value_type,
+        name,
+        annotations,
+        value,
+    })
+}
+
+/// Takes a declaration of an array.
+pub(crate) fn array_item<'a>(
+    alloc: Global,
+    tokens: &Tokens<'a>,
+    next: &mut usize,
+) -> Result<ArrayItem<'a>, Stop>
+    ensures taken { ParsesAt 0 grammar.ArrayItem array_item_of
+        (rest tokens.now next.old) (rest tokens.now next.new) result }
+    ensures forward { OnOk result (next.old < next.new) }
+{
+    take(tokens, next, TokenKind::Keyword(Keyword::Array))?;
+    take(tokens, next, TokenKind::Sign(Sign::LeftBracket))?;
+    let low = integer(tokens, next)?;
+    take(tokens, next, TokenKind::Sign(Sign::DoubleDot))?;
+    let high = integer(tokens, next)?;
+    take(tokens, next, TokenKind::Sign(Sign::RightBracket))?;
+    take(tokens, next, TokenKind::Keyword(Keyword::Of))?;
+    let variable = variability(tokens, next)?;
+    let value_type = value_type(alloc, tokens, next)?;
+    take(tokens, next, TokenKind::Sign(Sign::Colon))?;
+    let name = identifier(tokens, next)?;
+    let annotations = annotations(alloc, tokens, next)?;
+    take(tokens, next, TokenKind::Sign(Sign::Equals))?;
+    let list = list_literal(alloc, tokens, next)?;
+    take(tokens, next, TokenKind::Sign(Sign::Semicolon))?;
+    Ok(ArrayItem {
+        low,
+        high,
+        variable,
+        value_type,
+        name,
+        annotations,
+        list,
+    })
 }

@@ -1,84 +1,203 @@
 //! The reading of expressions.
-ghost use Rattle.std.specs.Prelude.{◌≡◌, ◌≤◌, IfOk, MatchOption, length};
-ghost use Rattle.fz_parse.specs.Steps.{rest, BreaksIn, MissesBasic, IsBasic, IsExpression, AreElements, elements_on, expression_on};
+ghost use Rattle.std.specs.Prelude.{◌≡◌, ◌≤◌, ◌<◌, OnOk, length, map};
+ghost use Rattle.fz_language.specs.Grammar as grammar;
+ghost use Rattle.fz_syntax.specs.Trees.{number_of, set_of, basic_of, list_of, expression_of};
+ghost use Rattle.fz_parse.specs.Steps.{rest, Parses, ParsesLow, option_of};
 
-use crate::steps::{identifier, integer, is_sign, mark, sign};
-use crate::tree::{Basic, Expression};
+use crate::steps::{identifier, integer, is, take};
+use crate::stop::Stop;
+use fz_language::keyword::Keyword;
 use fz_language::sign::Sign;
-use fz_lex::Tokens;
-use std::alloc::{AllocError, Global};
+use fz_language::token_kind::TokenKind;
+use fz_syntax::{Basic, Expression, ListLiteral, Number, SetLiteral};
+use fz_tokens::Tokens;
+use std::alloc::Global;
 
-/// Takes the next token if it is an integer or an identifier.
-fn basic(tokens: &Tokens, next: &mut usize) -> Option<Basic>
-    requires { next.old ≤ length tokens.now.tokens }
-    ensures taken { MatchOption result (MissesBasic (rest tokens.now next.old) (rest tokens.now next.new))
-        (IsBasic tokens.now next.old next.new) }
-    ensures forward { next.old ≤ next.new }
-    ensures within { next.new ≤ length tokens.now.tokens }
+/// Takes a number.
+pub(crate) fn number(tokens: &Tokens, next: &mut usize) -> Result<Number, Stop>
+    ensures taken { Parses grammar.OneNumber number_of
+        (rest tokens.now next.old) (rest tokens.now next.new) result }
+    ensures forward { OnOk result (next.old < next.new) }
 {
-    if let Some(leaf) = integer(tokens, next) {
-        return Some(Basic::Literal(leaf));
+    if is(tokens, *next, TokenKind::Float) {
+        let at = take(tokens, next, TokenKind::Float)?;
+        return Ok(Number::Float { at });
     }
-    let leaf = identifier(tokens, next)?;
-    Some(Basic::Name(leaf))
+    let integer = integer(tokens, next)?;
+    Ok(Number::Whole(integer))
 }
 
-/// Takes the elements of a list literal and its closing bracket. Without them the next token is the first that does not fit.
-fn elements(
-    alloc: Global,
-    tokens: &Tokens,
-    next: &mut usize,
-) -> Result<Option<Vec<Basic>>, AllocError>
-    requires { next.old ≤ length tokens.now.tokens }
-    ensures taken { IfOk result (λ found. MatchOption found
-        (BreaksIn elements_on (rest tokens.now next.old) (rest tokens.now next.new))
-        (λ elements. AreElements tokens.now next.old next.new elements.items)) }
-    ensures forward { next.old ≤ next.new }
-    ensures within { next.new ≤ length tokens.now.tokens }
+/// Takes the members of a set literal, up to its closing brace.
+fn members(alloc: Global, tokens: &Tokens, next: &mut usize) -> Result<Vec<Number>, Stop>
+    ensures taken { Parses (grammar.Listed grammar.Members) (λ m. map number_of m.items)
+        (rest tokens.now next.old) (rest tokens.now next.new) result }
+    ensures forward { OnOk result (next.old ≤ next.new) }
 {
     let mut found = Vec::new(alloc);
-    if is_sign(tokens, *next, Sign::RightBracket) {
-        *next += 1;
-        return Ok(Some(found));
+    if is(tokens, *next, TokenKind::Sign(Sign::RightBrace)) {
+        return Ok(found);
     }
-    let Some(first) = basic(tokens, next) else {
-        return Ok(None);
-    };
-    found.push(first)?;
-    'elements: while is_sign(tokens, *next, Sign::Comma) {
-        *next += 1;
-        let Some(element) = basic(tokens, next) else {
-            return Ok(None);
-        };
-        found.push(element)?;
+    found.push(number(tokens, next)?)?;
+    'members: while is(tokens, *next, TokenKind::Sign(Sign::Comma)) {
+        take(tokens, next, TokenKind::Sign(Sign::Comma))?;
+        found.push(number(tokens, next)?)?;
     }
-    match sign(tokens, next, Sign::RightBracket) {
-        Some(()) => Ok(Some(found)),
-        None => Ok(None),
-    }
+    Ok(found)
 }
 
-/// Takes an expression. Without it the next token is the first that does not fit.
-pub(crate) fn expression(
+/// Takes a set literal between braces.
+pub(crate) fn braces(alloc: Global, tokens: &Tokens, next: &mut usize) -> Result<SetLiteral, Stop>
+    ensures taken { Parses grammar.Braces set_of
+        (rest tokens.now next.old) (rest tokens.now next.new) result }
+    ensures forward { OnOk result (next.old < next.new) }
+{
+    let at = take(tokens, next, TokenKind::Sign(Sign::LeftBrace))?;
+    let members = members(alloc, tokens, next)?;
+    take(tokens, next, TokenKind::Sign(Sign::RightBrace))?;
+    Ok(SetLiteral::Braces { at, members })
+}
+
+/// Takes a set literal.
+pub(crate) fn set_literal(
     alloc: Global,
     tokens: &Tokens,
     next: &mut usize,
-) -> Result<Option<Expression>, AllocError>
-    requires { next.old ≤ length tokens.now.tokens }
-    ensures taken { IfOk result (λ found. MatchOption found
-        (BreaksIn expression_on (rest tokens.now next.old) (rest tokens.now next.new))
-        (IsExpression tokens.now next.old next.new)) }
-    ensures forward { next.old ≤ next.new }
-    ensures within { next.new ≤ length tokens.now.tokens }
+) -> Result<SetLiteral, Stop>
+    ensures taken { Parses grammar.SetLiteral set_of
+        (rest tokens.now next.old) (rest tokens.now next.new) result }
+    ensures forward { OnOk result (next.old < next.new) }
 {
-    let Some(bracket) = mark(tokens, next, Sign::LeftBracket) else {
-        return match basic(tokens, next) {
-            Some(basic) => Ok(Some(Expression::Scalar(basic))),
-            None => Ok(None),
-        };
-    };
-    match elements(alloc, tokens, next)? {
-        Some(elements) => Ok(Some(Expression::Elements { bracket, elements })),
-        None => Ok(None),
+    if is(tokens, *next, TokenKind::Sign(Sign::LeftBrace)) {
+        let set = braces(alloc, tokens, next)?;
+        return Ok(set);
     }
+    let low = number(tokens, next)?;
+    take(tokens, next, TokenKind::Sign(Sign::DoubleDot))?;
+    let high = number(tokens, next)?;
+    Ok(SetLiteral::Range { low, high })
+}
+
+/// Takes the upper end of a range, if one stands there.
+fn range_end(tokens: &Tokens, next: &mut usize) -> Result<Option<Number>, Stop>
+    ensures taken { Parses grammar.RangeEnd (option_of number_of)
+        (rest tokens.now next.old) (rest tokens.now next.new) result }
+    ensures forward { OnOk result (next.old ≤ next.new) }
+{
+    if !is(tokens, *next, TokenKind::Sign(Sign::DoubleDot)) {
+        return Ok(None);
+    }
+    take(tokens, next, TokenKind::Sign(Sign::DoubleDot))?;
+    let high = number(tokens, next)?;
+    Ok(Some(high))
+}
+
+/// Takes an expression that is no list and no name.
+pub(crate) fn constant<'a>(
+    alloc: Global,
+    tokens: &Tokens<'a>,
+    next: &mut usize,
+) -> Result<Basic<'a>, Stop>
+    ensures taken { Parses grammar.Constant basic_of
+        (rest tokens.now next.old) (rest tokens.now next.new) result }
+    ensures forward { OnOk result (next.old < next.new) }
+{
+    if is(tokens, *next, TokenKind::Keyword(Keyword::True)) {
+        let at = take(tokens, next, TokenKind::Keyword(Keyword::True))?;
+        return Ok(Basic::Truth { value: true, at });
+    }
+    if is(tokens, *next, TokenKind::Keyword(Keyword::False)) {
+        let at = take(tokens, next, TokenKind::Keyword(Keyword::False))?;
+        return Ok(Basic::Truth { value: false, at });
+    }
+    if is(tokens, *next, TokenKind::Sign(Sign::LeftBrace)) {
+        let set = braces(alloc, tokens, next)?;
+        return Ok(Basic::Literal(set));
+    }
+    let low = number(tokens, next)?;
+    let high = range_end(tokens, next)?;
+    Ok(number_or_range(low, high))
+}
+
+/// A number, or the range that begins with it.
+fn number_or_range<'a>(low: Number, high: Option<Number>) -> Basic<'a>
+    ensures { basic_of result ≡ grammar.number_or_range (number_of low) (option_of number_of high) }
+{
+    match high {
+        Some(high) => Basic::Literal(SetLiteral::Range { low, high }),
+        None => Basic::Numeral(low),
+    }
+}
+
+/// Takes an expression that is no list.
+pub(crate) fn basic<'a>(
+    alloc: Global,
+    tokens: &Tokens<'a>,
+    next: &mut usize,
+) -> Result<Basic<'a>, Stop>
+    ensures taken { Parses grammar.Basic basic_of
+        (rest tokens.now next.old) (rest tokens.now next.new) result }
+    ensures forward { OnOk result (next.old < next.new) }
+{
+    if is(tokens, *next, TokenKind::Identifier) {
+        let name = identifier(tokens, next)?;
+        return Ok(Basic::Named(name));
+    }
+    let basic = constant(alloc, tokens, next)?;
+    Ok(basic)
+}
+
+/// Takes the elements of a list, up to its closing bracket.
+fn elements<'a>(
+    alloc: Global,
+    tokens: &Tokens<'a>,
+    next: &mut usize,
+) -> Result<Vec<Basic<'a>>, Stop>
+    ensures taken { Parses (grammar.Listed grammar.Elements) (λ e. map basic_of e.items)
+        (rest tokens.now next.old) (rest tokens.now next.new) result }
+    ensures forward { OnOk result (next.old ≤ next.new) }
+{
+    let mut found = Vec::new(alloc);
+    if is(tokens, *next, TokenKind::Sign(Sign::RightBracket)) {
+        return Ok(found);
+    }
+    found.push(basic(alloc, tokens, next)?)?;
+    'elements: while is(tokens, *next, TokenKind::Sign(Sign::Comma)) {
+        take(tokens, next, TokenKind::Sign(Sign::Comma))?;
+        found.push(basic(alloc, tokens, next)?)?;
+    }
+    Ok(found)
+}
+
+/// Takes a list.
+pub(crate) fn list_literal<'a>(
+    alloc: Global,
+    tokens: &Tokens<'a>,
+    next: &mut usize,
+) -> Result<ListLiteral<'a>, Stop>
+    ensures taken { ParsesLow grammar.ListLiteral list_of
+        (rest tokens.now next.old) (rest tokens.now next.new) result }
+    ensures forward { OnOk result (next.old < next.new) }
+{
+    let at = take(tokens, next, TokenKind::Sign(Sign::LeftBracket))?;
+    let elements = elements(alloc, tokens, next)?;
+    take(tokens, next, TokenKind::Sign(Sign::RightBracket))?;
+    Ok(ListLiteral { at, elements })
+}
+
+/// Takes an argument of a constraint.
+pub(crate) fn expression<'a>(
+    alloc: Global,
+    tokens: &Tokens<'a>,
+    next: &mut usize,
+) -> Result<Expression<'a>, Stop>
+    ensures taken { ParsesLow grammar.Expression expression_of
+        (rest tokens.now next.old) (rest tokens.now next.new) result }
+    ensures forward { OnOk result (next.old < next.new) }
+{
+    if is(tokens, *next, TokenKind::Sign(Sign::LeftBracket)) {
+        let list = list_literal(alloc, tokens, next)?;
+        return Ok(Expression::Listed(list));
+    }
+    let basic = basic(alloc, tokens, next)?;
+    Ok(Expression::Scalar(basic))
 }

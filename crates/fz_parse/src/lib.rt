@@ -1,22 +1,21 @@
-//! The syntax of a FlatZinc text: the items that its tokens spell, or the place where no program goes on so
-//! (MiniZinc Handbook, "FlatZinc grammar").
+//! The syntax of a FlatZinc text (MiniZinc Handbook, "FlatZinc grammar"): the program that its tokens spell, or the place where
+//! no program goes on so, or where brackets are nested too deep.
 //!
-//! There is a type for each rule of the grammar, with a field for each part of the rule. A leaf is a token, which keeps its place.
+//! There is a function for each rule of the grammar, which takes the tokens of the rule and gives its tree. One token of look
+//! ahead tells which alternative goes on. Nothing calls itself but the arguments of annotations, to the limit of nesting.
 #![tactic(auto)]
 
+mod annotation;
 mod constraint;
 mod declaration;
 mod expression;
-pub mod fault;
-pub mod items;
-mod keywords;
 pub mod parser;
+mod predicate;
+mod program;
 mod steps;
+mod stop;
 #[cfg(test)]
 mod tests;
-pub mod tree;
+mod value_type;
 
-pub use fault::SyntaxFault;
-pub use items::Items;
-pub use parser::parse;
-pub use tree::{Annotation, Basic, Constraint, Declaration, Expression, Item, Method};
+pub use parser::{ParseFault, parse};

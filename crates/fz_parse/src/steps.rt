@@ -1,127 +1,69 @@
-//! The reading of one token.
-ghost use Rattle.std.specs.Prelude.{◌≡◌, ◌↔◌, ◌<◌, ◌≤◌, ◌+◌, IsTrue, MatchOption, length, []};
-ghost use Rattle.fz_language.specs.Tokens.{Word, Punct};
-ghost use Rattle.fz_language.specs.Grammar.{Exactly, Identifier, Integer, Marked};
-ghost use Rattle.fz_parse.specs.Steps.{Begins, Takes, Misses, MissesEach, rest, IsLeafAt, TakesLeaf};
+//! Steps of the reading: tests and takings of one token.
+ghost use Rattle.std.specs.Prelude.{◌≡◌, ◌<◌, ◌≤◌, ℕ, [], ◌∷◌, OnOk, MatchResult, length, true};
+ghost use Rattle.fz_language.specs.declared.token_kind.TokenKind.TheVariants as kinds;
+ghost use Rattle.fz_language.specs.Kinds.{number};
+ghost use Rattle.fz_grammar.specs.Reading.{head, has};
+ghost use Rattle.fz_language.specs.Grammar.{flatzinc};
+ghost use Rattle.fz_parse.specs.Steps.{rest, IsMark, TakesMark, TakesName, TakesInteger, MissesKind};
 
-use crate::keywords::is_keyword;
-use fz_language::sign::Sign;
-use fz_lex::{Token, TokenKind, Tokens};
+use crate::stop::Stop;
+use fz_language::fault::SyntaxFault;
+use fz_language::token_kind::TokenKind;
+use fz_syntax::{Integer, Name};
+use fz_tokens::Tokens;
 
-/// The token of this number, from 0, or none behind the last.
-pub(crate) fn token_at(tokens: &Tokens, index: usize) -> Option<Token>
-    ensures found { MatchOption result (rest tokens.now index ≡ []) (IsLeafAt tokens.now index) }
+/// Whether the token of this number is of this kind.
+pub(crate) fn is(tokens: &Tokens, index: usize, kind: TokenKind) -> bool
+    ensures found { result ≡ has (number kind ∷ []) (head flatzinc (rest tokens.now index)) }
     ensures size { length tokens.now.tokens ≤ usize.MAX }
 {
-    if index < tokens.len() {
-        Some(tokens.at(index))
-    } else {
-        None
-    }
+    tokens.kind(index) == kind
 }
 
-/// Whether the token of this number is this word.
-pub(crate) fn is_word(tokens: &Tokens, index: usize, word: &[u8]) -> bool
-    ensures found { IsTrue result ↔ Begins (Exactly (Word word.now)) (rest tokens.now index) }
-    ensures within { IsTrue result → index < length tokens.now.tokens }
-    ensures size { length tokens.now.tokens ≤ usize.MAX }
+/// Takes the next token if it is of this kind, and gives its place.
+pub(crate) fn take(tokens: &Tokens, next: &mut usize, kind: TokenKind) -> Result<u32, Stop>
+    requires mark { IsMark kind }
+    ensures taken { MatchResult result
+        (λ at. TakesMark kind at (rest tokens.now next.old) (rest tokens.now next.new))
+        (MissesKind kind (rest tokens.now next.old) (rest tokens.now next.new)) }
+    ensures forward { OnOk result (next.old < next.new) }
 {
-    match token_at(tokens, index) {
-        Some(token) => token.kind == TokenKind::Word && tokens.bytes_of(index) == word,
-        None => false,
+    if !is(tokens, *next, kind) {
+        return Err(Stop::Fault(SyntaxFault::Unexpected));
     }
-}
-
-/// Whether the token of this number is this sign.
-pub(crate) fn is_sign(tokens: &Tokens, index: usize, sign: Sign) -> bool
-    ensures found { IsTrue result ↔ Begins (Exactly (Punct sign)) (rest tokens.now index) }
-    ensures within { IsTrue result → index < length tokens.now.tokens }
-    ensures size { length tokens.now.tokens ≤ usize.MAX }
-{
-    match token_at(tokens, index) {
-        Some(token) => token.kind == TokenKind::Sign(sign),
-        None => false,
-    }
-}
-
-/// Takes the next token if it is this word.
-pub(crate) fn word(tokens: &Tokens, next: &mut usize, word: &[u8]) -> Option<()>
-    requires { next.old ≤ length tokens.now.tokens }
-    ensures taken { MatchOption result (Misses (Exactly (Word word.now)) (rest tokens.now next.old) (rest tokens.now next.new))
-        (λ _. Takes (Exactly (Word word.now)) (rest tokens.now next.old) (rest tokens.now next.new)) }
-    ensures forward { next.old ≤ next.new }
-    ensures within { next.new ≤ length tokens.now.tokens }
-{
-    if !is_word(tokens, *next, word) {
-        return None;
-    }
+    let at = tokens.place(*next);
     *next += 1;
-    Some(())
-}
-
-/// Takes the next token if it is this sign.
-pub(crate) fn sign(tokens: &Tokens, next: &mut usize, sign: Sign) -> Option<()>
-    requires { next.old ≤ length tokens.now.tokens }
-    ensures taken { MatchOption result (Misses (Exactly (Punct sign)) (rest tokens.now next.old) (rest tokens.now next.new))
-        (λ _. Takes (Exactly (Punct sign)) (rest tokens.now next.old) (rest tokens.now next.new)) }
-    ensures forward { next.old ≤ next.new }
-    ensures within { next.new ≤ length tokens.now.tokens }
-{
-    if !is_sign(tokens, *next, sign) {
-        return None;
-    }
-    *next += 1;
-    Some(())
-}
-
-/// Takes the next token if it is an integer.
-pub(crate) fn integer(tokens: &Tokens, next: &mut usize) -> Option<Token>
-    requires { next.old ≤ length tokens.now.tokens }
-    ensures taken { MatchOption result (MissesEach Integer (rest tokens.now next.old) (rest tokens.now next.new))
-        (TakesLeaf Integer tokens.now next.old next.new) }
-    ensures forward { next.old ≤ next.new }
-    ensures within { next.new ≤ length tokens.now.tokens }
-{
-    let token = token_at(tokens, *next)?;
-    match token.kind {
-        TokenKind::Number(_) => {
-            *next += 1;
-            Some(token)
-        }
-        _ => None,
-    }
+    Ok(at)
 }
 
 /// Takes the next token if it is an identifier.
-pub(crate) fn identifier(tokens: &Tokens, next: &mut usize) -> Option<Token>
-    requires { next.old ≤ length tokens.now.tokens }
-    ensures taken { MatchOption result (MissesEach Identifier (rest tokens.now next.old) (rest tokens.now next.new))
-        (TakesLeaf Identifier tokens.now next.old next.new) }
-    ensures forward { next.old ≤ next.new }
-    ensures within { next.new ≤ length tokens.now.tokens }
+pub(crate) fn identifier<'a>(tokens: &Tokens<'a>, next: &mut usize) -> Result<Name<'a>, Stop>
+    ensures taken { MatchResult result
+        (λ n. TakesName n.bytes.now n.at (rest tokens.now next.old) (rest tokens.now next.new))
+        (MissesKind kinds.Identifier (rest tokens.now next.old) (rest tokens.now next.new)) }
+    ensures forward { OnOk result (next.old < next.new) }
 {
-    let token = token_at(tokens, *next)?;
-    match token.kind {
-        TokenKind::Word if !is_keyword(tokens.bytes_of(*next)) => {
+    match tokens.name(*next) {
+        Some(name) => {
             *next += 1;
-            Some(token)
+            Ok(name)
         }
-        _ => None,
+        None => Err(Stop::Fault(SyntaxFault::Unexpected)),
     }
 }
 
-/// Takes the next token if it is this sign, for its place.
-pub(crate) fn mark(tokens: &Tokens, next: &mut usize, sign: Sign) -> Option<Token>
-    requires { next.old ≤ length tokens.now.tokens }
-    ensures taken { MatchOption result (MissesEach (Marked sign) (rest tokens.now next.old) (rest tokens.now next.new))
-        (TakesLeaf (Marked sign) tokens.now next.old next.new) }
-    ensures forward { next.old ≤ next.new }
-    ensures within { next.new ≤ length tokens.now.tokens }
+/// Takes the next token if it is an integer.
+pub(crate) fn integer(tokens: &Tokens, next: &mut usize) -> Result<Integer, Stop>
+    ensures taken { MatchResult result
+        (λ i. TakesInteger i.value i.at (rest tokens.now next.old) (rest tokens.now next.new))
+        (MissesKind kinds.Integer (rest tokens.now next.old) (rest tokens.now next.new)) }
+    ensures forward { OnOk result (next.old < next.new) }
 {
-    let token = token_at(tokens, *next)?;
-    if token.kind != TokenKind::Sign(sign) {
-        return None;
+    match tokens.integer(*next) {
+        Some(integer) => {
+            *next += 1;
+            Ok(integer)
+        }
+        None => Err(Stop::Fault(SyntaxFault::Unexpected)),
     }
-    *next += 1;
-    Some(token)
 }

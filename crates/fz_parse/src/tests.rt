@@ -1,78 +1,18 @@
 //! What no clause says: that calls succeed where memory is ample, and that the grammar is the one meant.
-
-use crate::{Expression, Item, Method, parse};
-use fz_lex::{TokenKind, tokens};
-use fz_spec::code::Code;
+use crate::parse;
+use fz_language::fault::SyntaxFault;
+use fz_lex::tokens;
+use fz_syntax::{Item, Method};
 use std::alloc::{AllocError, Global};
 use std::test::Fail;
 
-/// The code and place of the fault of a text's syntax.
-fn fault_of(alloc: Global, text: &str) -> Result<Option<(Code, u32, u32)>, AllocError> {
+/// The cause and place of the fault of a text's syntax, if it has one.
+fn fault_of(alloc: Global, text: &str) -> Result<Option<(SyntaxFault, u32)>, AllocError> {
     let Ok(lexed) = tokens(alloc, text.as_bytes())? else {
         return Ok(None);
     };
     let fault = parse(alloc, &lexed)?.err();
-    Ok(fault.map(|fault| (fault.code, fault.line, fault.column)))
-}
-
-#[test]
-fn a_declaration_has_its_ends_its_name_and_its_annotation(rt: HostRuntime) -> Result<(), Fail> {
-    let text = b"var 1..3: x :: output_var; solve satisfy;";
-    let lexed = tokens(rt.alloc(), text)??;
-    let items = parse(rt.alloc(), &lexed)??;
-    assert_eq!(rt; items.text(), text.as_slice());
-    assert_eq!(rt; items.method(), Method::Satisfy);
-    assert_eq!(rt; items.items().len(), 1);
-    for item in items.items() {
-        assert!(rt; matches!(item, Item::Declare(_)));
-        if let Item::Declare(declaration) = item {
-            assert_eq!(rt; declaration.low.kind, TokenKind::Number(1));
-            assert_eq!(rt; declaration.high.kind, TokenKind::Number(3));
-            assert_eq!(rt; items.bytes(declaration.name), b"x".as_slice());
-            assert_eq!(rt; declaration.annotations.len(), 1);
-            for annotation in &declaration.annotations {
-                assert_eq!(rt; items.bytes(annotation.name), b"output_var".as_slice());
-            }
-        }
-    }
-    Ok(())
-}
-
-/// How many elements a list literal has, or none for another expression.
-fn element_count(expression: &Expression) -> Option<usize> {
-    match expression {
-        Expression::Scalar(_) => None,
-        Expression::Elements { elements, .. } => Some(elements.len()),
-    }
-}
-
-#[test]
-fn a_constraint_has_its_name_its_arguments_and_its_annotation(rt: HostRuntime) -> Result<(), Fail> {
-    let text = b"constraint int_lin_le([1,-2],[x,3],4) :: domain; solve satisfy;";
-    let lexed = tokens(rt.alloc(), text)??;
-    let items = parse(rt.alloc(), &lexed)??;
-    assert_eq!(rt; items.items().len(), 1);
-    for item in items.items() {
-        assert!(rt; matches!(item, Item::Constrain(_)));
-        if let Item::Constrain(constraint) = item {
-            assert_eq!(rt; items.bytes(constraint.name), b"int_lin_le".as_slice());
-            assert_eq!(rt; constraint.arguments.len(), 3);
-            for (argument, count) in constraint.arguments.iter().zip([Some(2), Some(2), None]) {
-                assert_eq!(rt; element_count(argument), count);
-            }
-            assert_eq!(rt; constraint.annotations.len(), 1);
-        }
-    }
-    Ok(())
-}
-
-#[test]
-fn a_solve_item_alone_is_a_program(rt: HostRuntime) -> Result<(), Fail> {
-    let lexed = tokens(rt.alloc(), b"solve satisfy;")??;
-    let items = parse(rt.alloc(), &lexed)??;
-    assert_eq!(rt; items.items().len(), 0);
-    assert_eq!(rt; items.method(), Method::Satisfy);
-    Ok(())
+    Ok(fault.map(|fault| (fault.cause, fault.at)))
 }
 
 #[test]
@@ -82,32 +22,102 @@ fn a_fault_stands_at_the_first_token_that_does_not_fit(rt: HostRuntime) -> Resul
         ("", 1),
         ("var 1..2: x solve satisfy;", 13),
         ("solve satisfy; var 1..2: x;", 16),
-        ("var float: f; solve satisfy;", 5),
         ("constraint int_ne(x,1 solve satisfy;", 23),
         ("constraint int_ne(x,); solve satisfy;", 21),
-        ("constraint (x); solve satisfy;", 12),
-        ("constraint int_ne x; solve satisfy;", 19),
         ("constraint f([1,[2]]); solve satisfy;", 17),
-        ("constraint f(1) solve satisfy;", 17),
-        ("constraint f(var); solve satisfy;", 14),
-        ("var 1..2: var; solve satisfy;", 11),
         ("var 1..2: x :: 3; solve satisfy;", 16),
-        ("solve :: a satisfy;", 7),
         ("var 1..2; solve satisfy;", 9),
+        ("int: x; solve satisfy;", 7),
+        ("array [1..2] of int: x = 3; solve satisfy;", 26),
+        ("predicate p(int x); solve satisfy;", 17),
+        ("solve minimize [x];", 16),
+        ("var 1..2: x :: a(b(c, {1,2}, [\"s\",]); solve satisfy;", 35),
     ];
     for (text, column) in cases {
         assert_eq!(rt;
             fault_of(rt.alloc(), text)?,
-            Some((Code::UnexpectedToken, 1, column)),
+            Some((SyntaxFault::Unexpected, column - 1)),
             "at {text}"
         );
     }
     Ok(())
 }
 
+/// A solve item whose annotation nests this many brackets.
+fn nested(alloc: Global, levels: usize) -> Result<String, AllocError> {
+    let mut text = String::new(alloc);
+    text.push_str("solve :: a")?;
+    for _ in 0..levels {
+        text.push_str("(a")?;
+    }
+    for _ in 0..levels {
+        text.push_str(")")?;
+    }
+    text.push_str(" satisfy;")?;
+    Ok(text)
+}
+
 #[test]
-fn a_fault_has_the_line_of_its_token(rt: HostRuntime) -> Result<(), Fail> {
-    let fault = fault_of(rt.alloc(), "var 1..2: x;\nvar 1..2:\n  3;\n")?;
-    assert_eq!(rt; fault, Some((Code::UnexpectedToken, 3, 3)));
+fn brackets_nest_to_sixty_four_levels(rt: HostRuntime) -> Result<(), Fail> {
+    assert_eq!(rt; fault_of(rt.alloc(), &nested(rt.alloc(), 64)?)?, None);
+    let too_deep = Some((SyntaxFault::TooDeep, 10 + 2 * 64));
+    assert_eq!(rt; fault_of(rt.alloc(), &nested(rt.alloc(), 65)?)?, too_deep);
+    Ok(())
+}
+
+#[test]
+fn the_first_of_two_faults_counts(rt: HostRuntime) -> Result<(), Fail> {
+    let mut text = nested(rt.alloc(), 65)?;
+    text.push_str(" x")?;
+    assert_eq!(rt;
+        fault_of(rt.alloc(), &text)?,
+        Some((SyntaxFault::TooDeep, 10 + 2 * 64))
+    );
+    let mut text = String::new(rt.alloc());
+    text.push_str("x ")?;
+    text.push_str(&nested(rt.alloc(), 65)?)?;
+    assert_eq!(rt;
+        fault_of(rt.alloc(), &text)?,
+        Some((SyntaxFault::Unexpected, 0))
+    );
+    Ok(())
+}
+
+#[test]
+fn a_declaration_keeps_its_parts(rt: HostRuntime) -> Result<(), Fail> {
+    let text = b"var 1..3: x :: output_var = 2; solve minimize x;";
+    let lexed = tokens(rt.alloc(), text)??;
+    let program = parse(rt.alloc(), &lexed)??;
+    assert_eq!(rt; program.items.len(), 1);
+    for item in &program.items {
+        assert!(rt; matches!(item, Item::Variable(_)));
+        if let Item::Variable(variable) = item {
+            assert_eq!(rt; variable.name.bytes, b"x".as_slice());
+            assert_eq!(rt; variable.name.at, 10);
+            assert_eq!(rt; variable.value_type.at(), 4);
+            assert_eq!(rt; variable.annotations.len(), 1);
+            assert!(rt; variable.value.is_some());
+        }
+    }
+    assert!(rt; matches!(program.solve.method, Method::Minimize { at: 37, .. }));
+    Ok(())
+}
+
+#[test]
+fn the_whole_grammar_is_read(rt: HostRuntime) -> Result<(), Fail> {
+    let cases = [
+        "predicate fzn_all_different_int(array [int] of var int: x); solve satisfy;",
+        "predicate p(); predicate q(var bool: b, array [1..2,int] of set of 1..3: s, float: f); solve satisfy;",
+        "var 0..1: x ::var_is_introduced :: is_defined_var; var {1,3}: y = 3; var bool: b = true; solve satisfy;",
+        "array [1..2] of var int: a :: output_array([1..2]) = [x,-4]; array [1..0] of int: e = []; solve satisfy;",
+        "int: n = 0x1F; set of int: s = 1..3; set of int: t = {}; float: f = 1.5e-3; bool: c = false; solve maximize x;",
+        "constraint int_eq(x,1):: defines_var(x):: mzn_path(\"a;b|c\"); solve satisfy;",
+        "constraint set_in(x,{1,2,3}); constraint g([], [true,false], 1..3); solve minimize x;",
+        "solve :: seq_search([int_search([x],first_fail,indomain_min,complete)]) satisfy;",
+    ];
+    for text in cases {
+        assert_eq!(rt; fault_of(rt.alloc(), text)?, None, "at {text}");
+        assert!(rt; tokens(rt.alloc(), text.as_bytes())?.is_ok(), "at {text}");
+    }
     Ok(())
 }

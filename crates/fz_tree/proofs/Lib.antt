@@ -8,3 +8,4 @@ pub mod Same
 pub mod Accounts
 pub mod Books
 pub mod Places
+pub mod Measures

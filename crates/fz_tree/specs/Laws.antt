@@ -1,15 +1,16 @@
 -- Laws that the definitions keep.
 use Rattle.std.specs.Prelude.{◌≡◌, ℕ, ◌+◌, ◌<◌, ◌↔◌, ◌⊎◌, ℤ, true, false, cond, IsTrue, List, [], length, take, slice_index_or, Option}
-use Rattle.std.specs.List.{list_any}
+use Rattle.std.specs.List.{AllByRecursion, list_any}
 use Rattle.fz_spec.specs.Instance.{Instance, Satisfies, Lists}
 use Rattle.fz_tree.specs.declared.decision.Decision.{Decision}
 use Rattle.fz_tree.specs.declared.mode.Mode.TheVariants.{All, Best}
 use Rattle.fz_tree.specs.Choice.{meets, pair_of, IsChoice}
-use Rattle.fz_tree.specs.Frontier.{Edge, Frontier, AreEdges, others, is_in, In, times_in, times_in_all, can_cut, moved, part_of, rest_of, AreParts}
-use Rattle.fz_tree.specs.Proper.{MeetsTaken, Fits}
+use Rattle.fz_tree.specs.Frontier.{Edge, Frontier, AreEdges, others, is_in, In, times_in, times_in_all, can_cut, closed, branched, moved, part_of, rest_of, AreParts}
+use Rattle.fz_tree.specs.Proper.{MeetsTaken, IsReachable, Fits}
 use Rattle.fz_tree.specs.Better.{Betters}
 use Rattle.fz_tree.specs.Account.{Account, AccountLaw, times_found}
 use Rattle.fz_tree.specs.Book.{Book, BookLaw, incumbent}
+use Rattle.fz_tree.specs.Measure.{weight}
 
 -- a decision and its negation are a choice, and it fits every node where the variable is of the model
 abbrev pub PairIsChoice : Type 0
@@ -52,3 +53,17 @@ ClosedListsAll = (b : Book) → BookLaw b → b.mode ≡ All → b.parts ≡ [] 
 
 abbrev pub ClosedIsBest : Type 0
 ClosedIsBest = (b : Book) (a : List ℤ) → BookLaw b → b.mode ≡ Best → b.parts ≡ [] → Satisfies b.model a → Betters b.model a (incumbent b) → ⊥
+
+-- The measure of what is left falls where the place below is closed, and where it is divided among alternatives that are each met
+-- there; it stays at a move; and a cut divides it.
+abbrev pub ClosingLowers : Type 0
+ClosingLowers = (m : Instance) (f : Frontier) → f.current_open ≡ true → weight m (closed f) < weight m f
+
+abbrev pub BranchingLowers : Type 0
+BranchingLowers = (m : Instance) (f : Frontier) (ds : List Decision) → f.current_open ≡ true → IsChoice ds → AllByRecursion (IsReachable m.variables f.edges) ds → weight m (branched f ds) < weight m f
+
+abbrev pub MovingKeeps : Type 0
+MovingKeeps = (m : Instance) (f : Frontier) → AreEdges f.edges → f.current_open ≡ false → can_cut f ≡ true → weight m (moved f) ≡ weight m f
+
+abbrev pub CuttingDivides : Type 0
+CuttingDivides = (m : Instance) (f : Frontier) → AreEdges f.edges → can_cut f ≡ true → weight m f ≡ weight m (rest_of f) + weight m (part_of f)

@@ -4,4 +4,5 @@ pub mod Proper
 pub mod Better
 pub mod Account
 pub mod Book
+pub mod Measure
 pub mod Laws

@@ -1,5 +1,5 @@
 //! Laws that the definitions keep: each is the clause of a function that does nothing, so that the clause is proved.
-ghost use Rattle.fz_tree.specs.Laws.{PairIsChoice, PairFits, InIsAtOpenPlace, InIsOnce, CutIsInParts, MovedIsSame, AccountIsExact, ClosedListsAll, ClosedIsBest};
+ghost use Rattle.fz_tree.specs.Laws.{PairIsChoice, PairFits, InIsAtOpenPlace, InIsOnce, CutIsInParts, MovedIsSame, AccountIsExact, ClosedListsAll, ClosedIsBest, ClosingLowers, BranchingLowers, MovingKeeps, CuttingDivides};
 
 /// A decision and its negation are a choice: an assignment meets at most one of the two.
 pub fn pair_is_choice()
@@ -44,4 +44,24 @@ pub fn closed_lists_all()
 /// No satisfying assignment betters the incumbent of a lawful closed book.
 pub fn closed_is_best()
     ensures { ClosedIsBest }
+{}
+
+/// Closing the place below lowers the measure of a search.
+pub fn closing_lowers()
+    ensures { ClosingLowers }
+{}
+
+/// So does dividing it, where each alternative is met by a declared assignment there.
+pub fn branching_lowers()
+    ensures { BranchingLowers }
+{}
+
+/// Moving to the next alternative keeps the measure.
+pub fn moving_keeps()
+    ensures { MovingKeeps }
+{}
+
+/// A cut divides the measure between the part and the rest.
+pub fn cutting_divides()
+    ensures { CuttingDivides }
 {}

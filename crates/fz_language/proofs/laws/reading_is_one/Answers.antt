@@ -1,5 +1,5 @@
-use Rattle.fz_language.proofs.ReadingLaws.{one_reading}
+use Rattle.fz_language.proofs.ReadProofs as laws
 use Rattle.fz_language.proofs.laws.reading_is_one.Goals as goal
 
 pub returns : goal.returns
-returns c = one_reading
+returns c = laws.reading_is_one

@@ -1,5 +1,5 @@
 use Rattle.std.proofs.Common.{ℕ, ◌+◌, slice_index, subst, sym}
-use Rattle.fz_lex.specs.declared.token.TokenKind.TheVariants as kind
+use Rattle.fz_tokens.specs.declared.token.Lexeme.TheVariants as found
 use Rattle.fz_lex.specs.Steps.{FitsSign, FitsNoSign, IsFoundAt}
 use Rattle.fz_lex.proofs.Founds.{sign_found, none_found}
 use Rattle.fz_lex.proofs.reading.sign_at.Goals as goal
@@ -11,7 +11,7 @@ returns-in-Some c =
     let s = c.in-Some.sign in
     let fits : FitsSign s (slice_index text at) (slice_index text (at + 1)) =
     subst (λ (b : ℕ). FitsSign s (slice_index text at) b) c.byte_at.ensures c.in-Some.ensures in
-    subst (λ (n : ℕ). IsFoundAt text at (record { kind = kind.Sign s; stop = at + n })) (sym c.sign_length.ensures) (sign_found s text at c.requires.within fits)
+    subst (λ (n : ℕ). IsFoundAt text at (record { lexeme = found.Sign s; stop = at + n })) (sym c.sign_length.ensures) (sign_found s text at c.requires.within fits)
 
 pub returns-in-None : goal.returns-in-None
 returns-in-None c =
@@ -19,4 +19,4 @@ returns-in-None c =
     let at = c.args.at in
     let fits : FitsNoSign (slice_index text at) (slice_index text (at + 1)) =
     subst (λ (b : ℕ). FitsNoSign (slice_index text at) b) c.byte_at.ensures c.in-None.ensures in
-    none_found text at c.requires.within c.requires.visible c.requires.no_word c.requires.no_number c.requires.no_minus fits
+    none_found text at c.requires.within c.requires.visible c.requires.no_word c.requires.no_number c.requires.no_minus c.requires.no_quote fits

@@ -1,39 +1,45 @@
-use Rattle.std.proofs.Common.{ℕ, ◌∙◌, map, refl, subst, sym}
-use Rattle.fz_spec.specs.declared.code.Code.{Code}
-use Rattle.fz_language.specs.Tokens.{IsGap}
-use Rattle.fz_language.specs.Reads.{IsUnlexed}
-use Rattle.fz_lex.specs.Lexed.{token_of}
-use Rattle.fz_lex.proofs.Wholes.{led_fault, led_push, placed_push, token_in_line, whole_from}
+use Rattle.std.proofs.Common.{◌≡◌, List, length, map, sym, subst, arith}
+use Rattle.fz_tokens.specs.declared.token.Token.{Token}
+use Rattle.fz_tokens.specs.Lexed.{token_of}
+use Rattle.fz_lex.specs.Steps.{Led}
+use Rattle.fz_lex.proofs.Blanks.{led_none, led_fault, led_push, led_end, gap_within, gap_ordered, bounded_push, bounded_none}
 use Rattle.fz_lex.proofs.scan.tokens.Goals as goal
 
-pub returns-in-Err : goal.returns-in-Err
-returns-in-Err c =
+pub text-init : goal.text-init
+text-init c =
     let text = c.args.text.now in
-    let at = c.text.cursor.at in
-    let e = c.fault_at-in-Err.ensures in
-    record {
-      at = at;
-      unlexed = subst (λ (x : Code). IsUnlexed text x at) (sym e.code) (led_fault text (map (token_of text) c.text.found.items) c.in-Err.code at c.if-text-gt-TEXT_LIMIT.false c.text.invariant.2 c.in-Err.ensures);
-      placed = record {
-        line_is = e.line ∙ c.text.invariant.0.placed.line_is;
-        column_is = e.column ∙ c.text.invariant.0.placed.column_is;
-      };
-    }
+    let at = c.skip_blanks-at.result in (
+      gap_within text 0 at c.skip_blanks-at.ensures.gap,
+      c.skip_blanks-at.ensures.end,
+      subst (λ (xs : List Token). Led text (map (token_of text) xs) at) (sym c.new-found.ensures.items) (led_none text at c.skip_blanks-at.ensures.gap),
+      bounded_none text c.new-found.result.items c.new-found.ensures.items,
+    )
 
-pub along-requires-clause-line : goal.along-requires-clause-line
-along-requires-clause-line c = token_in_line c.args.text.now _ c.in-Ok.ensures.token
+pub returns-in-Err : goal.returns-in-Err
+returns-in-Err c = led_fault c.args.text.now (map (token_of c.args.text.now) c.text.found.items) c.in-Err.cause c.text.at c.text.invariant.2 c.in-Err.ensures
+
+pub text-smaller : goal.text-smaller
+text-smaller c =
+    let text = c.args.text.now in
+    let o = gap_ordered text c.in-Ok.next.stop c.skip_blanks-at-in-text.result c.skip_blanks-at-in-text.ensures.gap in
+    omega (arith, o, c.in-Ok.ensures.some, c.text-test.true)
 
 pub text-preserved : goal.text-preserved
 text-preserved c =
     let text = c.args.text.now in
-    let skip = c.skip_space-cursor-in-text in
-    let gap : IsGap text c.in-Ok.next.stop skip.result.at = subst (λ (n : ℕ). IsGap text n skip.result.at) c.along.ensures.at skip.ensures.gap in (
-      skip.ensures.stands,
-      skip.ensures.end,
-      led_push text c.text.found.items c.push.new.self.items _ c.text.cursor.at skip.result.at c.text.invariant.2 c.in_ok-push.ensures.items refl c.in-Ok.ensures.token c.in-Ok.ensures.fine gap,
-      placed_push text c.text.found.items c.push.new.self.items _ c.text.invariant.3 c.in_ok-push.ensures.items c.text.invariant.0.placed,
+    let found = c.in-Ok.ensures in
+    let gap = c.skip_blanks-at-in-text.ensures.gap in (
+      gap_within text c.in-Ok.next.stop c.skip_blanks-at-in-text.result gap,
+      c.skip_blanks-at-in-text.ensures.end,
+      led_push text c.text.found.items c.push.new.self.items (record { lexeme = c.in-Ok.next.lexeme; at = c.text.at }) c.in-Ok.next.stop c.skip_blanks-at-in-text.result c.text.invariant.2 c.in_ok-push.ensures.items found.token found.fine gap,
+      bounded_push text c.text.found.items c.push.new.self.items (record { lexeme = c.in-Ok.next.lexeme; at = c.text.at }) c.text.invariant.3 c.in_ok-push.ensures.items found.bounded,
     )
 
 pub new-requires : goal.new-requires
 new-requires c =
-    whole_from c.args.text.now c.text.found.items c.text.cursor c.if-text-gt-TEXT_LIMIT.false c.text.invariant.0 c.text-test.false c.text.invariant.2 c.text.invariant.3
+    let text = c.args.text.now in
+    let e : c.text.at ≡ length text = omega (arith, c.text.invariant.0, c.text-test.false) in
+    record {
+      lexed = record { short = c.requires.short; are = led_end text (map (token_of text) c.text.found.items) c.text.at c.text.invariant.2 e };
+      bounded = c.text.invariant.3;
+    }

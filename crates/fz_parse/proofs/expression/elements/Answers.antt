@@ -1,45 +1,55 @@
-use Rattle.std.proofs.Common.{arith}
-use Rattle.fz_language.specs.declared.sign.Sign.TheVariants.{Comma, RightBracket}
-use Rattle.fz_language.specs.Grammar.{sign, basic_pieces}
-use Rattle.fz_parse.proofs.Faults.{spans_both, spans_one}
-use Rattle.fz_parse.proofs.Leaves.{takes_next}
-use Rattle.fz_parse.proofs.Lists.{map_some, some_more, next_part}
-use Rattle.fz_parse.proofs.Constraints.{elements_break, next_element_breaks, elements_close_breaks}
-use Rattle.fz_parse.proofs.Trees.{more_leaves, not_both}
+use Rattle.std.proofs.Common.{List, [], ◌∷◌, map, refl, ap, sym, subst, arith}
+use Rattle.std.proofs.lemmas.Result.{err_from_is_err_and}
+use Rattle.fz_language.specs.Trees as trees
+use Rattle.fz_language.specs.Grammar.{flatzinc, rules, Elements, Listed}
+use Rattle.fz_grammar.specs.Reading.{head}
+use Rattle.fz_syntax.specs.Trees.{basic_of}
+use Rattle.fz_parse.specs.Steps.{rest, Read}
+use Rattle.fz_grammar.specs.Grammar.{Rule}
+use Rattle.fz_parse.proofs.Follows.{reads_by, first, later, ended}
+use Rattle.fz_parse.proofs.Lists.{GoesOn, goes_first, goes_next, stops_first, stops_comma, stops_next, reads_end, all_elements, first_pushed, pushed}
 use Rattle.fz_parse.proofs.expression.elements.Goals as goal
 
-pub returns-then-is_sign-clause-taken : goal.returns-then-is_sign-clause-taken
-returns-then-is_sign-clause-taken c =
-    rw c.new-found.ensures.items
-    (record { leaves = tt; spans = spans_one _ _ _ (takes_next c.args.tokens.now c.args.next.now (sign RightBracket) (c.is_sign.ensures.found.0 c.if-is_sign.true)) })
+pub returns-then-is-clause-taken : goal.returns-then-is-clause-taken
+returns-then-is-clause-taken c = λ l.
+    let old = rest c.args.tokens.now c.args.next.now in
+    subst (λ (v : List trees.Basic). Read l (Rule (Listed Elements) ∷ []) (v, tt) old old) (sym (ap (map basic_of) c.new-found.ensures.items))
+    (reads_by (first (rules (Listed Elements)) (head flatzinc old) c.is.ensures.found c.if-is.true) ended)
 
-pub returns-in_default-clause-taken : goal.returns-in_default-clause-taken
-returns-in_default-clause-taken c =
-    elements_break _ _ (λ b. not_both _ (c.is_sign.ensures.found.1 b) c.if-is_sign.false) c.in_default.ensures.taken
+pub returns-in_err-basic-clause-taken : goal.returns-in_err-basic-clause-taken
+returns-in_err-basic-clause-taken c =
+    let p = err_from_is_err_and c.from_residual.result c.from_residual.ensures.1 in
+    rw (p.1, p.2) (λ l. stops_first Elements (later (rules (Listed Elements)) (head flatzinc (rest c.args.tokens.now c.args.next.now)) c.is.ensures.found c.if-is.false) (c.in_err-basic.ensures.taken l))
 
-pub returns-in_default-basic-clause-taken : goal.returns-in_default-basic-clause-taken
-returns-in_default-basic-clause-taken c =
-    next_element_breaks _ (map_some _ _ c.elements.invariant.some) _ _ _ _ c.elements.invariant.spans
-    (takes_next c.args.tokens.now c.elements.next (sign Comma) (c.is_sign-in-elements.ensures.found.0 c.elements-test.true)) c.in_default-basic.ensures.taken
+pub elements-init : goal.elements-init
+elements-init c = (
+  omega (arith, c.in_ok-basic.ensures.forward),
+  λ l.
+      subst (λ (v : List trees.Basic). GoesOn Elements l (Listed Elements) (rest c.args.tokens.now c.args.next.now) (rest c.args.tokens.now c.basic.new.next) (λ w. w) v)
+      (first_pushed basic_of c.push.new.self.items c.new-found.result.items c.in_ok-basic.field-0 c.new-found.ensures.items c.in_ok-push.ensures.items)
+      (goes_first Elements (later (rules (Listed Elements)) (head flatzinc (rest c.args.tokens.now c.args.next.now)) c.is.ensures.found c.if-is.false) (c.in_ok-basic.ensures.taken l)),
+)
+
+pub returns-in_err-take-clause-taken : goal.returns-in_err-take-clause-taken
+returns-in_err-take-clause-taken c =
+    let p = err_from_is_err_and c.from_residual-in_err-take.result c.from_residual-in_err-take.ensures.1 in
+    rw (p.1, p.2) (λ l. stops_comma Elements (c.elements.invariant.1 l) c.is-in-elements.ensures.found c.elements-test.true (c.in_err-take.ensures.taken l))
+
+pub returns-in_err-basic-2-clause-taken : goal.returns-in_err-basic-2-clause-taken
+returns-in_err-basic-2-clause-taken c =
+    let p = err_from_is_err_and c.from_residual-in_err-basic-2.result c.from_residual-in_err-basic-2.ensures.1 in
+    rw (p.1, p.2) (λ l. stops_next Elements (c.elements.invariant.1 l) c.is-in-elements.ensures.found c.elements-test.true (c.in_ok-take.ensures.taken l refl) (c.in_err-basic-2.ensures.taken l))
 
 pub elements-preserved : goal.elements-preserved
-elements-preserved c = record {
-  forward = omega arith;
-  within = c.basic-in-elements.ensures.within;
-  some = some_more _ _ _ c.in_ok-push-2.ensures.items;
-  leaves = more_leaves _ _ _ _ c.in_ok-push-2.ensures.items c.elements.invariant.leaves c.in-Some-basic.ensures.taken.leaf;
-  spans =
-      next_part basic_pieces _ _ _ _ _ _ _ _ c.in_ok-push-2.ensures.items c.elements.invariant.some c.elements.invariant.spans
-      (takes_next c.args.tokens.now c.elements.next (sign Comma) (c.is_sign-in-elements.ensures.found.0 c.elements-test.true)) c.in-Some-basic.ensures.taken.spans;
-}
+elements-preserved c = (
+  omega (arith, c.elements.invariant.0, c.in_ok-take.ensures.forward, c.in_ok-basic-2.ensures.forward),
+  λ l.
+      subst (λ (v : List trees.Basic). GoesOn Elements l (Listed Elements) (rest c.args.tokens.now c.args.next.now) (rest c.args.tokens.now c.basic-in-elements.new.next) (λ w. w) v)
+      (pushed basic_of c.push-in-elements.new.self.items c.elements.found.items c.in_ok-basic-2.field-0 c.in_ok-push-2.ensures.items)
+      (goes_next Elements (c.elements.invariant.1 l) c.is-in-elements.ensures.found c.elements-test.true (c.in_ok-take.ensures.taken l refl) (c.in_ok-basic-2.ensures.taken l)),
+)
 
-pub returns-in-Some-sign-clause-taken : goal.returns-in-Some-sign-clause-taken
-returns-in-Some-sign-clause-taken c = record {
-  leaves = c.elements.invariant.leaves;
-  spans = spans_both _ _ _ _ _ c.elements.invariant.spans (spans_one _ _ _ c.in-Some-sign.ensures.taken);
-}
-
-pub returns-in-None-clause-taken : goal.returns-in-None-clause-taken
-returns-in-None-clause-taken c =
-    elements_close_breaks _ (map_some _ _ c.elements.invariant.some) _ _ _ c.elements.invariant.spans
-    (λ b. not_both _ (c.is_sign-in-elements.ensures.found.1 b) c.elements-test.false) c.in-None.ensures.taken
+pub returns-clause-taken : goal.returns-clause-taken
+returns-clause-taken c = λ l.
+    subst (λ (v : List trees.Basic). Read l (Rule (Listed Elements) ∷ []) (v, tt) (rest c.args.tokens.now c.args.next.now) (rest c.args.tokens.now c.elements.next)) (all_elements (map basic_of c.elements.found.items))
+    (reads_end Elements (c.elements.invariant.1 l) c.is-in-elements.ensures.found c.elements-test.false)

@@ -1,18 +1,28 @@
-use Rattle.fz_parse.proofs.Faults.{spans_next}
-use Rattle.fz_parse.proofs.Constraints.{scalar_breaks, behind_bracket}
+use Rattle.std.proofs.lemmas.Result.{err_from_is_err_and}
+use Rattle.fz_language.specs.Grammar as grammar
+use Rattle.fz_grammar.specs.Reading.{head}
+use Rattle.fz_parse.specs.Steps.{rest}
+use Rattle.fz_parse.proofs.Follows.{reads_by, halts_by, first, later, here, rule_then, ended}
 use Rattle.fz_parse.proofs.expression.expression.Goals as goal
 
-pub returns-in-None-clause-taken : goal.returns-in-None-clause-taken
-returns-in-None-clause-taken c = scalar_breaks _ _ _ c.in_default.ensures.taken c.in-None.ensures.taken
+pub returns-in_err-list-clause-taken : goal.returns-in_err-list-clause-taken
+returns-in_err-list-clause-taken c =
+    let h = head grammar.flatzinc (rest c.args.tokens.now c.args.next.now) in
+    let p = err_from_is_err_and c.from_residual.result c.from_residual.ensures.1 in
+    rw (p.1, p.2) (λ l low. halts_by {n = grammar.Expression} (first (grammar.rules grammar.Expression) h c.is.ensures.found c.if-is.true) (here (c.in_err-list.ensures.taken l low)))
 
-pub returns-in-Some-2-clause-taken : goal.returns-in-Some-2-clause-taken
-returns-in-Some-2-clause-taken c =
-    let e = rw c.in-Some-2.is at c.in_ok-elements.ensures.taken in
-    record {
-      leaves = (c.in-Some.ensures.taken.leaf, e.leaves);
-      spans = spans_next _ _ _ _ _ c.in-Some.ensures.taken.takes e.spans;
-    }
+pub returns-then-is-clause-taken : goal.returns-then-is-clause-taken
+returns-then-is-clause-taken c =
+    let h = head grammar.flatzinc (rest c.args.tokens.now c.args.next.now) in
+    λ l low. reads_by {n = grammar.Expression} (first (grammar.rules grammar.Expression) h c.is.ensures.found c.if-is.true) (rule_then (c.in_ok-list.ensures.taken l low) ended)
 
-pub returns-in-None-2-clause-taken : goal.returns-in-None-2-clause-taken
-returns-in-None-2-clause-taken c =
-    behind_bracket _ _ _ _ c.in-Some.ensures.taken.takes (rw c.in-None-2.is at c.in_ok-elements.ensures.taken)
+pub returns-in_err-basic-clause-taken : goal.returns-in_err-basic-clause-taken
+returns-in_err-basic-clause-taken c =
+    let h = head grammar.flatzinc (rest c.args.tokens.now c.args.next.now) in
+    let p = err_from_is_err_and c.from_residual-in_err-basic.result c.from_residual-in_err-basic.ensures.1 in
+    rw (p.1, p.2) (λ l low. halts_by {n = grammar.Expression} (later (grammar.rules grammar.Expression) h c.is.ensures.found c.if-is.false) (here (c.in_err-basic.ensures.taken l)))
+
+pub returns-clause-taken : goal.returns-clause-taken
+returns-clause-taken c =
+    let h = head grammar.flatzinc (rest c.args.tokens.now c.args.next.now) in
+    λ l low. reads_by {n = grammar.Expression} (later (grammar.rules grammar.Expression) h c.is.ensures.found c.if-is.false) (rule_then (c.in_ok-basic.ensures.taken l) ended)

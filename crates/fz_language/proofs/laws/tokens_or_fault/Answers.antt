@@ -1,0 +1,5 @@
+use Rattle.fz_language.proofs.TokenProofs as laws
+use Rattle.fz_language.proofs.laws.tokens_or_fault.Goals as goal
+
+pub returns : goal.returns
+returns c = laws.tokens_or_fault

@@ -1,0 +1,5 @@
+use Rattle.fz_language.proofs.SyntaxProofs as laws
+use Rattle.fz_language.proofs.laws.verdict_is_one.Goals as goal
+
+pub returns : goal.returns
+returns c = laws.verdict_is_one

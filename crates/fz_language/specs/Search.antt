@@ -1,0 +1,116 @@
+-- Search annotations of the solve item: what guides the search (MiniZinc Handbook, "Search annotations"). One that isn't of this
+-- form is ignored.
+use Rattle.std.specs.Prelude.{ℕ, Bool, true, false, cond, Option, Some, None, option_map, List, [], ◌∷◌, ◌++◌, map, flat_map, find, bytes_eq, codes}
+use Rattle.fz_spec.specs.declared.search.Pick.{Pick}
+use Rattle.fz_spec.specs.declared.search.Pick.TheVariants.{InputOrder, FirstFail, AntiFirstFail, Smallest, Largest}
+use Rattle.fz_spec.specs.declared.search.Value.{Value}
+use Rattle.fz_spec.specs.declared.search.Value.TheVariants.{IndomainMin, IndomainMax, IndomainMedian, IndomainSplit, IndomainReverseSplit}
+use Rattle.fz_spec.specs.declared.term.Term.{Term}
+use Rattle.fz_spec.specs.declared.term.Term.TheVariants.{Num, Var}
+use Rattle.fz_spec.specs.Instance.{SearchPart}
+use Rattle.fz_language.specs.Trees.{Name, Basic, Truth, Numeral, Literal, Named, Whole, Float, Argument, Arguments, Simple, Text, Call, Brackets, Nil, More, Annotation}
+use Rattle.fz_language.specs.Entries.{Environment, Entry, Variable, Set, Numbers, Terms, Sets}
+use Rattle.fz_language.specs.Entries as entries
+use Rattle.fz_language.specs.Annotations.{list_of, arguments_of}
+use Rattle.fz_language.specs.Numerals.{all_of}
+
+-- other words are `input_order` and `indomain_min`
+abbrev pub pick_of : List ℕ → Pick
+pick_of word =
+    cond (bytes_eq word (codes "first_fail")) FirstFail
+    (cond (bytes_eq word (codes "anti_first_fail")) AntiFirstFail (cond (bytes_eq word (codes "smallest")) Smallest (cond (bytes_eq word (codes "largest")) Largest InputOrder)))
+
+abbrev pub value_of : List ℕ → Value
+value_of word =
+    cond (bytes_eq word (codes "indomain_max")) IndomainMax
+    (cond (bytes_eq word (codes "indomain_median")) IndomainMedian
+    (cond (bytes_eq word (codes "indomain_split")) IndomainSplit (cond (bytes_eq word (codes "indomain_reverse_split")) IndomainReverseSplit IndomainMin)))
+
+-- the variables among terms
+abbrev pub variables_of_terms : List Term → List ℕ
+variables_of_terms [] = []
+variables_of_terms (Num n ∷ terms) = variables_of_terms terms
+variables_of_terms (Var v ∷ terms) = v ∷ variables_of_terms terms
+
+-- a variable by its name; a number, `true` or `false` is skipped; anything else is of no form
+abbrev pub member : Environment → Argument → Option (List ℕ)
+member env (Simple (Named name)) = elim (env name.bytes) [
+  | Some entry ↦ elim entry [
+    | Variable kind number ↦ Some (number ∷ [])
+    | entries.Value kind value ↦ None
+    | Set set ↦ None
+    | Numbers kind numbers ↦ None
+    | Terms kind terms ↦ None
+    | Sets ↦ None
+  ]
+  | None ↦ None
+]
+member env (Simple (Truth value at)) = Some []
+member env (Simple (Numeral number)) = Some []
+member env (Simple (Literal set)) = None
+member env (Text at) = None
+member env (Call name arguments) = None
+member env (Brackets at arguments) = None
+
+abbrev pub joined : {X : Type 0} → List (List X) → List X
+joined lists = flat_map (λ l. l) lists
+
+-- a list of variables, or the name of an array of variables
+abbrev pub variables_in : Environment → Argument → Option (List ℕ)
+variables_in env (Brackets at arguments) = option_map joined (all_of (map (member env) (list_of arguments)))
+variables_in env (Simple (Named name)) = elim (env name.bytes) [
+  | Some entry ↦ elim entry [
+    | Terms kind terms ↦ Some (variables_of_terms terms)
+    | Variable kind number ↦ None
+    | entries.Value kind value ↦ None
+    | Set set ↦ None
+    | Numbers kind numbers ↦ None
+    | Sets ↦ None
+  ]
+  | None ↦ None
+]
+variables_in env argument = None
+
+abbrev pub part_of : Environment → Argument → Name → Name → List SearchPart
+part_of env variables pick value = elim (variables_in env variables) [
+  | Some numbers ↦ record { variables = numbers; pick = pick_of pick.bytes; value = value_of value.bytes } ∷ []
+  | None ↦ []
+]
+
+-- `(variables, pick, value)`, with a fourth argument or without
+abbrev pub part_in : Environment → List Argument → List SearchPart
+part_in env (variables ∷ Simple (Named pick) ∷ Simple (Named value) ∷ []) = part_of env variables pick value
+part_in env (variables ∷ Simple (Named pick) ∷ Simple (Named value) ∷ fourth ∷ []) = part_of env variables pick value
+part_in env arguments = []
+
+abbrev pub is_basic_search : List ℕ → Bool
+is_basic_search word = cond (bytes_eq word (codes "int_search")) true (bytes_eq word (codes "bool_search"))
+
+-- the parts of a search annotation among arguments, those of `seq_search([..])` one behind another
+abbrev mutual
+  pub parts_in : Environment → Argument → List SearchPart
+  parts_in env (Call name arguments) =
+      cond (is_basic_search name.bytes) (part_in env (list_of arguments)) (cond (bytes_eq name.bytes (codes "seq_search")) (parts_of_list env arguments) [])
+  parts_in env (Simple basic) = []
+  parts_in env (Text at) = []
+  parts_in env (Brackets at arguments) = []
+
+  pub parts_of_list : Environment → Arguments → List SearchPart
+  parts_of_list env (More (Brackets at arguments) Nil) = parts_of_all env arguments
+  parts_of_list env arguments = []
+
+  pub parts_of_all : Environment → Arguments → List SearchPart
+  parts_of_all env Nil = []
+  parts_of_all env (More argument others) = parts_in env argument ++ parts_of_all env others
+
+-- an annotation as an argument of one
+abbrev pub as_argument : Annotation → List Argument
+as_argument a = elim a.arguments [ Some arguments ↦ Call a.name arguments ∷ [] | None ↦ [] ]
+
+-- the annotations, the first of each name
+abbrev pub firsts : List (List ℕ) → List Annotation → List Annotation
+firsts seen [] = []
+firsts seen (a ∷ rest) = elim (find (bytes_eq a.name.bytes) seen) [ Some name ↦ firsts seen rest | None ↦ a ∷ firsts (a.name.bytes ∷ seen) rest ]
+
+abbrev pub search_of : Environment → List Annotation → List SearchPart
+search_of env annotations = flat_map (parts_in env) (flat_map as_argument (firsts [] annotations))

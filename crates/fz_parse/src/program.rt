@@ -1,0 +1,140 @@
+//! The reading of items and of a program.
+ghost use Rattle.std.specs.Prelude.{◌≡◌, ◌≤◌, ◌<◌, OnOk, map};
+ghost use Rattle.fz_language.specs.Kinds.{number};
+ghost use Rattle.fz_language.specs.Grammar as grammar;
+ghost use Rattle.fz_grammar.specs.Reading.{head, has};
+ghost use Rattle.fz_syntax.specs.Trees.{item_of, method_of, solve_item_of, program_of};
+ghost use Rattle.fz_parse.specs.Steps.{rest, Parses, ParsesAt};
+
+use crate::annotation::annotations;
+use crate::constraint::constraint_item;
+use crate::declaration::{array_item, parameter_item, variable_item};
+use crate::expression::basic;
+use crate::predicate::predicate_item;
+use crate::steps::{is, take};
+use crate::stop::Stop;
+use fz_language::keyword::Keyword;
+use fz_language::sign::Sign;
+use fz_language::token_kind::TokenKind;
+use fz_syntax::{Item, Method, Program, SolveItem};
+use fz_tokens::Tokens;
+use std::alloc::Global;
+
+/// Whether a type begins with a token of this kind.
+fn begins_type(kind: TokenKind) -> bool
+    ensures { result ≡ has (map number grammar.type_kinds) (number kind) }
+{
+    matches!(
+        kind,
+        TokenKind::Integer
+            | TokenKind::Float
+            | TokenKind::Sign(Sign::LeftBrace)
+            | TokenKind::Keyword(Keyword::Bool | Keyword::Float | Keyword::Int | Keyword::Set)
+    )
+}
+
+/// Whether an item before the solve item begins with a token of this kind.
+fn begins_item(kind: TokenKind) -> bool
+    ensures { result ≡ has (map number grammar.item_kinds) (number kind) }
+{
+    begins_type(kind)
+        || matches!(
+            kind,
+            TokenKind::Keyword(
+                Keyword::Array | Keyword::Constraint | Keyword::Predicate | Keyword::Var
+            )
+        )
+}
+
+/// Takes an item before the solve item.
+fn item<'a>(alloc: Global, tokens: &Tokens<'a>, next: &mut usize) -> Result<Item<'a>, Stop>
+    ensures taken { ParsesAt 0 grammar.OneItem item_of
+        (rest tokens.now next.old) (rest tokens.now next.new) result }
+    ensures forward { OnOk result (next.old < next.new) }
+{
+    if is(tokens, *next, TokenKind::Keyword(Keyword::Predicate)) {
+        let item = predicate_item(alloc, tokens, next)?;
+        return Ok(Item::Predicate(item));
+    }
+    if is(tokens, *next, TokenKind::Keyword(Keyword::Var)) {
+        let item = variable_item(alloc, tokens, next)?;
+        return Ok(Item::Variable(item));
+    }
+    if is(tokens, *next, TokenKind::Keyword(Keyword::Array)) {
+        let item = array_item(alloc, tokens, next)?;
+        return Ok(Item::Array(item));
+    }
+    if begins_type(tokens.kind(*next)) {
+        let item = parameter_item(alloc, tokens, next)?;
+        return Ok(Item::Parameter(item));
+    }
+    let item = constraint_item(alloc, tokens, next)?;
+    Ok(Item::Constraint(item))
+}
+
+/// Takes the items before the solve item.
+fn items<'a>(alloc: Global, tokens: &Tokens<'a>, next: &mut usize) -> Result<Vec<Item<'a>>, Stop>
+    ensures taken { ParsesAt 0 grammar.Items (λ i. map item_of i.items)
+        (rest tokens.now next.old) (rest tokens.now next.new) result }
+    ensures forward { OnOk result (next.old ≤ next.new) }
+{
+    let mut found = Vec::new(alloc);
+    'items: while begins_item(tokens.kind(*next)) {
+        found.push(item(alloc, tokens, next)?)?;
+    }
+    Ok(found)
+}
+
+/// Takes what the solve item asks for.
+fn method<'a>(alloc: Global, tokens: &Tokens<'a>, next: &mut usize) -> Result<Method<'a>, Stop>
+    ensures taken { Parses grammar.Method method_of
+        (rest tokens.now next.old) (rest tokens.now next.new) result }
+    ensures forward { OnOk result (next.old < next.new) }
+{
+    if is(tokens, *next, TokenKind::Keyword(Keyword::Minimize)) {
+        let at = take(tokens, next, TokenKind::Keyword(Keyword::Minimize))?;
+        let objective = basic(alloc, tokens, next)?;
+        return Ok(Method::Minimize { at, objective });
+    }
+    if is(tokens, *next, TokenKind::Keyword(Keyword::Maximize)) {
+        let at = take(tokens, next, TokenKind::Keyword(Keyword::Maximize))?;
+        let objective = basic(alloc, tokens, next)?;
+        return Ok(Method::Maximize { at, objective });
+    }
+    let at = take(tokens, next, TokenKind::Keyword(Keyword::Satisfy))?;
+    Ok(Method::Satisfy { at })
+}
+
+/// Takes the solve item.
+fn solve_item<'a>(
+    alloc: Global,
+    tokens: &Tokens<'a>,
+    next: &mut usize,
+) -> Result<SolveItem<'a>, Stop>
+    ensures taken { ParsesAt 0 grammar.SolveItem solve_item_of
+        (rest tokens.now next.old) (rest tokens.now next.new) result }
+    ensures forward { OnOk result (next.old < next.new) }
+{
+    take(tokens, next, TokenKind::Keyword(Keyword::Solve))?;
+    let annotations = annotations(alloc, tokens, next)?;
+    let method = method(alloc, tokens, next)?;
+    take(tokens, next, TokenKind::Sign(Sign::Semicolon))?;
+    Ok(SolveItem {
+        annotations,
+        method,
+    })
+}
+
+/// Takes a program.
+pub(crate) fn program<'a>(
+    alloc: Global,
+    tokens: &Tokens<'a>,
+    next: &mut usize,
+) -> Result<Program<'a>, Stop>
+    ensures taken { ParsesAt 0 grammar.WholeProgram program_of
+        (rest tokens.now next.old) (rest tokens.now next.new) result }
+{
+    let items = items(alloc, tokens, next)?;
+    let solve = solve_item(alloc, tokens, next)?;
+    Ok(Program { items, solve })
+}

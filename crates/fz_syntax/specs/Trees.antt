@@ -1,0 +1,155 @@
+-- Which tree of the definitions each tree of the code is.
+use Rattle.std.specs.Prelude.{List, [], ◌∷◌, map, Some, None}
+use Rattle.fz_language.specs.Trees as trees
+use Rattle.fz_language.specs.Trees.{Nil, More}
+use Rattle.fz_syntax.specs.declared.leaf.Name.{Name}
+use Rattle.fz_syntax.specs.declared.leaf.Integer.{Integer}
+use Rattle.fz_syntax.specs.declared.expression.Number.{Number}
+use Rattle.fz_syntax.specs.declared.expression.Number.TheVariants as number
+use Rattle.fz_syntax.specs.declared.expression.SetLiteral.{SetLiteral}
+use Rattle.fz_syntax.specs.declared.expression.SetLiteral.TheVariants as set
+use Rattle.fz_syntax.specs.declared.expression.Basic.{Basic}
+use Rattle.fz_syntax.specs.declared.expression.Basic.TheVariants as basic
+use Rattle.fz_syntax.specs.declared.expression.ListLiteral.{ListLiteral}
+use Rattle.fz_syntax.specs.declared.expression.Expression.{Expression}
+use Rattle.fz_syntax.specs.declared.expression.Expression.TheVariants as expression
+use Rattle.fz_syntax.specs.declared.value_type.Plain.{Plain}
+use Rattle.fz_syntax.specs.declared.value_type.Plain.TheVariants as plain
+use Rattle.fz_syntax.specs.declared.value_type.ValueType.{ValueType}
+use Rattle.fz_syntax.specs.declared.value_type.ValueType.TheVariants as value_type
+use Rattle.fz_syntax.specs.declared.annotation.Argument.{Argument, fold-Argument}
+use Rattle.fz_syntax.specs.declared.annotation.Argument.TheOpen.{Argument-F}
+use Rattle.fz_syntax.specs.declared.annotation.Annotation.{Annotation}
+use Rattle.fz_syntax.specs.declared.item.Index.{Index}
+use Rattle.fz_syntax.specs.declared.item.Index.TheVariants as index
+use Rattle.fz_syntax.specs.declared.item.PredicateParameter.{PredicateParameter}
+use Rattle.fz_syntax.specs.declared.item.PredicateItem.{PredicateItem}
+use Rattle.fz_syntax.specs.declared.item.VariableItem.{VariableItem}
+use Rattle.fz_syntax.specs.declared.item.ParameterItem.{ParameterItem}
+use Rattle.fz_syntax.specs.declared.item.ArrayItem.{ArrayItem}
+use Rattle.fz_syntax.specs.declared.item.ConstraintItem.{ConstraintItem}
+use Rattle.fz_syntax.specs.declared.item.Item.{Item}
+use Rattle.fz_syntax.specs.declared.item.Item.TheVariants as item
+use Rattle.fz_syntax.specs.declared.program.Method.{Method}
+use Rattle.fz_syntax.specs.declared.program.Method.TheVariants as method
+use Rattle.fz_syntax.specs.declared.program.SolveItem.{SolveItem}
+use Rattle.fz_syntax.specs.declared.program.Program.{Program}
+
+abbrev pub name_of : Name → trees.Name
+name_of n = record { bytes = n.bytes.now; at = n.at }
+
+abbrev pub integer_of : Integer → trees.Integer
+integer_of i = record { value = i.value; at = i.at }
+
+abbrev pub number_of : Number → trees.Number
+number_of (number.Whole integer) = trees.Whole (integer_of integer)
+number_of (number.Float at) = trees.Float at
+
+abbrev pub set_of : SetLiteral → trees.SetLiteral
+set_of (set.Range low high) = trees.Range (number_of low) (number_of high)
+set_of (set.Braces at members) = trees.Braces at (map number_of members.items)
+
+abbrev pub plain_of : Plain → trees.Plain
+plain_of (plain.AnyBool at) = trees.AnyBool at
+plain_of (plain.AnyInt at) = trees.AnyInt at
+plain_of (plain.AnyFloat at) = trees.AnyFloat at
+plain_of (plain.Within set) = trees.Within (set_of set)
+
+abbrev pub type_of : ValueType → trees.ValueType
+type_of (value_type.One plain) = trees.One (plain_of plain)
+type_of (value_type.SetOf at plain) = trees.SetOf at (plain_of plain)
+
+abbrev pub basic_of : Basic → trees.Basic
+basic_of (basic.Truth value at) = trees.Truth value at
+basic_of (basic.Numeral number) = trees.Numeral (number_of number)
+basic_of (basic.Literal set) = trees.Literal (set_of set)
+basic_of (basic.Named name) = trees.Named (name_of name)
+
+abbrev pub list_of : ListLiteral → trees.ListLiteral
+list_of l = record { at = l.at; elements = map basic_of l.elements.items }
+
+abbrev pub expression_of : Expression → trees.Expression
+expression_of (expression.Scalar basic) = trees.Scalar (basic_of basic)
+expression_of (expression.Listed list) = trees.Listed (list_of list)
+
+-- arguments one behind another
+abbrev pub joined : List trees.Argument → trees.Arguments
+joined [] = Nil
+joined (a ∷ rest) = More a (joined rest)
+
+-- one layer of an argument, with each argument inside already seen as its tree
+abbrev pub layer : Argument-F trees.Argument → trees.Argument
+layer (Argument-F.Simple basic) = trees.Simple (basic_of basic)
+layer (Argument-F.Text at) = trees.Text at
+layer (Argument-F.Call name arguments) = trees.Call (name_of name) (joined arguments.items)
+layer (Argument-F.Brackets at arguments) = trees.Brackets at (joined arguments.items)
+
+abbrev pub argument_of : Argument → trees.Argument
+argument_of = fold-Argument trees.Argument layer
+
+abbrev pub arguments_of : List Argument → trees.Arguments
+arguments_of arguments = joined (map argument_of arguments)
+
+abbrev pub annotation_of : Annotation → trees.Annotation
+annotation_of a = record { name = name_of a.name; arguments = elim a.arguments [ Some arguments ↦ Some (arguments_of arguments.items) | None ↦ None ] }
+
+abbrev pub index_of : Index → trees.Index
+index_of index.AnyIndex = trees.AnyIndex
+index_of (index.IndexRange low high) = trees.IndexRange (integer_of low) (integer_of high)
+
+abbrev pub predicate_parameter_of : PredicateParameter → trees.PredicateParameter
+predicate_parameter_of p = record {
+  indexes = elim p.indexes [ Some indexes ↦ Some (map index_of indexes.items) | None ↦ None ];
+  variable = p.variable;
+  value_type = type_of p.value_type;
+  name = name_of p.name;
+}
+
+abbrev pub predicate_item_of : PredicateItem → trees.PredicateItem
+predicate_item_of p = record { name = name_of p.name; parameters = map predicate_parameter_of p.parameters.items }
+
+abbrev pub annotations_of : List Annotation → List trees.Annotation
+annotations_of annotations = map annotation_of annotations
+
+abbrev pub variable_item_of : VariableItem → trees.VariableItem
+variable_item_of v = record {
+  value_type = type_of v.value_type;
+  name = name_of v.name;
+  annotations = annotations_of v.annotations.items;
+  value = elim v.value [ Some value ↦ Some (basic_of value) | None ↦ None ];
+}
+
+abbrev pub parameter_item_of : ParameterItem → trees.ParameterItem
+parameter_item_of p = record { value_type = type_of p.value_type; name = name_of p.name; annotations = annotations_of p.annotations.items; value = basic_of p.value }
+
+abbrev pub array_item_of : ArrayItem → trees.ArrayItem
+array_item_of a = record {
+  low = integer_of a.low;
+  high = integer_of a.high;
+  variable = a.variable;
+  value_type = type_of a.value_type;
+  name = name_of a.name;
+  annotations = annotations_of a.annotations.items;
+  list = list_of a.list;
+}
+
+abbrev pub constraint_item_of : ConstraintItem → trees.ConstraintItem
+constraint_item_of c = record { name = name_of c.name; arguments = map expression_of c.arguments.items; annotations = annotations_of c.annotations.items }
+
+abbrev pub item_of : Item → trees.Item
+item_of (item.Predicate p) = trees.Predicate (predicate_item_of p)
+item_of (item.Variable v) = trees.Variable (variable_item_of v)
+item_of (item.Parameter p) = trees.Parameter (parameter_item_of p)
+item_of (item.Array a) = trees.Array (array_item_of a)
+item_of (item.Constraint c) = trees.Constraint (constraint_item_of c)
+
+abbrev pub method_of : Method → trees.Method
+method_of (method.Satisfy at) = trees.Satisfy at
+method_of (method.Minimize at objective) = trees.Minimize at (basic_of objective)
+method_of (method.Maximize at objective) = trees.Maximize at (basic_of objective)
+
+abbrev pub solve_item_of : SolveItem → trees.SolveItem
+solve_item_of s = record { annotations = annotations_of s.annotations.items; method = method_of s.method }
+
+abbrev pub program_of : Program → trees.Program
+program_of p = record { items = map item_of p.items.items; solve = solve_item_of p.solve }

@@ -1,0 +1,93 @@
+//! Expressions.
+ghost use Rattle.std.specs.Prelude.{◌≡◌};
+ghost use Rattle.fz_language.specs.Trees as trees;
+ghost use Rattle.fz_syntax.specs.Trees.{number_of, set_of, basic_of, expression_of};
+
+use crate::leaf::{Integer, Name};
+
+/// A number: an integer, or a float at its place.
+#[derive(Clone, Copy, Debug)]
+pub enum Number {
+    Whole(Integer),
+    Float { at: u32 },
+}
+
+impl Number {
+    /// The place of the first token.
+    pub fn at(self) -> u32
+        ensures { result ≡ trees.number_at (number_of self) }
+    {
+        match self {
+            Number::Whole(integer) => integer.at,
+            Number::Float { at } => at,
+        }
+    }
+}
+
+/// A set: `low..high`, or its members between braces, with the place of the first.
+#[derive(Drop)]
+pub enum SetLiteral {
+    Range { low: Number, high: Number },
+    Braces { at: u32, members: Vec<Number> },
+}
+
+impl SetLiteral {
+    /// The place of the first token.
+    pub fn at(&self) -> u32
+        ensures { result ≡ trees.set_at (set_of self.now) }
+    {
+        match self {
+            SetLiteral::Range { low, .. } => low.at(),
+            SetLiteral::Braces { at, .. } => *at,
+        }
+    }
+}
+
+/// An expression that is no list: `true` or `false`, a number, a set, or a name.
+#[derive(Drop)]
+pub enum Basic<'a> {
+    Truth { value: bool, at: u32 },
+    Numeral(Number),
+    Literal(SetLiteral),
+    Named(Name<'a>),
+}
+
+impl<'a> Basic<'a> {
+    /// The place of the first token.
+    pub fn at(&self) -> u32
+        ensures { result ≡ trees.basic_at (basic_of self.now) }
+    {
+        match self {
+            Basic::Truth { at, .. } => *at,
+            Basic::Numeral(number) => number.at(),
+            Basic::Literal(set) => set.at(),
+            Basic::Named(name) => name.at,
+        }
+    }
+}
+
+/// `[element, element, ..]`, with the place of the bracket.
+#[derive(Drop)]
+pub struct ListLiteral<'a> {
+    pub at: u32,
+    pub elements: Vec<Basic<'a>>,
+}
+
+/// An argument of a constraint.
+#[derive(Drop)]
+pub enum Expression<'a> {
+    Scalar(Basic<'a>),
+    Listed(ListLiteral<'a>),
+}
+
+impl<'a> Expression<'a> {
+    /// The place of the first token.
+    pub fn at(&self) -> u32
+        ensures { result ≡ trees.expression_at (expression_of self.now) }
+    {
+        match self {
+            Expression::Scalar(basic) => basic.at(),
+            Expression::Listed(list) => list.at,
+        }
+    }
+}

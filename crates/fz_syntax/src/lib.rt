@@ -1,0 +1,23 @@
+//! The syntax trees of a FlatZinc text (MiniZinc Handbook, "FlatZinc grammar"): a type for each rule of the grammar, with a
+//! field for each part of the rule that says something.
+//!
+//! A leaf is a name, which is its bytes, an integer, or a mark. Each has its place, `at`: the count of bytes of the text before
+//! it. The definitions of `fz_language` have the same trees; `specs/Trees.antt` says which tree stands for which.
+#![tactic(auto)]
+
+pub mod annotation;
+pub mod expression;
+pub mod item;
+pub mod leaf;
+pub mod program;
+pub mod value_type;
+
+pub use annotation::{Annotation, Argument};
+pub use expression::{Basic, Expression, ListLiteral, Number, SetLiteral};
+pub use item::{
+    ArrayItem, ConstraintItem, Index, Item, ParameterItem, PredicateItem, PredicateParameter,
+    VariableItem,
+};
+pub use leaf::{Integer, Name};
+pub use program::{Method, Program, SolveItem};
+pub use value_type::{Plain, ValueType};
