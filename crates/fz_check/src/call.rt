@@ -1,8 +1,8 @@
 //! Constraint items.
-use crate::fault::Fault;
-use crate::floats::first_float_of_arguments;
-use crate::names::Names;
-use crate::resolve::resolve;
+use fz_resolve::Fault;
+use fz_resolve::floats::first_float_of_arguments;
+use fz_resolve::Names;
+use fz_resolve::resolve::resolve;
 use crate::rows::{is_unsupported, row_named};
 use fz_language::fault::RuleFault;
 use fz_model::{Argument, Constraint};

@@ -1,6 +1,6 @@
 //! From a program to a model.
 use crate::draft::{Draft, Stop};
-use crate::fault::Fault;
+use fz_resolve::Fault;
 use fz_model::Model;
 use fz_syntax::Program;
 use std::alloc::{AllocError, Global};

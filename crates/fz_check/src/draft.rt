@@ -1,19 +1,19 @@
 //! What the items so far make.
-use crate::annotations::{
+use fz_resolve::annotations::{
     OUTPUT_ARRAY, annotation_of, element_count, output_array_at, output_var_at, shape_of,
 };
 use crate::call::call;
-use crate::entry::Entry;
-use crate::fault::{Fault, fault_at};
-use crate::limits::Room;
-use crate::names::Names;
-use crate::resolve::{literal, numbers, resolve, set, term, terms};
+use fz_resolve::Entry;
+use fz_resolve::{Fault, fault_at};
+use fz_resolve::Room;
+use fz_resolve::Names;
+use fz_resolve::resolve::{literal, numbers, resolve, set, term, terms};
 use crate::rules::{
     declared_twice, misplaced_at_array, misplaced_at_parameter, unsupported_array,
     unsupported_parameter, unsupported_variable,
 };
 use crate::search::search;
-use crate::types::{is_bound, kind_of, term_asked, value_asked};
+use fz_resolve::types::{is_bound, kind_of, term_asked, value_asked};
 use fz_dom::Dom;
 use fz_language::fault::RuleFault;
 use fz_model::{Argument, Constraint, Goal, Kind, Model, Output, Term, Text, Variable};

@@ -3,20 +3,12 @@
 //! place.
 #![tactic(auto)]
 
-mod annotations;
 mod call;
 pub mod checker;
 mod draft;
-mod entry;
-pub mod fault;
-mod floats;
-mod limits;
-mod names;
-mod resolve;
 mod rows;
 mod rules;
 mod search;
-mod types;
 
 pub use checker::check;
-pub use fault::Fault;
+pub use fz_resolve::Fault;

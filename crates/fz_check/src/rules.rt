@@ -1,9 +1,9 @@
 //! The first rule that a declaration breaks, but for those of types of values and of limits.
-use crate::annotations::{output_array_at, output_var_at, seventh_range_at};
-use crate::fault::{Fault, fault_at};
-use crate::floats::{first_float, first_float_of_elements};
-use crate::names::Names;
-use crate::types::{bad_parameter_type, bad_variable_type};
+use fz_resolve::annotations::{output_array_at, output_var_at, seventh_range_at};
+use fz_resolve::{Fault, fault_at};
+use fz_resolve::floats::{first_float, first_float_of_elements};
+use fz_resolve::Names;
+use fz_resolve::types::{bad_parameter_type, bad_variable_type};
 use fz_language::fault::RuleFault;
 use fz_syntax::{ArrayItem, ParameterItem, VariableItem};
 

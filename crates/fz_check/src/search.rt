@@ -1,6 +1,6 @@
 //! Search annotations of the solve item. One that isn't of their form is ignored.
-use crate::entry::Entry;
-use crate::names::Names;
+use fz_resolve::Entry;
+use fz_resolve::Names;
 use fz_model::{SearchPart, Term};
 use fz_spec::search::{Pick, Value};
 use fz_syntax::{Annotation, Argument, Basic, Name};

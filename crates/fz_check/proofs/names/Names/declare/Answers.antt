@@ -1,5 +1,0 @@
-use Rattle.fz_check.proofs.NameLaws.{declared}
-use Rattle.fz_check.proofs.names.Names.declare.Goals as goal
-
-pub returns : goal.returns
-returns c = λ i name. declared c.args.name.bytes.now c.args.self.now.known c.insert.new.self c.args.entry c.in_ok-insert.ensures.updates name i

@@ -1,7 +1,0 @@
-use Rattle.std.proofs.Common.{ap}
-use Rattle.std.specs.Prelude.{option_map}
-use Rattle.fz_check.specs.Meant.{meant}
-use Rattle.fz_check.proofs.names.Names.entry.Goals as goal
-
-pub returns : goal.returns
-returns c = ap (option_map meant) c.get.ensures.value

@@ -1,0 +1,21 @@
+-- What the names of the checker stand for.
+use Rattle.std.specs.Prelude.{ℕ, List, Option, option_map}
+use Rattle.std.specs.Ordering.{nat_cmp}
+use Rattle.std.specs.Cmp.Lexicographic.{slice_cmp}
+use Rattle.std.specs.BTreeMap.{get_by}
+use Rattle.fz_language.specs.Entries as entries
+use Rattle.fz_resolve.specs.declared.names.Names.{Names}
+use Rattle.fz_resolve.specs.declared.entry.Entry.{Entry}
+use Rattle.fz_resolve.specs.declared.entry.Entry.TheVariants as entry
+
+abbrev pub meant : Entry → entries.Entry
+meant (entry.Variable kind number) = entries.Variable kind number
+meant (entry.Value kind value) = entries.Value kind value
+meant (entry.Set set) = entries.Set set
+meant (entry.Numbers kind numbers) = entries.Numbers kind numbers.items
+meant (entry.Terms kind terms) = entries.Terms kind terms.items
+meant entry.Sets = entries.Sets
+
+-- what each name stands for, by its bytes
+abbrev pub environment_of : Names → entries.Environment
+environment_of names name = option_map meant (get_by (λ k. slice_cmp nat_cmp name k.now) names.known)

@@ -1,0 +1,90 @@
+//! The names that are declared.
+ghost use Rattle.std.specs.Prelude.{◌≡◌, OnOk, None, option_copied, option_map, map, flat_map, slice_get};
+ghost use Rattle.fz_language.specs.Entries.{nothing_declared, with_entry};
+ghost use Rattle.fz_language.specs.Rules.{unknown_in, unknown_of};
+ghost use Rattle.fz_syntax.specs.Trees.{basic_of, expression_of};
+ghost use Rattle.fz_resolve.specs.Meant.{environment_of, meant};
+
+use crate::entry::Entry;
+use fz_syntax::{Basic, Expression, Name};
+use std::alloc::{AllocError, Global};
+use std::collections::BTreeMap;
+
+/// An entry for each name, found by its bytes in time that no input makes longer than the logarithm of their number.
+#[derive(Drop)]
+pub struct Names<'a> {
+    known: BTreeMap<&'a [u8], Entry>,
+}
+
+impl<'a> Names<'a> {
+    /// No name.
+    pub fn new(alloc: Global) -> Names<'a>
+        ensures { environment_of result ≡ nothing_declared }
+    {
+        Names {
+            known: BTreeMap::new(alloc),
+        }
+    }
+
+    /// What a name stands for.
+    pub fn entry(&self, name: Name<'_>) -> Option<&Entry>
+        ensures { option_map meant (option_copied result) ≡ environment_of self.now name.entry.bytes.now }
+    {
+        self.known.get(name.bytes)
+    }
+
+    /// Gives a name an entry.
+    pub fn declare(&mut self, name: Name<'a>, entry: Entry) -> Result<(), AllocError>
+        ensures { OnOk result (environment_of self.new ≡ with_entry name.entry.bytes.now (meant entry) (environment_of self.old)) }
+    {
+        self.known.insert(name.bytes, entry)?;
+        Ok(())
+    }
+
+    /// The place of the name that an expression is, if it isn't declared.
+    pub fn unknown(&self, basic: &Basic<'_>) -> Option<u32>
+        ensures { result ≡ slice_get (unknown_in (environment_of self.now) (basic_of basic.now)) 0 }
+    {
+        match basic {
+            Basic::Named(name) => match self.entry(*name) {
+                Some(_) => None,
+                None => Some(name.at),
+            },
+            Basic::Truth { .. } | Basic::Numeral(_) | Basic::Literal(_) => None,
+        }
+    }
+
+    /// The same of the elements of a list.
+    pub fn unknown_element(&self, elements: &[Basic<'_>]) -> Option<u32>
+        ensures { result ≡ slice_get (flat_map (unknown_in (environment_of self.now)) (map basic_of elements.now)) 0 }
+    {
+        for element in elements {
+            if let Some(at) = self.unknown(element) {
+                return Some(at);
+            }
+        }
+        None
+    }
+
+    /// The same of an argument of a constraint.
+    fn unknown_of(&self, argument: &Expression<'_>) -> Option<u32>
+        ensures { result ≡ slice_get (unknown_of (environment_of self.now) (expression_of argument.now)) 0 }
+    {
+        match argument {
+            Expression::Scalar(basic) => self.unknown(basic),
+            Expression::Listed(list) => self.unknown_element(&list.elements),
+        }
+    }
+
+    /// The same of the arguments of a constraint.
+    pub fn unknown_argument(&self, arguments: &[Expression<'_>]) -> Option<u32>
+        ensures { result ≡ slice_get (flat_map (unknown_of (environment_of self.now)) (map expression_of arguments.now)) 0 }
+    {
+        for argument in arguments {
+            if let Some(at) = self.unknown_of(argument) {
+                return Some(at);
+            }
+        }
+        None
+    }
+}

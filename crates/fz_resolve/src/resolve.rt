@@ -1,0 +1,178 @@
+//! From expressions to arguments of constraints.
+ghost use Rattle.std.specs.Prelude.{◌≡◌, IfOk, map};
+ghost use Rattle.fz_language.specs.Entries.{term_in, each_of, with_value, number_of, truth_value};
+ghost use Rattle.fz_syntax.specs.Trees.{basic_of};
+ghost use Rattle.fz_resolve.specs.Meant.{environment_of};
+
+use crate::entry::{Entry, of_kind};
+use crate::names::Names;
+use fz_dom::Dom;
+use fz_model::{Argument, Kind, Term};
+use fz_spec::asked::{Asked, Element};
+use fz_syntax::{Basic, Expression, Name, Number, SetLiteral};
+use std::alloc::{AllocError, Global};
+
+/// What is asked, or the place where an expression is of a wrong type.
+pub type Checked<T> = Result<T, u32>;
+
+/// The term that an expression is, if it is what is asked.
+pub fn term(names: &Names<'_>, asked: Element, basic: &Basic<'_>) -> Option<Term>
+    ensures { result ≡ term_in (environment_of names.now) asked (basic_of basic.now) }
+{
+    match basic {
+        Basic::Truth { value, .. } => of_kind(asked.kind, Kind::Bool, truth(*value)),
+        Basic::Numeral(Number::Whole(integer)) => {
+            of_kind(asked.kind, Kind::Int, Term::Num(integer.value))
+        }
+        Basic::Named(name) => match names.entry(*name) {
+            Some(entry) => entry.term(asked),
+            None => None,
+        },
+        Basic::Numeral(Number::Float { .. }) | Basic::Literal(_) => None,
+    }
+}
+
+fn truth(value: bool) -> Term
+    ensures { result ≡ Term.Num (truth_value value) }
+{
+    if value { Term::Num(1) } else { Term::Num(0) }
+}
+
+/// The terms that the elements of a list are, or the place of the first that isn't what is asked.
+pub fn terms(
+    alloc: Global,
+    names: &Names<'_>,
+    asked: Element,
+    elements: &[Basic<'_>],
+) -> Result<Checked<Vec<Term>>, AllocError>
+    ensures { IfOk result (λ found. with_value (λ terms. terms.items) found
+        ≡ each_of (term_in (environment_of names.now) asked) (map basic_of elements.now)) }
+{
+    let mut terms = Vec::with_capacity(alloc, elements.len())?;
+    for element in elements {
+        match term(names, asked, element) {
+            Some(term) => terms.push(term)?,
+            None => return Ok(Err(element.at())),
+        }
+    }
+    Ok(Ok(terms))
+}
+
+/// The numbers that terms are, none of them a variable.
+pub fn numbers(alloc: Global, terms: &[Term]) -> Result<Vec<i32>, AllocError>
+    ensures { IfOk result (λ numbers. numbers.items ≡ map number_of terms.now) }
+{
+    let mut numbers = Vec::with_capacity(alloc, terms.len())?;
+    for term in terms {
+        numbers.push(match term {
+            Term::Num(number) => *number,
+            Term::Var(_) => 0,
+        })?;
+    }
+    Ok(numbers)
+}
+
+/// The set that a literal without floats is.
+pub fn literal(alloc: Global, set: &SetLiteral) -> Result<Option<Dom>, AllocError> {
+    match set {
+        SetLiteral::Range {
+            low: Number::Whole(low),
+            high: Number::Whole(high),
+        } => Ok(Some(Dom::from_ranges(alloc, &[(low.value, high.value)])?)),
+        SetLiteral::Range { .. } => Ok(None),
+        SetLiteral::Braces { members, .. } => {
+            let mut ranges = Vec::with_capacity(alloc, members.len())?;
+            for member in members {
+                match member {
+                    Number::Whole(integer) => ranges.push((integer.value, integer.value))?,
+                    Number::Float { .. } => return Ok(None),
+                }
+            }
+            Ok(Some(Dom::from_ranges(alloc, &ranges)?))
+        }
+    }
+}
+
+/// The set that an expression is.
+pub fn set(
+    alloc: Global,
+    names: &Names<'_>,
+    basic: &Basic<'_>,
+) -> Result<Option<Dom>, AllocError> {
+    match basic {
+        Basic::Literal(set) => literal(alloc, set),
+        Basic::Named(name) => match names.entry(*name) {
+            Some(Entry::Set(set)) => Ok(Some(set.copy()?)),
+            _ => Ok(None),
+        },
+        Basic::Truth { .. } | Basic::Numeral(_) => Ok(None),
+    }
+}
+
+/// The list that a declared array is, if it is what is asked.
+fn named_list(
+    alloc: Global,
+    names: &Names<'_>,
+    asked: Element,
+    name: Name<'_>,
+) -> Result<Option<Argument>, AllocError> {
+    match names.entry(name) {
+        Some(Entry::Numbers { kind, numbers }) if *kind == asked.kind => {
+            if !asked.may_vary {
+                return Ok(Some(Argument::Numbers(Vec::from_slice(alloc, numbers)?)));
+            }
+            let mut terms = Vec::with_capacity(alloc, numbers.len())?;
+            for number in numbers {
+                terms.push(Term::Num(*number))?;
+            }
+            Ok(Some(Argument::Terms(terms)))
+        }
+        Some(Entry::Terms { kind, terms }) if *kind == asked.kind && asked.may_vary => {
+            Ok(Some(Argument::Terms(Vec::from_slice(alloc, terms)?)))
+        }
+        _ => Ok(None),
+    }
+}
+
+/// The argument that a list literal is.
+fn listed(
+    alloc: Global,
+    names: &Names<'_>,
+    asked: Element,
+    elements: &[Basic<'_>],
+) -> Result<Checked<Argument>, AllocError> {
+    let terms = match terms(alloc, names, asked, elements)? {
+        Ok(terms) => terms,
+        Err(at) => return Ok(Err(at)),
+    };
+    if asked.may_vary {
+        return Ok(Ok(Argument::Terms(terms)));
+    }
+    Ok(Ok(Argument::Numbers(numbers(alloc, &terms)?)))
+}
+
+/// The argument that an expression is where this is asked, or the place where it is of a wrong type: its first token, but in a
+/// list literal for a list the first token of the first element of a wrong type.
+pub fn resolve(
+    alloc: Global,
+    names: &Names<'_>,
+    asked: Asked,
+    expression: &Expression<'_>,
+) -> Result<Checked<Argument>, AllocError> {
+    let argument = match (asked, expression) {
+        (Asked::One(element), Expression::Scalar(basic)) => {
+            term(names, element, basic).map(|term| Argument::One(term))
+        }
+        (Asked::List(element), Expression::Scalar(Basic::Named(name))) => {
+            named_list(alloc, names, element, *name)?
+        }
+        (Asked::List(element), Expression::Listed(list)) => {
+            return listed(alloc, names, element, &list.elements);
+        }
+        (Asked::Set, Expression::Scalar(basic)) => {
+            set(alloc, names, basic)?.map(|set| Argument::Set(set))
+        }
+        _ => None,
+    };
+    Ok(argument.ok_or(expression.at()))
+}
