@@ -8,7 +8,7 @@ use fz_resolve::{Fault, fault_at};
 use fz_resolve::Room;
 use fz_resolve::Names;
 use fz_resolve::resolve::{literal, numbers, resolve, set, term, terms};
-use crate::rules::{
+use fz_resolve::rules::{
     declared_twice, misplaced_at_array, misplaced_at_parameter, unsupported_array,
     unsupported_parameter, unsupported_variable,
 };

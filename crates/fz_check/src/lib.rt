@@ -7,7 +7,6 @@ mod call;
 pub mod checker;
 mod draft;
 mod rows;
-mod rules;
 mod search;
 
 pub use checker::check;

@@ -9,6 +9,7 @@ pub mod floats;
 pub mod limits;
 pub mod names;
 pub mod resolve;
+pub mod rules;
 pub mod types;
 
 pub use entry::Entry;

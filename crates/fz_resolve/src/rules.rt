@@ -1,9 +1,9 @@
 //! The first rule that a declaration breaks, but for those of types of values and of limits.
-use fz_resolve::annotations::{output_array_at, output_var_at, seventh_range_at};
-use fz_resolve::{Fault, fault_at};
-use fz_resolve::floats::{first_float, first_float_of_elements};
-use fz_resolve::Names;
-use fz_resolve::types::{bad_parameter_type, bad_variable_type};
+use crate::annotations::{output_array_at, output_var_at, seventh_range_at};
+use crate::fault::{Fault, fault_at};
+use crate::floats::{first_float, first_float_of_elements};
+use crate::names::Names;
+use crate::types::{bad_parameter_type, bad_variable_type};
 use fz_language::fault::RuleFault;
 use fz_syntax::{ArrayItem, ParameterItem, VariableItem};
 
@@ -25,7 +25,7 @@ fn lesser(first: Option<u32>, second: Option<u32>) -> Option<u32> {
 }
 
 /// What isn't supported in the declaration of a variable.
-pub(crate) fn unsupported_variable(item: &VariableItem<'_>) -> Option<u32> {
+pub fn unsupported_variable(item: &VariableItem<'_>) -> Option<u32> {
     let value = match &item.value {
         Some(value) => first_float(value),
         None => None,
@@ -35,7 +35,7 @@ pub(crate) fn unsupported_variable(item: &VariableItem<'_>) -> Option<u32> {
 }
 
 /// What isn't supported in the declaration of a parameter.
-pub(crate) fn unsupported_parameter(item: &ParameterItem<'_>) -> Option<u32> {
+pub fn unsupported_parameter(item: &ParameterItem<'_>) -> Option<u32> {
     let annotated = or_else(
         seventh_range_at(&item.annotations),
         first_float(&item.value),
@@ -44,7 +44,7 @@ pub(crate) fn unsupported_parameter(item: &ParameterItem<'_>) -> Option<u32> {
 }
 
 /// What isn't supported in the declaration of an array.
-pub(crate) fn unsupported_array(item: &ArrayItem<'_>) -> Option<u32> {
+pub fn unsupported_array(item: &ArrayItem<'_>) -> Option<u32> {
     let declared = if item.variable {
         bad_variable_type(&item.value_type)
     } else {
@@ -58,7 +58,7 @@ pub(crate) fn unsupported_array(item: &ArrayItem<'_>) -> Option<u32> {
 }
 
 /// The output annotation that has no place at a parameter.
-pub(crate) fn misplaced_at_parameter(item: &ParameterItem<'_>) -> Option<u32> {
+pub fn misplaced_at_parameter(item: &ParameterItem<'_>) -> Option<u32> {
     lesser(
         output_var_at(&item.annotations),
         output_array_at(&item.annotations),
@@ -66,7 +66,7 @@ pub(crate) fn misplaced_at_parameter(item: &ParameterItem<'_>) -> Option<u32> {
 }
 
 /// The output annotation that has no place at an array; `malformed` is the place of one that hasn't its form.
-pub(crate) fn misplaced_at_array(item: &ArrayItem<'_>, malformed: Option<u32>) -> Option<u32> {
+pub fn misplaced_at_array(item: &ArrayItem<'_>, malformed: Option<u32>) -> Option<u32> {
     let output_array = if item.variable {
         malformed
     } else {
@@ -76,7 +76,7 @@ pub(crate) fn misplaced_at_array(item: &ArrayItem<'_>, malformed: Option<u32>) -
 }
 
 /// The fault of a name that is declared already, if it is.
-pub(crate) fn declared_twice(names: &Names<'_>, name: fz_syntax::Name<'_>) -> Option<Fault> {
+pub fn declared_twice(names: &Names<'_>, name: fz_syntax::Name<'_>) -> Option<Fault> {
     let at = if names.entry(name).is_some() {
         Some(name.at)
     } else {
