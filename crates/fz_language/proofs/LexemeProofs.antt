@@ -1,14 +1,14 @@
 -- Bytes spell one lexeme at most, and the first of them is no blank.
-use Rattle.std.proofs.Common.{◌≡◌, ◌≢◌, ℕ, ℤ, pos, ◌-ℤ◌, ◌<◌, ◌⊎◌, inl, inr, Bool, true, false, true≢false, cond, List, [], ◌∷◌, ◌++◌, codes, length, bytes_eq, ◌==◌, ◌&&◌, eq-eqb, refl, sym, ap, ◌∙◌, subst, arith}
+use Rattle.std.proofs.Common.{◌≡◌, ◌≢◌, ℕ, ℤ, pos, ◌-ℤ◌, ◌⊎◌, inl, inr, Bool, true, false, cond, List, [], ◌∷◌, ◌++◌, codes, bytes_eq, refl, sym, ap, ◌∙◌, subst, arith}
 use Rattle.std.specs.List.{list_all}
-use Rattle.std.specs.Char.{is_ascii_digit, is_ascii_hexdigit}
+use Rattle.std.specs.Char.{is_ascii_digit}
 use Rattle.std.proofs.lemmas.Bool.{both_ways, and_parts}
 use Rattle.std.proofs.lemmas.Bool.Decides.{nat_tests}
 use Rattle.fz_language.specs.declared.sign.Sign.{Sign}
 use Rattle.fz_language.specs.declared.sign.Sign.TheVariants.{Semicolon, Colon, DoubleColon, Comma, LeftParenthesis, RightParenthesis, LeftBracket, RightBracket, LeftBrace, RightBrace, Equals, DoubleDot}
 use Rattle.fz_language.specs.declared.keyword.Keyword.{Keyword}
 use Rattle.fz_language.specs.declared.keyword.Keyword.TheVariants as keyword
-use Rattle.fz_language.specs.Tokens.{Lexeme, Identifier, Word, Number, Float, Text, Punct, IsSpelt, IsWord, IsIdentifier, keyword_bytes, AreDigits, digits_value, is_octal_digit, IsBased, IsNatural, IsNumber, IsExponent, IsTail, IsPlainFloat, IsFloat, IsText, sign_bytes, is_blank, is_word_start}
+use Rattle.fz_language.specs.Tokens.{Lexeme, Identifier, Word, Number, Float, Text, Punct, IsSpelt, IsWord, keyword_bytes, AreDigits, digits_value, IsNatural, IsNumber, IsExponent, IsTail, IsPlainFloat, IsFloat, IsText, sign_bytes, is_blank, is_word_start}
 
 heads : {A : Type 0} (x y : A) (xs ys : List A) → x ∷ xs ≡ y ∷ ys → x ≡ y
 heads x y xs ys e = cc

@@ -1,5 +1,5 @@
 -- Programs whose rules come in the order that is meant, and what an accepted one means.
-use Rattle.std.specs.Prelude.{◌≡◌, ℕ, ℤ, pos, Bool, true, false, List, [], ◌∷◌, Some, None, codes}
+use Rattle.std.specs.Prelude.{◌≡◌, ℕ, ℤ, pos, true, false, List, [], ◌∷◌, Some, None, codes}
 use Rattle.fz_spec.specs.declared.kind.Kind.TheVariants as kinds
 use Rattle.fz_spec.specs.declared.builtin.Builtin.TheVariants.{IntEq, IntLinLe, SetIn}
 use Rattle.fz_spec.specs.declared.term.Term.TheVariants.{Num, Var}
