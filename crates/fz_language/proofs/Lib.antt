@@ -7,3 +7,4 @@ pub mod LexemeProofs
 pub mod TokenProofs
 pub mod WithinProofs
 pub mod ReadProofs
+pub mod Lefts

@@ -1,6 +1,6 @@
 //! Laws that the definitions keep: each is the clause of a function that does nothing, so that the clause is proved.
 ghost use Rattle.fz_language.specs.Laws.{EachIsJudged, OneFirstRule, ReadingIsOne};
-ghost use Rattle.fz_language.specs.SyntaxLaws.{SpellingIsOne, FaultIsOne, DepthIsOne, VerdictIsOne};
+ghost use Rattle.fz_language.specs.SyntaxLaws.{SpellingIsOne, FaultIsOne, DepthIsOne, VerdictIsOne, SomeVerdict};
 ghost use Rattle.fz_language.specs.WithinLaws.{ProgramsFit};
 ghost use Rattle.fz_language.specs.TokenLaws.{TokensAreOne, TokenFaultIsOne, TokensOrFault};
 
@@ -37,6 +37,11 @@ pub fn depth_is_one()
 /// Tokens that spell a program have neither fault, and none have both.
 pub fn verdict_is_one()
     ensures { VerdictIsOne }
+{}
+
+/// Each list of tokens spells a program, or has its fault of syntax, or its first bracket over the limit.
+pub fn some_verdict()
+    ensures { SomeVerdict }
 {}
 
 /// The integers of a program lie within the limits.
