@@ -47,7 +47,7 @@ word_first : (bs : List ℕ) → IsWord bs → First (λ b. is_word_start b ≡ 
 word_first [] w = absurd w
 word_first (b ∷ bs) w = record { head = b; more = bs; are = refl; holds = w.0 }
 
-keyword_word : (k : Keyword) → IsWord (keyword_bytes k)
+pub keyword_word : (k : Keyword) → IsWord (keyword_bytes k)
 keyword_word keyword.Array = (refl, refl)
 keyword_word _ = (refl, refl)
 
@@ -202,13 +202,13 @@ number_no_float v bs (inr p) (inr f) = natural_no_float p.0 p.1 p.3 (subst IsPla
 
 -- the sign and the word of these bytes
 
-sign_of : List ℕ → Sign
+pub sign_of : List ℕ → Sign
 sign_of bs = cond (bytes_eq bs (codes ";")) Semicolon (cond (bytes_eq bs (codes ":")) Colon (cond (bytes_eq bs (codes "::")) DoubleColon
     (cond (bytes_eq bs (codes ",")) Comma (cond (bytes_eq bs (codes "(")) LeftParenthesis (cond (bytes_eq bs (codes ")")) RightParenthesis
     (cond (bytes_eq bs (codes "[")) LeftBracket (cond (bytes_eq bs (codes "]")) RightBracket (cond (bytes_eq bs (codes "{")) LeftBrace
     (cond (bytes_eq bs (codes "}")) RightBrace (cond (bytes_eq bs (codes "=")) Equals DoubleDot))))))))))
 
-sign_back : (s : Sign) → sign_of (sign_bytes s) ≡ s
+pub sign_back : (s : Sign) → sign_of (sign_bytes s) ≡ s
 unfolding sign_of
 sign_back Semicolon = refl
 sign_back _ = refl
@@ -217,11 +217,11 @@ keyword_in : List ℕ → List Keyword → Keyword
 keyword_in bs [] = keyword.Var
 keyword_in bs (k ∷ ks) = cond (bytes_eq bs (keyword_bytes k)) k (keyword_in bs ks)
 
-keyword_of : List ℕ → Keyword
+pub keyword_of : List ℕ → Keyword
 keyword_of bs = keyword_in bs (keyword.Array ∷ keyword.Bool ∷ keyword.Constraint ∷ keyword.False ∷ keyword.Float ∷ keyword.Int ∷ keyword.Maximize
     ∷ keyword.Minimize ∷ keyword.Of ∷ keyword.Predicate ∷ keyword.Satisfy ∷ keyword.Set ∷ keyword.Solve ∷ keyword.True ∷ [])
 
-keyword_back : (k : Keyword) → keyword_of (keyword_bytes k) ≡ k
+pub keyword_back : (k : Keyword) → keyword_of (keyword_bytes k) ≡ k
 unfolding keyword_of keyword_in
 keyword_back keyword.Array = refl
 keyword_back _ = refl

@@ -8,3 +8,6 @@ pub mod TokenProofs
 pub mod WithinProofs
 pub mod ReadProofs
 pub mod Lefts
+pub mod Decisions
+pub mod SomeTokens
+pub mod SomeReading
