@@ -49,6 +49,7 @@ level_within G limit k l w a = by (G.opens k) (G.closes k) refl a
     down_less : (l : ℕ) → down l ≤ l
     down_less zero = omega arith
     down_less (suc l) = omega arith
+
     by : (o c : Bool) → G.opens k ≡ o → (not o || nat_lt l limit) ≡ true → (if o then suc l else if c then down l else l) ≤ limit
     by true c e h = let m = ltb-true l limit h in omega arith
     by false true e h = let m = down_less l in omega arith
@@ -70,9 +71,10 @@ MayStand G L may (Rule n ∷ ss) = may n × (L.takes n ≡ false → MayStand G 
 lower_stand : (G : Grammar) (L : Lefts G) (h : ℕ) (ss : List (Symbol G.Name)) → lefts_lower G L h ss ≡ true → MayStand G L (λ n. L.left n < h) ss
 lower_stand G L h [] e = tt
 lower_stand G L h (Leaf k ∷ ss) e = tt
-lower_stand G L h (Rule n ∷ ss) e =
-    (ltb-true (L.left n) h (and_left (nat_lt (L.left n) h) (L.takes n || lefts_lower G L h ss) e),
-    λ f. lower_stand G L h ss (or_of_false (L.takes n) (lefts_lower G L h ss) f (and_right (nat_lt (L.left n) h) (L.takes n || lefts_lower G L h ss) e)))
+lower_stand G L h (Rule n ∷ ss) e = (
+  ltb-true (L.left n) h (and_left (nat_lt (L.left n) h) (L.takes n || lefts_lower G L h ss) e),
+  λ f. lower_stand G L h ss (or_of_false (L.takes n) (lefts_lower G L h ss) f (and_right (nat_lt (L.left n) h) (L.takes n || lefts_lower G L h ss) e)),
+)
 
 any_stand : (G : Grammar) (L : Lefts G) (ss : List (Symbol G.Name)) → MayStand G L (λ n. Unit {0}) ss
 any_stand G L [] = tt
