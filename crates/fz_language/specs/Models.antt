@@ -18,7 +18,7 @@ use Rattle.fz_language.specs.Trees.{Plain, AnyBool, AnyInt, AnyFloat, Within, Va
 use Rattle.fz_language.specs.Numerals.{set_in}
 use Rattle.fz_language.specs.Entries.{Environment, Entry, nothing_declared, with_entry, term_in, set_of, each_of, number_of}
 use Rattle.fz_language.specs.Entries as entries
-use Rattle.fz_language.specs.Annotations.{annotation_of, arguments_of, shape_in}
+use Rattle.fz_language.specs.Annotations.{annotation_of, plain_annotation_of, shape_in}
 use Rattle.fz_language.specs.Rules.{OUTPUT_VAR, OUTPUT_ARRAY, kind_of, term_asked, arguments_in, is_bound}
 use Rattle.fz_language.specs.Search.{search_of}
 
@@ -120,11 +120,8 @@ constraints_of s (Parameter p) = []
 
 -- a variable with the annotation `output_var` without arguments
 abbrev pub scalar_outputs : Scope → VariableItem → List Output
-scalar_outputs s v = elim (annotation_of OUTPUT_VAR v.annotations) [
-  | Some a ↦ elim (arguments_of a) [
-    | [] ↦ record { name = v.name.bytes; kind = kind_of v.value_type; array = false; shape = []; terms = Var s.variables ∷ [] } ∷ []
-    | x ∷ xs ↦ []
-  ]
+scalar_outputs s v = elim (plain_annotation_of OUTPUT_VAR v.annotations) [
+  | Some a ↦ record { name = v.name.bytes; kind = kind_of v.value_type; array = false; shape = []; terms = Var s.variables ∷ [] } ∷ []
   | None ↦ []
 ]
 
