@@ -1,2 +1,3 @@
 pub mod Meant
 pub mod Rooms
+pub mod Shapes
