@@ -1,3 +1,4 @@
+pub mod AllOf
 pub mod AnnotationLaws
 pub mod Each
 pub mod Firsts

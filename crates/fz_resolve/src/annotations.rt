@@ -1,5 +1,5 @@
 //! Annotations of output.
-ghost use Rattle.std.specs.Prelude.{◌≡◌, ◌-◌, ◌^◌, min, IfOk, bytes_eq, map, option_map, option_copied, slice_get};
+ghost use Rattle.std.specs.Prelude.{◌≡◌, ◌∷◌, [], ◌-◌, ◌^◌, min, IfOk, bytes_eq, map, option_map, option_copied, slice_get};
 ghost use Rattle.fz_sets.specs.Sets.{interval, set_size};
 ghost use Rattle.fz_language.specs.Annotations as said;
 ghost use Rattle.fz_language.specs.Numerals.{all_of};
@@ -78,16 +78,24 @@ pub fn output_array_at(annotations: &[Annotation<'_>]) -> Option<u32>
     }
 }
 
-/// The elements of the one list that is the argument.
-fn bracketed<'i, 'a>(annotation: &'i Annotation<'a>) -> &'i [Argument<'a>]
+/// The elements of an argument that is a list.
+fn elements_of<'i, 'a>(argument: &'i Argument<'a>) -> &'i [Argument<'a>]
     ensures { map trees.argument_of result.now
-        ≡ said.bracketed (said.arguments_of (trees.annotation_of annotation.now)) }
+        ≡ said.bracketed (trees.argument_of argument.now ∷ []) }
 {
-    let [only] = arguments_of(annotation) else {
-        return &[];
-    };
-    match only {
+    match argument {
         Argument::Brackets { arguments, .. } => arguments,
+        _ => &[],
+    }
+}
+
+/// The elements of the one list that is the argument.
+fn bracketed<'i, 'a>(arguments: &'i [Argument<'a>]) -> &'i [Argument<'a>]
+    ensures { map trees.argument_of result.now
+        ≡ said.bracketed (map trees.argument_of arguments.now) }
+{
+    match arguments {
+        [only] => elements_of(only),
         _ => &[],
     }
 }
@@ -153,7 +161,7 @@ pub fn shape_of(
     ensures { IfOk result (λ shape. option_map (λ ranges. ranges.items) shape
         ≡ said.shape_in (trees.annotation_of annotation.now)) }
 {
-    let elements = bracketed(annotation);
+    let elements = bracketed(arguments_of(annotation));
     if elements.is_empty() {
         return Ok(None);
     }
@@ -178,7 +186,7 @@ pub fn output_shape(
 fn seventh_at(annotation: &Annotation<'_>) -> Option<u32>
     ensures { result ≡ slice_get (said.seventh (trees.annotation_of annotation.now)) 0 }
 {
-    match bracketed(annotation).get(6) {
+    match bracketed(arguments_of(annotation)).get(6) {
         Some(argument) => range_at(argument),
         None => None,
     }
