@@ -1,5 +1,5 @@
 //! From expressions to arguments of constraints.
-ghost use Rattle.std.specs.Prelude.{◌≡◌, IfOk, map, option_map};
+ghost use Rattle.std.specs.Prelude.{◌≡◌, ℤ, IfOk, map, option_map};
 ghost use Rattle.std.specs.List.{AllByRecursion};
 ghost use Rattle.fz_language.specs.Entries as entries;
 ghost use Rattle.fz_language.specs.Entries.{term_in, each_of, with_value, number_of, truth_value};
@@ -9,6 +9,7 @@ ghost use Rattle.fz_model.specs.Arguments.{argument_of};
 ghost use Rattle.fz_syntax.specs.Trees as trees;
 ghost use Rattle.fz_syntax.specs.Trees.{basic_of, expression_of};
 ghost use Rattle.fz_resolve.specs.Meant.{environment_of};
+ghost use Rattle.fz_resolve.specs.Points.{points_of};
 
 use crate::entry::{Entry, of_kind};
 use crate::names::Names;
@@ -78,20 +79,41 @@ pub fn numbers(alloc: Global, terms: &[Term]) -> Result<Vec<i32>, AllocError>
     Ok(numbers)
 }
 
+/// The range of one number.
+fn point_of(number: Number) -> Option<(i32, i32)>
+    ensures { result ≡ option_map (λ (x : ℤ). (x, x)) (value_of (trees.number_of number)) }
+{
+    match number {
+        Number::Whole(integer) => Some((integer.value, integer.value)),
+        Number::Float { .. } => None,
+    }
+}
+
+/// The ranges of one number each, or nothing where there is a float.
+fn points(alloc: Global, numbers: &[Number]) -> Result<Option<Vec<(i32, i32)>>, AllocError>
+    ensures { IfOk result (λ found. option_map (λ ranges. ranges.items) found
+        ≡ option_map points_of (all_of (map value_of (map trees.number_of numbers.now)))) }
+{
+    let mut ranges = Vec::with_capacity(alloc, numbers.len())?;
+    for number in numbers {
+        match point_of(*number) {
+            Some(range) => ranges.push(range)?,
+            None => return Ok(None),
+        }
+    }
+    Ok(Some(ranges))
+}
+
 /// The set of the members of a literal, none of them a float.
 fn members(alloc: Global, numbers: &[Number]) -> Result<Option<Dom>, AllocError>
     requires { AllByRecursion NumberFits (map trees.number_of numbers.now) }
     ensures { IfOk result (λ found. found
         ≡ option_map ranges_of (all_of (map value_of (map trees.number_of numbers.now)))) }
 {
-    let mut ranges = Vec::with_capacity(alloc, numbers.len())?;
-    for number in numbers {
-        match number {
-            Number::Whole(integer) => ranges.push((integer.value, integer.value))?,
-            Number::Float { .. } => return Ok(None),
-        }
+    match points(alloc, numbers)? {
+        Some(ranges) => Ok(Some(Dom::from_ranges(alloc, &ranges)?)),
+        None => Ok(None),
     }
-    Ok(Some(Dom::from_ranges(alloc, &ranges)?))
 }
 
 /// The set that a literal without floats is.
