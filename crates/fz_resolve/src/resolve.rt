@@ -175,11 +175,7 @@ fn number_list(alloc: Global, may_vary: bool, numbers: &[i32]) -> Result<Argumen
 }
 
 /// The list that an entry is, if it is what is asked.
-fn entry_list(
-    alloc: Global,
-    asked: Element,
-    entry: &Entry,
-) -> Result<Option<Argument>, AllocError>
+fn entry_list(alloc: Global, asked: Element, entry: &Entry) -> Result<Option<Argument>, AllocError>
     ensures { IfOk result (λ found. option_map argument_of found
         ≡ entries.entry_list asked (meant entry.now)) }
 {

@@ -1,4 +1,4 @@
-use Rattle.std.proofs.Common.{ap, ◌∙◌, Some, None, ◌∷◌, []}
+use Rattle.std.proofs.Common.{ap, ◌∙◌, Some, None, []}
 use Rattle.std.specs.Prelude.{slice_get}
 use Rattle.fz_language.specs.Annotations.{arguments_of}
 use Rattle.fz_language.specs.Rules.{plain_place}
