@@ -38,7 +38,8 @@ fn is_named(annotation: &Annotation<'_>, name: &[u8]) -> bool
 
 /// The arguments of an annotation, none where there are no parentheses.
 pub fn arguments_of<'i, 'a>(annotation: &'i Annotation<'a>) -> &'i [Argument<'a>]
-    ensures { map trees.argument_of result.now ≡ said.arguments_of (trees.annotation_of annotation.now) }
+    ensures { map trees.argument_of result.now
+        ≡ said.arguments_of (trees.annotation_of annotation.now) }
 {
     match &annotation.arguments {
         Some(arguments) => arguments,
@@ -48,7 +49,8 @@ pub fn arguments_of<'i, 'a>(annotation: &'i Annotation<'a>) -> &'i [Argument<'a>
 
 /// Where the annotation `output_var` stands among annotations, without arguments.
 pub fn output_var_at(annotations: &[Annotation<'_>]) -> Option<u32>
-    ensures { result ≡ slice_get (rules.misplaced_output_var (trees.annotations_of annotations.now)) 0 }
+    ensures { result
+        ≡ slice_get (rules.misplaced_output_var (trees.annotations_of annotations.now)) 0 }
 {
     match annotation_of(OUTPUT_VAR, annotations) {
         Some(annotation) => plain_place(annotation),
@@ -70,7 +72,8 @@ fn plain_place(annotation: &Annotation<'_>) -> Option<u32>
 
 /// Where the annotation `output_array` stands among annotations.
 pub fn output_array_at(annotations: &[Annotation<'_>]) -> Option<u32>
-    ensures { result ≡ slice_get (rules.misplaced_output_array (trees.annotations_of annotations.now)) 0 }
+    ensures { result
+        ≡ slice_get (rules.misplaced_output_array (trees.annotations_of annotations.now)) 0 }
 {
     match annotation_of(OUTPUT_ARRAY, annotations) {
         Some(annotation) => Some(annotation.name.at),

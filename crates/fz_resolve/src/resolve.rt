@@ -198,7 +198,8 @@ fn named_list(
     name: Name<'_>,
 ) -> Result<Option<Argument>, AllocError>
     ensures { IfOk result (λ found. option_map argument_of found
-        ≡ entries.named (environment_of names.now) (entries.entry_list asked) (trees.name_of name.entry)) }
+        ≡ entries.named (environment_of names.now)
+        (entries.entry_list asked) (trees.name_of name.entry)) }
 {
     match names.entry(name) {
         Some(entry) => entry_list(alloc, asked, entry),
