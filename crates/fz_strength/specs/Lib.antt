@@ -1,0 +1,5 @@
+pub mod Domains
+pub mod Events
+pub mod Relations
+pub mod Lines
+pub mod Laws
