@@ -3,3 +3,5 @@ pub mod Events
 pub mod Relations
 pub mod Lines
 pub mod Laws
+pub mod Costs
+pub mod Promises

@@ -3,6 +3,7 @@
 //! `specs/`, one line for each name of a constraint, beside the lines of its truth.
 #![tactic(auto)]
 
+pub mod cost;
 pub mod event;
 pub mod laws;
 pub mod relation;
