@@ -107,6 +107,8 @@ step s v P e n is within level_is keeping smaller filled domain =
         kept = λ x. rw here (keeping x);
         others = there;
         whole = rw (here, ← level_is) refl;
+        smaller = rw here smaller;
+        filled = rw here filled;
         falls = falls;
       };
     }

@@ -8,6 +8,8 @@ use Rattle.fz_dom.specs.declared.change.Change.{Change}
 use Rattle.fz_dom.specs.declared.change.Change.TheVariants.{Same, Changed, Wiped}
 use Rattle.fz_spec.specs.Truth.{SomeByRecursion}
 use Rattle.fz_spec.specs.Instance.{Variable}
+use Rattle.fz_spec.specs.declared.term.Term.{Term}
+use Rattle.fz_spec.specs.declared.term.Term.TheVariants.{Num, Var}
 use Rattle.fz_strength.specs.declared.event.Event.{Event}
 use Rattle.fz_strength.specs.Domains.{dom_at, AreDomains, IsNarrower, room}
 use Rattle.fz_strength.specs.Events.{level, IsQuiet}
@@ -62,6 +64,8 @@ pub record Narrows (v : ℕ) (P : ℤ → Type 0) (s t : Stored) : Type 0 where
   pub kept : IsKeeping P (dom_at s.doms v) (dom_at t.doms v)
   pub others : (u : ℕ) → u ≢ v → dom_at t.doms u ≡ dom_at s.doms u
   pub whole : t ≡ with_dom s v (dom_at t.doms v) (change_level (least (dom_at s.doms v)) (greatest (dom_at s.doms v)) (dom_at t.doms v))
+  pub smaller : set_size (dom_at t.doms v) < set_size (dom_at s.doms v)
+  pub filled : 0 < length (dom_at t.doms v)
   pub falls : room t.doms < room s.doms
 
 -- s becomes t where the numbers of v with a property are to stay: all of them do; some leave; or none would stay, and then
@@ -94,3 +98,17 @@ pub record HasEmpty (ds : List (List (ℤ × ℤ))) : Type 0 where
 -- a store in which nothing changed
 abbrev pub fresh : List (List (ℤ × ℤ)) → Stored
 fresh ds = record { doms = ds; marks = replicate (length ds) 0; changed = [] }
+
+-- ---- terms
+
+-- a number, or a variable of the store
+abbrev pub IsTermOf : ℕ → Term → Type 0
+IsTermOf n (Num number) = Unit {0}
+IsTermOf n (Var v) = v < n
+
+-- what became of the domain of a term; a number has none that changes
+abbrev pub IsTermChange : Change → Term → (ℤ → Type 0) → Stored → Stored → Type 0
+IsTermChange change (Var v) P s t = IsChangeAt change v P s t
+IsTermChange Same (Num n) P s t = (t ≡ s) × P n
+IsTermChange Wiped (Num n) P s t = (t ≡ s) × (P n → ⊥)
+IsTermChange Changed (Num n) P s t = ⊥

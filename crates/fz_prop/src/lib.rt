@@ -6,6 +6,7 @@ pub mod answer;
 mod cut;
 pub mod propagator;
 pub mod store;
+pub mod terms;
 
 pub use answer::Answer;
 pub use fz_dom::Change;
@@ -13,3 +14,6 @@ pub use fz_strength::cost::Cost;
 pub use fz_strength::event::Event;
 pub use propagator::Propagator;
 pub use store::Store;
+
+#[cfg(test)]
+mod tests;
