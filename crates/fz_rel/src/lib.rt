@@ -1,0 +1,5 @@
+//! Propagators of comparisons (Schulte, Tack, Lagerkvist: "Modeling and Programming with Gecode", "Rel").
+#![tactic(auto)]
+
+mod apart;
+mod order;
