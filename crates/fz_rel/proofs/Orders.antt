@@ -99,3 +99,33 @@ all_ordered strict x y ds u w is_x is_y upper lower apart =
           shown_line strict (term_set es x) (term_set es y)
           (λ z v in_x in_y. all z v (narrower_term ds es x narrower z in_x) (narrower_term ds es y narrower v in_y)) rx.ranges rx.some ry.ranges ry.some),
     )
+
+-- ---- where nothing changed
+
+pub stays : (t : Term) (P : ℤ → Type 0) (r s : Stored) → IsTermChange Same t P r s → s ≡ r
+stays (Num n) P r s h = h.0
+stays (Var v) P r s h = h.0
+
+-- the greatest of x is before the greatest of y
+pub high_order : (strict : Bool) (x y : Term) (w : ℤ) (r s : Stored) → IsTermOf (length r.doms) x → AreDomains r.doms → w ≡ greatest (term_set r.doms y) -ℤ gap_of strict
+    → IsTermChange Same x (λ z. z ≤ℤ w) r s → IsOrdered strict (greatest (term_set s.doms x)) (greatest (term_set s.doms y))
+high_order strict x y w r s is_x domains is h =
+    let at_x = term_ranges r.doms x is_x domains in
+    let same : s ≡ r = stays x (λ z. z ≤ℤ w) r s h in
+    let top : IsInSet (term_set s.doms x) (greatest (term_set r.doms x)) = rw same (greatest_member (term_set r.doms x) at_x.some at_x.ranges).0 in
+    let kept : greatest (term_set r.doms x) ≤ℤ w = (kept_term Same x (λ z. z ≤ℤ w) r s h (λ e. cc (e)) (greatest (term_set r.doms x)) top).1 in
+    rw same (omega (arith, ints, kept, is))
+
+-- the least of x is before the least of y
+pub low_order : (strict : Bool) (x y : Term) (w : ℤ) (r s : Stored) → IsTermOf (length r.doms) y → AreDomains r.doms → w ≡ least (term_set r.doms x) +ℤ gap_of strict
+    → IsTermChange Same y (λ z. w ≤ℤ z) r s → IsOrdered strict (least (term_set s.doms x)) (least (term_set s.doms y))
+low_order strict x y w r s is_y domains is h =
+    let at_y = term_ranges r.doms y is_y domains in
+    let same : s ≡ r = stays y (λ z. w ≤ℤ z) r s h in
+    let low : IsInSet (term_set s.doms y) (least (term_set r.doms y)) = rw same (least_member (term_set r.doms y) at_y.some at_y.ranges).0 in
+    let kept : w ≤ℤ least (term_set r.doms y) = (kept_term Same y (λ z. w ≤ℤ z) r s h (λ e. cc (e)) (least (term_set r.doms y)) low).1 in
+    rw same (omega (arith, ints, kept, is))
+
+-- what is correct of the same store is correct
+pub correct_from : (T : List ℤ → Type 0) (r s t : Stored) → s ≡ r → IsCorrectOf T s.doms t.doms → IsCorrectOf T r.doms t.doms
+correct_from T r s t same h = subst (λ (u : Stored). IsCorrectOf T u.doms t.doms) same h

@@ -2,4 +2,7 @@
 #![tactic(auto)]
 
 mod apart;
+pub mod comparison;
 mod order;
+
+pub use comparison::Comparison;

@@ -4,7 +4,7 @@ ghost use Rattle.fz_sets.specs.Sets.{IsInSet, IsWithinLimits};
 ghost use Rattle.fz_dom.specs.Shape.{least, greatest};
 ghost use Rattle.fz_strength.specs.Domains.{term_set};
 ghost use Rattle.fz_prop.specs.Answers.{IsCorrectOf, IsDecided};
-ghost use Rattle.fz_prop.specs.Stores.{Shrinks, IsTermOf, FitsTerm};
+ghost use Rattle.fz_prop.specs.Stores.{Shrinks, IsTermOf, FitsTerm, IsStore};
 ghost use Rattle.fz_rel.specs.Truths.{TruthOf, IsAnswerAs, AreSingle, order_of, gap_of, IsOrdered};
 
 use fz_prop::terms::{greatest_of, keep_from, keep_to, least_of};
@@ -24,7 +24,7 @@ pub fn keep_order(store: &mut Store, strict: bool, x: Term, y: Term) -> Result<A
         (λ r. IsAnswerAs (order_of strict) x y r store.old.doms store.new.doms) }
     ensures checking { IfOk result (λ r. AreSingle x y store.old.doms → IsDecided r) }
 {
-    let highest = before(greatest_of(store, y), strict);
+    let highest = highest_before(store, strict, y);
     match keep_to(store, x, highest)? {
         Change::Wiped => Ok(Answer::Failed),
         Change::Changed => Ok(Answer::NoFix),
@@ -45,7 +45,7 @@ fn keep_behind(store: &mut Store, strict: bool, x: Term, y: Term) -> Result<Answ
         (λ r. IsAnswerAs (order_of strict) x y r store.old.doms store.new.doms) }
     ensures checking { IfOk result (λ r. AreSingle x y store.old.doms → IsDecided r) }
 {
-    let lowest = behind(least_of(store, x), strict);
+    let lowest = lowest_behind(store, strict, x);
     match keep_from(store, y, lowest)? {
         Change::Wiped => Ok(Answer::Failed),
         Change::Changed => Ok(Answer::NoFix),
@@ -68,6 +68,30 @@ fn ordered(store: &Store, strict: bool, x: Term, y: Term) -> Answer
     } else {
         Answer::Fix
     }
+}
+
+/// The greatest number in order with some number of a term.
+fn highest_before(store: &Store, strict: bool, y: Term) -> i32
+    requires y { IsTermOf (length store.now.doms) y }
+    requires fits_y { FitsTerm y }
+    ensures greatest { result ≡ greatest (term_set store.now.doms y) -ℤ gap_of strict }
+    ensures upper_bound { (z : ℤ) → IsInSet (term_set store.now.doms y) z → z ≤ℤ greatest (term_set store.now.doms y) }
+    ensures store { IsStore store.now }
+{
+    let _ = store.doms();
+    before(greatest_of(store, y), strict)
+}
+
+/// The least number in order with some number of a term.
+fn lowest_behind(store: &Store, strict: bool, x: Term) -> i32
+    requires x { IsTermOf (length store.now.doms) x }
+    requires fits_x { FitsTerm x }
+    ensures least { result ≡ least (term_set store.now.doms x) +ℤ gap_of strict }
+    ensures lower_bound { (z : ℤ) → IsInSet (term_set store.now.doms x) z → least (term_set store.now.doms x) ≤ℤ z }
+    ensures store { IsStore store.now }
+{
+    let _ = store.doms();
+    behind(least_of(store, x), strict)
 }
 
 /// The greatest number in order with one behind it.
