@@ -1,31 +1,30 @@
 -- A comparison by its name is its relation.
-use Rattle.std.proofs.Common.{◌≡◌, ◌≢◌, ℕ, ◌<◌, List, [], ◌∷◌, ◌++◌, refl, sym, ap, subst, length, map}
-use Rattle.std.specs.Prelude.{ℤ, Option, Some, None, ◌↔◌, IfOk}
+use Rattle.std.proofs.Common.{◌≡◌, ℕ, ◌<◌, List, [], ◌∷◌, ◌++◌, refl, ap, subst, map}
+use Rattle.std.specs.Prelude.{ℤ, Option, Some, ◌↔◌, IfOk}
 use Rattle.std.proofs.Common.{Result, Ok, Err}
 use Rattle.fz_strength.specs.declared.cost.Cost.TheVariants.{Binary}
 use Rattle.fz_strength.specs.Costs.{cost_of}
-use Rattle.std.specs.List.{AllByRecursion}
 use Rattle.fz_spec.specs.declared.builtin.Builtin.{Builtin}
 use Rattle.fz_spec.specs.declared.builtin.Builtin.TheVariants.{Bool2Int, BoolEq, BoolLe, BoolLt, BoolNot, BoolXor, IntEq, IntLe, IntLt, IntNe}
 use Rattle.fz_spec.specs.declared.term.Term.{Term}
 use Rattle.fz_spec.specs.declared.term.Term.TheVariants.{Num, Var}
-use Rattle.fz_spec.specs.Constraints.{Argument, One, Constraint, term_value, IsTrueOf}
+use Rattle.fz_spec.specs.Constraints.{One, Constraint, term_value}
 use Rattle.fz_spec.specs.Truth.{HoldsOfTwo}
 use Rattle.fz_strength.specs.declared.relation.Relation.{Relation}
 use Rattle.fz_strength.specs.declared.relation.Relation.TheVariants.{Equal, NotEqual, AtMost, Below}
 use Rattle.fz_strength.specs.declared.event.Event.{Event}
-use Rattle.fz_strength.specs.Domains.{term_set, Within, AreDomains, IsNarrower, dom_at}
+use Rattle.fz_strength.specs.Domains.{term_set, dom_at}
 use Rattle.fz_strength.specs.Events.{IsOnly, Wait, wait_for, AreBelow, AreFixed}
 use Rattle.fz_strength.specs.Relations.{relation_of, Relates, RestsAs, event_of}
-use Rattle.fz_strength.specs.Lines.{RestsOfTwo, waits_of_two, waits, Rests}
+use Rattle.fz_strength.specs.Lines.{RestsOfTwo, waits_of_two, waits}
 use Rattle.fz_strength.specs.Promises.{IsCorrect}
 use Rattle.fz_strength.proofs.Lists.{all_left, all_right}
 use Rattle.fz_prop.specs.declared.answer.Answer.{Answer}
 use Rattle.fz_prop.specs.declared.answer.Answer.TheVariants.{Fix, NoFix, Subsumed, Failed}
-use Rattle.fz_prop.specs.Answers.{IsAnswer, IsAnswerOf, IsCorrectOf}
+use Rattle.fz_prop.specs.Answers.{IsAnswer, IsCorrectOf}
 use Rattle.fz_prop.specs.Stores.{IsTermOf}
-use Rattle.fz_rel.specs.Truths.{TruthOf, LineOf, IsAnswerAs, AreSingle}
-use Rattle.fz_rel.specs.Comparisons.{variable_of, variables_of}
+use Rattle.fz_rel.specs.Truths.{TruthOf, IsAnswerAs, AreSingle}
+use Rattle.fz_rel.specs.Comparisons.{variables_of}
 
 -- the constraint of a name over two terms
 abbrev pub comparing : Builtin → Term → Term → Constraint

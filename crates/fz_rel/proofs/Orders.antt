@@ -1,24 +1,22 @@
 -- Two terms in order.
-use Rattle.std.proofs.Common.{◌≡◌, ◌≢◌, ℕ, List, [], ◌∷◌, refl, sym, ap, subst, ◌∙◌, length, arith, Bool, true, false}
-use Rattle.std.specs.Prelude.{ℤ, pos, ◌+ℤ◌, ◌-ℤ◌, ◌≤ℤ◌, ◌<ℤ◌, ◌<◌}
+use Rattle.std.proofs.Common.{◌≡◌, ℕ, List, sym, subst, length, arith, Bool, true, false}
+use Rattle.std.specs.Prelude.{ℤ, ◌+ℤ◌, ◌-ℤ◌, ◌≤ℤ◌, ◌<◌}
 use Rattle.std.proofs.lemmas.Int.{ints}
 use Rattle.fz_sets.specs.Sets.{IsInSet, AreRanges}
-use Rattle.fz_dom.specs.Shape.{least, greatest, IsDomain}
+use Rattle.fz_dom.specs.Shape.{least, greatest}
 use Rattle.fz_dom.proofs.Ranges.{least_member, greatest_member}
 use Rattle.fz_dom.specs.declared.change.Change.{Change}
-use Rattle.fz_dom.specs.declared.change.Change.TheVariants.{Same, Changed, Wiped}
+use Rattle.fz_dom.specs.declared.change.Change.TheVariants.{Same, Wiped}
 use Rattle.fz_spec.specs.declared.term.Term.{Term}
 use Rattle.fz_spec.specs.declared.term.Term.TheVariants.{Num, Var}
 use Rattle.fz_spec.specs.Constraints.{term_value}
 use Rattle.fz_strength.specs.Relations.{Relates, RestsAs}
-use Rattle.fz_strength.specs.Domains.{term_set, AreDomains, Within, IsNarrower}
-use Rattle.fz_strength.specs.Events.{IsOnly}
-use Rattle.fz_strength.proofs.Truths.{single, in_single}
-use Rattle.fz_prop.specs.declared.answer.Answer.TheVariants.{Fix, NoFix, Subsumed, Failed}
-use Rattle.fz_prop.specs.Answers.{IsCorrectOf, IsAnswerOf, IsDecided}
+use Rattle.fz_strength.specs.Domains.{term_set, AreDomains, Within}
+use Rattle.fz_prop.specs.declared.answer.Answer.TheVariants.{Subsumed}
+use Rattle.fz_prop.specs.Answers.{IsCorrectOf}
 use Rattle.fz_prop.specs.Stores.{Stored, Shrinks, IsTermOf, IsTermChange}
-use Rattle.fz_rel.specs.Truths.{TruthOf, LineOf, IsAnswerAs, AreSingle, order_of, gap_of, IsOrdered}
-use Rattle.fz_rel.proofs.Terms.{term_within, narrower_term, only_in, within_kept, kept_term, none_kept, fixed_stays}
+use Rattle.fz_rel.specs.Truths.{TruthOf, IsAnswerAs, order_of, gap_of, IsOrdered}
+use Rattle.fz_rel.proofs.Terms.{term_within, narrower_term, within_kept, kept_term, none_kept}
 
 pub to_order : (strict : Bool) (x y : ℤ) → Relates (order_of strict) x y → IsOrdered strict x y
 to_order true x y h = omega (arith, ints, h)

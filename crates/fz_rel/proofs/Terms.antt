@@ -1,19 +1,18 @@
 -- What changes of terms leave.
-use Rattle.std.proofs.Common.{◌≡◌, ◌≢◌, ℕ, zero, suc, ◌+◌, ◌<◌, ◌≤◌, List, [], ◌∷◌, refl, sym, ap, subst, ◌∙◌, arith, length, ◌⊎◌, inl, inr}
-use Rattle.std.specs.Prelude.{ℤ, pos, ◌≤ℤ◌, ◌<ℤ◌, ◌+ℤ◌}
+use Rattle.std.proofs.Common.{◌≡◌, ℕ, ◌<◌, List, [], ◌∷◌, refl, sym, ap, subst, ◌∙◌, arith, length, inl, inr}
+use Rattle.std.specs.Prelude.{ℤ}
 use Rattle.std.proofs.lemmas.Bool.{cases_eq}
 use Rattle.std.proofs.lemmas.Int.{ints}
 use Rattle.fz_sets.specs.Sets.{IsInSet, set_size}
-use Rattle.fz_dom.specs.Shape.{IsDomain, least, greatest}
 use Rattle.fz_dom.specs.declared.change.Change.{Change}
 use Rattle.fz_dom.specs.declared.change.Change.TheVariants.{Same, Changed, Wiped}
 use Rattle.fz_spec.specs.declared.term.Term.{Term}
 use Rattle.fz_spec.specs.declared.term.Term.TheVariants.{Num, Var}
 use Rattle.fz_spec.specs.Constraints.{term_value}
-use Rattle.fz_strength.specs.Domains.{dom_at, term_set, AreDomains, Within, IsNarrower, number_at, room}
+use Rattle.fz_strength.specs.Domains.{dom_at, term_set, Within, IsNarrower, number_at}
 use Rattle.fz_strength.specs.Events.{IsOnly}
 use Rattle.fz_strength.proofs.Truths.{single, in_single, is_single}
-use Rattle.fz_prop.specs.Stores.{Stored, Shrinks, Narrows, IsChangeAt, IsTermOf, IsTermChange}
+use Rattle.fz_prop.specs.Stores.{Stored, Shrinks, IsTermOf, IsTermChange}
 
 pub term_within : (ds : List (List (ℤ × ℤ))) (a : List ℤ) (t : Term) → IsTermOf (length ds) t → Within ds a → IsInSet (term_set ds t) (term_value a t)
 term_within ds a (Num n) is within = in_single n n refl

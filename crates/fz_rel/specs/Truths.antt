@@ -1,6 +1,5 @@
 -- A relation of two terms: when an assignment makes it true, and its line.
-use Rattle.std.specs.Prelude.{◌≡◌, ◌⊎◌, ℕ, ℤ, pos, ◌+ℤ◌, ◌≤ℤ◌, List, Bool, if◌then◌else◌}
-use Rattle.fz_sets.specs.Sets.{IsInSet}
+use Rattle.std.specs.Prelude.{ℤ, pos, ◌+ℤ◌, ◌≤ℤ◌, List, Bool, if◌then◌else◌}
 use Rattle.fz_spec.specs.declared.term.Term.{Term}
 use Rattle.fz_spec.specs.Constraints.{term_value}
 use Rattle.fz_strength.specs.declared.relation.Relation.{Relation}
@@ -9,7 +8,7 @@ use Rattle.fz_strength.specs.Domains.{term_set}
 use Rattle.fz_strength.specs.Events.{IsOnly}
 use Rattle.fz_strength.specs.Relations.{Relates, RestsAs}
 use Rattle.fz_prop.specs.declared.answer.Answer.{Answer}
-use Rattle.fz_prop.specs.Answers.{IsAnswerOf, IsDecided}
+use Rattle.fz_prop.specs.Answers.{IsAnswerOf}
 
 abbrev pub TruthOf : Relation → Term → Term → List ℤ → Type 0
 TruthOf relation x y a = Relates relation (term_value a x) (term_value a y)

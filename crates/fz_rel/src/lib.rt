@@ -6,3 +6,6 @@ pub mod comparison;
 mod order;
 
 pub use comparison::Comparison;
+
+#[cfg(test)]
+mod tests;

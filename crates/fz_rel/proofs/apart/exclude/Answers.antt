@@ -1,8 +1,7 @@
-use Rattle.std.proofs.Common.{◌≡◌, ◌≢◌, subst}
+use Rattle.std.proofs.Common.{◌≢◌, subst}
 use Rattle.std.specs.Prelude.{ℤ}
 use Rattle.std.proofs.Math.Facts.{to_z-of_z}
-use Rattle.fz_dom.specs.declared.change.Change.{Change}
-use Rattle.fz_dom.specs.declared.change.Change.TheVariants.{Same, Changed, Wiped}
+use Rattle.fz_dom.specs.declared.change.Change.TheVariants.{Same, Changed}
 use Rattle.fz_prop.specs.Stores.{IsTermChange}
 use Rattle.fz_rel.proofs.Apartness.{correct, subsumed}
 use Rattle.fz_rel.proofs.apart.exclude.Goals as goal

@@ -1,14 +1,13 @@
-use Rattle.std.proofs.Common.{◌≡◌, arith, subst, rules}
-use Rattle.std.specs.Prelude.{ℤ, ◌+ℤ◌, ◌≤ℤ◌}
+use Rattle.std.proofs.Common.{subst, rules}
+use Rattle.std.specs.Prelude.{ℤ, ◌≤ℤ◌}
 use Rattle.std.proofs.Math.Facts.{to_z-of_z}
 use mir.Val.{SFits}
 use mir.Syntax.{w32}
-use Rattle.fz_dom.specs.Shape.{least, greatest}
-use Rattle.fz_dom.specs.declared.change.Change.{Change}
-use Rattle.fz_dom.specs.declared.change.Change.TheVariants.{Same, Changed, Wiped}
+use Rattle.fz_dom.specs.Shape.{greatest}
+use Rattle.fz_dom.specs.declared.change.Change.TheVariants.{Same, Changed}
 use Rattle.fz_strength.specs.Domains.{term_set}
 use Rattle.fz_prop.specs.Stores.{IsTermChange}
-use Rattle.fz_rel.specs.Truths.{gap_of, TruthOf, order_of}
+use Rattle.fz_rel.specs.Truths.{TruthOf, order_of}
 use Rattle.fz_rel.proofs.Orders.{high_order, correct_high, correct_from, stays}
 use Rattle.fz_rel.proofs.order.keep_order.Goals as goal
 
