@@ -13,7 +13,7 @@ use Rattle.fz_strength.specs.Lines.{Rests, waits}
 use Rattle.fz_strength.specs.Promises.{RestsForGood}
 use Rattle.fz_strength.proofs.Keeping.{kept_where_quiet}
 use Rattle.fz_prop.specs.Stores.{Stored, Shrinks, mark_at, without_first}
-use Rattle.fz_agenda.specs.Agendas.{AreUnmarked, IsSettled, SettledLasts, AllRestAtRest, ShrinksTwice, MayBeIdle, MayBeGone, MayBeQueued, AreWoken, MayBeTaken}
+use Rattle.fz_agenda.specs.Agendas.{AreUnmarked, IsSettled, SettledLasts, AllRestAtRest, ShrinksTwice, MayBeIdle, MayBeGone, MayBeQueued, MayBeTaken}
 
 narrower_twice : (ds es fs : List (List (ℤ × ℤ))) → IsNarrower ds es → IsNarrower es fs → IsNarrower ds fs
 narrower_twice ds es fs p q = record { size = q.size ∙ p.size; members = λ v x i. p.members v x (q.members v x i) }
