@@ -1,15 +1,15 @@
 -- What the level of a change tells.
-use Rattle.std.proofs.Common.{◌≡◌, ℕ, ◌+◌, ◌<◌, ◌≤◌, List, [], ◌∷◌, refl, sym, ap, arith, length, Bool, true, false, nat_eq, ◌⊎◌, inl, inr, cond}
-use Rattle.std.specs.Prelude.{ℤ, pos, ◌-ℤ◌, nat_abs, if◌then◌else◌, ◌&&◌}
+use Rattle.std.proofs.Common.{◌≡◌, ℕ, ◌<◌, ◌≤◌, List, [], ◌∷◌, refl, arith, Bool, true, false, nat_eq, ◌⊎◌, inl, inr, cond}
+use Rattle.std.specs.Prelude.{ℤ, ◌&&◌}
 use Rattle.std.specs.Ordering.{int_eq}
-use Rattle.std.proofs.lemmas.Bool.{eqb-true, eq-eqb, cases_Bool}
+use Rattle.std.proofs.lemmas.Bool.{eq-eqb}
 use Rattle.std.proofs.lemmas.Bool.Decides.{Decides-int_eq}
 use Rattle.std.proofs.lemmas.Int.{ints}
-use Rattle.fz_sets.specs.Sets.{set_size, range_size}
+use Rattle.fz_sets.specs.Sets.{set_size}
 use Rattle.fz_dom.specs.Shape.{least, greatest}
 use Rattle.fz_strength.specs.declared.event.Event.{Event}
 use Rattle.fz_strength.specs.declared.event.Event.TheVariants.{Any, Bound, Fixed}
-use Rattle.fz_strength.specs.Events.{level, IsQuiet, IsOnly}
+use Rattle.fz_strength.specs.Events.{level, IsQuiet}
 use Rattle.fz_prop.specs.Cuts.{change_level, have_same_ends}
 
 size_one : (x : ℤ) → set_size ((x, x) ∷ []) ≡ 1

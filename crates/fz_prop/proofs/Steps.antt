@@ -1,18 +1,17 @@
 -- A change of one domain is a step of the store.
-use Rattle.std.proofs.Common.{◌≡◌, ◌≢◌, ℕ, zero, suc, ◌+◌, ◌<◌, ◌≤◌, List, [], ◌∷◌, ◌++◌, refl, sym, ap, subst, ◌∙◌, arith, length, Bool, true, false, nat_eq, ◌⊎◌, inl, inr, cond, max, get_or, set, get_or-set_same, get_or-set_other, drop, length-append}
-use Rattle.std.specs.Prelude.{ℤ, slice_set, slice_index, sum_by}
+use Rattle.std.proofs.Common.{◌≡◌, ◌≢◌, ℕ, zero, suc, ◌<◌, ◌≤◌, List, [], ◌∷◌, ◌++◌, refl, sym, subst, ◌∙◌, arith, length, true, false, nat_eq, inl, inr, cond, max, get_or, get_or-set_same, get_or-set_other, drop, length-append}
+use Rattle.std.specs.Prelude.{ℤ, slice_set, slice_index}
 use Rattle.std.specs.List.{AllByRecursion}
-use Rattle.std.proofs.lemmas.Bool.{cases_eq, eqb-true, cases_Bool}
+use Rattle.std.proofs.lemmas.Bool.{cases_eq}
 use Rattle.std.proofs.lemmas.List.{length-set, set-get_or, drop-append-le}
 use Rattle.std.proofs.lemmas.List.Sums.{sum_by-set}
 use Rattle.fz_sets.specs.Sets.{IsInSet, set_size}
 use Rattle.fz_dom.specs.Shape.{IsDomain, least, greatest}
 use Rattle.fz_dom.specs.Changes.{IsKeeping}
-use Rattle.fz_spec.specs.Truth.{SomeByRecursion}
 use Rattle.fz_strength.specs.declared.event.Event.{Event}
 use Rattle.fz_strength.specs.declared.event.Event.TheVariants.{Any, Bound, Fixed}
-use Rattle.fz_strength.specs.Domains.{dom_at, AreDomains, IsNarrower, room}
-use Rattle.fz_strength.specs.Events.{level, IsQuiet, IsOnly}
+use Rattle.fz_strength.specs.Domains.{dom_at, room}
+use Rattle.fz_strength.specs.Events.{level, IsQuiet}
 use Rattle.fz_strength.proofs.Lists.{all_both}
 use Rattle.fz_prop.specs.Cuts.{change_level}
 use Rattle.fz_prop.specs.Stores.{Stored, IsStore, Shrinks, Narrows, mark_at, IsListed, with_listed, with_dom}

@@ -1,5 +1,5 @@
 -- Which numbers a cut keeps, and how much of a change it was.
-use Rattle.std.specs.Prelude.{◌≡◌, ◌≢◌, ℕ, ◌<◌, ℤ, ◌≤ℤ◌, List, nat_eq, if◌then◌else◌, ◌&&◌}
+use Rattle.std.specs.Prelude.{◌≡◌, ◌≢◌, ℕ, ℤ, ◌≤ℤ◌, List, nat_eq, if◌then◌else◌, ◌&&◌}
 use Rattle.std.specs.Ordering.{int_eq}
 use Rattle.fz_sets.specs.Sets.{set_size}
 use Rattle.fz_dom.specs.Shape.{least, greatest}

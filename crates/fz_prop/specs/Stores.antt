@@ -1,7 +1,7 @@
 -- Stores, and what a call that narrows does to one.
-use Rattle.std.specs.Prelude.{◌≡◌, ◌≢◌, ◌⊎◌, ℕ, ◌+◌, ◌<◌, ◌≤◌, max, ℤ, List, [], ◌∷◌, ◌++◌, length, map, replicate, slice_index, slice_set, nat_eq, if◌then◌else◌}
+use Rattle.std.specs.Prelude.{◌≡◌, ◌≢◌, ◌⊎◌, ℕ, ◌<◌, ◌≤◌, max, ℤ, List, [], ◌∷◌, ◌++◌, length, map, replicate, slice_index, slice_set, nat_eq, if◌then◌else◌}
 use Rattle.std.specs.List.{AllByRecursion}
-use Rattle.fz_sets.specs.Sets.{IsInSet, set_size}
+use Rattle.fz_sets.specs.Sets.{IsInSet, IsWithinLimits, set_size}
 use Rattle.fz_dom.specs.Shape.{least, greatest}
 use Rattle.fz_dom.specs.Changes.{IsChange, IsKeeping}
 use Rattle.fz_dom.specs.declared.change.Change.{Change}
@@ -105,6 +105,11 @@ fresh ds = record { doms = ds; marks = replicate (length ds) 0; changed = [] }
 abbrev pub IsTermOf : ℕ → Term → Type 0
 IsTermOf n (Num number) = Unit {0}
 IsTermOf n (Var v) = v < n
+
+-- a number within the limits, or a variable
+abbrev pub FitsTerm : Term → Type 0
+FitsTerm (Num number) = IsWithinLimits number
+FitsTerm (Var v) = Unit {0}
 
 -- what became of the domain of a term; a number has none that changes
 abbrev pub IsTermChange : Change → Term → (ℤ → Type 0) → Stored → Stored → Type 0

@@ -1,10 +1,10 @@
 //! Terms over a store: a variable has its domain, a number itself alone.
 ghost use Rattle.std.specs.Prelude.{◌≡◌, ◌≢◌, ℤ, ◌≤ℤ◌, List, length, IfOk, OnErr, MatchOption};
-ghost use Rattle.fz_sets.specs.Sets.{IsInSet};
+ghost use Rattle.fz_sets.specs.Sets.{IsInSet, IsWithinLimits};
 ghost use Rattle.fz_dom.specs.Shape.{least, greatest};
 ghost use Rattle.fz_strength.specs.Domains.{term_set};
 ghost use Rattle.fz_strength.specs.Events.{IsOnly};
-ghost use Rattle.fz_prop.specs.Stores.{Shrinks, IsTermOf, IsTermChange};
+ghost use Rattle.fz_prop.specs.Stores.{Shrinks, IsTermOf, FitsTerm, IsTermChange};
 
 use crate::store::Store;
 use fz_dom::Change;
@@ -16,6 +16,7 @@ pub fn least_of(store: &Store, term: Term) -> i32
     requires { IsTermOf (length store.now.doms) term }
     ensures least { result ≡ least (term_set store.now.doms term) }
     ensures member { IsInSet (term_set store.now.doms term) result }
+    ensures limits { FitsTerm term → IsWithinLimits result }
     ensures lower_bound { (x : ℤ) → IsInSet (term_set store.now.doms term) x → result ≤ℤ x }
 {
     match term {
@@ -29,6 +30,7 @@ pub fn greatest_of(store: &Store, term: Term) -> i32
     requires { IsTermOf (length store.now.doms) term }
     ensures greatest { result ≡ greatest (term_set store.now.doms term) }
     ensures member { IsInSet (term_set store.now.doms term) result }
+    ensures limits { FitsTerm term → IsWithinLimits result }
     ensures upper_bound { (x : ℤ) → IsInSet (term_set store.now.doms term) x → x ≤ℤ result }
 {
     match term {

@@ -1,4 +1,4 @@
-use Rattle.std.proofs.Common.{◌≡◌, ℤ, pos, List, [], ◌∷◌, refl, sym, subst, lit≤}
+use Rattle.std.proofs.Common.{◌≡◌, ℤ, List, [], sym, subst, lit≤}
 use Rattle.fz_model.specs.Kept.{IsSet}
 use Rattle.fz_prop.proofs.tests.no_store_has_an_empty_domain.Goals as goal
 

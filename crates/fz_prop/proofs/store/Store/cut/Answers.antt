@@ -1,5 +1,5 @@
-use Rattle.std.proofs.Common.{◌≡◌, ◌<◌, ◌∙◌, List, [], length, drop, refl, sym, ap}
-use Rattle.std.specs.Prelude.{ℤ, slice_set, slice_index}
+use Rattle.std.proofs.Common.{◌≡◌, ◌<◌, ◌∙◌, [], length}
+use Rattle.std.specs.Prelude.{slice_set}
 use Rattle.fz_strength.specs.Domains.{dom_at}
 use Rattle.fz_dom.specs.declared.change.Change.TheVariants.{Changed}
 use Rattle.fz_prop.specs.Cuts.{Keeps}
