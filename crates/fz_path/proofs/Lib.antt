@@ -1,0 +1,5 @@
+pub mod Lists
+pub mod Decisions
+pub mod Nodes
+pub mod Choosing
+pub mod Trails
