@@ -3,3 +3,4 @@ pub mod Decisions
 pub mod Nodes
 pub mod Choosing
 pub mod Trails
+pub mod Paths
