@@ -4,3 +4,4 @@ pub mod Nodes
 pub mod Choosing
 pub mod Trails
 pub mod Paths
+pub mod Falls
