@@ -1,6 +1,6 @@
 -- Numbers and domains by their places.
-use Rattle.std.proofs.Common.{◌≡◌, ◌∙◌, ℕ, zero, suc, ◌<◌, ◌≤◌, List, [], ◌∷◌, length, map, ap, ap₂, sym, subst, refl, arith, true, false, Option, Some, None, slice_set, slice_index_or, ◌⊎◌, inl, inr}
-use Rattle.std.specs.Prelude.{ℤ, is_some, pos}
+use Rattle.std.proofs.Common.{◌≡◌, ◌∙◌, ℕ, zero, suc, ◌<◌, List, [], ◌∷◌, length, map, ap, ap₂, sym, refl, arith, Some, slice_set, ◌⊎◌, inl, inr}
+use Rattle.std.specs.Prelude.{ℤ}
 use Rattle.std.specs.List.{slice_get}
 use Rattle.fz_dom.specs.Shape.{least}
 use Rattle.fz_dom.proofs.Ranges.{least_member}
