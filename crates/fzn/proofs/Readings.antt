@@ -43,7 +43,7 @@ refused_front text code line column at long h l c = elim h [
   }
   | inr short ↦ elim short [
     | inl unlexed ↦ absurd (front_is_long text long unlexed.short)
-    | inr lexed ↦ elim lexed [ | inl unspelt ↦ absurd (front_is_long text long unspelt.short) | inr wrong ↦ absurd (front_is_long text long wrong.spelt.short) ]
+    | inr lexed ↦ elim lexed [ inl unspelt ↦ absurd (front_is_long text long unspelt.short) | inr wrong ↦ absurd (front_is_long text long wrong.spelt.short) ]
   ]
 ]
 
