@@ -3,11 +3,7 @@
 //! place.
 #![tactic(auto)]
 
-mod call;
-pub mod checker;
-mod draft;
-mod rows;
-mod search;
+pub mod laws;
+pub mod rows;
 
-pub use checker::check;
 pub use fz_resolve::Fault;

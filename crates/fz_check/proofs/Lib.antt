@@ -1,0 +1,10 @@
+pub mod ArgumentFits
+pub mod Beginnings
+pub mod Counting
+pub mod Finds
+pub mod ItemFits
+pub mod ModelFits
+pub mod RowLaws
+pub mod SearchFits
+pub mod SetFits
+pub mod TermFits
