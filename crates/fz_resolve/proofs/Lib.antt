@@ -1,5 +1,8 @@
+pub mod AllOf
 pub mod AnnotationLaws
 pub mod Each
 pub mod Firsts
+pub mod Members
 pub mod NameLaws
 pub mod RoomLaws
+pub mod SetLaws

@@ -1,2 +1,4 @@
 pub mod Meant
+pub mod Points
 pub mod Rooms
+pub mod Shapes

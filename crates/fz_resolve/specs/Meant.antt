@@ -1,9 +1,11 @@
--- What the names of the checker stand for.
+-- What the names and the faults of the checker stand for.
 use Rattle.std.specs.Prelude.{ℕ, List, Option, option_map}
 use Rattle.std.specs.Ordering.{nat_cmp}
 use Rattle.std.specs.Cmp.Lexicographic.{slice_cmp}
 use Rattle.std.specs.BTreeMap.{get_by}
 use Rattle.fz_language.specs.Entries as entries
+use Rattle.fz_language.specs.Rules as rules
+use Rattle.fz_resolve.specs.declared.fault.Fault.{Fault}
 use Rattle.fz_resolve.specs.declared.names.Names.{Names}
 use Rattle.fz_resolve.specs.declared.entry.Entry.{Entry}
 use Rattle.fz_resolve.specs.declared.entry.Entry.TheVariants as entry
@@ -19,3 +21,6 @@ meant entry.Sets = entries.Sets
 -- what each name stands for, by its bytes
 abbrev pub environment_of : Names → entries.Environment
 environment_of names name = option_map meant (get_by (λ k. slice_cmp nat_cmp name k.now) names.known)
+
+abbrev pub fault_of : Fault → rules.Fault
+fault_of f = record { rule = f.rule; at = f.at }

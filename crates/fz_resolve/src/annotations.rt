@@ -1,9 +1,11 @@
 //! Annotations of output.
-ghost use Rattle.std.specs.Prelude.{◌≡◌, ◌-◌, ◌^◌, min, bytes_eq, map, option_map, option_copied, slice_get};
+ghost use Rattle.std.specs.Prelude.{◌≡◌, ◌∷◌, [], ◌-◌, ◌^◌, min, IfOk, bytes_eq, map, option_map, option_copied, slice_get};
 ghost use Rattle.fz_sets.specs.Sets.{interval, set_size};
 ghost use Rattle.fz_language.specs.Annotations as said;
+ghost use Rattle.fz_language.specs.Numerals.{all_of};
 ghost use Rattle.fz_language.specs.Rules as rules;
 ghost use Rattle.fz_syntax.specs.Trees as trees;
+ghost use Rattle.fz_resolve.specs.Shapes.{shape_among};
 
 use fz_syntax::{Annotation, Argument, Basic, Number, SetLiteral};
 use std::alloc::{AllocError, Global};
@@ -76,22 +78,32 @@ pub fn output_array_at(annotations: &[Annotation<'_>]) -> Option<u32>
     }
 }
 
-/// The elements of the one list that is the argument.
-fn bracketed<'i, 'a>(annotation: &'i Annotation<'a>) -> &'i [Argument<'a>]
+/// The elements of an argument that is a list.
+fn elements_of<'i, 'a>(argument: &'i Argument<'a>) -> &'i [Argument<'a>]
     ensures { map trees.argument_of result.now
-        ≡ said.bracketed (said.arguments_of (trees.annotation_of annotation.now)) }
+        ≡ said.bracketed (trees.argument_of argument.now ∷ []) }
 {
-    let [only] = arguments_of(annotation) else {
-        return &[];
-    };
-    match only {
+    match argument {
         Argument::Brackets { arguments, .. } => arguments,
         _ => &[],
     }
 }
 
-/// An index range, and the place of its first token.
-fn range_of(argument: &Argument<'_>) -> Option<((i32, i32), u32)> {
+/// The elements of the one list that is the argument.
+fn bracketed<'i, 'a>(arguments: &'i [Argument<'a>]) -> &'i [Argument<'a>]
+    ensures { map trees.argument_of result.now
+        ≡ said.bracketed (map trees.argument_of arguments.now) }
+{
+    match arguments {
+        [only] => elements_of(only),
+        _ => &[],
+    }
+}
+
+/// The index range that an argument is.
+fn range_of(argument: &Argument<'_>) -> Option<(i32, i32)>
+    ensures { result ≡ said.range_of (trees.argument_of argument.now) }
+{
     match argument {
         Argument::Simple(
             Basic::Literal(
@@ -100,35 +112,94 @@ fn range_of(argument: &Argument<'_>) -> Option<((i32, i32), u32)> {
                     high: Number::Whole(high),
                 },
             ),
-        ) => Some(((low.value, high.value), low.at)),
+        ) => Some((low.value, high.value)),
         _ => None,
     }
+}
+
+/// The place of an argument that is an index range.
+fn range_at(argument: &Argument<'_>) -> Option<u32>
+    ensures { let tree = trees.argument_of argument.now in
+        result ≡ option_map (λ r. said.place_of tree) (said.range_of tree) }
+{
+    match argument {
+        Argument::Simple(
+            Basic::Literal(
+                SetLiteral::Range {
+                    low: Number::Whole(low),
+                    high: Number::Whole(_),
+                },
+            ),
+        ) => Some(low.at),
+        _ => None,
+    }
+}
+
+/// The ranges that arguments are, or nothing where one of them is none.
+fn ranges_of(
+    alloc: Global,
+    arguments: &[Argument<'_>],
+) -> Result<Option<Vec<(i32, i32)>>, AllocError>
+    ensures { IfOk result (λ found. option_map (λ ranges. ranges.items) found
+        ≡ all_of (map said.range_of (map trees.argument_of arguments.now))) }
+{
+    let mut ranges = Vec::new(alloc);
+    for argument in arguments {
+        match range_of(argument) {
+            Some(range) => ranges.push(range)?,
+            None => return Ok(None),
+        }
+    }
+    Ok(Some(ranges))
 }
 
 /// The index ranges of `output_array([low..high, ..])`, at least one; nothing where it has another form.
 pub fn shape_of(
     alloc: Global,
     annotation: &Annotation<'_>,
-) -> Result<Option<Vec<(i32, i32)>>, AllocError> {
-    let elements = bracketed(annotation);
+) -> Result<Option<Vec<(i32, i32)>>, AllocError>
+    ensures { IfOk result (λ shape. option_map (λ ranges. ranges.items) shape
+        ≡ said.shape_in (trees.annotation_of annotation.now)) }
+{
+    let elements = bracketed(arguments_of(annotation));
     if elements.is_empty() {
         return Ok(None);
     }
-    let mut shape = Vec::new(alloc);
-    for element in elements {
-        match range_of(element) {
-            Some((range, _at)) => shape.push(range)?,
-            None => return Ok(None),
-        }
+    ranges_of(alloc, elements)
+}
+
+/// The index ranges of the annotation `output_array` among annotations, if it has its form.
+pub fn output_shape(
+    alloc: Global,
+    annotations: &[Annotation<'_>],
+) -> Result<Option<Vec<(i32, i32)>>, AllocError>
+    ensures { IfOk result (λ shape. option_map (λ ranges. ranges.items) shape
+        ≡ shape_among (trees.annotations_of annotations.now)) }
+{
+    match annotation_of(OUTPUT_ARRAY, annotations) {
+        Some(annotation) => shape_of(alloc, annotation),
+        None => Ok(None),
     }
-    Ok(Some(shape))
+}
+
+/// The place of a seventh index range of an annotation.
+fn seventh_at(annotation: &Annotation<'_>) -> Option<u32>
+    ensures { result ≡ slice_get (said.seventh (trees.annotation_of annotation.now)) 0 }
+{
+    match bracketed(arguments_of(annotation)).get(6) {
+        Some(argument) => range_at(argument),
+        None => None,
+    }
 }
 
 /// The place of a seventh index range of the annotation `output_array`.
-pub fn seventh_range_at(annotations: &[Annotation<'_>]) -> Option<u32> {
-    let annotation = annotation_of(OUTPUT_ARRAY, annotations)?;
-    let (_range, at) = range_of(bracketed(annotation).get(6)?)?;
-    Some(at)
+pub fn seventh_range_at(annotations: &[Annotation<'_>]) -> Option<u32>
+    ensures { result ≡ slice_get (rules.seventh_ranges (trees.annotations_of annotations.now)) 0 }
+{
+    match annotation_of(OUTPUT_ARRAY, annotations) {
+        Some(annotation) => seventh_at(annotation),
+        None => None,
+    }
 }
 
 /// How many elements an array of these index ranges has, as far as 64 bits say it.

@@ -1,8 +1,15 @@
 //! From expressions to arguments of constraints.
-ghost use Rattle.std.specs.Prelude.{◌≡◌, IfOk, map};
+ghost use Rattle.std.specs.Prelude.{◌≡◌, ℤ, IfOk, map, option_map};
+ghost use Rattle.std.specs.List.{AllByRecursion};
+ghost use Rattle.fz_language.specs.Entries as entries;
 ghost use Rattle.fz_language.specs.Entries.{term_in, each_of, with_value, number_of, truth_value};
-ghost use Rattle.fz_syntax.specs.Trees.{basic_of};
+ghost use Rattle.fz_language.specs.Numerals.{set_in, ranges_of, all_of, value_of};
+ghost use Rattle.fz_language.specs.Within.{NumberFits, SetFits, BasicFits, ExpressionFits};
+ghost use Rattle.fz_model.specs.Arguments.{argument_of};
+ghost use Rattle.fz_syntax.specs.Trees as trees;
+ghost use Rattle.fz_syntax.specs.Trees.{basic_of, expression_of};
 ghost use Rattle.fz_resolve.specs.Meant.{environment_of};
+ghost use Rattle.fz_resolve.specs.Points.{points_of};
 
 use crate::entry::{Entry, of_kind};
 use crate::names::Names;
@@ -72,33 +79,67 @@ pub fn numbers(alloc: Global, terms: &[Term]) -> Result<Vec<i32>, AllocError>
     Ok(numbers)
 }
 
+/// The range of one number.
+fn point_of(number: Number) -> Option<(i32, i32)>
+    ensures { result ≡ option_map (λ (x : ℤ). (x, x)) (value_of (trees.number_of number)) }
+{
+    match number {
+        Number::Whole(integer) => Some((integer.value, integer.value)),
+        Number::Float { .. } => None,
+    }
+}
+
+/// The ranges of one number each, or nothing where there is a float.
+fn points(alloc: Global, numbers: &[Number]) -> Result<Option<Vec<(i32, i32)>>, AllocError>
+    ensures { IfOk result (λ found. option_map (λ ranges. ranges.items) found
+        ≡ option_map points_of (all_of (map value_of (map trees.number_of numbers.now)))) }
+{
+    let mut ranges = Vec::with_capacity(alloc, numbers.len())?;
+    for number in numbers {
+        match point_of(*number) {
+            Some(range) => ranges.push(range)?,
+            None => return Ok(None),
+        }
+    }
+    Ok(Some(ranges))
+}
+
+/// The set of the members of a literal, none of them a float.
+fn members(alloc: Global, numbers: &[Number]) -> Result<Option<Dom>, AllocError>
+    requires { AllByRecursion NumberFits (map trees.number_of numbers.now) }
+    ensures { IfOk result (λ found. found
+        ≡ option_map ranges_of (all_of (map value_of (map trees.number_of numbers.now)))) }
+{
+    match points(alloc, numbers)? {
+        Some(ranges) => Ok(Some(Dom::from_ranges(alloc, &ranges)?)),
+        None => Ok(None),
+    }
+}
+
 /// The set that a literal without floats is.
-pub fn literal(alloc: Global, set: &SetLiteral) -> Result<Option<Dom>, AllocError> {
+pub fn literal(alloc: Global, set: &SetLiteral) -> Result<Option<Dom>, AllocError>
+    requires { SetFits (trees.set_of set.now) }
+    ensures { IfOk result (λ found. found ≡ set_in (trees.set_of set.now)) }
+{
     match set {
         SetLiteral::Range {
             low: Number::Whole(low),
             high: Number::Whole(high),
         } => Ok(Some(Dom::from_ranges(alloc, &[(low.value, high.value)])?)),
         SetLiteral::Range { .. } => Ok(None),
-        SetLiteral::Braces { members, .. } => {
-            let mut ranges = Vec::with_capacity(alloc, members.len())?;
-            for member in members {
-                match member {
-                    Number::Whole(integer) => ranges.push((integer.value, integer.value))?,
-                    Number::Float { .. } => return Ok(None),
-                }
-            }
-            Ok(Some(Dom::from_ranges(alloc, &ranges)?))
-        }
+        SetLiteral::Braces {
+            members: numbers,
+            ..
+        } => members(alloc, numbers),
     }
 }
 
 /// The set that an expression is.
-pub fn set(
-    alloc: Global,
-    names: &Names<'_>,
-    basic: &Basic<'_>,
-) -> Result<Option<Dom>, AllocError> {
+pub fn set(alloc: Global, names: &Names<'_>, basic: &Basic<'_>) -> Result<Option<Dom>, AllocError>
+    requires { BasicFits (basic_of basic.now) }
+    ensures { IfOk result (λ found. found
+        ≡ entries.set_of (environment_of names.now) (basic_of basic.now)) }
+{
     match basic {
         Basic::Literal(set) => literal(alloc, set),
         Basic::Named(name) => match names.entry(*name) {
@@ -115,7 +156,10 @@ fn named_list(
     names: &Names<'_>,
     asked: Element,
     name: Name<'_>,
-) -> Result<Option<Argument>, AllocError> {
+) -> Result<Option<Argument>, AllocError>
+    ensures { IfOk result (λ found. option_map argument_of found
+        ≡ entries.named (environment_of names.now) (entries.entry_list asked) (trees.name_of name.entry)) }
+{
     match names.entry(name) {
         Some(Entry::Numbers { kind, numbers }) if *kind == asked.kind => {
             if !asked.may_vary {
@@ -140,7 +184,11 @@ fn listed(
     names: &Names<'_>,
     asked: Element,
     elements: &[Basic<'_>],
-) -> Result<Checked<Argument>, AllocError> {
+) -> Result<Checked<Argument>, AllocError>
+    ensures { IfOk result (λ found. with_value argument_of found
+        ≡ with_value (entries.list_argument asked)
+        (each_of (term_in (environment_of names.now) asked) (map basic_of elements.now))) }
+{
     let terms = match terms(alloc, names, asked, elements)? {
         Ok(terms) => terms,
         Err(at) => return Ok(Err(at)),
@@ -158,7 +206,11 @@ pub fn resolve(
     names: &Names<'_>,
     asked: Asked,
     expression: &Expression<'_>,
-) -> Result<Checked<Argument>, AllocError> {
+) -> Result<Checked<Argument>, AllocError>
+    requires { ExpressionFits (expression_of expression.now) }
+    ensures { IfOk result (λ found. with_value argument_of found
+        ≡ entries.resolve (environment_of names.now) asked (expression_of expression.now)) }
+{
     let argument = match (asked, expression) {
         (Asked::One(element), Expression::Scalar(basic)) => {
             term(names, element, basic).map(|term| Argument::One(term))
