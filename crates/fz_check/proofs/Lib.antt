@@ -1,9 +1,12 @@
 pub mod ArgumentFits
 pub mod Beginnings
 pub mod Counting
+pub mod EntryLaws
+pub mod FaultLaws
 pub mod Finds
 pub mod ItemFits
 pub mod ModelFits
+pub mod PlaceLaws
 pub mod RowLaws
 pub mod SearchFits
 pub mod SetFits

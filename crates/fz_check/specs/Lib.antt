@@ -1,3 +1,5 @@
 pub mod Checked
+pub mod Entered
 pub mod Fits
+pub mod Parts
 pub mod Rows

@@ -3,7 +3,11 @@
 //! place.
 #![tactic(auto)]
 
+pub mod declared;
+pub mod entered;
+pub mod faults;
 pub mod laws;
+pub mod parts;
 pub mod rows;
 
 pub use fz_resolve::Fault;
