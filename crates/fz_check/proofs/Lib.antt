@@ -1,5 +1,6 @@
 pub mod ArgumentFits
 pub mod Beginnings
+pub mod CallLaws
 pub mod Counting
 pub mod EntryLaws
 pub mod FaultLaws

@@ -1,3 +1,4 @@
+pub mod Calls
 pub mod Checked
 pub mod Entered
 pub mod Fits

@@ -3,6 +3,7 @@
 //! place.
 #![tactic(auto)]
 
+pub mod call;
 pub mod declared;
 pub mod entered;
 pub mod faults;
