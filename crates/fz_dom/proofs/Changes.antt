@@ -1,23 +1,22 @@
 -- Changes of heads.
-use Rattle.std.proofs.Common.{◌≡◌, ◌≢◌, ℕ, zero, suc, ◌+◌, ◌-◌, ◌^◌, ◌<◌, ◌≤◌, ℤ, pos, ◌+ℤ◌, ◌-ℤ◌, ◌≤ℤ◌, ◌<ℤ◌, ◌⊎◌, inl, inr, List, [], ◌∷◌, length, refl, sym, ap, subst, ◌∙◌, arith}
+use Rattle.std.proofs.Common.{◌≡◌, ◌≢◌, ℕ, ◌^◌, ◌<◌, ◌≤◌, ℤ, pos, ◌+ℤ◌, ◌-ℤ◌, ◌≤ℤ◌, ◌<ℤ◌, ◌⊎◌, inl, inr, List, [], ◌∷◌, length, refl, sym, subst, ◌∙◌, arith}
 use Rattle.std.specs.Prelude.{◌↔◌, nat_abs}
 use Rattle.std.specs.Int.{bit_at, w64, trailing_zeros}
 use Rattle.std.specs.Int.{int_max, int_min}
-use Rattle.std.specs.Int.Count.{ones}
 use Rattle.std.proofs.lemmas.Int.{ints, clamps}
-use Rattle.std.proofs.lemmas.Nat.Bits.{bit_at-lt, bit_at-zero, bit_at_above}
+use Rattle.std.proofs.lemmas.Nat.Bits.{bit_at-zero, bit_at_above}
 use Rattle.std.proofs.lemmas.Bool.Decides.{leb_tells}
-use Rattle.fz_sets.specs.Sets.{AreRanges, IsInSet, set_size, LEAST, GREATEST, IsWithinLimits}
+use Rattle.fz_sets.specs.Sets.{IsInSet, LEAST, GREATEST, IsWithinLimits}
 use Rattle.fz_dom.specs.Shape.{least, greatest, IsNextFrom}
-use Rattle.fz_dom.specs.Places.{IsPlace, IsBit, bit_ranges}
-use Rattle.fz_dom.specs.Heads.{head_ranges, head_set, IsHeadOf, IsWhole}
-use Rattle.fz_dom.specs.Changes.{IsKeeping, IsChange, IsFromTo}
+use Rattle.fz_dom.specs.Places.{IsBit, bit_ranges}
+use Rattle.fz_dom.specs.Heads.{head_set, IsHeadOf, IsWhole}
+use Rattle.fz_dom.specs.Changes.{IsChange, IsFromTo}
 use Rattle.fz_dom.specs.declared.change.Change.{Change}
 use Rattle.fz_dom.specs.declared.change.Change.TheVariants.{Same, Changed, Wiped}
 use Rattle.fz_dom.specs.declared.head.Head.{Head}
 use Rattle.fz_dom.proofs.Ranges.{least_member, greatest_member, least_below, upper_bound, same_ranges, none_of_size, nonempty_of_size, within_limits}
 use Rattle.fz_dom.proofs.Places.{bits_read, bits_count, ones_fall}
-use Rattle.fz_dom.proofs.Heads.{head_word, head_plain, filled, lowest_bit, least_is}
+use Rattle.fz_dom.proofs.Heads.{head_word, head_plain, filled, lowest_bit}
 
 -- ---- changes by another property
 

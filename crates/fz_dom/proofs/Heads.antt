@@ -1,17 +1,16 @@
 -- Heads from their parts, and what a word's ends are.
-use Rattle.std.proofs.Common.{◌≡◌, ℕ, zero, suc, ◌+◌, ◌-◌, ◌*◌, ◌/◌, ◌%◌, ◌^◌, ◌<◌, ◌≤◌, ℤ, pos, ◌+ℤ◌, ◌-ℤ◌, ◌≤ℤ◌, ◌<ℤ◌, List, [], ◌∷◌, length, inl, inr, refl, sym, ap, subst, ◌∙◌, arith}
-use Rattle.std.specs.Prelude.{nat_eq, ◌↔◌}
+use Rattle.std.proofs.Common.{◌≡◌, ℕ, suc, ◌+◌, ◌/◌, ◌%◌, ◌^◌, ◌<◌, ◌≤◌, ℤ, pos, ◌+ℤ◌, ◌≤ℤ◌, List, [], ◌∷◌, length, inl, inr, sym, ap, subst, ◌∙◌, arith}
 use Rattle.std.specs.Int.{bit_at, w64, trailing_zeros, leading_zeros}
 use Rattle.std.specs.Int.Count.{ones}
 use Rattle.std.proofs.lemmas.Int.{ints}
 use Rattle.std.proofs.lemmas.Nat.{leading_top}
 use Rattle.std.proofs.Math.Nat.{div-eq_of_lt-le, pow-suc}
-use Rattle.std.proofs.lemmas.Nat.Bits.{bit_at-trailing_zeros, bit_at_above, bit_at-lt}
+use Rattle.std.proofs.lemmas.Nat.Bits.{bit_at-trailing_zeros, bit_at_above}
 use Rattle.std.proofs.lemmas.Bool.Decides.{nat_tests, leb_tells}
-use Rattle.fz_sets.specs.Sets.{AreRanges, AreWithinLimits, IsInSet, IsWithinLimits, set_size, LEAST, GREATEST}
+use Rattle.fz_sets.specs.Sets.{AreRanges, AreWithinLimits, IsInSet, IsWithinLimits, LEAST, GREATEST}
 use Rattle.fz_dom.specs.Shape.{least, greatest}
-use Rattle.fz_dom.specs.Places.{IsPlace, IsBit, bit_ranges}
-use Rattle.fz_dom.specs.Heads.{plain, head_ranges, head_set, IsHeadOf, IsWhole}
+use Rattle.fz_dom.specs.Places.{bit_ranges}
+use Rattle.fz_dom.specs.Heads.{head_ranges, IsHeadOf, IsWhole}
 use Rattle.fz_dom.specs.declared.head.Head.{Head}
 use Rattle.fz_dom.proofs.Ranges.{least_member, greatest_member}
 use Rattle.fz_dom.proofs.Places.{bits_read, bits_count}

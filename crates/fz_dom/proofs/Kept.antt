@@ -1,10 +1,10 @@
 -- Domains from what is kept of them.
-use Rattle.std.proofs.Common.{◌≡◌, ◌≢◌, ℕ, zero, suc, ◌+◌, ◌-◌, ◌^◌, ◌<◌, ◌≤◌, ℤ, pos, ◌+ℤ◌, ◌-ℤ◌, ◌≤ℤ◌, ◌<ℤ◌, ◌⊎◌, inl, inr, List, [], ◌∷◌, length, get_or, refl, sym, ap, subst, ◌∙◌, arith}
+use Rattle.std.proofs.Common.{◌≡◌, ℕ, zero, suc, ◌-◌, ◌^◌, ◌<◌, ◌≤◌, ℤ, pos, ◌+ℤ◌, ◌-ℤ◌, ◌≤ℤ◌, ◌<ℤ◌, ◌⊎◌, inl, inr, List, [], ◌∷◌, length, get_or, refl, sym, ap, subst, ◌∙◌, arith}
 use Rattle.std.specs.Prelude.{◌↔◌, MatchOption, Option, Some, None}
 use Rattle.std.specs.Int.{bit_at}
 use mir.Val.{SFits}
 use mir.Syntax.{w32}
-use Rattle.std.proofs.lemmas.Int.{ints, clamps, by_lt_z}
+use Rattle.std.proofs.lemmas.Int.{ints, clamps}
 use Rattle.std.specs.Int.{int_min, int_max}
 use Rattle.std.proofs.lemmas.Nat.Bits.{bit_at-zero}
 use Rattle.fz_sets.specs.Sets.{AreRanges, AreWithinLimits, IsInSet, set_size, LEAST, GREATEST}
@@ -14,11 +14,10 @@ use Rattle.fz_dom.specs.Heads.{head_set, IsHeadOf, IsWhole}
 use Rattle.fz_dom.specs.Kept.{kept_ranges, IsKept}
 use Rattle.fz_dom.specs.Wide.{IsPart}
 use Rattle.fz_dom.specs.Changes.{IsChange, IsFromTo}
-use Rattle.fz_dom.specs.declared.change.Change.{Change}
-use Rattle.fz_dom.specs.declared.change.Change.TheVariants.{Same, Changed, Wiped}
+use Rattle.fz_dom.specs.declared.change.Change.TheVariants.{Changed}
 use Rattle.fz_dom.specs.declared.head.Head.{Head}
 use Rattle.fz_dom.proofs.Ranges.{same_ranges, least_member, greatest_member, within_limits, none_of_size, nonempty_of_size}
-use Rattle.fz_dom.proofs.Heads.{head_word, head_plain, filled}
+use Rattle.fz_dom.proofs.Heads.{head_word, filled}
 use Rattle.fz_dom.proofs.Places.{bits_read}
 use Rattle.fz_dom.proofs.Runs.{offset_in}
 use Rattle.fz_dom.proofs.Lists.{same_or_less, outside}

@@ -1,5 +1,5 @@
 -- Lists of rising ranges: parts of them, what a cut leaves, and that fewer numbers are a smaller size.
-use Rattle.std.proofs.Common.{◌≡◌, ℕ, zero, suc, ◌+◌, ◌-◌, ◌<◌, ◌≤◌, ℤ, pos, ◌+ℤ◌, ◌-ℤ◌, ◌≤ℤ◌, ◌<ℤ◌, ◌⊎◌, inl, inr, Bool, true, false, cond, List, [], ◌∷◌, ◌++◌, length, get_or, set, take, drop, refl, sym, ap, subst, ◌∙◌, arith}
+use Rattle.std.proofs.Common.{◌≡◌, ℕ, zero, suc, ◌+◌, ◌<◌, ◌≤◌, ℤ, pos, ◌+ℤ◌, ◌-ℤ◌, ◌≤ℤ◌, ◌<ℤ◌, ◌⊎◌, inl, inr, Bool, true, false, cond, List, [], ◌∷◌, ◌++◌, length, get_or, set, take, drop, refl, sym, ap, subst, ◌∙◌, arith}
 use Rattle.std.specs.Prelude.{int_lt, int_le, ◌↔◌}
 use Rattle.std.specs.List.{AllWithin}
 use Rattle.std.specs.List.Sorted.{IsPartitionedBy}
@@ -12,10 +12,10 @@ use Rattle.std.proofs.lemmas.List.{length-take-le, drop_more}
 use Rattle.std.proofs.Common.{append_assoc}
 use Rattle.std.proofs.lemmas.Int.{ints, clamps, by_lt_z}
 use Rattle.std.proofs.lemmas.Bool.{false≢true}
-use Rattle.fz_sets.specs.Sets.{AreRanges, AreWithinLimits, IsInRange, IsInSet, IsWithinLimits, set_size}
+use Rattle.fz_sets.specs.Sets.{AreRanges, AreWithinLimits, IsInRange, IsInSet, set_size}
 use Rattle.fz_dom.specs.Wide.{below, above, cut_ranges, IsPart}
 use Rattle.fz_dom.proofs.Ranges.{AreRanges-head, AreRanges-tail, lower_bound, above_gap, least_is_in, at_place, from_place, proper, within_limits, lows_rise}
-use Rattle.fz_dom.proofs.Heads.{within_all, filled}
+use Rattle.fz_dom.proofs.Heads.{within_all}
 
 pub prepend : (r : ℤ × ℤ) (rs : List (ℤ × ℤ)) → r.0 ≤ℤ r.1 → AreRanges rs → ((x : ℤ) → IsInSet rs x → (r.1 +ℤ pos 1) <ℤ x) → AreRanges (r ∷ rs)
 prepend r [] le h f = le

@@ -1,6 +1,6 @@
 -- What holds of each token of a spelling holds of its trees, where each alternative carries it.
-use Rattle.std.proofs.Common.{◌≡◌, ◌⊎◌, inl, inr, List, [], ◌∷◌, subst}
-use Rattle.fz_grammar.specs.Grammar.{Symbol, Leaf, Rule, Choice, Only, When, Among, Grammar, Trees, Body, Spells, Ends, Takes, Opens, IsSpelt}
+use Rattle.std.proofs.Common.{inl, inr, List, [], ◌∷◌, subst}
+use Rattle.fz_grammar.specs.Grammar.{Symbol, Rule, Choice, Only, When, Among, Grammar, Trees, Body, Spells, Ends, Takes, Opens, IsSpelt}
 use Rattle.fz_grammar.specs.Carried.{AllHold, Each, Carries}
 
 carries_one : (G : Grammar) (P : G.Token → Type 0) (Q : (n : G.Name) → G.Tree n → Type 0) (n : G.Name) (c : Choice G.Tree G.Token n) (a : Body G n) → Among c a → Carries G P Q n c → (v : Trees G a.body) → AllHold G P Q a.body v → Q n (a.build v)

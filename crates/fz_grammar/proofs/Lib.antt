@@ -5,3 +5,4 @@ pub mod Steps
 pub mod Levels
 pub mod One
 pub mod Carrying
+pub mod Some

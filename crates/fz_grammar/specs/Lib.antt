@@ -3,3 +3,4 @@ pub mod Reading
 pub mod Tables
 pub mod Verdict
 pub mod Carried
+pub mod Lefts

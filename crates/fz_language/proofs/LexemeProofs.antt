@@ -1,14 +1,14 @@
 -- Bytes spell one lexeme at most, and the first of them is no blank.
-use Rattle.std.proofs.Common.{◌≡◌, ◌≢◌, ℕ, ℤ, pos, ◌-ℤ◌, ◌<◌, ◌⊎◌, inl, inr, Bool, true, false, true≢false, cond, List, [], ◌∷◌, ◌++◌, codes, length, bytes_eq, ◌==◌, ◌&&◌, eq-eqb, refl, sym, ap, ◌∙◌, subst, arith}
+use Rattle.std.proofs.Common.{◌≡◌, ◌≢◌, ℕ, ℤ, pos, ◌-ℤ◌, ◌⊎◌, inl, inr, Bool, true, false, cond, List, [], ◌∷◌, ◌++◌, codes, bytes_eq, refl, sym, ap, ◌∙◌, subst, arith}
 use Rattle.std.specs.List.{list_all}
-use Rattle.std.specs.Char.{is_ascii_digit, is_ascii_hexdigit}
+use Rattle.std.specs.Char.{is_ascii_digit}
 use Rattle.std.proofs.lemmas.Bool.{both_ways, and_parts}
 use Rattle.std.proofs.lemmas.Bool.Decides.{nat_tests}
 use Rattle.fz_language.specs.declared.sign.Sign.{Sign}
 use Rattle.fz_language.specs.declared.sign.Sign.TheVariants.{Semicolon, Colon, DoubleColon, Comma, LeftParenthesis, RightParenthesis, LeftBracket, RightBracket, LeftBrace, RightBrace, Equals, DoubleDot}
 use Rattle.fz_language.specs.declared.keyword.Keyword.{Keyword}
 use Rattle.fz_language.specs.declared.keyword.Keyword.TheVariants as keyword
-use Rattle.fz_language.specs.Tokens.{Lexeme, Identifier, Word, Number, Float, Text, Punct, IsSpelt, IsWord, IsIdentifier, keyword_bytes, AreDigits, digits_value, is_octal_digit, IsBased, IsNatural, IsNumber, IsExponent, IsTail, IsPlainFloat, IsFloat, IsText, sign_bytes, is_blank, is_word_start}
+use Rattle.fz_language.specs.Tokens.{Lexeme, Identifier, Word, Number, Float, Text, Punct, IsSpelt, IsWord, keyword_bytes, AreDigits, digits_value, IsNatural, IsNumber, IsExponent, IsTail, IsPlainFloat, IsFloat, IsText, sign_bytes, is_blank, is_word_start}
 
 heads : {A : Type 0} (x y : A) (xs ys : List A) → x ∷ xs ≡ y ∷ ys → x ≡ y
 heads x y xs ys e = cc
@@ -47,7 +47,7 @@ word_first : (bs : List ℕ) → IsWord bs → First (λ b. is_word_start b ≡ 
 word_first [] w = absurd w
 word_first (b ∷ bs) w = record { head = b; more = bs; are = refl; holds = w.0 }
 
-keyword_word : (k : Keyword) → IsWord (keyword_bytes k)
+pub keyword_word : (k : Keyword) → IsWord (keyword_bytes k)
 keyword_word keyword.Array = (refl, refl)
 keyword_word _ = (refl, refl)
 
@@ -202,13 +202,13 @@ number_no_float v bs (inr p) (inr f) = natural_no_float p.0 p.1 p.3 (subst IsPla
 
 -- the sign and the word of these bytes
 
-sign_of : List ℕ → Sign
+pub sign_of : List ℕ → Sign
 sign_of bs = cond (bytes_eq bs (codes ";")) Semicolon (cond (bytes_eq bs (codes ":")) Colon (cond (bytes_eq bs (codes "::")) DoubleColon
     (cond (bytes_eq bs (codes ",")) Comma (cond (bytes_eq bs (codes "(")) LeftParenthesis (cond (bytes_eq bs (codes ")")) RightParenthesis
     (cond (bytes_eq bs (codes "[")) LeftBracket (cond (bytes_eq bs (codes "]")) RightBracket (cond (bytes_eq bs (codes "{")) LeftBrace
     (cond (bytes_eq bs (codes "}")) RightBrace (cond (bytes_eq bs (codes "=")) Equals DoubleDot))))))))))
 
-sign_back : (s : Sign) → sign_of (sign_bytes s) ≡ s
+pub sign_back : (s : Sign) → sign_of (sign_bytes s) ≡ s
 unfolding sign_of
 sign_back Semicolon = refl
 sign_back _ = refl
@@ -217,11 +217,11 @@ keyword_in : List ℕ → List Keyword → Keyword
 keyword_in bs [] = keyword.Var
 keyword_in bs (k ∷ ks) = cond (bytes_eq bs (keyword_bytes k)) k (keyword_in bs ks)
 
-keyword_of : List ℕ → Keyword
+pub keyword_of : List ℕ → Keyword
 keyword_of bs = keyword_in bs (keyword.Array ∷ keyword.Bool ∷ keyword.Constraint ∷ keyword.False ∷ keyword.Float ∷ keyword.Int ∷ keyword.Maximize
     ∷ keyword.Minimize ∷ keyword.Of ∷ keyword.Predicate ∷ keyword.Satisfy ∷ keyword.Set ∷ keyword.Solve ∷ keyword.True ∷ [])
 
-keyword_back : (k : Keyword) → keyword_of (keyword_bytes k) ≡ k
+pub keyword_back : (k : Keyword) → keyword_of (keyword_bytes k) ≡ k
 unfolding keyword_of keyword_in
 keyword_back keyword.Array = refl
 keyword_back _ = refl

@@ -7,3 +7,7 @@ pub mod LexemeProofs
 pub mod TokenProofs
 pub mod WithinProofs
 pub mod ReadProofs
+pub mod Lefts
+pub mod Decisions
+pub mod SomeTokens
+pub mod SomeReading

@@ -1,5 +1,5 @@
 -- A text has one reading at most.
-use Rattle.std.proofs.Common.{◌≡◌, ℕ, ◌<◌, ◌≤◌, List, [], length, refl, sym, ap, ap₂, ◌∙◌, subst, inl, inr, arith}
+use Rattle.std.proofs.Common.{◌≡◌, ℕ, ◌<◌, List, length, sym, ap, ◌∙◌, subst, inl, inr, arith}
 use Rattle.std.specs.Prelude.{◌⊎◌}
 use Rattle.fz_spec.specs.declared.code.Code.{Code}
 use Rattle.fz_spec.specs.declared.limits.TheConstants.{TEXT_LIMIT}
@@ -11,7 +11,7 @@ use Rattle.fz_language.specs.Grammar.{Spells, Breaks, IsTooDeep}
 use Rattle.fz_language.specs.Trees.{Program}
 use Rattle.fz_language.specs.Rules.{Fault}
 use Rattle.fz_language.specs.Models.{model_of}
-use Rattle.fz_language.specs.Reads.{IsShort, token_code, syntax_code, place_of, IsTooLong, IsUnlexed, IsUnspelt, IsProgramText, IsWrong, IsFirst, IsRefusedAt, IsAccepted, IsRefused, program_faults, Reading, Accepted, Refused, Reads}
+use Rattle.fz_language.specs.Reads.{IsShort, token_code, syntax_code, place_of, IsUnlexed, IsUnspelt, IsProgramText, IsWrong, IsFirst, IsRefusedAt, IsAccepted, program_faults, Accepted, Refused}
 use Rattle.fz_language.specs.Laws.{ReadingIsOne}
 use Rattle.fz_language.proofs.RuleLaws.{one_first}
 use Rattle.fz_language.proofs.SyntaxProofs.{spelling_is_one, fault_is_one, depth_is_one, verdict_is_one}

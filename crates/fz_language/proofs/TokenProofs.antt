@@ -1,9 +1,9 @@
 -- A text has one list of tokens at most, with one ending.
-use Rattle.std.proofs.Common.{◌≡◌, ◌≢◌, ℕ, ◌+◌, ◌≤◌, ◌<◌, ◌⊎◌, ◌||◌, ◌==◌, Bool, true, false, inl, inr, true≢false, List, [], ◌∷◌, length, slice_range, slice_index, refl, sym, ap, ap₂, ◌∙◌, subst, eq-eqb, arith}
-use Rattle.std.proofs.lemmas.Bool.{cases_lt, both_ways}
+use Rattle.std.proofs.Common.{◌≡◌, ℕ, ◌≤◌, ◌<◌, ◌⊎◌, ◌||◌, ◌==◌, Bool, true, false, inl, inr, List, [], ◌∷◌, length, slice_range, slice_index, refl, sym, ap, ap₂, ◌∙◌, subst, eq-eqb, arith}
+use Rattle.std.proofs.lemmas.Bool.{both_ways}
 use Rattle.fz_language.specs.declared.fault.TokenFault.{TokenFault}
 use Rattle.fz_language.specs.declared.fault.TokenFault.TheVariants.{UnknownByte, LargeNumber}
-use Rattle.fz_language.specs.Tokens.{Token, Number, IsSpelt, is_space, is_blank, IsToken, IsComment, IsBlank, IsGap, Ends, Skips, IsFault, IsFine, BeginsNoToken, BeginsLargeNumber, Ending, End, Fault, EndsIn, LeadsTo}
+use Rattle.fz_language.specs.Tokens.{Token, Number, IsSpelt, is_space, is_blank, IsToken, IsComment, IsBlank, IsGap, Ends, Skips, IsFault, IsFine, Ending, End, Fault, EndsIn, LeadsTo}
 use Rattle.fz_language.specs.TokenLaws.{TokensAreOne, TokenFaultIsOne, TokensOrFault}
 use Rattle.fz_language.proofs.Bytes.{head_of}
 use Rattle.fz_language.proofs.LexemeProofs.{one_lexeme, begins_visible}

@@ -1,8 +1,7 @@
 -- Annotations that say something: those of output and of search.
-use Rattle.std.specs.Prelude.{ℕ, ℤ, Bool, true, false, cond, ◌==◌, Option, Some, None, option_map, List, [], ◌∷◌, ◌++◌, map, find, bytes_eq, codes, slice_get, length}
-use Rattle.fz_language.specs.Trees.{Annotation, Argument, Arguments, Simple, Text, Call, Brackets, Nil, More, Basic, Literal, Named, Range, Whole, basic_at}
-use Rattle.fz_language.specs.Trees as trees
-use Rattle.fz_language.specs.Numerals.{all_of, value_of}
+use Rattle.std.specs.Prelude.{ℕ, ℤ, Option, Some, None, List, [], ◌∷◌, map, find, bytes_eq, slice_get, length, ◌&&◌, ◌==◌}
+use Rattle.fz_language.specs.Trees.{Annotation, Argument, Arguments, Simple, Text, Call, Brackets, Nil, More, Literal, Range, Whole, basic_at}
+use Rattle.fz_language.specs.Numerals.{all_of}
 
 -- the first annotation of a name; a later one of the same name says nothing
 abbrev pub annotation_of : List ℕ → List Annotation → Option Annotation
@@ -15,6 +14,10 @@ list_of (More argument others) = argument ∷ list_of others
 -- the arguments, none where there are no parentheses
 abbrev pub arguments_of : Annotation → List Argument
 arguments_of a = elim a.arguments [ Some arguments ↦ list_of arguments | None ↦ [] ]
+
+-- the first annotation of a name that has no arguments
+abbrev pub plain_annotation_of : List ℕ → List Annotation → Option Annotation
+plain_annotation_of name annotations = find (λ (a : Annotation). bytes_eq name a.name.bytes && (length (arguments_of a) == 0)) annotations
 
 -- an index range, and its place
 abbrev pub range_of : Argument → Option (ℤ × ℤ)

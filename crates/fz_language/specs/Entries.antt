@@ -10,7 +10,6 @@ use Rattle.fz_spec.specs.declared.asked.Asked.{Asked}
 use Rattle.fz_spec.specs.declared.asked.Asked.TheVariants as asked
 use Rattle.fz_spec.specs.Constraints.{Argument}
 use Rattle.fz_spec.specs.Constraints as meaning
-use Rattle.fz_sets.specs.Sets.{interval}
 use Rattle.fz_language.specs.Numerals.{set_in}
 use Rattle.fz_language.specs.Trees.{Name, Basic, Truth, Numeral, Literal, Named, Whole, Float, Expression, Scalar, Listed, basic_at}
 

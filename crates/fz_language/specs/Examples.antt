@@ -1,17 +1,21 @@
 -- Programs whose rules come in the order that is meant, and what an accepted one means.
-use Rattle.std.specs.Prelude.{◌≡◌, ℕ, ℤ, pos, Bool, true, false, List, [], ◌∷◌, Some, None, codes}
+use Rattle.std.specs.Prelude.{◌≡◌, ℕ, ℤ, pos, true, false, List, [], ◌∷◌, Some, None, codes, ◌<◌, length}
 use Rattle.fz_spec.specs.declared.kind.Kind.TheVariants as kinds
 use Rattle.fz_spec.specs.declared.builtin.Builtin.TheVariants.{IntEq, IntLinLe, SetIn}
 use Rattle.fz_spec.specs.declared.term.Term.TheVariants.{Num, Var}
 use Rattle.fz_spec.specs.declared.goal.Goal.TheVariants as goals
 use Rattle.fz_spec.specs.Constraints as meaning
+use Rattle.fz_spec.specs.declared.limits.TheConstants.{TEXT_LIMIT}
+use Rattle.fz_spec.specs.declared.code.Code.TheVariants as code
 use Rattle.fz_language.specs.declared.fault.RuleFault.{RuleFault}
-use Rattle.fz_language.specs.declared.fault.RuleFault.TheVariants.{Unsupported, UnknownConstraint, WrongArity, UnknownName, WrongType, WrongLengths, DeclaredTwice}
+use Rattle.fz_language.specs.declared.fault.RuleFault.TheVariants.{Unsupported, UnknownConstraint, WrongArity, UnknownName, WrongType, WrongLengths, DeclaredTwice, OverLimit}
 use Rattle.fz_language.specs.Trees.{Name, Integer, Number, Whole, Float, SetLiteral, Range, Plain, AnyInt, Within, ValueType, One, Basic, Truth, Numeral, Named, Expression, Scalar, Listed, Annotation, Item, Variable, Array, Constraint, Satisfy, Program}
 use Rattle.fz_language.specs.Trees as trees
-use Rattle.fz_language.specs.Rules.{Fault}
+use Rattle.fz_language.specs.Entries.{nothing_declared}
+use Rattle.fz_language.specs.Places.{line_of, column_of, IsPlaceOf}
+use Rattle.fz_language.specs.Rules.{Fault, faults_of}
 use Rattle.fz_language.specs.Models.{model_of}
-use Rattle.fz_language.specs.Reads.{program_faults}
+use Rattle.fz_language.specs.Reads.{program_faults, Reads, Refused}
 
 abbrev pub name : List ℕ → ℕ → Name
 name bytes at = record { bytes = bytes; at = at }
@@ -81,6 +85,29 @@ LengthsBeforeTwice =
       list = record { at = 38; elements = numeral (pos 1) 39 ∷ numeral (pos 2) 41 ∷ [] };
     })
     ∷ [])) ≡ fault WrongLengths 34 ∷ fault DeclaredTwice 34 ∷ []
+
+-- `constraint int_lin_le([1,2],[3],true);`: the argument of a wrong type comes before the lists that differ in length
+abbrev pub unequal : Basic → Item
+unequal bound = call (name (codes "int_lin_le") 11) (list 22 (numeral (pos 1) 23 ∷ numeral (pos 2) 25 ∷ []) ∷ list 28 (numeral (pos 3) 29 ∷ []) ∷ Scalar bound ∷ [])
+
+abbrev pub TypesBeforeLengths : Type 0
+TypesBeforeLengths = program_faults (program (unequal (Truth true 32) ∷ [])) ≡ fault WrongType 32 ∷ fault WrongLengths 11 ∷ []
+
+-- `constraint int_lin_le([1,2],[3],4);` behind a million constraints: the lists come before the limit
+abbrev pub LengthsBeforeLimits : Type 0
+LengthsBeforeLimits = faults_of nothing_declared (record { variables = 0; constraints = 1000000; elements = 0 }) (unequal (numeral (pos 4) 32)) ≡ fault WrongLengths 11 ∷ fault OverLimit 11 ∷ []
+
+-- `var 1..2: x;` behind a million variables: the limit, at the name
+abbrev pub MillionthAndOne : Type 0
+MillionthAndOne = faults_of nothing_declared (record { variables = 1000000; constraints = 0; elements = 0 }) (one_or_two 4 (name (codes "x") 10)) ≡ fault OverLimit 10 ∷ []
+
+-- a text that is too long is refused at its first byte over the limit
+abbrev pub LongTextIsRefused : Type 0
+LongTextIsRefused = (text : List ℕ) → TEXT_LIMIT < length text → Reads text (Refused code.OverLimit (line_of text TEXT_LIMIT) (column_of text TEXT_LIMIT))
+
+-- the end of `solve satisfy` and a line feed is line 2, column 1
+abbrev pub EndIsOnLineTwo : Type 0
+EndIsOnLineTwo = IsPlaceOf (codes "solve satisfy\n") 14 2 1
 
 -- `var 1..2: x; constraint int_lin_le([2],[x],3);` is accepted, and this is its model
 abbrev pub linear : Program

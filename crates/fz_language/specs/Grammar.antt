@@ -1,19 +1,19 @@
 -- The grammar (MiniZinc Handbook, "FlatZinc grammar"): which tokens spell a program, apart from any way to find it.
 -- Each alternative of a rule is the symbols that it is made of, and the tree that is built of their trees; `on` gives the kinds
 -- of token that it begins with, of which the tables of the reading make use.
-use Rattle.std.specs.Prelude.{◌≡◌, ℕ, pos, ◌==◌, ◌||◌, Bool, true, false, List, [], ◌∷◌, ◌++◌, map, Option, Some, None, codes}
+use Rattle.std.specs.Prelude.{ℕ, pos, ◌==◌, ◌||◌, Bool, true, false, List, [], ◌∷◌, map, Option, Some, None}
 use Rattle.fz_language.specs.declared.sign.Sign.TheVariants.{Semicolon, Colon, DoubleColon, Comma, LeftParenthesis, RightParenthesis, LeftBracket, RightBracket, LeftBrace, RightBrace, Equals, DoubleDot}
 use Rattle.fz_language.specs.declared.sign.Sign.{Sign}
 use Rattle.fz_language.specs.declared.keyword.Keyword.{Keyword}
 use Rattle.fz_language.specs.declared.keyword.Keyword.TheVariants as keyword
 use Rattle.fz_language.specs.declared.token_kind.TokenKind.{TokenKind}
 use Rattle.fz_language.specs.declared.token_kind.TokenKind.TheVariants as kind
-use Rattle.fz_language.specs.Tokens.{Token, Lexeme, Identifier, Word, Number, Float, Text, Punct}
+use Rattle.fz_language.specs.Tokens.{Token, Identifier, Word, Number, Float, Text, Punct}
 use Rattle.fz_language.specs.Kinds.{number, kind_of, sign_number}
 use Rattle.fz_language.specs.Trees as trees
+use Rattle.fz_language.specs.declared.limits.TheConstants.{LEVEL_LIMIT}
 use Rattle.fz_language.specs.Trees.{Program}
-use Rattle.fz_grammar.specs.Grammar.{Grammar, Symbol, Leaf, Rule, Values, Alternative, Choice, Only, When}
-use Rattle.fz_grammar.specs.Grammar as grammar
+use Rattle.fz_grammar.specs.Grammar.{Grammar, Symbol, Leaf, Rule, Values, Choice, Only, When}
 use Rattle.fz_grammar.specs.Verdict as verdict
 
 -- what stands in a list with commas
@@ -296,7 +296,7 @@ flatzinc = record {
 
 -- the most levels of brackets that are open at a place
 abbrev pub level_limit : ℕ
-level_limit = 64
+level_limit = LEVEL_LIMIT
 
 -- the tokens are the program's, and no bracket opens a level over the limit
 abbrev pub Spells : List Token → Program → Type 0

@@ -1,5 +1,5 @@
 -- The kinds of tokens, as numbers: 0 is the end of the text.
-use Rattle.std.specs.Prelude.{ℕ, ◌+◌}
+use Rattle.std.specs.Prelude.{ℕ}
 use Rattle.fz_language.specs.declared.sign.Sign.{Sign}
 use Rattle.fz_language.specs.declared.sign.Sign.TheVariants as sign
 use Rattle.fz_language.specs.declared.keyword.Keyword.{Keyword}

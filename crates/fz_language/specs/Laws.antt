@@ -15,3 +15,7 @@ OneFirstRule = (p : Program) (c d : Code) (a b : ℕ) → IsFirst (program_fault
 -- a text has one reading at most
 abbrev pub ReadingIsOne : Type 0
 ReadingIsOne = (text : List ℕ) (r s : Reading) → Reads text r → Reads text s → r ≡ s
+
+-- and one at least
+abbrev pub SomeReading : Type 0
+SomeReading = (text : List ℕ) → (r : Reading) × Reads text r

@@ -1,6 +1,6 @@
 -- The model of a program that breaks no rule.
-use Rattle.std.specs.Prelude.{ℕ, ◌+◌, ℤ, pos, Bool, true, false, cond, Option, Some, None, List, [], ◌∷◌, ◌++◌, map, flat_map, length}
-use Rattle.std.specs.Prelude.{Result, Ok, Err}
+use Rattle.std.specs.Prelude.{ℕ, ◌+◌, ℤ, pos, Bool, true, false, cond, Option, Some, None, List, [], ◌∷◌, ◌++◌, map, length}
+use Rattle.std.specs.Prelude.{Ok, Err}
 use Rattle.fz_sets.specs.Sets.{LEAST, GREATEST}
 use Rattle.fz_spec.specs.declared.kind.Kind.{Kind}
 use Rattle.fz_spec.specs.declared.kind.Kind.TheVariants as kinds
@@ -14,12 +14,12 @@ use Rattle.fz_spec.specs.Constraints as meaning
 use Rattle.fz_spec.specs.Instance.{Instance, Output}
 use Rattle.fz_spec.specs.Instance as instance
 use Rattle.fz_spec.specs.Signatures.{row_named, signature_of}
-use Rattle.fz_language.specs.Trees.{Plain, AnyBool, AnyInt, AnyFloat, Within, ValueType, One, SetOf, Basic, ListLiteral, Annotation, VariableItem, ParameterItem, ArrayItem, ConstraintItem, Item, Predicate, Variable, Parameter, Array, Constraint, SolveItem, Satisfy, Minimize, Maximize, Program}
+use Rattle.fz_language.specs.Trees.{Plain, AnyBool, AnyInt, AnyFloat, Within, ValueType, One, SetOf, Basic, ListLiteral, VariableItem, ArrayItem, ConstraintItem, Item, Predicate, Variable, Parameter, Array, Constraint, SolveItem, Satisfy, Minimize, Maximize, Program}
 use Rattle.fz_language.specs.Numerals.{set_in}
 use Rattle.fz_language.specs.Entries.{Environment, Entry, nothing_declared, with_entry, term_in, set_of, each_of, number_of}
 use Rattle.fz_language.specs.Entries as entries
-use Rattle.fz_language.specs.Annotations.{annotation_of, arguments_of, shape_in}
-use Rattle.fz_language.specs.Rules.{OUTPUT_VAR, OUTPUT_ARRAY, kind_of, term_asked, value_asked, arguments_in, is_bound}
+use Rattle.fz_language.specs.Annotations.{annotation_of, plain_annotation_of, shape_in}
+use Rattle.fz_language.specs.Rules.{OUTPUT_VAR, OUTPUT_ARRAY, kind_of, term_asked, arguments_in, is_bound}
 use Rattle.fz_language.specs.Search.{search_of}
 
 -- ---- sets
@@ -120,11 +120,8 @@ constraints_of s (Parameter p) = []
 
 -- a variable with the annotation `output_var` without arguments
 abbrev pub scalar_outputs : Scope → VariableItem → List Output
-scalar_outputs s v = elim (annotation_of OUTPUT_VAR v.annotations) [
-  | Some a ↦ elim (arguments_of a) [
-    | [] ↦ record { name = v.name.bytes; kind = kind_of v.value_type; array = false; shape = []; terms = Var s.variables ∷ [] } ∷ []
-    | x ∷ xs ↦ []
-  ]
+scalar_outputs s v = elim (plain_annotation_of OUTPUT_VAR v.annotations) [
+  | Some a ↦ record { name = v.name.bytes; kind = kind_of v.value_type; array = false; shape = []; terms = Var s.variables ∷ [] } ∷ []
   | None ↦ []
 ]
 

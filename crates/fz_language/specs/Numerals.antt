@@ -1,5 +1,5 @@
 -- The numbers and sets that are written, and the floats among them.
-use Rattle.std.specs.Prelude.{ℕ, ℤ, pos, ◌+ℤ◌, Bool, cond, int_lt, int_le, Option, Some, None, List, [], ◌∷◌, ◌++◌, flat_map, map, option_map}
+use Rattle.std.specs.Prelude.{ℕ, ℤ, pos, ◌+ℤ◌, cond, int_lt, int_le, Option, Some, None, List, [], ◌∷◌, ◌++◌, flat_map, map, option_map}
 use Rattle.std.specs.Ordering.{int_eq}
 use Rattle.fz_sets.specs.Sets.{interval}
 use Rattle.fz_language.specs.Trees.{Number, Whole, Float, SetLiteral, Range, Braces, Basic, Truth, Numeral, Literal, Named}

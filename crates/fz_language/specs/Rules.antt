@@ -1,7 +1,7 @@
 -- Rules that an item may break, and where: each a list of places in the order of the text (fzn's own rules; the types are those of
 -- the MiniZinc Handbook, "FlatZinc").
-use Rattle.std.specs.Prelude.{ℕ, ℤ, pos, ◌+◌, ◌*◌, Bool, true, false, cond, not, ◌==◌, nat_lt, nat_le, Option, Some, None, is_some, List, [], ◌∷◌, ◌++◌, map, flat_map, length, codes, bytes_eq, reverse, ◌&&◌, ◌||◌, count_by, ◌%◌}
-use Rattle.std.specs.List.{list_any, list_all}
+use Rattle.std.specs.Prelude.{ℕ, ℤ, pos, ◌+◌, ◌*◌, Bool, true, false, cond, ◌==◌, nat_lt, Option, Some, None, List, [], ◌∷◌, ◌++◌, map, flat_map, length, codes, bytes_eq, reverse, ◌&&◌, ◌||◌, ◌%◌}
+use Rattle.std.specs.List.{list_all}
 use Rattle.std.specs.Ordering.{int_eq}
 use Rattle.std.specs.Prelude.{Result, Ok, Err}
 use Rattle.fz_sets.specs.Sets.{interval, set_size}
@@ -18,11 +18,10 @@ use Rattle.fz_spec.specs.Constraints as meaning
 use Rattle.fz_spec.specs.Signatures.{Row, row_named, signature_of}
 use Rattle.fz_language.specs.declared.fault.RuleFault.{RuleFault}
 use Rattle.fz_language.specs.declared.fault.RuleFault.TheVariants.{Unsupported, UnknownConstraint, WrongArity, UnknownName, WrongType, WrongLengths, DeclaredTwice, OverLimit}
-use Rattle.fz_language.specs.Trees.{Name, SetLiteral, Range, Braces, Plain, AnyBool, AnyInt, AnyFloat, Within, ValueType, One, SetOf, Basic, Truth, Numeral, Literal, Named, Expression, Scalar, Listed, ListLiteral, Annotation, VariableItem, ParameterItem, ArrayItem, ConstraintItem, Item, Predicate, Variable, Parameter, Array, Constraint, SolveItem, Satisfy, Minimize, Maximize, number_at, set_at, type_at, basic_at}
-use Rattle.fz_language.specs.Trees as trees
+use Rattle.fz_language.specs.Trees.{Name, SetLiteral, Range, Braces, Plain, AnyBool, AnyInt, AnyFloat, Within, ValueType, One, SetOf, Basic, Truth, Numeral, Literal, Named, Expression, Scalar, Listed, ListLiteral, Annotation, ArrayItem, ConstraintItem, Item, Predicate, Variable, Parameter, Array, Constraint, SolveItem, Satisfy, Minimize, Maximize, number_at, type_at, basic_at}
 use Rattle.fz_language.specs.Numerals.{floats_in, floats_of_set}
 use Rattle.fz_language.specs.Entries.{Environment, term_in, set_of, resolve, each_of}
-use Rattle.fz_language.specs.Annotations.{annotation_of, arguments_of, shape_in, seventh}
+use Rattle.fz_language.specs.Annotations.{annotation_of, plain_annotation_of, shape_in, seventh}
 
 abbrev pub OUTPUT_VAR : List ℕ
 OUTPUT_VAR = codes "output_var"
@@ -144,14 +143,9 @@ wrong_arguments env (wanted ∷ rest) (e ∷ es) = wrong_place (resolve env want
 wrong_arguments env [] es = []
 wrong_arguments env (wanted ∷ rest) [] = []
 
--- the place of an annotation without arguments
-abbrev pub plain_place : Annotation → List trees.Argument → List ℕ
-plain_place a [] = a.name.at ∷ []
-plain_place a (x ∷ xs) = []
-
 -- an annotation `output_var` without arguments where it has no place
 abbrev pub misplaced_output_var : List Annotation → List ℕ
-misplaced_output_var annotations = elim (annotation_of OUTPUT_VAR annotations) [ Some a ↦ plain_place a (arguments_of a) | None ↦ [] ]
+misplaced_output_var annotations = elim (plain_annotation_of OUTPUT_VAR annotations) [ Some a ↦ a.name.at ∷ [] | None ↦ [] ]
 
 -- an annotation `output_array` where it has no place
 abbrev pub misplaced_output_array : List Annotation → List ℕ

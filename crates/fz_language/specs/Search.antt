@@ -1,6 +1,6 @@
 -- Search annotations of the solve item: what guides the search (MiniZinc Handbook, "Search annotations"). One that isn't of this
 -- form is ignored.
-use Rattle.std.specs.Prelude.{ℕ, Bool, true, false, cond, Option, Some, None, option_map, List, [], ◌∷◌, ◌++◌, map, flat_map, find, bytes_eq, codes}
+use Rattle.std.specs.Prelude.{ℕ, Bool, true, cond, Option, Some, None, option_map, List, [], ◌∷◌, ◌++◌, map, flat_map, find, bytes_eq, codes}
 use Rattle.fz_spec.specs.declared.search.Pick.{Pick}
 use Rattle.fz_spec.specs.declared.search.Pick.TheVariants.{InputOrder, FirstFail, AntiFirstFail, Smallest, Largest}
 use Rattle.fz_spec.specs.declared.search.Value.{Value}
@@ -8,10 +8,10 @@ use Rattle.fz_spec.specs.declared.search.Value.TheVariants.{IndomainMin, Indomai
 use Rattle.fz_spec.specs.declared.term.Term.{Term}
 use Rattle.fz_spec.specs.declared.term.Term.TheVariants.{Num, Var}
 use Rattle.fz_spec.specs.Instance.{SearchPart}
-use Rattle.fz_language.specs.Trees.{Name, Basic, Truth, Numeral, Literal, Named, Whole, Float, Argument, Arguments, Simple, Text, Call, Brackets, Nil, More, Annotation}
+use Rattle.fz_language.specs.Trees.{Name, Truth, Numeral, Literal, Named, Argument, Arguments, Simple, Text, Call, Brackets, Nil, More, Annotation}
 use Rattle.fz_language.specs.Entries.{Environment, Entry, Variable, Set, Numbers, Terms, Sets}
 use Rattle.fz_language.specs.Entries as entries
-use Rattle.fz_language.specs.Annotations.{list_of, arguments_of}
+use Rattle.fz_language.specs.Annotations.{list_of}
 use Rattle.fz_language.specs.Numerals.{all_of}
 
 -- other words are `input_order` and `indomain_min`

@@ -3,7 +3,7 @@
 use Rattle.std.specs.Prelude.{Option, Some, None}
 use Rattle.std.specs.List.{AllByRecursion}
 use Rattle.fz_sets.specs.Sets.{IsWithinLimits}
-use Rattle.fz_language.specs.Trees.{Integer, Number, Whole, Float, SetLiteral, Range, Braces, Plain, AnyBool, AnyInt, AnyFloat, Within, ValueType, One, SetOf, Basic, Truth, Numeral, Literal, Named, ListLiteral, Expression, Scalar, Listed, VariableItem, ParameterItem, ArrayItem, ConstraintItem, Item, Predicate, Variable, Parameter, Array, Constraint, Method, Satisfy, Minimize, Maximize, SolveItem, Program}
+use Rattle.fz_language.specs.Trees.{Integer, Number, Whole, Float, SetLiteral, Range, Braces, Plain, AnyBool, AnyInt, AnyFloat, Within, ValueType, One, SetOf, Basic, Truth, Numeral, Literal, Named, ListLiteral, Expression, Scalar, Listed, VariableItem, ParameterItem, ArrayItem, Item, Predicate, Variable, Parameter, Array, Constraint, Method, Satisfy, Minimize, Maximize, Program}
 
 abbrev pub IntegerFits : Integer → Type 0
 IntegerFits i = IsWithinLimits i.value

@@ -1,6 +1,6 @@
 //! Programs whose rules come in the order that is meant: each is the clause of a function that does nothing, so that the clause is
 //! proved.
-ghost use Rattle.fz_language.specs.Examples.{ArityBeforeNames, NamesBeforeTypes, TypesOfElements, UnequalLists, FloatsBeforeConstraints, UnsupportedConstraint, LengthsBeforeTwice, LinearIsRead, BoundIsRead};
+ghost use Rattle.fz_language.specs.Examples.{ArityBeforeNames, NamesBeforeTypes, TypesOfElements, UnequalLists, FloatsBeforeConstraints, UnsupportedConstraint, LengthsBeforeTwice, TypesBeforeLengths, LengthsBeforeLimits, MillionthAndOne, LongTextIsRefused, EndIsOnLineTwo, LinearIsRead, BoundIsRead};
 
 /// A wrong number of arguments comes before an unknown name among them.
 pub fn arity_before_names()
@@ -35,6 +35,31 @@ pub fn unsupported_constraint()
 /// A wrong index set comes before a name that is declared twice.
 pub fn lengths_before_twice()
     ensures { LengthsBeforeTwice }
+{}
+
+/// An argument of a wrong type comes before lists that differ in length.
+pub fn types_before_lengths()
+    ensures { TypesBeforeLengths }
+{}
+
+/// Lists that differ in length come before a limit.
+pub fn lengths_before_limits()
+    ensures { LengthsBeforeLimits }
+{}
+
+/// A variable behind a million of them is over the limit, at its name.
+pub fn millionth_and_one()
+    ensures { MillionthAndOne }
+{}
+
+/// A text that is too long is refused at its first byte over the limit.
+pub fn long_text_is_refused()
+    ensures { LongTextIsRefused }
+{}
+
+/// The end of a line and its line feed is on the next line.
+pub fn end_is_on_line_two()
+    ensures { EndIsOnLineTwo }
 {}
 
 /// A program with a linear constraint is accepted, with its model.

@@ -1,8 +1,8 @@
 //! Laws that the definitions keep: each is the clause of a function that does nothing, so that the clause is proved.
-ghost use Rattle.fz_language.specs.Laws.{EachIsJudged, OneFirstRule, ReadingIsOne};
-ghost use Rattle.fz_language.specs.SyntaxLaws.{SpellingIsOne, FaultIsOne, DepthIsOne, VerdictIsOne};
+ghost use Rattle.fz_language.specs.Laws.{EachIsJudged, OneFirstRule, ReadingIsOne, SomeReading};
+ghost use Rattle.fz_language.specs.SyntaxLaws.{SpellingIsOne, FaultIsOne, DepthIsOne, VerdictIsOne, SomeVerdict};
 ghost use Rattle.fz_language.specs.WithinLaws.{ProgramsFit};
-ghost use Rattle.fz_language.specs.TokenLaws.{TokensAreOne, TokenFaultIsOne, TokensOrFault};
+ghost use Rattle.fz_language.specs.TokenLaws.{TokensAreOne, TokenFaultIsOne, TokensOrFault, SomeTokens};
 
 /// A text has one list of tokens at most.
 pub fn tokens_are_one()
@@ -17,6 +17,11 @@ pub fn token_fault_is_one()
 /// A text with tokens has no fault of tokens.
 pub fn tokens_or_fault()
     ensures { TokensOrFault }
+{}
+
+/// A text has tokens, or a first fault of tokens.
+pub fn some_tokens()
+    ensures { SomeTokens }
 {}
 
 /// Tokens spell one program at most.
@@ -39,6 +44,11 @@ pub fn verdict_is_one()
     ensures { VerdictIsOne }
 {}
 
+/// Each list of tokens spells a program, or has its fault of syntax, or its first bracket over the limit.
+pub fn some_verdict()
+    ensures { SomeVerdict }
+{}
+
 /// The integers of a program lie within the limits.
 pub fn programs_fit()
     ensures { ProgramsFit }
@@ -57,4 +67,9 @@ pub fn first_rule_is_one()
 /// A text has one reading at most: it is accepted with one model, or refused with one code and place.
 pub fn reading_is_one()
     ensures { ReadingIsOne }
+{}
+
+/// Each text has a reading: it is accepted with a model, or refused with a code and place.
+pub fn some_reading()
+    ensures { SomeReading }
 {}

@@ -10,5 +10,6 @@ pub mod examples;
 pub mod fault;
 pub mod keyword;
 pub mod laws;
+pub mod limits;
 pub mod sign;
 pub mod token_kind;

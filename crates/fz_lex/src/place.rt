@@ -1,6 +1,5 @@
 //! Lines and columns.
 ghost use Rattle.std.specs.Prelude.{◌≡◌, ◌+◌, ◌<◌, ◌≤◌, ◌^◌, length};
-ghost use Rattle.fz_spec.specs.declared.limits.TheConstants.{TEXT_LIMIT};
 ghost use Rattle.fz_language.specs.Places.{IsPlaceOf};
 
 /// The place of a byte, as line and column, counted from 1. A column is a count of bytes.
@@ -39,10 +38,18 @@ impl Place {
     }
 }
 
-/// The place of the byte that has so many before it, or of the text's end. It takes the time of going there.
+/// The place of the byte that has so many before it, or of the text's end where there are fewer. It takes the time of going there.
 pub fn place_of(text: &[u8], at: usize) -> Place
+    requires near { length text.now < 2 ^ 31 }
+    ensures { IsPlaceOf text.now at result.line result.column }
+{
+    place_within(text, at.min(text.len()))
+}
+
+/// The same of a byte of the text, or of its end.
+fn place_within(text: &[u8], at: usize) -> Place
     requires within { at ≤ length text.now }
-    requires short { length text.now ≤ TEXT_LIMIT }
+    requires near { length text.now < 2 ^ 31 }
     ensures { IsPlaceOf text.now at result.line result.column }
 {
     let mut place = Place::start(text);

@@ -28,7 +28,7 @@ impl Model for Output {
 }
 
 impl Output {
-    /// An output item that is no array: it has no index range and one term. It takes no memory.
+    /// An output item: the elements of an array and its index ranges, or the one term of what is no array. It takes no memory.
     pub fn new(
         name: Text,
         kind: Kind,

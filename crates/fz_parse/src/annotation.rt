@@ -1,6 +1,7 @@
 //! The reading of annotations.
 ghost use Rattle.std.specs.Prelude.{◌≡◌, ◌≤◌, ◌<◌, ◌-◌, OnOk, map};
 ghost use Rattle.fz_language.specs.Grammar as grammar;
+ghost use Rattle.fz_language.specs.Grammar.{level_limit};
 ghost use Rattle.fz_syntax.specs.Trees.{annotation_of, annotations_of, argument_of, arguments_of, name_of};
 ghost use Rattle.fz_parse.specs.Steps.{rest, ParsesAt, option_of};
 
@@ -8,14 +9,12 @@ use crate::expression::constant;
 use crate::steps::{identifier, is, take};
 use crate::stop::Stop;
 use fz_language::fault::SyntaxFault;
+use fz_language::limits::LEVEL_LIMIT;
 use fz_language::sign::Sign;
 use fz_language::token_kind::TokenKind;
 use fz_syntax::{Annotation, Argument, Basic, Name};
 use fz_tokens::Tokens;
 use std::alloc::Global;
-
-/// The most levels of brackets that may be open, as the grammar's definition has it.
-const LEVELS: u32 = 64;
 
 /// Takes the annotations of an item.
 pub(crate) fn annotations<'a>(
@@ -30,7 +29,7 @@ pub(crate) fn annotations<'a>(
     let mut found = Vec::new(alloc);
     'annotations: while is(tokens, *next, TokenKind::Sign(Sign::DoubleColon)) {
         take(tokens, next, TokenKind::Sign(Sign::DoubleColon))?;
-        found.push(annotation(alloc, tokens, next, LEVELS)?)?;
+        found.push(annotation(alloc, tokens, next, LEVEL_LIMIT)?)?;
     }
     Ok(found)
 }
@@ -43,8 +42,8 @@ fn annotation<'a>(
     next: &mut usize,
     left: u32,
 ) -> Result<Annotation<'a>, Stop>
-    requires left { left ≤ 64 }
-    ensures taken { ParsesAt (64 - left) grammar.Annotation annotation_of
+    requires left { left ≤ level_limit }
+    ensures taken { ParsesAt (level_limit - left) grammar.Annotation annotation_of
         (rest tokens.now next.old) (rest tokens.now next.new) result }
     ensures forward { OnOk result (next.old < next.new) }
 {
@@ -75,8 +74,8 @@ fn arguments<'a>(
     next: &mut usize,
     left: u32,
 ) -> Result<Vec<Argument<'a>>, Stop>
-    requires left { left ≤ 64 }
-    ensures taken { ParsesAt (64 - left) (grammar.Listed grammar.Arguments)
+    requires left { left ≤ level_limit }
+    ensures taken { ParsesAt (level_limit - left) (grammar.Listed grammar.Arguments)
         (λ a. arguments_of a.items)
         (rest tokens.now next.old) (rest tokens.now next.new) result }
     ensures forward { OnOk result (next.old ≤ next.new) }
@@ -104,8 +103,8 @@ fn argument<'a>(
     next: &mut usize,
     left: u32,
 ) -> Result<Argument<'a>, Stop>
-    requires left { left ≤ 64 }
-    ensures taken { ParsesAt (64 - left) grammar.Argument argument_of
+    requires left { left ≤ level_limit }
+    ensures taken { ParsesAt (level_limit - left) grammar.Argument argument_of
         (rest tokens.now next.old) (rest tokens.now next.new) result }
     ensures forward { OnOk result (next.old < next.new) }
 {
@@ -139,8 +138,8 @@ fn argument<'a>(
 /// An annotation as an argument of another.
 fn name_or_call<'a>(name: Name<'a>, arguments: Option<Vec<Argument<'a>>>) -> Argument<'a>
     ensures { argument_of result ≡ grammar.name_or_call (record {
-        name = name_of name.entry;
-        arguments = option_of (λ a. arguments_of a.items) arguments.entry;
+      name = name_of name.entry;
+      arguments = option_of (λ a. arguments_of a.items) arguments.entry;
     }) }
 {
     match arguments {

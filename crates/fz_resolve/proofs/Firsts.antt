@@ -1,7 +1,7 @@
 -- The first place that a list of parts has, looked for part by part.
 use Rattle.std.proofs.Common.{◌≡◌, ℕ, ◌+◌, ◌<◌, ◌≤◌, zero, suc, List, [], ◌∷◌, ◌++◌, map, take, length, get_or, refl, sym, ap, ◌∙◌, subst, arith, add-one}
 use Rattle.std.proofs.lemmas.List.{take_all}
-use Rattle.std.specs.Prelude.{Bool, true, false, cond, Option, Some, None, option_map, find, flat_map, slice_get}
+use Rattle.std.specs.Prelude.{Bool, true, false, cond, Option, Some, None, find, flat_map, slice_get}
 
 -- the places of the parts so far
 abbrev pub IsNoneSoFar : {X Y : Type 0} → (Y → List ℕ) → (X → Y) → List X → ℕ → Type 0

@@ -1,12 +1,11 @@
 -- The ranges of numbers are rising, and hold those numbers and no other.
-use Rattle.std.proofs.Common.{◌≡◌, ℤ, pos, List, [], ◌∷◌, Bool, true, false, cond, refl, sym, ap, ◌∙◌, subst, inl, inr, map, arith}
-use Rattle.std.specs.Prelude.{◌≤ℤ◌, ◌<ℤ◌, ◌+ℤ◌, ◌-ℤ◌, ◌↔◌, ◌⊎◌, int_lt, int_le, Some}
+use Rattle.std.proofs.Common.{◌≡◌, ℤ, pos, List, [], ◌∷◌, Bool, true, false, cond, refl, inl, inr, arith}
+use Rattle.std.specs.Prelude.{◌≤ℤ◌, ◌<ℤ◌, ◌+ℤ◌, ◌-ℤ◌, ◌↔◌, ◌⊎◌, int_lt, int_le}
 use Rattle.std.specs.Bool.{Decides}
 use Rattle.std.specs.Ordering.{int_eq}
-use Rattle.std.specs.List.{AllByRecursion}
 use Rattle.std.proofs.lemmas.Int.{ints}
 use Rattle.std.proofs.lemmas.Bool.Decides.{Decides-int_eq, not_from_Decides}
-use Rattle.fz_sets.specs.Sets.{IsInRange, IsInSet, AreRanges, AreOneSet, AreWithinLimits}
+use Rattle.fz_sets.specs.Sets.{IsInRange, IsInSet, AreRanges, AreOneSet}
 use Rattle.fz_language.specs.Numerals.{behind, with_number, ranges_of}
 use Rattle.fz_resolve.specs.Points.{points_of}
 

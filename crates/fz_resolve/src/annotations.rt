@@ -1,5 +1,5 @@
 //! Annotations of output.
-ghost use Rattle.std.specs.Prelude.{◌≡◌, ◌∷◌, [], ◌-◌, ◌^◌, min, IfOk, bytes_eq, map, option_map, option_copied, slice_get};
+ghost use Rattle.std.specs.Prelude.{◌≡◌, ◌==◌, ◌&&◌, length, ◌∷◌, [], ◌-◌, ◌^◌, min, IfOk, bytes_eq, map, option_map, option_copied, slice_get};
 ghost use Rattle.fz_sets.specs.Sets.{interval, set_size};
 ghost use Rattle.fz_language.specs.Annotations as said;
 ghost use Rattle.fz_language.specs.Numerals.{all_of};
@@ -38,7 +38,8 @@ fn is_named(annotation: &Annotation<'_>, name: &[u8]) -> bool
 
 /// The arguments of an annotation, none where there are no parentheses.
 pub fn arguments_of<'i, 'a>(annotation: &'i Annotation<'a>) -> &'i [Argument<'a>]
-    ensures { map trees.argument_of result.now ≡ said.arguments_of (trees.annotation_of annotation.now) }
+    ensures { map trees.argument_of result.now
+        ≡ said.arguments_of (trees.annotation_of annotation.now) }
 {
     match &annotation.arguments {
         Some(arguments) => arguments,
@@ -46,31 +47,49 @@ pub fn arguments_of<'i, 'a>(annotation: &'i Annotation<'a>) -> &'i [Argument<'a>
     }
 }
 
-/// Where the annotation `output_var` stands among annotations, without arguments.
-pub fn output_var_at(annotations: &[Annotation<'_>]) -> Option<u32>
-    ensures { result ≡ slice_get (rules.misplaced_output_var (trees.annotations_of annotations.now)) 0 }
+/// The first annotation of a name that has no arguments.
+pub fn plain_annotation_of<'i, 'a>(
+    name: &[u8],
+    annotations: &'i [Annotation<'a>],
+) -> Option<&'i Annotation<'a>>
+    ensures { option_map trees.annotation_of (option_copied result)
+        ≡ said.plain_annotation_of name.now (trees.annotations_of annotations.now) }
 {
-    match annotation_of(OUTPUT_VAR, annotations) {
-        Some(annotation) => plain_place(annotation),
-        None => None,
+    for annotation in annotations {
+        if is_plain(annotation, name) {
+            return Some(annotation);
+        }
+    }
+    None
+}
+
+/// Whether an annotation is a name without arguments.
+fn is_plain(annotation: &Annotation<'_>, name: &[u8]) -> bool
+    ensures { let tree = trees.annotation_of annotation.now in
+        result ≡ (bytes_eq name.now tree.name.bytes && (length (said.arguments_of tree) == 0)) }
+{
+    if is_named(annotation, name) {
+        arguments_of(annotation).is_empty()
+    } else {
+        false
     }
 }
 
-/// The place of an annotation without arguments.
-fn plain_place(annotation: &Annotation<'_>) -> Option<u32>
-    ensures { let tree = trees.annotation_of annotation.now in
-        result ≡ slice_get (rules.plain_place tree (said.arguments_of tree)) 0 }
+/// Where the annotation `output_var` stands among annotations, without arguments.
+pub fn output_var_at(annotations: &[Annotation<'_>]) -> Option<u32>
+    ensures { result
+        ≡ slice_get (rules.misplaced_output_var (trees.annotations_of annotations.now)) 0 }
 {
-    if arguments_of(annotation).is_empty() {
-        Some(annotation.name.at)
-    } else {
-        None
+    match plain_annotation_of(OUTPUT_VAR, annotations) {
+        Some(annotation) => Some(annotation.name.at),
+        None => None,
     }
 }
 
 /// Where the annotation `output_array` stands among annotations.
 pub fn output_array_at(annotations: &[Annotation<'_>]) -> Option<u32>
-    ensures { result ≡ slice_get (rules.misplaced_output_array (trees.annotations_of annotations.now)) 0 }
+    ensures { result
+        ≡ slice_get (rules.misplaced_output_array (trees.annotations_of annotations.now)) 0 }
 {
     match annotation_of(OUTPUT_ARRAY, annotations) {
         Some(annotation) => Some(annotation.name.at),

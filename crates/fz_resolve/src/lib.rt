@@ -10,6 +10,8 @@ pub mod limits;
 pub mod names;
 pub mod resolve;
 pub mod rules;
+#[cfg(test)]
+mod tests;
 pub mod types;
 
 pub use entry::Entry;

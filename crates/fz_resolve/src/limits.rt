@@ -36,7 +36,8 @@ impl Room {
 
     /// The room behind an item, or the place of the first that it adds over a limit. Additions come in the order of the text.
     pub fn behind(self, item: &Item<'_>) -> Result<Room, u32>
-        ensures { (n : Counts) → IsRoom self n → IsBehind n (rules.additions (trees.item_of item.now)) result }
+        ensures { (n : Counts) → IsRoom self n → IsBehind n
+            (rules.additions (trees.item_of item.now)) result }
     {
         match item {
             Item::Predicate(_) => Ok(self),
@@ -59,7 +60,8 @@ impl Room {
 
     fn behind_name_and_value(self, name: Name<'_>, value: &Option<Basic<'_>>) -> Result<Room, u32>
         ensures { (n : Counts) → IsRoom self n → IsBehind n
-            (AVariable name.entry.at ∷ rules.value_additions (option_map trees.basic_of value.now)) result }
+            (AVariable name.entry.at
+            ∷ rules.value_additions (option_map trees.basic_of value.now)) result }
     {
         match self.behind_variable(name.at) {
             Ok(room) => room.behind_optional(value),
@@ -155,7 +157,8 @@ impl Room {
     }
 
     fn behind_set(self, set: &SetLiteral) -> Result<Room, u32>
-        ensures { (n : Counts) → IsRoom self n → IsBehind n (rules.members_of (trees.set_of set.now)) result }
+        ensures { (n : Counts) → IsRoom self n → IsBehind n
+            (rules.members_of (trees.set_of set.now)) result }
     {
         match set {
             SetLiteral::Range { .. } => Ok(self),
@@ -164,7 +167,8 @@ impl Room {
     }
 
     fn behind_members(self, basic: &Basic<'_>) -> Result<Room, u32>
-        ensures { (n : Counts) → IsRoom self n → IsBehind n (rules.members_in (trees.basic_of basic.now)) result }
+        ensures { (n : Counts) → IsRoom self n → IsBehind n
+            (rules.members_in (trees.basic_of basic.now)) result }
     {
         match basic {
             Basic::Literal(set) => self.behind_set(set),
@@ -173,7 +177,8 @@ impl Room {
     }
 
     fn behind_element(self, basic: &Basic<'_>) -> Result<Room, u32>
-        ensures { (n : Counts) → IsRoom self n → IsBehind n (rules.element_additions (trees.basic_of basic.now)) result }
+        ensures { (n : Counts) → IsRoom self n → IsBehind n
+            (rules.element_additions (trees.basic_of basic.now)) result }
     {
         match self.behind_place(basic) {
             Ok(room) => room.behind_members(basic),
@@ -182,7 +187,8 @@ impl Room {
     }
 
     fn behind_argument(self, argument: &Expression<'_>) -> Result<Room, u32>
-        ensures { (n : Counts) → IsRoom self n → IsBehind n (rules.expression_additions (trees.expression_of argument.now)) result }
+        ensures { (n : Counts) → IsRoom self n → IsBehind n
+            (rules.expression_additions (trees.expression_of argument.now)) result }
     {
         match argument {
             Expression::Scalar(basic) => self.behind_members(basic),
@@ -191,7 +197,8 @@ impl Room {
     }
 
     fn behind_type(self, value_type: &ValueType) -> Result<Room, u32>
-        ensures { (n : Counts) → IsRoom self n → IsBehind n (rules.type_additions (trees.type_of value_type.now)) result }
+        ensures { (n : Counts) → IsRoom self n → IsBehind n
+            (rules.type_additions (trees.type_of value_type.now)) result }
     {
         match value_type {
             ValueType::One(Plain::Within(set)) => self.behind_set(set),
@@ -205,7 +212,8 @@ impl Room {
 
     fn behind_numbers(self, members: &[Number]) -> Result<Room, u32>
         ensures { (n : Counts) → IsRoom self n → IsBehind n
-            (flat_map (λ m. AnElement (number_at m) ∷ []) (map trees.number_of members.now)) result }
+            (flat_map (λ m. AnElement (number_at m) ∷ [])
+            (map trees.number_of members.now)) result }
     {
         let mut room = self;
         for member in members {
@@ -247,7 +255,8 @@ impl Room {
 
     fn behind_array(self, is_bound: bool, elements: &[Basic<'_>]) -> Result<Room, u32>
         ensures { (n : Counts) → IsRoom self n → IsBehind n
-            (flat_map (rules.array_element_additions is_bound) (map trees.basic_of elements.now)) result }
+            (flat_map (rules.array_element_additions is_bound)
+            (map trees.basic_of elements.now)) result }
     {
         let mut room = self;
         for element in elements {
@@ -282,19 +291,22 @@ impl Room {
 
     /// Behind the constraint that a value or an element adds.
     fn behind_value(self, basic: &Basic<'_>) -> Result<Room, u32>
-        ensures { (n : Counts) → IsRoom self n → IsBehind n (AConstraint (basic_at (trees.basic_of basic.now)) ∷ []) result }
+        ensures { (n : Counts) → IsRoom self n → IsBehind n
+            (AConstraint (basic_at (trees.basic_of basic.now)) ∷ []) result }
     {
         self.behind_constraint(basic.at())
     }
 
     fn behind_member(self, member: Number) -> Result<Room, u32>
-        ensures { (n : Counts) → IsRoom self n → IsBehind n (AnElement (number_at (trees.number_of member)) ∷ []) result }
+        ensures { (n : Counts) → IsRoom self n → IsBehind n
+            (AnElement (number_at (trees.number_of member)) ∷ []) result }
     {
         self.behind_number(member.at())
     }
 
     fn behind_place(self, basic: &Basic<'_>) -> Result<Room, u32>
-        ensures { (n : Counts) → IsRoom self n → IsBehind n (AnElement (basic_at (trees.basic_of basic.now)) ∷ []) result }
+        ensures { (n : Counts) → IsRoom self n → IsBehind n
+            (AnElement (basic_at (trees.basic_of basic.now)) ∷ []) result }
     {
         self.behind_number(basic.at())
     }

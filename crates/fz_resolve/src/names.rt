@@ -28,14 +28,16 @@ impl<'a> Names<'a> {
 
     /// What a name stands for.
     pub fn entry(&self, name: Name<'_>) -> Option<&Entry>
-        ensures { option_map meant (option_copied result) ≡ environment_of self.now name.entry.bytes.now }
+        ensures { option_map meant (option_copied result)
+            ≡ environment_of self.now name.entry.bytes.now }
     {
         self.known.get(name.bytes)
     }
 
     /// Gives a name an entry.
     pub fn declare(&mut self, name: Name<'a>, entry: Entry) -> Result<(), AllocError>
-        ensures { OnOk result (environment_of self.new ≡ with_entry name.entry.bytes.now (meant entry) (environment_of self.old)) }
+        ensures { OnOk result (environment_of self.new
+            ≡ with_entry name.entry.bytes.now (meant entry) (environment_of self.old)) }
     {
         self.known.insert(name.bytes, entry)?;
         Ok(())
@@ -56,7 +58,8 @@ impl<'a> Names<'a> {
 
     /// The same of the elements of a list.
     pub fn unknown_element(&self, elements: &[Basic<'_>]) -> Option<u32>
-        ensures { result ≡ slice_get (flat_map (unknown_in (environment_of self.now)) (map basic_of elements.now)) 0 }
+        ensures { result ≡ slice_get
+            (flat_map (unknown_in (environment_of self.now)) (map basic_of elements.now)) 0 }
     {
         for element in elements {
             if let Some(at) = self.unknown(element) {
@@ -68,7 +71,8 @@ impl<'a> Names<'a> {
 
     /// The same of an argument of a constraint.
     fn unknown_of(&self, argument: &Expression<'_>) -> Option<u32>
-        ensures { result ≡ slice_get (unknown_of (environment_of self.now) (expression_of argument.now)) 0 }
+        ensures { result
+            ≡ slice_get (unknown_of (environment_of self.now) (expression_of argument.now)) 0 }
     {
         match argument {
             Expression::Scalar(basic) => self.unknown(basic),
@@ -78,7 +82,8 @@ impl<'a> Names<'a> {
 
     /// The same of the arguments of a constraint.
     pub fn unknown_argument(&self, arguments: &[Expression<'_>]) -> Option<u32>
-        ensures { result ≡ slice_get (flat_map (unknown_of (environment_of self.now)) (map expression_of arguments.now)) 0 }
+        ensures { result ≡ slice_get
+            (flat_map (unknown_of (environment_of self.now)) (map expression_of arguments.now)) 0 }
     {
         for argument in arguments {
             if let Some(at) = self.unknown_of(argument) {

@@ -1,14 +1,15 @@
 //! From expressions to arguments of constraints.
-ghost use Rattle.std.specs.Prelude.{◌≡◌, ℤ, IfOk, map, option_map};
+ghost use Rattle.std.specs.Prelude.{◌≡◌, ℤ, IfOk, cond, map, option_map};
 ghost use Rattle.std.specs.List.{AllByRecursion};
 ghost use Rattle.fz_language.specs.Entries as entries;
 ghost use Rattle.fz_language.specs.Entries.{term_in, each_of, with_value, number_of, truth_value};
 ghost use Rattle.fz_language.specs.Numerals.{set_in, ranges_of, all_of, value_of};
 ghost use Rattle.fz_language.specs.Within.{NumberFits, SetFits, BasicFits, ExpressionFits};
 ghost use Rattle.fz_model.specs.Arguments.{argument_of};
+ghost use Rattle.fz_spec.specs.Constraints as meaning;
 ghost use Rattle.fz_syntax.specs.Trees as trees;
 ghost use Rattle.fz_syntax.specs.Trees.{basic_of, expression_of};
-ghost use Rattle.fz_resolve.specs.Meant.{environment_of};
+ghost use Rattle.fz_resolve.specs.Meant.{environment_of, meant};
 ghost use Rattle.fz_resolve.specs.Points.{points_of};
 
 use crate::entry::{Entry, of_kind};
@@ -150,6 +151,45 @@ pub fn set(alloc: Global, names: &Names<'_>, basic: &Basic<'_>) -> Result<Option
     }
 }
 
+/// Numbers as terms.
+fn number_terms(alloc: Global, numbers: &[i32]) -> Result<Vec<Term>, AllocError>
+    ensures { IfOk result (λ terms. terms.items ≡ map Term.Num numbers.now) }
+{
+    let mut terms = Vec::with_capacity(alloc, numbers.len())?;
+    for number in numbers {
+        terms.push(Term::Num(*number))?;
+    }
+    Ok(terms)
+}
+
+/// The argument that a list of numbers is: a list of terms where variables serve too.
+fn number_list(alloc: Global, may_vary: bool, numbers: &[i32]) -> Result<Argument, AllocError>
+    ensures { IfOk result (λ argument. argument_of argument
+        ≡ cond may_vary (meaning.Terms (map Term.Num numbers.now)) (meaning.Numbers numbers.now)) }
+{
+    if may_vary {
+        Ok(Argument::Terms(number_terms(alloc, numbers)?))
+    } else {
+        Ok(Argument::Numbers(Vec::from_slice(alloc, numbers)?))
+    }
+}
+
+/// The list that an entry is, if it is what is asked.
+fn entry_list(alloc: Global, asked: Element, entry: &Entry) -> Result<Option<Argument>, AllocError>
+    ensures { IfOk result (λ found. option_map argument_of found
+        ≡ entries.entry_list asked (meant entry.now)) }
+{
+    match entry {
+        Entry::Numbers { kind, numbers } if *kind == asked.kind => {
+            Ok(Some(number_list(alloc, asked.may_vary, numbers)?))
+        }
+        Entry::Terms { kind, terms } if *kind == asked.kind && asked.may_vary => {
+            Ok(Some(Argument::Terms(Vec::from_slice(alloc, terms)?)))
+        }
+        _ => Ok(None),
+    }
+}
+
 /// The list that a declared array is, if it is what is asked.
 fn named_list(
     alloc: Global,
@@ -158,23 +198,12 @@ fn named_list(
     name: Name<'_>,
 ) -> Result<Option<Argument>, AllocError>
     ensures { IfOk result (λ found. option_map argument_of found
-        ≡ entries.named (environment_of names.now) (entries.entry_list asked) (trees.name_of name.entry)) }
+        ≡ entries.named (environment_of names.now)
+        (entries.entry_list asked) (trees.name_of name.entry)) }
 {
     match names.entry(name) {
-        Some(Entry::Numbers { kind, numbers }) if *kind == asked.kind => {
-            if !asked.may_vary {
-                return Ok(Some(Argument::Numbers(Vec::from_slice(alloc, numbers)?)));
-            }
-            let mut terms = Vec::with_capacity(alloc, numbers.len())?;
-            for number in numbers {
-                terms.push(Term::Num(*number))?;
-            }
-            Ok(Some(Argument::Terms(terms)))
-        }
-        Some(Entry::Terms { kind, terms }) if *kind == asked.kind && asked.may_vary => {
-            Ok(Some(Argument::Terms(Vec::from_slice(alloc, terms)?)))
-        }
-        _ => Ok(None),
+        Some(entry) => entry_list(alloc, asked, entry),
+        None => Ok(None),
     }
 }
 

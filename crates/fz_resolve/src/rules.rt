@@ -73,7 +73,8 @@ pub fn unsupported_parameter(item: &ParameterItem<'_>) -> Option<u32>
 }
 
 fn bad_element_type(variable: bool, value_type: &ValueType) -> Option<u32>
-    ensures { result ≡ slice_get (rules.bad_element_type variable (trees.type_of value_type.now)) 0 }
+    ensures { result
+        ≡ slice_get (rules.bad_element_type variable (trees.type_of value_type.now)) 0 }
 {
     if variable {
         bad_variable_type(value_type)
@@ -189,7 +190,8 @@ pub fn wrong_length_at(item: &ArrayItem<'_>, shape: &Option<Vec<(i32, i32)>>) ->
 /// The place of a name that is declared already.
 pub fn declared_already(names: &Names<'_>, name: Name<'_>) -> Option<u32>
     ensures { result
-        ≡ slice_get (rules.declared_already (environment_of names.now) (trees.name_of name.entry)) 0 }
+        ≡ slice_get (rules.declared_already (environment_of names.now)
+        (trees.name_of name.entry)) 0 }
 {
     match names.entry(name) {
         Some(_) => Some(name.at),

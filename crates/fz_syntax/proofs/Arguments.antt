@@ -1,9 +1,8 @@
 -- The trees of arguments, by their kinds.
-use Rattle.std.proofs.Common.{◌≡◌, ℕ, map, sym, ap, ◌∙◌}
+use Rattle.std.proofs.Common.{◌≡◌, ℕ, sym, ap, ◌∙◌}
 use Rattle.fz_language.specs.Trees as trees
 use Rattle.fz_syntax.specs.declared.leaf.Name.{Name}
 use Rattle.fz_syntax.specs.declared.expression.Basic.{Basic}
-use Rattle.fz_syntax.specs.declared.annotation.Argument.{Argument}
 use Rattle.fz_syntax.specs.declared.annotation.Argument.TheVariants as variants
 use Rattle.fz_syntax.specs.declared.annotation.Argument.TheOpen.{Argument-F}
 use Rattle.fz_syntax.specs.declared.annotation.Argument.TheFolds.{fold-roll-Argument}

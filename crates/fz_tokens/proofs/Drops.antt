@@ -1,5 +1,5 @@
 -- The tokens from a number on, by the token that stands there.
-use Rattle.std.proofs.Common.{◌≡◌, ℕ, ℤ, ◌+◌, ◌<◌, List, [], ◌∷◌, map, drop, length, get_or, refl, ap, ◌∙◌, sym, subst, arith}
+use Rattle.std.proofs.Common.{◌≡◌, ℕ, ℤ, ◌+◌, ◌<◌, List, ◌∷◌, map, drop, length, get_or, refl, ap, ◌∙◌, sym, subst}
 use Rattle.std.proofs.lemmas.List.{get_or-map, drop_more, length-map}
 use Rattle.fz_language.specs.declared.token_kind.TokenKind.TheVariants as kind
 use Rattle.fz_language.specs.Tokens as language

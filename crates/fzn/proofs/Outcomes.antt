@@ -10,7 +10,7 @@ use Rattle.fz_spec.specs.declared.limits.TheConstants.{TEXT_LIMIT}
 use Rattle.fz_language.specs.Reads as reads
 use Rattle.fz_spec.specs.Run.{refusal_text, blocks, closing}
 use Rattle.fz_spec.specs.Words.{All, Options}
-use Rattle.fz_language.proofs.ReadingLaws.{one_reading}
+use Rattle.fz_language.proofs.ReadProofs.{reading_is_one}
 use Rattle.fz_io.specs.Outside.{with_more}
 use Rattle.fz_print.specs.declared.refusal.Refusal.{Refusal}
 use Rattle.fz_print.specs.Refusal.{text_of, code_digits}
@@ -135,7 +135,7 @@ runs_short name file before = record { text = unwrap_or file []; printed = []; r
 
 -- an accepted text is done, where nothing failed and memory was there
 not_both : (t : List ℕ) (m : Instance) (code : Code) (line column : ℕ) → Reads t (reads.Accepted m) → Reads t (reads.Refused code line column) → ⊥
-not_both t m code line column h k = let e = one_reading t (reads.Accepted m) (reads.Refused code line column) h k in cc
+not_both t m code line column h k = let e = reading_is_one t (reads.Accepted m) (reads.Refused code line column) h k in cc
 
 done_or_short : (s : Status) (o : Options) (t : List ℕ) (before after : Option (List ℕ)) (a b c d : ℕ) (m : Instance) → Runs s o (Some t) before after → HasItsCause s a b c d → s ≢ Usage → b ≡ a → d ≡ c
     → Reads t (reads.Accepted m) → IsDoneOrShort s
@@ -155,7 +155,7 @@ answers_accepted s o file before after a b c d r h u e f text m is k =
 same_refusal : (t : List ℕ) (x : Refusal) (c code : Code) (line column : ℕ) → x.code ≡ code_number c → Reads t (reads.Refused c x.line x.column) → Reads t (reads.Refused code line column)
     → ◌≡◌ {A = Status} (Refused x) (Refused (record { code = code_number code; line = line; column = column }))
 same_refusal t x c code line column n h k =
-    let e = one_reading t (reads.Refused c x.line x.column) (reads.Refused code line column) h k in
+    let e = reading_is_one t (reads.Refused c x.line x.column) (reads.Refused code line column) h k in
     let same_code : c ≡ code = cc in
     let same_line : x.line ≡ line = cc in
     let same_column : x.column ≡ column = cc in

@@ -4,7 +4,6 @@ use Rattle.std.proofs.lemmas.Bool.{cases_lt}
 use Rattle.std.proofs.lemmas.List.{take_all}
 use Rattle.std.proofs.Math.Nat.{suc-add}
 use Rattle.fz_spec.specs.declared.code.Code.{Code}
-use Rattle.fz_spec.specs.declared.code.Code.TheVariants.{UnknownByte, LargeNumber, UnexpectedToken, DeclaredTwice, UnknownName, WrongType, WrongArity, UnknownConstraint, Unsupported, WrongLengths, OverLimit}
 use Rattle.fz_language.specs.Places.{line_of, column_of, is_line_end, is_in_line}
 use Rattle.fz_language.specs.Reads.{IsShort, Reads, Reading, Accepted, Refused, IsRefused, IsRefusedAt}
 use Rattle.fz_spec.specs.declared.limits.TheConstants.{TEXT_LIMIT}
@@ -24,24 +23,17 @@ front_before text = take_take TEXT_LIMIT 1 text
 
 refused_front : (text : List ℕ) (code : Code) (line column at : ℕ) → TEXT_LIMIT < length text → IsRefusedAt (take (TEXT_LIMIT + 1) text) code at → line ≡ line_of (take (TEXT_LIMIT + 1) text) at
     → column ≡ column_of (take (TEXT_LIMIT + 1) text) at → IsRefused text code line column
-refused_front text UnknownByte line column at long h l c = absurd (front_is_long text long h.0)
-refused_front text LargeNumber line column at long h l c = absurd (front_is_long text long h.0)
-refused_front text UnexpectedToken line column at long h l c = absurd (front_is_long text long h.short)
-refused_front text DeclaredTwice line column at long h l c = absurd (front_is_long text long h.1.short)
-refused_front text UnknownName line column at long h l c = absurd (front_is_long text long h.1.short)
-refused_front text WrongType line column at long h l c = absurd (front_is_long text long h.1.short)
-refused_front text WrongArity line column at long h l c = absurd (front_is_long text long h.1.short)
-refused_front text UnknownConstraint line column at long h l c = absurd (front_is_long text long h.1.short)
-refused_front text Unsupported line column at long h l c = absurd (front_is_long text long h.1.short)
-refused_front text WrongLengths line column at long h l c = absurd (front_is_long text long h.1.short)
-refused_front text OverLimit line column at long h l c = elim h [
+refused_front text code line column at long h l c = elim h [
   | inl over ↦ record {
     at = TEXT_LIMIT;
-    refused = inl (long, refl);
-    line_is = l ∙ ap (line_of (take (TEXT_LIMIT + 1) text)) over.1 ∙ ap (λ u. count_by is_line_end u + 1) (front_before text);
-    column_is = c ∙ ap (column_of (take (TEXT_LIMIT + 1) text)) over.1 ∙ ap (λ u. length (take_while is_in_line (reverse u)) + 1) (front_before text);
+    refused = inl (record { long = long; code = over.code; place = refl });
+    line_is = l ∙ ap (line_of (take (TEXT_LIMIT + 1) text)) over.place ∙ ap (λ u. count_by is_line_end u + 1) (front_before text);
+    column_is = c ∙ ap (column_of (take (TEXT_LIMIT + 1) text)) over.place ∙ ap (λ u. length (take_while is_in_line (reverse u)) + 1) (front_before text);
   }
-  | inr w ↦ absurd (front_is_long text long w.1.short)
+  | inr short ↦ elim short [
+    | inl unlexed ↦ absurd (front_is_long text long unlexed.short)
+    | inr lexed ↦ elim lexed [ | inl unspelt ↦ absurd (front_is_long text long unspelt.short) | inr wrong ↦ absurd (front_is_long text long wrong.spelt.short) ]
+  ]
 ]
 
 read_of_long : (text : List ℕ) (r : Reading) → TEXT_LIMIT < length text → Reads (take (TEXT_LIMIT + 1) text) r → Reads text r

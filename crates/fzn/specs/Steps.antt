@@ -6,10 +6,15 @@ use Rattle.fz_spec.specs.Codes.{code_number}
 use Rattle.fz_spec.specs.Instance.{Instance, Lists}
 use Rattle.fz_spec.specs.Run.{blocks, closing}
 use Rattle.fz_spec.specs.Words.{Options, All}
-use Rattle.fz_language.specs.Reads.{Reads}
+use Rattle.fz_language.specs.Grammar.{Spells}
+use Rattle.fz_language.specs.Reads.{Reads, IsRefusedAt}
 use Rattle.fz_language.specs.Reads as reads
 use Rattle.fz_io.specs.Outside.{with_more, AllFlushed}
 use Rattle.fz_print.specs.declared.refusal.Refusal.{Refusal}
+use Rattle.fz_syntax.specs.declared.program.Program as syntax
+use Rattle.fz_syntax.specs.Trees.{program_of}
+use Rattle.fz_tokens.specs.Lexed.{LexedText, IsLexed}
+use Rattle.fzn.specs.declared.reader.Cause.{Cause}
 use Rattle.fzn.specs.declared.status.Status.{Status}
 use Rattle.fzn.specs.declared.status.Status.TheVariants.{Done, Refused, Usage, SourceFault, SinkFault, NoMemory}
 use Rattle.fzn.specs.declared.printer.Stop.{Stop}
@@ -19,6 +24,15 @@ use Rattle.fzn.specs.Promises.{Prints}
 -- all solutions of this file
 abbrev pub all_of : List ℕ → Options
 all_of file = record { asked = All; file = file }
+
+-- the text is refused for this cause
+abbrev pub IsCause : List ℕ → Cause → Type 0
+IsCause text cause = IsRefusedAt text cause.code cause.at
+
+-- the text is short, these are its tokens, and they spell this program
+pub record IsSpeltBy (lexed : LexedText) (p : syntax.Program) : Type 0 where
+  pub lexed : IsLexed lexed
+  pub spelt : Spells lexed.tokens (program_of p)
 
 -- the text is refused so
 pub record IsRefusal (text : List ℕ) (r : Refusal) : Type 0 where

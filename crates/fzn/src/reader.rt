@@ -1,41 +1,157 @@
 //! From a text to its model.
-ghost use Rattle.std.specs.Prelude.{◌≡◌, IfOk, MatchResult};
+ghost use Rattle.std.specs.Prelude.{◌≡◌, ◌<◌, ◌^◌, IfOk, MatchResult, length};
 ghost use Rattle.fz_spec.specs.Codes.{code_number};
+ghost use Rattle.fz_language.specs.Places.{line_of, column_of};
 ghost use Rattle.fz_language.specs.Reads.{Reads, Accepted};
-ghost use Rattle.fzn.specs.Steps.{IsRefusal};
+ghost use Rattle.fz_language.specs.Reads as reads;
+ghost use Rattle.fz_language.specs.Within.{ProgramFits};
+ghost use Rattle.fz_syntax.specs.Trees.{program_of};
+ghost use Rattle.fzn.specs.Steps.{IsRefusal, IsCause, IsSpeltBy};
 
-use fz_check::check;
-use fz_lex::tokens;
+use fz_check::{Fault, check};
+use fz_language::fault::{RuleFault, SyntaxFault, TokenFault};
+use fz_lex::{LexFault, place_of, tokens};
 use fz_model::model::Model;
-use fz_parse::parse;
+use fz_parse::{ParseFault, parse};
 use fz_print::refusal::Refusal;
 use fz_spec::code::Code;
+use fz_spec::limits::TEXT_LIMIT;
+use fz_syntax::Program;
+use fz_tokens::Tokens;
 use std::alloc::{AllocError, Global};
 
-/// The model of a text that is accepted, or its refusal.
+/// Why a text is refused, and where: the count of bytes before the place.
+#[derive(Clone, Copy)]
+pub(crate) struct Cause {
+    pub code: Code,
+    pub at: usize,
+}
+
+/// The model of a text that is accepted, or its refusal. Of a text that is too long, the first bytes are enough, one more than a
+/// text may have.
 pub(crate) fn model_of(alloc: Global, text: &[u8]) -> Result<Result<Model, Refusal>, AllocError>
+    requires near { length text.now < 2 ^ 31 }
     ensures { IfOk result (λ reading. MatchResult reading (λ model. Reads text.now (Accepted model)) (IsRefusal text.now)) }
 {
-    let tokens = match tokens(alloc, text)? {
-        Ok(tokens) => tokens,
-        Err(fault) => return Ok(Err(refusal_at(fault.code, fault.line, fault.column))),
-    };
-    let items = match parse(alloc, &tokens)? {
-        Ok(items) => items,
-        Err(fault) => return Ok(Err(refusal_at(fault.code, fault.line, fault.column))),
-    };
-    match check(alloc, &items)? {
-        Ok(model) => Ok(Ok(model)),
-        Err(fault) => Ok(Err(refusal_at(fault.code, fault.line, fault.column))),
+    match read(alloc, text) {
+        Ok(Ok(model)) => Ok(Ok(model)),
+        Ok(Err(cause)) => Ok(Err(refusal_of(text, cause))),
+        Err(error) => Err(error),
     }
 }
 
-fn refusal_at(code: Code, line: u32, column: u32) -> Refusal
-    ensures { result ≡ record { code = code_number code; line = line; column = column } }
+/// The refusal of a text for a cause, by line and column.
+fn refusal_of(text: &[u8], cause: Cause) -> Refusal
+    requires near { length text.now < 2 ^ 31 }
+    ensures code { result.code ≡ code_number cause.code }
+    ensures line { result.line ≡ line_of text.now cause.at }
+    ensures column { result.column ≡ column_of text.now cause.at }
 {
+    let place = place_of(text, cause.at);
     Refusal {
-        code: code.number(),
-        line,
-        column,
+        code: cause.code.number(),
+        line: place.line,
+        column: place.column,
+    }
+}
+
+/// The model of a text that is accepted, or the cause of its refusal.
+fn read(alloc: Global, text: &[u8]) -> Result<Result<Model, Cause>, AllocError>
+    ensures { IfOk result (λ reading. MatchResult reading (λ model. Reads text.now (Accepted model)) (IsCause text.now)) }
+{
+    if text.len() > TEXT_LIMIT {
+        return Ok(Err(too_long()));
+    }
+    match tokens(alloc, text) {
+        Ok(Ok(tokens)) => read_tokens(alloc, &tokens),
+        Ok(Err(fault)) => Ok(Err(unlexed(fault))),
+        Err(error) => Err(error),
+    }
+}
+
+/// The same of a text that has tokens.
+fn read_tokens(alloc: Global, tokens: &Tokens<'_>) -> Result<Result<Model, Cause>, AllocError>
+    ensures { IfOk result (λ reading. MatchResult reading
+        (λ model. Reads tokens.now.text (Accepted model)) (IsCause tokens.now.text)) }
+{
+    match parse(alloc, tokens) {
+        Ok(Ok(program)) => read_program(alloc, tokens, &program),
+        Ok(Err(fault)) => Ok(Err(unspelt(fault))),
+        Err(error) => Err(error),
+    }
+}
+
+/// The same of a text whose tokens spell a program.
+fn read_program(
+    alloc: Global,
+    tokens: &Tokens<'_>,
+    program: &Program<'_>,
+) -> Result<Result<Model, Cause>, AllocError>
+    requires spelt { IsSpeltBy tokens.now program.now }
+    ensures { IfOk result (λ reading. MatchResult reading
+        (λ model. Reads tokens.now.text (Accepted model)) (IsCause tokens.now.text)) }
+{
+    match check(alloc, program) {
+        Ok(Ok(model)) => Ok(Ok(model)),
+        Ok(Err(fault)) => Ok(Err(wrong(fault))),
+        Err(error) => Err(error),
+    }
+}
+
+fn too_long() -> Cause
+    ensures code { result.code ≡ Code.OverLimit }
+    ensures at { result.at ≡ TEXT_LIMIT }
+{
+    Cause {
+        code: Code::OverLimit,
+        at: TEXT_LIMIT,
+    }
+}
+
+fn unlexed(fault: LexFault) -> Cause
+    ensures code { result.code ≡ reads.token_code fault.cause }
+    ensures at { result.at ≡ fault.at }
+{
+    let code = match fault.cause {
+        TokenFault::UnknownByte => Code::UnknownByte,
+        TokenFault::LargeNumber => Code::LargeNumber,
+    };
+    Cause {
+        code,
+        at: fault.at as usize,
+    }
+}
+
+fn unspelt(fault: ParseFault) -> Cause
+    ensures code { result.code ≡ reads.syntax_code fault.cause }
+    ensures at { result.at ≡ fault.at }
+{
+    let code = match fault.cause {
+        SyntaxFault::Unexpected => Code::UnexpectedToken,
+        SyntaxFault::TooDeep => Code::OverLimit,
+    };
+    Cause {
+        code,
+        at: fault.at as usize,
+    }
+}
+
+fn wrong(fault: Fault) -> Cause
+    ensures code { result.code ≡ reads.rule_code fault.rule }
+    ensures at { result.at ≡ fault.at }
+{
+    let code = match fault.rule {
+        RuleFault::Unsupported => Code::Unsupported,
+        RuleFault::UnknownConstraint => Code::UnknownConstraint,
+        RuleFault::WrongArity => Code::WrongArity,
+        RuleFault::UnknownName => Code::UnknownName,
+        RuleFault::WrongType => Code::WrongType,
+        RuleFault::WrongLengths => Code::WrongLengths,
+        RuleFault::DeclaredTwice => Code::DeclaredTwice,
+        RuleFault::OverLimit => Code::OverLimit,
+    };
+    Cause {
+        code,
+        at: fault.at as usize,
     }
 }

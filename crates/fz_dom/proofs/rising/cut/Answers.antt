@@ -1,8 +1,5 @@
-use Rattle.std.proofs.Common.{◌≡◌, ◌+◌, ℤ, pos, List, [], ◌∷◌, ◌++◌, get_or, drop, sym, ap, ◌∙◌, append-nil, to_z, of_z, w32, arith, rules}
-use Rattle.std.specs.Int.{int_min, int_max}
-use Rattle.std.proofs.lemmas.Int.{ints}
-use Rattle.std.proofs.lemmas.List.{drop_more}
-use Rattle.fz_dom.specs.Wide.{cut_ranges, below, above}
+use Rattle.std.proofs.Common.{◌≡◌, ℤ, pos, List, ◌++◌, get_or, sym, ap, ◌∙◌, append-nil, to_z, of_z, w32, rules}
+use Rattle.fz_dom.specs.Wide.{below, above}
 use Rattle.fz_dom.proofs.Lists.{cut_more, below_some, below_none, above_some, above_none}
 use Rattle.fz_dom.proofs.rising.cut.Goals as goal
 use Rattle.fz_dom.proofs.rising.cut.Goals.{then-r-low+in_ok-push, else-r-low, then-high-r+in_ok-push-2, else-high-r}

@@ -1,6 +1,5 @@
 use Rattle.std.proofs.Common.{arith}
 use Rattle.std.proofs.lemmas.Int.{ints}
-use Rattle.fz_dom.specs.Wide.{IsPart}
 use Rattle.fz_dom.proofs.rising.keep_between.Goals as goal
 
 pub returns : goal.returns

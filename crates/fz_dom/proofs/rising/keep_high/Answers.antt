@@ -1,4 +1,4 @@
-use Rattle.std.proofs.Common.{◌≡◌, ◌<◌, ℤ, List, length, suc, refl, drop, subst, sym, ◌∙◌, ap, arith, rules}
+use Rattle.std.proofs.Common.{◌<◌, ℤ, List, length, refl, drop, subst, arith, rules}
 use Rattle.std.specs.Prelude.{int_lt}
 use Rattle.std.proofs.lemmas.Bool.{false≢true}
 use Rattle.std.proofs.lemmas.List.Sorted.{IsPartitionPoint-from_clause}

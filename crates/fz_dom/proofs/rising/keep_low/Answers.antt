@@ -1,4 +1,4 @@
-use Rattle.std.proofs.Common.{◌≡◌, ◌<◌, ℤ, List, length, suc, refl, take, subst, sym, ◌∙◌, ap, arith, rules}
+use Rattle.std.proofs.Common.{◌<◌, ℤ, List, length, refl, take, subst, ap, arith, rules}
 use Rattle.std.specs.Prelude.{int_le}
 use Rattle.std.proofs.lemmas.Bool.{false≢true}
 use Rattle.std.proofs.lemmas.List.Sorted.{IsPartitionPoint-from_clause}

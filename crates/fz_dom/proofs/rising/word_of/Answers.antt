@@ -1,4 +1,4 @@
-use Rattle.std.proofs.Common.{◌≡◌, ◌<◌, ◌+◌, ◌≤ℤ◌, ◌+ℤ◌, ℕ, ℤ, arith, rules, refl, pos, get_or, drop, to_z, of_z, w64}
+use Rattle.std.proofs.Common.{◌≡◌, ◌<◌, ◌+◌, ◌≤ℤ◌, ◌+ℤ◌, ℕ, ℤ, rules, pos, get_or, drop, to_z, of_z, w64}
 use Rattle.std.specs.Prelude.{◌↔◌}
 use Rattle.std.specs.Int.{bit_at}
 use Rattle.std.proofs.lemmas.List.{drop_more}

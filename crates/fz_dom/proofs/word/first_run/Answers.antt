@@ -1,5 +1,5 @@
-use Rattle.std.proofs.Common.{◌<◌, ◌≡◌, ◌^◌, refl, arith, rules}
-use Rattle.fz_dom.proofs.Words.{first_bit, whole_run, part_run, IsRun}
+use Rattle.std.proofs.Common.{◌<◌, ◌^◌, refl, arith, rules}
+use Rattle.fz_dom.proofs.Words.{first_bit, whole_run, part_run}
 use Rattle.fz_dom.proofs.word.first_run.Goals as goal
 
 pub overflow_sub-result : goal.overflow_sub-result

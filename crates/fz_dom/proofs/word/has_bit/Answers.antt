@@ -1,4 +1,4 @@
-use Rattle.std.proofs.Common.{rules, arith, lit<}
+use Rattle.std.proofs.Common.{rules}
 use Rattle.fz_dom.proofs.Words.{test_bit_of}
 use Rattle.fz_dom.proofs.word.has_bit.Goals as goal
 

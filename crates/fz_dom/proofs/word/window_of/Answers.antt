@@ -1,4 +1,4 @@
-use Rattle.std.proofs.Common.{◌≡◌, ◌≤ℤ◌, ◌-ℤ◌, refl, pos, arith, rules, inl, inr, to_z, of_z, w64}
+use Rattle.std.proofs.Common.{◌≤ℤ◌, ◌-ℤ◌, refl, pos, arith, rules, inl, inr, w64}
 use mir.Val.{SFits}
 use Rattle.std.proofs.lemmas.Int.{ints}
 use Rattle.fz_dom.proofs.Words.{window_none, window_some}

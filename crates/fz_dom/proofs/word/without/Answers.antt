@@ -1,4 +1,4 @@
-use Rattle.std.proofs.Common.{rules, arith, lit<}
+use Rattle.std.proofs.Common.{rules}
 use Rattle.std.proofs.Common.{rules}
 use Rattle.fz_dom.proofs.Words.{without_bits}
 use Rattle.fz_dom.proofs.word.without.Goals as goal

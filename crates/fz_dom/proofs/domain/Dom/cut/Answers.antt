@@ -1,18 +1,12 @@
-use Rattle.std.proofs.Common.{◌≡◌, ◌∙◌, ◌<◌, ◌≤◌, ◌≤ℤ◌, ◌<ℤ◌, ◌⊎◌, ◌+ℤ◌, ◌-ℤ◌, ℤ, ℕ, pos, List, [], ◌∷◌, length, refl, sym, ap, subst, inl, inr, true, false, arith, rules, to_z, of_z, w32}
-use Rattle.std.proofs.lemmas.Int.{ints, clamps}
+use Rattle.std.proofs.Common.{◌≡◌, ◌∙◌, ◌<◌, ℤ, List, [], length, refl, sym, subst, arith, rules}
+use Rattle.std.proofs.lemmas.Int.{ints}
 use Rattle.std.proofs.lemmas.Bool.Decides.{nat_tests}
-use Rattle.std.proofs.lemmas.Result.{IfOk-weaker}
-use Rattle.fz_sets.specs.Sets.{IsInSet, AreRanges, AreWithinLimits, LEAST, GREATEST}
 use Rattle.fz_dom.specs.Changes.{IsFromTo, IsChange}
-use Rattle.fz_dom.specs.declared.change.Change.TheVariants.{Changed, Same}
-use Rattle.fz_dom.specs.Heads.{head_set, IsHeadOf}
-use Rattle.fz_dom.specs.Kept.{kept_ranges, IsKept}
-use Rattle.fz_dom.specs.Wide.{IsPart}
-use Rattle.fz_dom.specs.Shape.{IsDomain, least, greatest}
+use Rattle.fz_dom.specs.declared.change.Change.TheVariants.{Changed}
+use Rattle.fz_dom.specs.Heads.{head_set}
 use Rattle.fz_dom.proofs.Heads.{filled}
-use Rattle.fz_dom.proofs.Changes.{cut_as, range_as, change_as, plain_when_wide}
-use Rattle.fz_dom.proofs.Lists.{cut_part}
-use Rattle.fz_dom.proofs.Kept.{small_kept, small_whole, small_ranges, nil_of, wide_ranges, rest_of, ends_of, cut_out, split_part, limits_of, low_high, seen, one_is, filled_of, domain_of}
+use Rattle.fz_dom.proofs.Changes.{cut_as}
+use Rattle.fz_dom.proofs.Kept.{small_kept, small_whole, small_ranges, nil_of, ends_of, cut_out, low_high, seen, filled_of, domain_of}
 use Rattle.fz_dom.proofs.domain.Dom.cut.Goals as goal
 
 pub cut-requires-clause-whole : goal.cut-requires-clause-whole

@@ -1,19 +1,14 @@
-use Rattle.std.proofs.Common.{◌≡◌, ◌∙◌, ◌<◌, ◌≤◌, ◌≤ℤ◌, ◌<ℤ◌, ◌⊎◌, ◌+ℤ◌, ◌-ℤ◌, ℤ, ℕ, pos, List, [], ◌∷◌, length, refl, sym, ap, subst, inl, inr, true, false, arith, rules, to_z, of_z, w32}
-use Rattle.std.proofs.lemmas.Int.{ints, clamps}
+use Rattle.std.proofs.Common.{◌≡◌, ◌∙◌, ◌<◌, ◌+ℤ◌, ◌-ℤ◌, ℤ, pos, List, [], ◌∷◌, length, sym, subst, inl, arith, rules, w32}
+use Rattle.std.proofs.lemmas.Int.{ints}
 use Rattle.std.proofs.lemmas.Bool.Decides.{nat_tests}
-use Rattle.std.proofs.lemmas.Result.{IfOk-weaker}
-use Rattle.fz_sets.specs.Sets.{IsInSet, AreRanges, AreWithinLimits, LEAST, GREATEST}
-use Rattle.fz_dom.specs.Changes.{IsFromTo, IsChange}
-use Rattle.fz_dom.specs.declared.change.Change.TheVariants.{Changed, Same}
-use Rattle.fz_dom.specs.Heads.{head_set, IsHeadOf}
-use Rattle.fz_dom.specs.Kept.{kept_ranges, IsKept}
+use Rattle.fz_sets.specs.Sets.{IsInSet}
+use Rattle.fz_dom.specs.Changes.{IsFromTo}
+use Rattle.fz_dom.specs.Heads.{head_set}
 use mir.Val.{SFits}
 use Rattle.fz_dom.specs.Wide.{IsPart, cut_ranges}
-use Rattle.fz_dom.specs.Shape.{IsDomain, least, greatest}
-use Rattle.fz_dom.proofs.Heads.{filled}
-use Rattle.fz_dom.proofs.Changes.{cut_as, range_as, change_as, plain_when_wide}
+use Rattle.fz_dom.proofs.Changes.{plain_when_wide}
 use Rattle.fz_dom.proofs.Lists.{cut_part}
-use Rattle.fz_dom.proofs.Kept.{small_kept, small_whole, small_ranges, nil_of, wide_ranges, rest_of, ends_of, cut_out, split_part, limits_of, low_high, seen, one_is, filled_of, domain_of}
+use Rattle.fz_dom.proofs.Kept.{small_whole, small_ranges, nil_of, wide_ranges, rest_of, split_part, low_high, seen, filled_of}
 use Rattle.fz_dom.proofs.domain.Dom.cut_ranges.Goals as goal
 
 pub overflow_add-right : goal.overflow_add-right

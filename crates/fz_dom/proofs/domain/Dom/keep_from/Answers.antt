@@ -1,6 +1,5 @@
-use Rattle.std.proofs.Common.{◌≤ℤ◌, ℤ, arith}
+use Rattle.std.proofs.Common.{◌≤ℤ◌, arith}
 use Rattle.std.proofs.lemmas.Int.{ints}
-use Rattle.fz_dom.specs.Changes.{IsFromTo}
 use Rattle.fz_dom.proofs.Changes.{change_as}
 use Rattle.fz_dom.proofs.Kept.{limits_of}
 use Rattle.fz_dom.proofs.domain.Dom.keep_from.Goals as goal

@@ -1,15 +1,13 @@
-use Rattle.std.proofs.Common.{◌≡◌, ◌∙◌, ◌<◌, ◌≤◌, ◌≤ℤ◌, ◌<ℤ◌, ◌⊎◌, ◌+ℤ◌, ◌-ℤ◌, ℤ, ℕ, pos, List, [], ◌∷◌, length, refl, sym, ap, subst, inl, inr, true, false, arith, rules, to_z, of_z, w32}
+use Rattle.std.proofs.Common.{◌≡◌, ◌∙◌, ◌<◌, ◌<ℤ◌, ◌⊎◌, ℤ, List, [], length, refl, sym, subst, inl, inr, arith, rules}
 use Rattle.std.proofs.lemmas.Int.{ints, clamps}
 use Rattle.std.proofs.lemmas.Bool.Decides.{nat_tests}
 use Rattle.std.specs.Int.{int_max, int_min}
 use Rattle.fz_dom.specs.declared.change.Change.TheVariants.{Changed}
-use Rattle.fz_sets.specs.Sets.{IsInSet, AreRanges, AreWithinLimits}
+use Rattle.fz_sets.specs.Sets.{IsInSet}
 use Rattle.fz_dom.specs.Changes.{IsFromTo, IsChange}
-use Rattle.fz_dom.specs.Kept.{kept_ranges, IsKept}
-use Rattle.fz_dom.specs.Wide.{IsPart}
-use Rattle.fz_dom.specs.Shape.{IsDomain, least, greatest}
+use Rattle.fz_dom.specs.Kept.{kept_ranges}
 use Rattle.fz_dom.proofs.Heads.{filled}
-use Rattle.fz_dom.proofs.Kept.{small_kept, nil_of, wide_ranges, rest_parts, rest_of, ends_of, clipped, limits_of, low_high}
+use Rattle.fz_dom.proofs.Kept.{small_kept, nil_of, wide_ranges, rest_of, ends_of, clipped, limits_of, low_high}
 use Rattle.fz_dom.proofs.domain.Dom.keep_range.Goals as goal
 use Rattle.fz_dom.proofs.domain.Dom.keep_range.Goals.{else-low-self-via-then-low-self+else-self-high, else-low-self-via-else-low-self}
 

@@ -1,4 +1,4 @@
-use Rattle.std.proofs.Common.{◌≡◌, ◌<◌, ◌≤ℤ◌, ◌<ℤ◌, ◌+ℤ◌, ◌-ℤ◌, pos, to_z, of_z, w32, ℤ, length, refl, sym, ap, subst, arith, rules}
+use Rattle.std.proofs.Common.{◌<ℤ◌, ◌+ℤ◌, ◌-ℤ◌, pos, to_z, of_z, w32, refl, arith, rules}
 use Rattle.std.proofs.lemmas.Int.{ints}
 use Rattle.fz_dom.specs.Changes.{IsFromTo, IsChange}
 use Rattle.fz_dom.proofs.Changes.{change_as, cut_as}

@@ -1,4 +1,4 @@
-use Rattle.std.proofs.Common.{arith, rules, ◌<◌, ◌≡◌}
+use Rattle.std.proofs.Common.{arith, rules, ◌<◌}
 use Rattle.std.proofs.lemmas.Int.{ints}
 use Rattle.std.proofs.lemmas.Bool.{false≢true}
 use Rattle.fz_dom.proofs.Changes.{inside, none_of_zero, bit_member}

@@ -1,4 +1,4 @@
-use Rattle.std.proofs.Common.{◌≡◌, ◌∙◌, List, ℤ, ap, subst, arith, rules}
+use Rattle.std.proofs.Common.{◌≡◌, ◌∙◌, List, ℤ, ap, subst, rules}
 use Rattle.fz_dom.specs.Changes.{IsChange, IsFromTo}
 use Rattle.fz_dom.specs.Heads.{head_set}
 use Rattle.fz_dom.proofs.Changes.{cut_as}

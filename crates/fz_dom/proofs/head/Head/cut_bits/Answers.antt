@@ -1,4 +1,4 @@
-use Rattle.std.proofs.Common.{arith, rules, ◌<◌, ◌≡◌}
+use Rattle.std.proofs.Common.{rules}
 use Rattle.fz_dom.specs.Places.{IsBit}
 use Rattle.fz_dom.specs.Changes.{IsFromTo}
 use Rattle.fz_dom.specs.Heads.{head_set}

@@ -1,4 +1,4 @@
-use Rattle.std.proofs.Common.{◌≡◌, ◌<◌, ◌^◌, refl, arith, rules}
+use Rattle.std.proofs.Common.{◌<◌, ◌^◌, refl, arith, rules}
 use Rattle.std.proofs.lemmas.Int.{ints}
 use Rattle.fz_dom.proofs.Heads.{whole_word, is_of_word, lowest_bit, highest_bit}
 use Rattle.fz_dom.proofs.head.Head.from_word.Goals as goal

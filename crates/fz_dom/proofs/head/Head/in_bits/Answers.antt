@@ -1,9 +1,6 @@
-use Rattle.std.proofs.Common.{arith, rules, refl, pos, ◌<◌, ◌≡◌, ◌+ℤ◌, ◌≤ℤ◌, ◌^◌, to_z, of_z, w32}
+use Rattle.std.proofs.Common.{arith, rules, refl, ◌<◌, ◌^◌}
 use Rattle.std.proofs.lemmas.Int.{ints, clamps}
-use Rattle.fz_sets.specs.Sets.{LEAST, GREATEST}
-use Rattle.fz_dom.specs.declared.head.Head.{Head}
-use Rattle.fz_dom.specs.Heads.{head_set, IsWhole}
-use Rattle.fz_dom.proofs.Changes.{ends_in, inside, same_in_bits, low_within}
+use Rattle.fz_dom.proofs.Changes.{same_in_bits, low_within}
 use Rattle.fz_dom.proofs.Changes.{run_some}
 use Rattle.fz_dom.proofs.head.Head.in_bits.Goals as goal
 

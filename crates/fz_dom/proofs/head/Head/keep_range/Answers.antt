@@ -1,9 +1,6 @@
-use Rattle.std.proofs.Common.{refl, arith, inl, inr, rules, ◌<◌, ◌≤ℤ◌}
+use Rattle.std.proofs.Common.{refl, arith, inl, inr, rules}
 use Rattle.std.proofs.lemmas.Int.{ints, clamps}
-use Rattle.fz_sets.specs.Sets.{IsInSet}
-use Rattle.fz_dom.specs.Changes.{IsFromTo}
-use Rattle.fz_dom.specs.Heads.{head_set}
-use Rattle.fz_dom.proofs.Changes.{change_as, inside, some_of_size, none_of_zero, ends_in, part_from_to}
+use Rattle.fz_dom.proofs.Changes.{inside, some_of_size, none_of_zero, ends_in, part_from_to}
 use Rattle.fz_dom.proofs.head.Head.keep_range.Goals as goal
 use Rattle.fz_dom.proofs.head.Head.keep_range.Goals.{then-high-self-via-then-high-self, then-high-self-via-else-high-self+then-self-low, then-high-self-via-else-high-self+else-self-low+then-high-low, then-high-self-via-else-high-self+else-self-low+else-high-low+then-self-eq0, else-low-self-via-then-low-self+else-self-high, else-low-self-via-else-low-self}
 

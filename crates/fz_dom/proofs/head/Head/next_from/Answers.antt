@@ -1,4 +1,4 @@
-use Rattle.std.proofs.Common.{arith, rules, ◌<◌, ◌≡◌, ◌^◌, ◌≤ℤ◌}
+use Rattle.std.proofs.Common.{arith, rules, ◌<◌, ◌^◌}
 use Rattle.std.proofs.lemmas.Int.{ints}
 use Rattle.fz_dom.proofs.Changes.{next_bit}
 use Rattle.fz_dom.proofs.head.Head.next_from.Goals as goal

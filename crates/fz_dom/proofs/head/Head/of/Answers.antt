@@ -1,4 +1,4 @@
-use Rattle.std.proofs.Common.{◌≡◌, ◌<◌, ◌≤ℤ◌, ◌+ℤ◌, ◌^◌, ℕ, ℤ, pos, length, ◌-◌, get_or, to_z, of_z, w32, inl, inr, lit<, arith, rules}
+use Rattle.std.proofs.Common.{◌≡◌, ◌<◌, ◌≤ℤ◌, ◌+ℤ◌, ℕ, pos, length, ◌-◌, get_or, to_z, of_z, w32, inl, inr, lit<, arith, rules}
 use Rattle.std.specs.Prelude.{◌↔◌}
 use Rattle.std.proofs.lemmas.Int.{ints, clamps}
 use Rattle.std.specs.Int.{bit_at, int_min}

@@ -1,6 +1,4 @@
-use Rattle.std.proofs.Common.{◌≡◌, ◌<◌, ◌^◌, ◌∷◌, length, ap, arith, rules}
-use Rattle.fz_dom.specs.Places.{bit_ranges}
-use Rattle.fz_dom.specs.Heads.{head_set}
+use Rattle.std.proofs.Common.{◌<◌, length, ap, arith}
 use Rattle.fz_dom.proofs.Runs.{run_first, none_of_word, few_ranges}
 use Rattle.fz_dom.proofs.Changes.{word_form}
 use Rattle.fz_dom.proofs.head.Head.range_count.Goals as goal

@@ -1,4 +1,4 @@
-use Rattle.std.proofs.Common.{◌≡◌, ◌<◌, ◌+◌, ◌^◌, length}
+use Rattle.std.proofs.Common.{◌≡◌, ◌+◌, length}
 use Rattle.fz_dom.specs.Places.{bit_ranges}
 use Rattle.fz_dom.proofs.head.Head.range_count.Given as goal
 

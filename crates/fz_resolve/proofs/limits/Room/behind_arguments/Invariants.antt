@@ -1,4 +1,4 @@
-use Rattle.std.proofs.Common.{take, map, [], ◌∷◌}
+use Rattle.std.proofs.Common.{take, map}
 use Rattle.std.specs.Prelude.{flat_map}
 use Rattle.fz_language.specs.Rules.{expression_additions}
 use Rattle.fz_language.specs.Rules.{Counts}

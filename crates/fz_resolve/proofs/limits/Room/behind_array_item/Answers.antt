@@ -1,6 +1,6 @@
 use Rattle.std.proofs.Common.{map, subst}
-use Rattle.std.specs.Prelude.{flat_map, ◌&&◌}
-use Rattle.fz_language.specs.Rules.{all_counted, type_additions, array_element_additions, is_bound}
+use Rattle.std.specs.Prelude.{flat_map}
+use Rattle.fz_language.specs.Rules.{all_counted, type_additions, array_element_additions}
 use Rattle.fz_syntax.specs.Trees.{basic_of, type_of}
 use Rattle.fz_resolve.specs.Rooms.{IsBehind}
 use Rattle.fz_resolve.proofs.RoomLaws.{both, stops}

@@ -1,8 +1,7 @@
-use Rattle.std.proofs.Common.{[], ◌∷◌, map, Some, None}
-use Rattle.std.specs.Prelude.{flat_map, option_map}
+use Rattle.std.proofs.Common.{[], ◌∷◌}
 use Rattle.fz_language.specs.Trees.{basic_at}
-use Rattle.fz_language.specs.Rules.{AnElement, AConstraint, AVariable, all_counted, members_in, element_additions, array_element_additions, expression_additions, type_additions, value_additions}
-use Rattle.fz_syntax.specs.Trees.{basic_of, type_of, expression_of}
+use Rattle.fz_language.specs.Rules.{AConstraint, all_counted, element_additions}
+use Rattle.fz_syntax.specs.Trees.{basic_of}
 use Rattle.fz_resolve.proofs.RoomLaws.{both, stops}
 use Rattle.fz_resolve.proofs.limits.Room.behind_bound_element.Goals as goal
 

@@ -1,8 +1,5 @@
-use Rattle.std.proofs.Common.{[], ◌∷◌, map, Some, None}
-use Rattle.std.specs.Prelude.{flat_map, option_map}
-use Rattle.fz_language.specs.Trees.{basic_at}
-use Rattle.fz_language.specs.Rules.{AnElement, AConstraint, AVariable, all_counted, members_in, element_additions, array_element_additions, expression_additions, type_additions, value_additions}
-use Rattle.fz_syntax.specs.Trees.{basic_of, type_of, expression_of}
+use Rattle.fz_language.specs.Rules.{all_counted, members_in, type_additions}
+use Rattle.fz_syntax.specs.Trees.{basic_of, type_of}
 use Rattle.fz_resolve.proofs.RoomLaws.{both, stops}
 use Rattle.fz_resolve.proofs.limits.Room.behind_parameter_item.Goals as goal
 

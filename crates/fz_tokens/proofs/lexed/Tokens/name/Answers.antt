@@ -1,5 +1,4 @@
-use Rattle.std.proofs.Common.{◌≡◌, List, map, ◌∷◌, drop, ◌+◌, ap, sym, ◌∙◌}
-use Rattle.fz_language.specs.Tokens as language
+use Rattle.std.proofs.Common.{map, ◌∷◌, drop, ◌+◌, ap, sym, ◌∙◌}
 use Rattle.fz_tokens.specs.declared.token.Lexeme.{Lexeme}
 use Rattle.fz_tokens.specs.Lexed.{head_kind, lexeme_of, token_of}
 use Rattle.fz_tokens.proofs.Drops.{stands, no_identifier}

@@ -1,6 +1,6 @@
 use Rattle.std.proofs.Common.{◌-◌, ◌≤◌}
 use Rattle.fz_language.specs.Places.{IsPlaceOf}
-use Rattle.fz_lex.proofs.place.place_of.Given as goal
+use Rattle.fz_lex.proofs.place.place_within.Given as goal
 
 abbrev pub invariant-bytes : goal.invariant-bytes
 invariant-bytes l = (l.here ≤ l.at) × IsPlaceOf l.text l.here l.place.line l.place.column

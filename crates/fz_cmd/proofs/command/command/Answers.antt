@@ -1,0 +1,11 @@
+use Rattle.std.proofs.Common.{◌∙◌, ap₂}
+use Rattle.clap.specs.Words.{with_rule}
+use Rattle.fz_cmd.proofs.command.command.Goals as goal
+
+pub returns : goal.returns
+returns c = c.in_ok-with_file.ensures.shape c.file_arg-file.ensures.local
+    ∙ ap₂ with_rule (c.in_ok-with_distance.ensures.shape c.distance_arg-distance.ensures.local
+    ∙ ap₂ with_rule (c.in_ok-with_limit.ensures.shape c.limit_arg-limit.ensures.local
+    ∙ ap₂ with_rule (c.in_ok-with_all.ensures.shape c.all_arg-all.ensures.local
+    ∙ ap₂ with_rule c.plain.ensures c.all_arg-all.ensures.rule)
+    c.limit_arg-limit.ensures.rule) c.distance_arg-distance.ensures.rule) c.file_arg-file.ensures.rule

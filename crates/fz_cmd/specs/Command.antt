@@ -1,0 +1,30 @@
+-- The command whose words clap reads: the options, each by a rule, and FILE.
+use Rattle.std.specs.Prelude.{true, Some, [], ◌∷◌, codes, fold}
+use Rattle.clap.specs.Simple.{App, new_app, new_rule, with_rule, on_top}
+use Rattle.clap.specs.Walk.{Rule}
+use Rattle.clap.specs.declared.builder.action.ArgAction.TheVariants.{Set, SetTrue}
+use Rattle.clap.specs.declared.builder.value_parser.ValueParser.TheVariants.{Unsigned}
+use Rattle.fz_cmd.specs.declared.options.TheConstants.{COMMIT_DISTANCE_LEAST, COMMIT_DISTANCE_MOST}
+
+-- -a
+abbrev pub all_rule : Rule
+all_rule = record (new_rule (codes "all")) { short = Some 97; action = Some SetTrue }
+
+-- -n 0..4294967295
+abbrev pub limit_rule : Rule
+limit_rule = record (new_rule (codes "limit")) { short = Some 110; action = Some Set; parser = Some (Unsigned 0 4294967295) }
+
+-- --commit-distance 1..1000000
+abbrev pub distance_rule : Rule
+distance_rule = record (new_rule (codes "commit-distance")) { long = Some (codes "commit-distance"); action = Some Set; parser = Some (Unsigned COMMIT_DISTANCE_LEAST COMMIT_DISTANCE_MOST) }
+
+-- FILE
+abbrev pub file_rule : Rule
+file_rule = record (new_rule (codes "file")) { action = Some Set }
+
+-- Each word is an argument, and no option is clap's own.
+abbrev pub plain_app : App
+plain_app = on_top (λ s. record s { no_binary_name = true; disable_help_flag = true }) (new_app (codes "fzn"))
+
+abbrev pub fzn_app : App
+fzn_app = fold with_rule plain_app (all_rule ∷ limit_rule ∷ distance_rule ∷ file_rule ∷ [])

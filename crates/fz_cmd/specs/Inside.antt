@@ -1,0 +1,6 @@
+-- The options that the fields are.
+use Rattle.fz_cmd.specs.Meaning.{Options}
+use Rattle.fz_cmd.specs.declared.options.Options.TheInside.{Inside}
+
+abbrev pub options_in : Inside → Options
+options_in o = record { all = o.all; limit = o.limit; commit_distance = o.commit_distance; file = o.file }

@@ -1,0 +1,54 @@
+-- What the words of a command line mean.
+use Rattle.std.specs.Prelude.{ℕ, Bool, false, ◌≤◌, Option, Some, None, List, codes, cond, bytes_eq, option_map, option_and_then, unwrap_or}
+use Rattle.std.specs.Option.{option_map_or}
+use Rattle.std.specs.Str.Parse.{digits_value, without_leading_plus}
+use Rattle.clap.specs.Words.{Row, Text, first_of, matches_of, fault_of}
+use Rattle.clap.specs.ValueTests.{is_unsigned_in}
+use Rattle.clap.specs.Walk.{is_empty}
+use Rattle.fz_cmd.specs.declared.options.TheConstants.{COMMIT_DISTANCE, COMMIT_DISTANCE_LEAST, COMMIT_DISTANCE_MOST}
+use Rattle.fz_cmd.specs.Command.{fzn_app}
+
+-- all solutions or not, how many of them, the commit distance, and the text that is read
+pub record Options : Type 0 where
+  pub all : Bool
+  pub limit : Option ℕ
+  pub commit_distance : ℕ
+  pub file : List ℕ
+
+-- each number is in its range
+pub record HasRanges (o : Options) : Type 0 where
+  pub commit_distance : (COMMIT_DISTANCE_LEAST ≤ o.commit_distance) × (o.commit_distance ≤ COMMIT_DISTANCE_MOST)
+
+-- a flag was given
+abbrev pub is_on : Text → List Row → Bool
+is_on id rows = option_map_or (λ t. bytes_eq t (codes "true")) (first_of id rows) false
+
+-- the number that a text of digits, with a plus before it or not, spells within the bounds
+abbrev pub number_in : ℕ → ℕ → Text → Option ℕ
+number_in least most t = cond (is_unsigned_in least most t) (Some (digits_value 10 (without_leading_plus t))) None
+
+-- the number of an option, or none of its own where it isn't given; a text that is no such number is refused
+abbrev pub given_in : ℕ → ℕ → Option Text → Option (Option ℕ)
+given_in least most None = Some None
+given_in least most (Some t) = option_map (λ n. Some n) (number_in least most t)
+
+abbrev pub number_at : List Row → Text → ℕ → ℕ → Option (Option ℕ)
+number_at rows id least most = given_in least most (first_of id rows)
+
+-- the options that the matches give
+abbrev pub read : List Row → Option Options
+read rows =
+    option_and_then (λ limit.
+    option_and_then (λ distance.
+    Some (record {
+      all = is_on (codes "all") rows;
+      limit = limit;
+      commit_distance = unwrap_or distance COMMIT_DISTANCE;
+      file = unwrap_or (first_of (codes "file") rows) (codes "-");
+    }))
+    (number_at rows (codes "commit-distance") COMMIT_DISTANCE_LEAST COMMIT_DISTANCE_MOST))
+    (number_at rows (codes "limit") 0 4294967295)
+
+-- What clap's own rules refuse is refused; else the matches are read.
+abbrev pub options_of : List Text → Option Options
+options_of words = cond (is_empty (fault_of fzn_app words)) (read (matches_of fzn_app words)) None

@@ -1,0 +1,83 @@
+//! The command that clap reads the words by.
+ghost use Rattle.std.specs.Prelude.{◌≡◌, false, IfOk, map, string_bytes};
+ghost use Rattle.clap.specs.Words.{app_of, rule_of, rows_of, found_of, matches_of, fault_of, FailsBy};
+ghost use Rattle.fz_cmd.specs.Command.{all_rule, limit_rule, distance_rule, file_rule, plain_app, fzn_app};
+
+use crate::options::{COMMIT_DISTANCE_LEAST, COMMIT_DISTANCE_MOST};
+use clap::builder::ValueParser;
+use clap::{Arg, ArgAction, ArgMatches, Command, Error};
+use std::alloc::{AllocError, Global};
+
+/// `-a`
+fn all_arg<'a>(alloc: Global) -> Arg<'a>
+    ensures rule { rule_of result ≡ all_rule }
+    ensures local { result.global ≡ false }
+{
+    Arg::new(alloc, "all").short('a').action(ArgAction::SetTrue)
+}
+
+/// `-n NUMBER`
+fn limit_arg<'a>(alloc: Global) -> Arg<'a>
+    ensures rule { rule_of result ≡ limit_rule }
+    ensures local { result.global ≡ false }
+{
+    Arg::new(alloc, "limit")
+        .short('n')
+        .action(ArgAction::Set)
+        .value_parser(ValueParser::Unsigned(0, u32::MAX as u64))
+}
+
+/// `--commit-distance NUMBER`
+fn distance_arg<'a>(alloc: Global) -> Arg<'a>
+    ensures rule { rule_of result ≡ distance_rule }
+    ensures local { result.global ≡ false }
+{
+    Arg::new(alloc, "commit-distance")
+        .long("commit-distance")
+        .action(ArgAction::Set)
+        .value_parser(ValueParser::Unsigned(
+            COMMIT_DISTANCE_LEAST as u64,
+            COMMIT_DISTANCE_MOST as u64,
+        ))
+}
+
+/// FILE
+fn file_arg<'a>(alloc: Global) -> Arg<'a>
+    ensures rule { rule_of result ≡ file_rule }
+    ensures local { result.global ≡ false }
+{
+    Arg::new(alloc, "file").action(ArgAction::Set)
+}
+
+/// The command without arguments: each word is an argument, and there are no options but its own.
+fn plain<'a>(alloc: Global) -> Command<'a>
+    ensures { app_of result ≡ plain_app }
+{
+    Command::new(alloc, "fzn")
+        .no_binary_name(true)
+        .disable_help_flag(true)
+}
+
+fn command<'a>(alloc: Global) -> Result<Command<'a>, AllocError>
+    ensures { IfOk result (λ c. app_of c ≡ fzn_app) }
+{
+    let all = all_arg(alloc);
+    let limit = limit_arg(alloc);
+    let distance = distance_arg(alloc);
+    let file = file_arg(alloc);
+    let with_all = plain(alloc).arg(all)?;
+    let with_limit = with_all.arg(limit)?;
+    let with_distance = with_limit.arg(distance)?;
+    let with_file = with_distance.arg(file)?;
+    Ok(with_file)
+}
+
+/// What clap makes of the words.
+pub(crate) fn parse<'a>(alloc: Global, words: &'a [String]) -> Result<ArgMatches<'a>, Error>
+    ensures ok { IfOk result (λ m. rows_of (found_of m)
+        ≡ matches_of fzn_app (map string_bytes words.entry.now)) }
+    ensures exact { FailsBy (fault_of fzn_app (map string_bytes words.entry.now)) result }
+{
+    let command = command(alloc)?;
+    command.try_get_matches_from(words)
+}

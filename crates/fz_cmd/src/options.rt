@@ -1,0 +1,65 @@
+//! Options.
+ghost use Rattle.std.specs.Prelude.{◌≡◌};
+ghost use Rattle.fz_cmd.specs.Meaning.{HasRanges};
+
+use crate::name::Name;
+use std::marker::Model;
+
+/// The least and the greatest commit distance, and the one where none is given.
+pub const COMMIT_DISTANCE_LEAST: u32 = 1;
+
+pub const COMMIT_DISTANCE_MOST: u32 = 1_000_000;
+
+pub const COMMIT_DISTANCE: u32 = 8;
+
+/// What is asked for.
+#[derive(Drop)]
+pub struct Options {
+    pub(crate) all: bool,
+    pub(crate) limit: Option<u32>,
+    pub(crate) commit_distance: u32,
+    pub(crate) file: Name,
+}
+
+impl Model for Options {
+    ghost use Rattle.fz_cmd.specs.Meaning as meaning;
+
+    ghost Value = { meaning.Options };
+
+    ghost use Rattle.fz_cmd.specs.Inside.{options_in};
+
+    ghost view = { options_in };
+
+    ghost invariant = { λ o. meaning.HasRanges (options_in o) };
+}
+
+impl Options {
+    /// Whether `-a` was given: all solutions.
+    pub fn all(&self) -> bool
+        ensures { result ≡ self.now.all }
+    {
+        self.all
+    }
+
+    /// The number of `-n`: so many solutions, and all where it is 0.
+    pub fn limit(&self) -> Option<u32>
+        ensures { result ≡ self.now.limit }
+    {
+        self.limit
+    }
+
+    /// The commit distance, which recomputation keeps copies by.
+    pub fn commit_distance(&self) -> u32
+        ensures distance { result ≡ self.now.commit_distance }
+        ensures kept { HasRanges self.now }
+    {
+        self.commit_distance
+    }
+
+    /// The name of the text to read; `-` is standard input.
+    pub fn file(&self) -> &Name
+        ensures { result.now ≡ self.now.file }
+    {
+        &self.file
+    }
+}

@@ -1,0 +1,139 @@
+-- What may stand before the first token of a rule, which computation checks: the reading of any tokens comes to an end.
+use Rattle.std.proofs.Common.{◌≡◌, ℕ, Bool, true, false, refl}
+use Rattle.fz_language.specs.Grammar.{Part, WholeProgram, Items, OneItem, PredicateItem, Parameter, OfArray, IndexSets, Index, Variability, VariableItem, OptionalValue, ParameterItem, ArrayItem, ValueType, Plain, SetLiteral, Braces, OneNumber, Constant, RangeEnd, Basic, ListLiteral, Expression, ConstraintItem, SolveItem, Method, Annotations, Annotation, Called, Argument, Listed, More, Parameters, Indexes, Members, Elements, Expressions, Arguments, flatzinc, rules}
+use Rattle.fz_grammar.specs.Lefts.{Lefts, are_finite}
+
+abbrev takes : Part → Bool
+takes WholeProgram = true
+takes Items = false
+takes OneItem = true
+takes PredicateItem = true
+takes Parameter = true
+takes OfArray = false
+takes IndexSets = true
+takes Index = true
+takes Variability = false
+takes VariableItem = true
+takes OptionalValue = false
+takes ParameterItem = true
+takes ArrayItem = true
+takes ValueType = true
+takes Plain = true
+takes SetLiteral = true
+takes Braces = true
+takes OneNumber = true
+takes Constant = true
+takes RangeEnd = false
+takes Basic = true
+takes ListLiteral = true
+takes Expression = true
+takes ConstraintItem = true
+takes SolveItem = true
+takes Method = true
+takes Annotations = false
+takes Annotation = true
+takes Called = false
+takes Argument = true
+takes (Listed Parameters) = false
+takes (More Parameters) = false
+takes (Listed Indexes) = false
+takes (More Indexes) = false
+takes (Listed Members) = false
+takes (More Members) = false
+takes (Listed Elements) = false
+takes (More Elements) = false
+takes (Listed Expressions) = false
+takes (More Expressions) = false
+takes (Listed Arguments) = false
+takes (More Arguments) = false
+
+abbrev left : Part → ℕ
+left WholeProgram = 7
+left Items = 6
+left OneItem = 5
+left PredicateItem = 0
+left Parameter = 4
+left OfArray = 0
+left IndexSets = 1
+left Index = 0
+left Variability = 0
+left VariableItem = 0
+left OptionalValue = 0
+left ParameterItem = 4
+left ArrayItem = 0
+left ValueType = 3
+left Plain = 2
+left SetLiteral = 1
+left Braces = 0
+left OneNumber = 0
+left Constant = 1
+left RangeEnd = 0
+left Basic = 2
+left ListLiteral = 0
+left Expression = 3
+left ConstraintItem = 0
+left SolveItem = 0
+left Method = 0
+left Annotations = 0
+left Annotation = 0
+left Called = 0
+left Argument = 2
+left (Listed Parameters) = 5
+left (More Parameters) = 0
+left (Listed Indexes) = 1
+left (More Indexes) = 0
+left (Listed Members) = 1
+left (More Members) = 0
+left (Listed Elements) = 3
+left (More Elements) = 0
+left (Listed Expressions) = 4
+left (More Expressions) = 0
+left (Listed Arguments) = 3
+left (More Arguments) = 0
+
+abbrev pub lefts : Lefts flatzinc
+lefts = record { takes = takes; left = left }
+
+pub finite : (n : Part) → are_finite flatzinc lefts n (rules n) ≡ true
+finite WholeProgram = refl
+finite Items = refl
+finite OneItem = refl
+finite PredicateItem = refl
+finite Parameter = refl
+finite OfArray = refl
+finite IndexSets = refl
+finite Index = refl
+finite Variability = refl
+finite VariableItem = refl
+finite OptionalValue = refl
+finite ParameterItem = refl
+finite ArrayItem = refl
+finite ValueType = refl
+finite Plain = refl
+finite SetLiteral = refl
+finite Braces = refl
+finite OneNumber = refl
+finite Constant = refl
+finite RangeEnd = refl
+finite Basic = refl
+finite ListLiteral = refl
+finite Expression = refl
+finite ConstraintItem = refl
+finite SolveItem = refl
+finite Method = refl
+finite Annotations = refl
+finite Annotation = refl
+finite Called = refl
+finite Argument = refl
+finite (Listed Parameters) = refl
+finite (More Parameters) = refl
+finite (Listed Indexes) = refl
+finite (More Indexes) = refl
+finite (Listed Members) = refl
+finite (More Members) = refl
+finite (Listed Elements) = refl
+finite (More Elements) = refl
+finite (Listed Expressions) = refl
+finite (More Expressions) = refl
+finite (Listed Arguments) = refl
+finite (More Arguments) = refl

@@ -1,0 +1,11 @@
+//! Texts of the language and what a run with `-a` prints of each: tests of the whole program over a source and a sink in memory.
+#![tactic(auto)]
+
+#[cfg(test)]
+mod limits;
+#[cfg(test)]
+mod refusals;
+#[cfg(test)]
+mod running;
+#[cfg(test)]
+mod solutions;

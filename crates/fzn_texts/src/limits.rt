@@ -1,0 +1,46 @@
+//! Texts at the limits of the language.
+use crate::running::{expect_printed, expect_refusal};
+use std::alloc::{AllocError, Global};
+use std::test::Fail;
+
+/// A solve item with so many brackets open inside its annotation.
+fn nested(alloc: Global, levels: usize) -> Result<String, AllocError> {
+    let mut text = String::from_str(alloc, "solve ::")?;
+    for _ in 0..levels {
+        text.push_str("a(")?;
+    }
+    text.push_str("1")?;
+    for _ in 0..levels {
+        text.push_str(")")?;
+    }
+    text.push_str(" satisfy;")?;
+    Ok(text)
+}
+
+#[test]
+fn the_sixty_fifth_bracket_is_refused(rt: HostRuntime) -> Result<(), Fail> {
+    let alloc = rt.alloc();
+    let deep = nested(alloc, 65)?;
+    expect_refusal(&rt, alloc, deep.as_bytes(), 1, 138, 11)?;
+    let fine = nested(alloc, 64)?;
+    expect_printed(&rt, alloc, fine.as_bytes(), "----------\n==========\n")
+}
+
+/// An array of so many zeros.
+fn zeros(alloc: Global, count: usize) -> Result<String, AllocError> {
+    let mut text = format!(in alloc; "array [1..{count}] of int: a = [0")?;
+    for _ in 1..count {
+        text.push_str(",0")?;
+    }
+    text.push_str("]; solve satisfy;")?;
+    Ok(text)
+}
+
+#[test]
+fn the_first_element_over_the_limit_is_refused(rt: HostRuntime) -> Result<(), Fail> {
+    let alloc = rt.alloc();
+    let many = zeros(alloc, 1_000_001)?;
+    expect_refusal(&rt, alloc, many.as_bytes(), 1, 2_000_033, 11)?;
+    let fine = zeros(alloc, 1_000_000)?;
+    expect_printed(&rt, alloc, fine.as_bytes(), "----------\n==========\n")
+}

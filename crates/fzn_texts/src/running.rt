@@ -1,0 +1,76 @@
+//! Runs over a text in memory.
+use fz_io::gate::NoGate;
+use fz_io::memory_sink::MemSink;
+use fz_io::memory_source::MemSource;
+use fz_io::texts::NamedText;
+use fz_print::refusal::Refusal;
+use fzn::{Status, fzn};
+use std::alloc::{AllocError, Global};
+use std::process::Abort;
+use std::test::Fail;
+
+/// What a run leaves.
+#[derive(Drop)]
+pub(crate) struct Outcome {
+    pub status: Status,
+    pub printed: Vec<u8>,
+}
+
+/// A run with `-a` over standard input.
+pub(crate) fn run(alloc: Global, text: &[u8]) -> Result<Outcome, AllocError> {
+    let mut texts = Vec::new(alloc);
+    texts.push(NamedText {
+        name: String::from_str(alloc, "-")?,
+        bytes: Vec::from_slice(alloc, text)?,
+    })?;
+    let mut words = Vec::new(alloc);
+    words.push(String::from_str(alloc, "-a")?)?;
+    let mut source = MemSource::new(texts, Vec::new(alloc));
+    let mut sink = MemSink::new(alloc, Vec::new(alloc));
+    let status = fzn(&(), alloc, &words, &mut source, &mut sink, &NoGate);
+    Ok(Outcome {
+        status,
+        printed: Vec::from_slice(alloc, sink.bytes())?,
+    })
+}
+
+/// The pieces between lines of ten dashes, in sorted order, since blocks may come in any.
+fn blocks_of(alloc: Global, printed: &[u8]) -> Result<Vec<String>, Fail> {
+    let text = std::str::from_utf8(printed)?;
+    let mut blocks = Vec::new(alloc);
+    for block in text.split("----------\n") {
+        blocks.push(String::from_str(alloc, block)?)?;
+    }
+    blocks.sort()?;
+    Ok(blocks)
+}
+
+/// Runs a text, and compares what is printed, whatever the order of its blocks.
+pub(crate) fn expect_printed(
+    rt: &impl Abort,
+    alloc: Global,
+    text: &[u8],
+    printed: &str,
+) -> Result<(), Fail> {
+    let outcome = run(alloc, text)?;
+    assert_eq!(rt; outcome.status, Status::Done);
+    let got = blocks_of(alloc, &outcome.printed)?;
+    let wanted = blocks_of(alloc, printed.as_bytes())?;
+    assert_eq!(rt; got, wanted);
+    Ok(())
+}
+
+/// Runs a text that is refused, and compares the status.
+pub(crate) fn expect_refusal(
+    rt: &impl Abort,
+    alloc: Global,
+    text: &[u8],
+    line: u32,
+    column: u32,
+    code: u8,
+) -> Result<(), Fail> {
+    let outcome = run(alloc, text)?;
+    let refusal = Refusal { code, line, column };
+    assert_eq!(rt; outcome.status, Status::Refused(refusal));
+    Ok(())
+}

@@ -1,0 +1,67 @@
+//! Texts that are accepted, and all their solutions.
+use crate::running::expect_printed;
+use std::test::Fail;
+
+/// A text, and what is printed of it.
+type Row = (&'static str, &'static str);
+
+const ROWS: [Row; 13] = [
+    ("solve satisfy;", "----------\n==========\n"),
+    ("var 3..1: x; solve satisfy;", "=====UNSATISFIABLE=====\n"),
+    (
+        "var 1..2: x; constraint int_le(3,x); solve satisfy;",
+        "=====UNSATISFIABLE=====\n",
+    ),
+    (
+        "var 1..2: x :: output_var; var 1..2: y :: output_var; constraint int_ne(x,y); solve satisfy;",
+        "x = 1;\ny = 2;\n----------\nx = 2;\ny = 1;\n----------\n==========\n",
+    ),
+    (
+        "var 1..3: a; var 1..3: b; var 1..3: c; var 1..3: d; constraint fzn_all_different_int([a,b,c,d]); solve satisfy;",
+        "=====UNSATISFIABLE=====\n",
+    ),
+    (
+        "var -2..2: b :: output_var; var -7..7: c :: output_var; constraint int_div(-7,b,c); solve satisfy;",
+        "b = -2;\nc = 3;\n----------\nb = -1;\nc = 7;\n----------\nb = 1;\nc = -7;\n----------\nb = 2;\nc = -3;\n----------\n==========\n",
+    ),
+    (
+        "var 0..3: s :: output_var; var 0..3: t :: output_var; constraint fzn_cumulative([s,t],[2,2],[1,1],1); solve satisfy;",
+        "s = 0;\nt = 2;\n----------\ns = 0;\nt = 3;\n----------\ns = 1;\nt = 3;\n----------\ns = 2;\nt = 0;\n----------\ns = 3;\nt = 0;\n----------\ns = 3;\nt = 1;\n----------\n==========\n",
+    ),
+    (
+        "var 2..2: x; var bool: b :: output_var = true; array [1..4] of var int: m :: output_array([1..2,1..2]) = [1,x,3,-4]; array [1..0] of var int: e :: output_array([1..0]) = []; solve satisfy;",
+        "b = true;\nm = array2d(1..2, 1..2, [1, 2, 3, -4]);\ne = array1d(1..0, []);\n----------\n==========\n",
+    ),
+    (
+        "var 1..9: x; var 1..9: y = x; array [1..2] of var 4..5: a :: output_array([1..2]) = [x,y]; solve satisfy;",
+        "a = array1d(1..2, [4, 4]);\n----------\na = array1d(1..2, [5, 5]);\n----------\n==========\n",
+    ),
+    (
+        "predicate fzn_all_different_int(array [int] of var int: x);\n% caf\u{e9}\nvar 0..1: X_INTRODUCED_0_ ::var_is_introduced :: is_defined_var;\nconstraint int_eq(X_INTRODUCED_0_,1):: defines_var(X_INTRODUCED_0_):: mzn_path(\"a;b|c\");\nsolve :: seq_search([int_search([X_INTRODUCED_0_],first_fail,indomain_min,complete)]) satisfy;",
+        "----------\n==========\n",
+    ),
+    (
+        "var 1..1: x :: output_var(1) :: output_var; var 2..2: y :: output_var(); var 3..3: z :: output_var :: output_var; var 4..4: u :: output_var(1); solve satisfy;",
+        "x = 1;\ny = 2;\nz = 3;\n----------\n==========\n",
+    ),
+    (
+        "array [1..2] of int: w = [0x10,-0o17]; var {5,-3,5}: x :: output_var; var 0..9: y :: output_var; constraint int_lin_eq(w,[x,y],-63); solve satisfy;",
+        "x = -3;\ny = 1;\n----------\n==========\n",
+    ),
+    (
+        "set of int: S = {2,4}; array [1..2] of bool: t = [false,true]; var 1..5: x :: output_var; var bool: r :: output_var; constraint set_in(x,S); constraint array_bool_element(x,t,r); solve satisfy;",
+        "x = 2;\nr = true;\n----------\n==========\n",
+    ),
+];
+
+fn rows() -> &'static [Row] {
+    &ROWS
+}
+
+#[test]
+fn all_solutions_are_printed(rt: HostRuntime) -> Result<(), Fail> {
+    for (text, printed) in rows() {
+        expect_printed(&rt, rt.alloc(), text.as_bytes(), printed)?;
+    }
+    Ok(())
+}
