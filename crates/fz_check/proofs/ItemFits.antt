@@ -24,7 +24,7 @@ use Rattle.fz_language.specs.Trees as trees
 use Rattle.fz_language.specs.Numerals.{set_in, all_of}
 use Rattle.fz_language.specs.Entries.{Environment, Entry, with_entry, term_in, set_of, each_of, number_of}
 use Rattle.fz_language.specs.Entries as entries
-use Rattle.fz_language.specs.Annotations.{annotation_of, arguments_of, shape_in, bracketed, range_of, place_of, seventh}
+use Rattle.fz_language.specs.Annotations.{annotation_of, plain_annotation_of, arguments_of, shape_in, bracketed, range_of, place_of, seventh}
 use Rattle.fz_language.specs.Rules.{OUTPUT_VAR, OUTPUT_ARRAY, Fault, Addition, kind_of, term_asked, is_bound, bad_variable_type, type_additions, element_count, at_places, named_unsupported, floats_of, named_unknown, unknown_of, wrong_arguments, arguments_in, have_lengths, lengths_in, signature_faults, row_faults, call_faults, wrong_place, wrong_element, seventh_ranges, wrong_index_set, wrong_shape, misplaced_output_array}
 use Rattle.fz_language.specs.Models.{type_set, plain_set, terms_of, parameter_entry, array_entry, declare, Scope, equal_to, value_constraints, bound_to, element_constraints, call_constraints, scalar_outputs, array_outputs}
 use Rattle.fz_language.specs.Within.{SetFits, ValueFits, PlainFits, TypeFits, BasicFits, ExpressionFits, VariableFits, ParameterFits, ArrayFits}
@@ -209,26 +209,11 @@ pub record Shown (vs : List Variable) (o : Output) : Type 0 where
   pub form : HasForm o.array o.shape (length o.terms)
 
 pub scalar_shown : (vs : List Variable) (s : Scope) (v : VariableItem) → kind_at vs s.variables ≡ Some (kind_of v.value_type) → AllByRecursion (Shown vs) (scalar_outputs s v)
-scalar_shown vs s v k = go (annotation_of OUTPUT_VAR v.annotations)
+scalar_shown vs s v k = go (plain_annotation_of OUTPUT_VAR v.annotations)
   where
-    shown : (args : List trees.Argument) → AllByRecursion (Shown vs)
-        (elim args [
-          | [] ↦ record { name = v.name.bytes; kind = kind_of v.value_type; array = false; shape = []; terms = Var s.variables ∷ [] } ∷ []
-          | x ∷ xs ↦ []
-        ])
-    shown [] = (record { few = omega arith; terms = (k, tt); form = (refl, refl) }, tt)
-    shown (x ∷ xs) = tt
-
-    go : (o : Option Annotation) → AllByRecursion (Shown vs)
-        (elim o [
-          | Some a ↦ elim (arguments_of a) [
-            | [] ↦ record { name = v.name.bytes; kind = kind_of v.value_type; array = false; shape = []; terms = Var s.variables ∷ [] } ∷ []
-            | x ∷ xs ↦ []
-          ]
-          | None ↦ []
-        ])
+    go : (o : Option Annotation) → AllByRecursion (Shown vs) (elim o [ Some a ↦ record { name = v.name.bytes; kind = kind_of v.value_type; array = false; shape = []; terms = Var s.variables ∷ [] } ∷ [] | None ↦ [] ])
     go None = tt
-    go (Some a) = shown (arguments_of a)
+    go (Some a) = (record { few = omega arith; terms = (k, tt); form = (refl, refl) }, tt)
 
 same_count : (shape : List (ℤ × ℤ)) → element_count shape ≡ kept.element_count shape
 same_count [] = refl

@@ -2,6 +2,7 @@ pub mod ArgumentFits
 pub mod Beginnings
 pub mod CallLaws
 pub mod Counting
+pub mod DraftLaws
 pub mod EntryLaws
 pub mod FaultLaws
 pub mod Finds

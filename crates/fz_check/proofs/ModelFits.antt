@@ -92,7 +92,7 @@ element_count s a h vs sound true true =
 element_count s a h vs sound true false = omega arith
 element_count s a h vs sound false bound = omega arith
 
-lists_placed : (xs ys zs : List ℕ) (b : Bool) → in_order xs (cond b ys zs) ≡ [] → b ≡ false → zs ≡ []
+pub lists_placed : (xs ys zs : List ℕ) (b : Bool) → in_order xs (cond b ys zs) ≡ [] → b ≡ false → zs ≡ []
 lists_placed [] ys zs true e f = cc
 lists_placed (x ∷ xs) ys zs true e f = cc
 lists_placed [] ys [] false e f = refl

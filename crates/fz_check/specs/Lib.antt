@@ -1,5 +1,6 @@
 pub mod Calls
 pub mod Checked
+pub mod Drafts
 pub mod Entered
 pub mod Fits
 pub mod Parts

@@ -81,8 +81,8 @@ fn call_of_row(
         RuleFault::Unsupported,
         first_float_of_arguments(&item.arguments),
     );
-    let arity = item.arguments.as_slice().len();
-    match signature_of(row.2, arity) {
+    let arguments = item.arguments.as_slice();
+    match signature_of(row.2, arguments.len()) {
         Some(signature) => Ok(signed(alloc, names, item, row, signature, floats)?),
         None => Ok(Err(or_this(
             floats,

@@ -5,6 +5,7 @@
 
 pub mod call;
 pub mod declared;
+pub mod draft;
 pub mod entered;
 pub mod faults;
 pub mod laws;
