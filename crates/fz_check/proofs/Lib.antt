@@ -11,5 +11,6 @@ pub mod ModelFits
 pub mod PlaceLaws
 pub mod RowLaws
 pub mod SearchFits
+pub mod SearchLaws
 pub mod SetFits
 pub mod TermFits

@@ -5,3 +5,4 @@ pub mod Entered
 pub mod Fits
 pub mod Parts
 pub mod Rows
+pub mod Searches

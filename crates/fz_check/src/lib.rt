@@ -11,5 +11,6 @@ pub mod faults;
 pub mod laws;
 pub mod parts;
 pub mod rows;
+pub mod search;
 
 pub use fz_resolve::Fault;
