@@ -7,6 +7,7 @@ pub mod EntryLaws
 pub mod FaultLaws
 pub mod Finds
 pub mod ItemFits
+pub mod Kept
 pub mod ModelFits
 pub mod PlaceLaws
 pub mod RowLaws

@@ -1,6 +1,6 @@
 -- Search annotations, one by one.
 use Rattle.std.proofs.Common.{◌≡◌, ◌≢◌, ◌⊎◌, inl, inr, ℕ, zero, suc, ◌+◌, ◌<◌, ◌≤◌, Bool, true, false, ◌||◌, cond, Option, Some, None, option_map, List, [], ◌∷◌, ◌++◌, map, take, length, get_or, refl, sym, ap, ap₂, ◌∙◌, subst, append_assoc, append-nil, arith}
-use Rattle.std.specs.Prelude.{find, is_some, bytes_eq, flat_map}
+use Rattle.std.specs.Prelude.{find, is_some, bytes_eq, codes, flat_map}
 use Rattle.std.proofs.lemmas.List.{take_more, map-append}
 use Rattle.std.proofs.lemmas.Slice.Eq.{bytes_eq-Decides}
 use Rattle.fz_spec.specs.declared.term.Term.{Term}
@@ -9,7 +9,9 @@ use Rattle.fz_spec.specs.Instance.{SearchPart}
 use Rattle.fz_language.specs.Trees.{Name, Truth, Numeral, Literal, Named, Argument, Arguments, Simple, Text, Call, Brackets, Nil, More, Annotation}
 use Rattle.fz_language.specs.Numerals.{all_of}
 use Rattle.fz_language.specs.Entries.{Environment}
-use Rattle.fz_language.specs.Search.{variables_of_terms, member, part_of, part_in, parts_in, parts_of_all, as_argument, firsts}
+use Rattle.fz_language.specs.Search.{variables_of_terms, member, part_of, part_in, parts_in, parts_of_list, parts_of_all, is_basic_search, as_argument, firsts}
+use Rattle.fz_language.specs.Annotations.{list_of}
+use Rattle.fz_resolve.proofs.AnnotationLaws.{list_joined}
 use Rattle.fz_language.specs.Search as searches
 use Rattle.fz_syntax.specs.Trees.{joined}
 use Rattle.fz_check.specs.Searches.{option_list, word_of, part_of_words}
@@ -229,3 +231,36 @@ first_again seen a rest h = go (find (bytes_eq a.name.bytes) seen) h
     go : (o : Option (List ℕ)) → is_some o ≡ true → elim o [ Some name ↦ firsts seen rest | None ↦ a ∷ firsts (a.name.bytes ∷ seen) rest ] ≡ firsts seen rest
     go (Some n) k = refl
     go None k = cc
+
+-- ---- one call
+
+abbrev pub SEQ_SEARCH : List ℕ
+SEQ_SEARCH = codes "seq_search"
+
+pub in_list : (env : Environment) (name : Name) (args : Arguments) (ps : List SearchPart) → is_basic_search name.bytes ≡ false → bytes_eq name.bytes SEQ_SEARCH ≡ true → parts_of_list env args ≡ ps → parts_in env (Call name args) ≡ ps
+in_list env name args ps e k h =
+    ap (λ b. cond b (part_in env (list_of args)) (cond (bytes_eq name.bytes SEQ_SEARCH) (parts_of_list env args) [])) e ∙ ap (λ b. cond b (parts_of_list env args) []) k ∙ h
+
+pub in_no_list : (env : Environment) (name : Name) (args : Arguments) → is_basic_search name.bytes ≡ false → bytes_eq name.bytes SEQ_SEARCH ≡ false → parts_in env (Call name args) ≡ []
+in_no_list env name args e k =
+    ap (λ b. cond b (part_in env (list_of args)) (cond (bytes_eq name.bytes SEQ_SEARCH) (parts_of_list env args) [])) e ∙ ap (λ b. cond b (parts_of_list env args) []) k
+
+pub in_basic : (env : Environment) (name : Name) (args : List Argument) → is_basic_search name.bytes ≡ true → parts_in env (Call name (joined args)) ≡ part_in env args
+in_basic env name args e =
+    ap (λ b. cond b (part_in env (list_of (joined args))) (cond (bytes_eq name.bytes SEQ_SEARCH) (parts_of_list env (joined args)) [])) e ∙ ap (part_in env) (list_joined args)
+
+pub not_one : {X : Type 0} (env : Environment) (f : X → Argument) (xs : List X) → length xs ≢ 1 → parts_of_list env (joined (map f xs)) ≡ []
+not_one env f [] h = refl
+not_one env f (x ∷ []) h = absurd (h refl)
+not_one env f (x ∷ y ∷ xs) h = several env (f x) (joined (map f (y ∷ xs))) (f y) (joined (map f xs)) refl
+  where
+    several : (env : Environment) (a : Argument) (others : Arguments) (b : Argument) (rest : Arguments) → others ≡ More b rest → parts_of_list env (More a (More b rest)) ≡ []
+    several env (Brackets at args) others b rest e = refl
+    several env (Simple basic) others b rest e = refl
+    several env (Text at) others b rest e = refl
+    several env (Call name args) others b rest e = refl
+
+pub only_one : {X : Type 0} (env : Environment) (f : X → Argument) (xs : List X) (x : X) → length xs ≡ 1 → x ≡ get_or xs 0 x → parts_of_list env (joined (map f xs)) ≡ parts_of_list env (More (f x) Nil)
+only_one env f [] x h is = absurd (omega (arith, h))
+only_one {X} env f (y ∷ []) x h is = ap (λ (z : X). parts_of_list env (More (f z) Nil)) (sym is)
+only_one env f (y ∷ z ∷ xs) x h is = absurd (omega (arith, h))

@@ -4,6 +4,7 @@
 #![tactic(auto)]
 
 pub mod call;
+pub mod checker;
 pub mod declared;
 pub mod draft;
 pub mod entered;
@@ -12,5 +13,7 @@ pub mod laws;
 pub mod parts;
 pub mod rows;
 pub mod search;
+pub mod textual;
 
+pub use checker::check;
 pub use fz_resolve::Fault;

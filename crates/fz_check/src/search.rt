@@ -1,5 +1,5 @@
 //! Search annotations of the solve item. One that isn't of their form is ignored.
-ghost use Rattle.std.specs.Prelude.{◌≡◌, ◌++◌, ◌∷◌, [], IfOk, OnOk, List, Some, None, map, flat_map, bytes_eq, option_map, is_some, find};
+ghost use Rattle.std.specs.Prelude.{◌≡◌, ◌++◌, ◌∷◌, [], IfOk, OnOk, List, Some, None, map, flat_map, bytes_eq, option_map, is_some, find, codes};
 ghost use Rattle.fz_language.specs.Numerals.{all_of};
 ghost use Rattle.fz_language.specs.Search as searches;
 ghost use Rattle.fz_language.specs.Trees as lang;
@@ -58,11 +58,15 @@ fn push_annotation(
         ++ flat_map (searches.parts_in (environment_of names.now)) (searches.as_argument (trees.annotation_of annotation.now))) }
 {
     match &annotation.arguments {
-        Some(arguments) => push_call(alloc, names, annotation.name, arguments, parts),
+        Some(arguments) => {
+            push_call(alloc, names, annotation.name, arguments, parts)?;
+            Ok(())
+        }
         None => Ok(()),
     }
 }
 
+#[cycle(calls)]
 fn push_call(
     alloc: Global,
     names: &Names<'_>,
@@ -74,27 +78,45 @@ fn push_call(
         ++ parts_of_call (environment_of names.now) (trees.name_of name.entry) arguments.now) }
 {
     if is_basic_search(name.bytes) {
-        return push_part(alloc, names, arguments, parts);
-    }
-    if name.bytes != b"seq_search".as_slice() {
+        push_part(alloc, names, arguments, parts)?;
         return Ok(());
     }
-    match arguments {
-        [only] => match only {
-            Argument::Brackets {
-                arguments: members,
-                ..
-            } => {
-                for member in members {
-                    if let Argument::Call { name, arguments } = member {
-                        push_call(alloc, names, *name, arguments, parts)?;
-                    }
-                }
-                Ok(())
+    if !is_seq_search(name.bytes) {
+        return Ok(());
+    }
+    if arguments.len() != 1 {
+        return Ok(());
+    }
+    match &arguments[0] {
+        Argument::Brackets {
+            arguments: members,
+            ..
+        } => {
+            for member in members {
+                push_member_call(alloc, names, member, parts)?;
             }
-            _ => Ok(()),
-        },
-        _ => Ok(()),
+            Ok(())
+        }
+        Argument::Simple(_) | Argument::Text { .. } | Argument::Call { .. } => Ok(()),
+    }
+}
+
+#[cycle(calls)]
+fn push_member_call(
+    alloc: Global,
+    names: &Names<'_>,
+    member: &Argument<'_>,
+    parts: &mut Vec<SearchPart>,
+) -> Result<(), AllocError>
+    ensures { OnOk result (parts.new.items ≡ parts.old.items
+        ++ searches.parts_in (environment_of names.now) (trees.argument_of member.now)) }
+{
+    match member {
+        Argument::Call { name, arguments } => {
+            push_call(alloc, names, *name, arguments, parts)?;
+            Ok(())
+        }
+        Argument::Simple(_) | Argument::Text { .. } | Argument::Brackets { .. } => Ok(()),
     }
 }
 
@@ -102,6 +124,12 @@ fn is_basic_search(word: &[u8]) -> bool
     ensures { result ≡ searches.is_basic_search word.now }
 {
     word == b"int_search".as_slice() || word == b"bool_search".as_slice()
+}
+
+fn is_seq_search(word: &[u8]) -> bool
+    ensures { result ≡ bytes_eq word.now (codes "seq_search") }
+{
+    word == b"seq_search".as_slice()
 }
 
 /// Adds the part of `(variables, pick, value)`, with a fourth argument or without.
@@ -185,7 +213,7 @@ fn variables_in(
         ≡ searches.variables_in (environment_of names.now) (trees.argument_of argument.now)) }
 {
     match argument {
-        Argument::Brackets { arguments, .. } => members(alloc, names, arguments),
+        Argument::Brackets { arguments, .. } => Ok(members(alloc, names, arguments)?),
         Argument::Simple(Basic::Named(name)) => match names.entry(*name) {
             Some(Entry::Terms { terms, .. }) => Ok(Some(variables_of(alloc, terms)?)),
             _ => Ok(None),
