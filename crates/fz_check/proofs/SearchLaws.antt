@@ -1,7 +1,8 @@
 -- Search annotations, one by one.
-use Rattle.std.proofs.Common.{◌≡◌, ◌≢◌, ◌⊎◌, inl, inr, ℕ, zero, suc, ◌+◌, ◌<◌, ◌≤◌, Bool, true, false, ◌||◌, cond, Option, Some, None, option_map, List, [], ◌∷◌, ◌++◌, map, take, length, get_or, refl, sym, ap, ap₂, ◌∙◌, subst, append_assoc, append-nil, arith}
+use Rattle.std.proofs.Common.{◌≡◌, ◌≢◌, ◌⊎◌, inl, inr, ℕ, zero, suc, ◌+◌, ◌<◌, ◌≤◌, Bool, true, false, ◌||◌, cond, Option, Some, None, option_map, List, [], ◌∷◌, ◌++◌, map, take, drop, length, get_or, refl, sym, ap, ap₂, ◌∙◌, subst, append_assoc, append-nil, arith}
 use Rattle.std.specs.Prelude.{find, is_some, bytes_eq, codes, flat_map}
-use Rattle.std.proofs.lemmas.List.{take_more, map-append}
+use Rattle.std.proofs.lemmas.List.{take_more, drop_more, drop_all, map-append}
+use Rattle.std.proofs.lemmas.Grind.{flat_map-append}
 use Rattle.std.proofs.lemmas.Slice.Eq.{bytes_eq-Decides}
 use Rattle.fz_spec.specs.declared.term.Term.{Term}
 use Rattle.fz_spec.specs.declared.term.Term.TheVariants.{Num, Var}
@@ -9,12 +10,12 @@ use Rattle.fz_spec.specs.Instance.{SearchPart}
 use Rattle.fz_language.specs.Trees.{Name, Truth, Numeral, Literal, Named, Argument, Arguments, Simple, Text, Call, Brackets, Nil, More, Annotation}
 use Rattle.fz_language.specs.Numerals.{all_of}
 use Rattle.fz_language.specs.Entries.{Environment}
-use Rattle.fz_language.specs.Search.{variables_of_terms, member, part_of, part_in, parts_in, parts_of_list, parts_of_all, is_basic_search, as_argument, firsts}
+use Rattle.fz_language.specs.Search.{variables_of_terms, member, part_of, part_in, parts_in, parts_of_list, parts_of_all, is_basic_search, as_argument, firsts, search_of}
 use Rattle.fz_language.specs.Annotations.{list_of}
 use Rattle.fz_resolve.proofs.AnnotationLaws.{list_joined}
 use Rattle.fz_language.specs.Search as searches
 use Rattle.fz_syntax.specs.Trees.{joined}
-use Rattle.fz_check.specs.Searches.{option_list, word_of, part_of_words}
+use Rattle.fz_check.specs.Searches.{option_list, word_of, part_of_words, has_name, parts_of_first}
 
 -- ---- variables
 
@@ -175,10 +176,6 @@ part_here env f (x ∷ y ∷ z ∷ r ∷ t ∷ rest) v p q h a b c = absurd (too
 
 -- ---- the first of each name
 
--- whether one of these annotations has this name
-abbrev pub has_name : List ℕ → List Annotation → Bool
-has_name name before = is_some (find (λ (a : Annotation). bytes_eq name a.name.bytes) before)
-
 pub some_before : (b : Bool) (a : Annotation) (o : Option Annotation) → is_some (cond b (Some a) o) ≡ (b || is_some o)
 some_before true a o = refl
 some_before false a o = refl
@@ -264,3 +261,58 @@ pub only_one : {X : Type 0} (env : Environment) (f : X → Argument) (xs : List 
 only_one env f [] x h is = absurd (omega (arith, h))
 only_one {X} env f (y ∷ []) x h is = ap (λ (z : X). parts_of_list env (More (f z) Nil)) (sym is)
 only_one env f (y ∷ z ∷ xs) x h is = absurd (omega (arith, h))
+
+pub none_added : {X : Type 0} (xs : List X) {ys : List X} → ys ≡ [] → xs ≡ xs ++ ys
+none_added xs e = sym (append-nil xs) ∙ ap (λ zs. xs ++ zs) (sym e)
+
+-- ---- all annotations
+
+abbrev parts_behind : Environment → List (List ℕ) → List Annotation → List SearchPart
+parts_behind env seen rest = flat_map (parts_in env) (flat_map as_argument (firsts seen rest))
+
+-- the parts so far, and those of the annotations that are left
+pub record Searched {X : Type 0} (env : Environment) (f : X → Annotation) (xs : List X) (i : ℕ) (parts : List SearchPart) : Type 0 where
+  pub seen : List (List ℕ)
+  pub are : AreSeen seen (map f (take i xs))
+  pub whole : parts ++ parts_behind env seen (map f (drop i xs)) ≡ search_of env (map f xs)
+
+pub none_searched : {X : Type 0} (env : Environment) (f : X → Annotation) (xs : List X) → Searched env f xs 0 []
+none_searched env f xs = record { seen = []; are = λ name. refl; whole = refl }
+
+pub one_searched : {X : Type 0} (env : Environment) (f : X → Annotation) (xs : List X) (i : ℕ) (x : X) (parts : List SearchPart) → i < length xs → x ≡ get_or xs i x → Searched env f xs i parts
+    → Searched env f xs (i + 1) (parts ++ parts_of_first env (map f (take i xs)) (f x))
+one_searched {X} env f xs i x parts l is s = go (has_name (f x).name.bytes (map f (take i xs))) refl
+  where
+    taken : map f (take i xs) ++ f x ∷ [] ≡ map f (take (i + 1) xs)
+    taken = sym (ap (map f) (take_more xs i x l) ∙ map-append f (take i xs) (get_or xs i x ∷ []) ∙ ap (λ (y : X). map f (take i xs) ++ f y ∷ []) (sym is))
+
+    dropped : map f (drop i xs) ≡ f x ∷ map f (drop (i + 1) xs)
+    dropped = ap (map f) (drop_more xs i x l) ∙ ap (λ (y : X). f y ∷ map f (drop (i + 1) xs)) (sym is)
+
+    before : parts ++ parts_behind env s.seen (f x ∷ map f (drop (i + 1) xs)) ≡ search_of env (map f xs)
+    before = ap (λ r. parts ++ parts_behind env s.seen r) (sym dropped) ∙ s.whole
+
+    go : (b : Bool) → has_name (f x).name.bytes (map f (take i xs)) ≡ b → Searched env f xs (i + 1) (parts ++ cond b [] (flat_map (parts_in env) (as_argument (f x))))
+    go true e = record {
+      seen = s.seen;
+      are = subst (AreSeen s.seen) taken (seen_again s.seen (map f (take i xs)) (f x) s.are e);
+      whole =
+          ap (λ ps. ps ++ parts_behind env s.seen (map f (drop (i + 1) xs))) (append-nil parts)
+          ∙ ap (λ list. parts ++ flat_map (parts_in env) (flat_map as_argument list)) (sym (first_again s.seen (f x) (map f (drop (i + 1) xs)) (s.are (f x).name.bytes ∙ e))) ∙ before;
+    }
+    go false e =
+        let name = (f x).name.bytes in
+        let here = flat_map (parts_in env) (as_argument (f x)) in
+        let others = firsts (name ∷ s.seen) (map f (drop (i + 1) xs)) in
+        record {
+          seen = name ∷ s.seen;
+          are = subst (AreSeen (name ∷ s.seen)) taken (seen_new s.seen (map f (take i xs)) (f x) s.are);
+          whole =
+              append_assoc parts here (flat_map (parts_in env) (flat_map as_argument others))
+              ∙ ap (λ ps. parts ++ ps) (sym (flat_map-append (parts_in env) (as_argument (f x)) (flat_map as_argument others)))
+              ∙ ap (λ list. parts ++ flat_map (parts_in env) (flat_map as_argument list)) (sym (first_new s.seen (f x) (map f (drop (i + 1) xs)) (s.are name ∙ e))) ∙ before;
+        }
+
+pub all_searched : {X : Type 0} (env : Environment) (f : X → Annotation) (xs : List X) (i : ℕ) (parts : List SearchPart) → length xs ≤ i → Searched env f xs i parts → parts ≡ search_of env (map f xs)
+all_searched {X} env f xs i parts l s =
+    sym (append-nil parts) ∙ ap (λ (r : List X). parts ++ parts_behind env s.seen (map f r)) (sym (drop_all i xs l)) ∙ s.whole

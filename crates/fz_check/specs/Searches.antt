@@ -1,10 +1,10 @@
 -- Search annotations, as the code reads them.
-use Rattle.std.specs.Prelude.{ℕ, List, [], ◌∷◌, Option, Some, None, map}
+use Rattle.std.specs.Prelude.{ℕ, List, [], ◌∷◌, Option, Some, None, Bool, cond, map, is_some, find, bytes_eq, flat_map}
 use Rattle.fz_spec.specs.Instance.{SearchPart}
 use Rattle.fz_language.specs.Trees.{Call}
 use Rattle.fz_language.specs.Trees as lang
 use Rattle.fz_language.specs.Entries.{Environment}
-use Rattle.fz_language.specs.Search.{parts_in, part_of}
+use Rattle.fz_language.specs.Search.{parts_in, part_of, as_argument}
 use Rattle.fz_syntax.specs.declared.annotation.Argument.{Argument}
 use Rattle.fz_syntax.specs.Trees.{argument_of, joined}
 
@@ -30,3 +30,11 @@ word_of (lang.Brackets at arguments) = None
 abbrev pub part_of_words : Environment → lang.Argument → Option lang.Name → Option lang.Name → List SearchPart
 part_of_words env variables (Some pick) (Some value) = part_of env variables pick value
 part_of_words env variables pick value = []
+
+-- whether one of these annotations has this name
+abbrev pub has_name : List ℕ → List lang.Annotation → Bool
+has_name name before = is_some (find (λ (a : lang.Annotation). bytes_eq name a.name.bytes) before)
+
+-- the parts of an annotation, none where its name stood before
+abbrev pub parts_of_first : Environment → List lang.Annotation → lang.Annotation → List SearchPart
+parts_of_first env before a = cond (has_name a.name.bytes before) [] (flat_map (parts_in env) (as_argument a))

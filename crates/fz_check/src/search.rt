@@ -1,11 +1,11 @@
 //! Search annotations of the solve item. One that isn't of their form is ignored.
-ghost use Rattle.std.specs.Prelude.{◌≡◌, ◌++◌, ◌∷◌, [], IfOk, OnOk, List, Some, None, map, flat_map, bytes_eq, option_map, is_some, find, codes};
+ghost use Rattle.std.specs.Prelude.{◌≡◌, ◌++◌, ◌∷◌, [], IfOk, OnOk, List, Some, None, map, flat_map, bytes_eq, option_map, codes};
 ghost use Rattle.fz_language.specs.Numerals.{all_of};
 ghost use Rattle.fz_language.specs.Search as searches;
 ghost use Rattle.fz_language.specs.Trees as lang;
 ghost use Rattle.fz_syntax.specs.Trees as trees;
 ghost use Rattle.fz_resolve.specs.Meant.{environment_of};
-ghost use Rattle.fz_check.specs.Searches.{parts_of_call, option_list, word_of, part_of_words};
+ghost use Rattle.fz_check.specs.Searches.{parts_of_call, option_list, word_of, part_of_words, has_name, parts_of_first};
 
 use fz_model::{SearchPart, Term};
 use fz_resolve::{Entry, Names};
@@ -23,16 +23,32 @@ pub(crate) fn search(
 {
     let mut parts = Vec::new(alloc);
     for i in 0..annotations.len() {
-        if !is_among(&annotations[..i], annotations[i].name.bytes) {
-            push_annotation(alloc, names, &annotations[i], &mut parts)?;
-        }
+        push_first(alloc, names, &annotations[..i], &annotations[i], &mut parts)?;
     }
     Ok(parts)
 }
 
+/// Adds the parts of an annotation, if it is the first of its name behind these.
+fn push_first(
+    alloc: Global,
+    names: &Names<'_>,
+    before: &[Annotation<'_>],
+    annotation: &Annotation<'_>,
+    parts: &mut Vec<SearchPart>,
+) -> Result<(), AllocError>
+    ensures { OnOk result (parts.new.items ≡ parts.old.items
+        ++ parts_of_first (environment_of names.now) (map trees.annotation_of before.now) (trees.annotation_of annotation.now)) }
+{
+    if is_among(before, annotation.name.bytes) {
+        return Ok(());
+    }
+    push_annotation(alloc, names, annotation, parts)?;
+    Ok(())
+}
+
 /// Whether an annotation of this name is among these.
 fn is_among(annotations: &[Annotation<'_>], name: &[u8]) -> bool
-    ensures { result ≡ is_some (find (λ (a : lang.Annotation). bytes_eq name.now a.name.bytes) (map trees.annotation_of annotations.now)) }
+    ensures { result ≡ has_name name.now (map trees.annotation_of annotations.now) }
 {
     for annotation in annotations {
         if is_named(annotation, name) {
@@ -97,7 +113,9 @@ fn push_call(
             }
             Ok(())
         }
-        Argument::Simple(_) | Argument::Text { .. } | Argument::Call { .. } => Ok(()),
+        Argument::Simple(_) => Ok(()),
+        Argument::Text { .. } => Ok(()),
+        Argument::Call { .. } => Ok(()),
     }
 }
 
