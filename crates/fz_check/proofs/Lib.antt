@@ -1,6 +1,7 @@
 pub mod ArgumentFits
 pub mod Beginnings
 pub mod CallLaws
+pub mod CheckLaws
 pub mod Counting
 pub mod DraftLaws
 pub mod EntryLaws

@@ -1,5 +1,6 @@
 //! From a program to a model.
 ghost use Rattle.std.specs.Prelude.{◌≡◌, [], IfOk};
+ghost use Rattle.fz_language.specs.Entries.{Environment};
 ghost use Rattle.fz_language.specs.Models as models;
 ghost use Rattle.fz_language.specs.Reads.{program_faults};
 ghost use Rattle.fz_language.specs.Rules as rules;
@@ -55,7 +56,7 @@ fn solve_fault(solve: &SolveItem<'_>) -> Option<Fault>
 fn model_of(alloc: Global, draft: Draft<'_>, program: &Program<'_>) -> Result<Model, AllocError>
     requires fits { ProgramFits (trees.program_of program.now) }
     requires keeps { program_faults (trees.program_of program.now) ≡ [] }
-    requires draft { IsAhead (trees.program_of program.now) draft.entry [] }
+    requires draft { IsAhead (trees.program_of program.now) draft [] }
     ensures { IfOk result (λ m. m ≡ models.model_of (trees.program_of program.now)) }
 {
     let parts = search(alloc, &draft.names, &program.solve.annotations)?;
