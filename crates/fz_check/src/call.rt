@@ -1,14 +1,29 @@
 //! Constraint items.
-use fz_resolve::Fault;
-use fz_resolve::floats::first_float_of_arguments;
-use fz_resolve::Names;
-use fz_resolve::resolve::resolve;
+ghost use Rattle.std.specs.Prelude.{◌≡◌, ◌++◌, ◌∷◌, [], ◌==◌, List, IfOk, OnOk, Some, None, map, find, flat_map, option_map, length, slice_get};
+ghost use Rattle.std.specs.List.{AllByRecursion, list_all};
+ghost use Rattle.fz_spec.specs.Signatures as signatures;
+ghost use Rattle.fz_language.specs.declared.fault.RuleFault.TheVariants as rule;
+ghost use Rattle.fz_language.specs.Entries.{with_value};
+ghost use Rattle.fz_language.specs.Rules as rules;
+ghost use Rattle.fz_language.specs.Rules.{at_places};
+ghost use Rattle.fz_language.specs.Within.{ExpressionFits};
+ghost use Rattle.fz_model.specs.Arguments.{argument_of};
+ghost use Rattle.fz_syntax.specs.Trees as trees;
+ghost use Rattle.fz_resolve.specs.Meant.{environment_of};
+ghost use Rattle.fz_check.specs.Calls.{IsCall, IsSigned, IsRowed, IsTyped, AreArguments};
+ghost use Rattle.fz_check.specs.Checked.{IsFirstOf, IsFirstFault};
+ghost use Rattle.fz_check.specs.Rows.{row_of};
+
+use crate::faults::{or_else, or_this};
 use crate::rows::{is_unsupported, row_named};
 use fz_language::fault::RuleFault;
 use fz_model::{Argument, Constraint};
+use fz_resolve::floats::first_float_of_arguments;
+use fz_resolve::resolve::resolve;
+use fz_resolve::{Fault, Names, fault_at};
 use fz_spec::asked::{Asked, Lengths};
-use fz_spec::row::Signatures;
-use fz_syntax::ConstraintItem;
+use fz_spec::row::{Row, Signatures};
+use fz_syntax::{ConstraintItem, Expression, Name};
 use std::alloc::{AllocError, Global};
 
 /// The constraint of an item, or the first rule that it breaks, but for the limits.
@@ -16,43 +31,73 @@ pub(crate) fn call(
     alloc: Global,
     names: &Names<'_>,
     item: &ConstraintItem<'_>,
-) -> Result<Result<Constraint, Fault>, AllocError> {
-    let name = item.name;
-    let row = row_named(name.bytes);
-    if row.is_none() && is_unsupported(name.bytes) {
-        return Ok(Err(fault(RuleFault::Unsupported, name.at)));
+) -> Result<Result<Constraint, Fault>, AllocError>
+    requires { AllByRecursion ExpressionFits (map trees.expression_of item.now.arguments.items) }
+    ensures { IfOk result (IsCall (environment_of names.now) (trees.constraint_item_of item.now)) }
+{
+    match row_named(item.name.bytes) {
+        Some(row) => Ok(call_of_row(alloc, names, item, row)?),
+        None => Ok(Err(unknown(item))),
     }
-    if let Some(at) = first_float_of_arguments(&item.arguments) {
-        return Ok(Err(fault(RuleFault::Unsupported, at)));
-    }
-    let Some((_, builtin, signatures, lengths)) = row else {
-        return Ok(Err(fault(RuleFault::UnknownConstraint, name.at)));
-    };
-    let Some(signature) = signature_of(signatures, item.arguments.len()) else {
-        return Ok(Err(fault(RuleFault::WrongArity, name.at)));
-    };
-    if let Some(at) = names.unknown_argument(&item.arguments) {
-        return Ok(Err(fault(RuleFault::UnknownName, at)));
-    }
-    let mut arguments = Vec::with_capacity(alloc, signature.len())?;
-    for (i, asked) in signature.iter().enumerate() {
-        match resolve(alloc, names, *asked, &item.arguments[i])? {
-            Ok(argument) => arguments.push(argument)?,
-            Err(at) => return Ok(Err(fault(RuleFault::WrongType, at))),
-        }
-    }
-    if !have_lengths(*lengths, &arguments) {
-        return Ok(Err(fault(RuleFault::WrongLengths, name.at)));
-    }
-    Ok(Ok(Constraint::new(*builtin, arguments)))
 }
 
-fn fault(rule: RuleFault, at: u32) -> Fault {
-    Fault { rule, at }
+/// The fault of a constraint whose name isn't in the table.
+fn unknown(item: &ConstraintItem<'_>) -> Fault
+    ensures { let c = trees.constraint_item_of item.now in signatures.row_named c.name.bytes ≡ None
+        → (others : List rules.Fault) → IsFirstFault (at_places rule.Unsupported (rules.named_unsupported c.name ++ flat_map rules.floats_of c.arguments)
+        ++ (at_places rule.UnknownConstraint (rules.named_unknown c.name) ++ others)) result }
+{
+    let name = item.name;
+    if is_unsupported(name.bytes) {
+        return Fault {
+            rule: RuleFault::Unsupported,
+            at: name.at,
+        };
+    }
+    let floats = fault_at(
+        RuleFault::Unsupported,
+        first_float_of_arguments(&item.arguments),
+    );
+    or_this(
+        floats,
+        Fault {
+            rule: RuleFault::UnknownConstraint,
+            at: name.at,
+        },
+    )
+}
+
+fn call_of_row(
+    alloc: Global,
+    names: &Names<'_>,
+    item: &ConstraintItem<'_>,
+    row: &Row,
+) -> Result<Result<Constraint, Fault>, AllocError>
+    requires { AllByRecursion ExpressionFits (map trees.expression_of item.now.arguments.items) }
+    ensures { let c = trees.constraint_item_of item.now in
+        IfOk result (IsRowed (at_places rule.Unsupported (flat_map rules.floats_of c.arguments)) (environment_of names.now) c (row_of row.now)) }
+{
+    let floats = fault_at(
+        RuleFault::Unsupported,
+        first_float_of_arguments(&item.arguments),
+    );
+    let arguments = item.arguments.as_slice();
+    match signature_of(row.2, arguments.len()) {
+        Some(signature) => Ok(signed(alloc, names, item, row, signature, floats)?),
+        None => Ok(Err(or_this(
+            floats,
+            Fault {
+                rule: RuleFault::WrongArity,
+                at: item.name.at,
+            },
+        ))),
+    }
 }
 
 /// Of the signatures of a constraint, that of so many arguments.
-fn signature_of(signatures: Signatures, arity: usize) -> Option<&'static [Asked]> {
+fn signature_of(signatures: Signatures, arity: usize) -> Option<&'static [Asked]>
+    ensures { option_map (λ s. s.now) result ≡ find (λ (asked : List Asked). length asked == arity) (map (λ s. s.now) signatures.now) }
+{
     for signature in signatures {
         if signature.len() == arity {
             return Some(signature);
@@ -61,32 +106,121 @@ fn signature_of(signatures: Signatures, arity: usize) -> Option<&'static [Asked]
     None
 }
 
-/// Whether the lists among arguments have the lengths that are asked.
-fn have_lengths(lengths: Lengths, arguments: &[Argument]) -> bool {
-    let mut first = None;
+fn signed(
+    alloc: Global,
+    names: &Names<'_>,
+    item: &ConstraintItem<'_>,
+    row: &Row,
+    signature: &[Asked],
+    floats: Option<Fault>,
+) -> Result<Result<Constraint, Fault>, AllocError>
+    requires fits { AllByRecursion ExpressionFits (map trees.expression_of item.now.arguments.items) }
+    requires arity { length signature.now ≡ length item.now.arguments.items }
+    ensures { (others : List rules.Fault) → IsFirstOf others floats
+        → IfOk result (IsSigned others (environment_of names.now) (trees.constraint_item_of item.now) (row_of row.now) signature.now) }
+{
+    let unknown = fault_at(
+        RuleFault::UnknownName,
+        names.unknown_argument(&item.arguments),
+    );
+    let early = or_else(floats, unknown);
+    match arguments_of(alloc, names, signature, &item.arguments)? {
+        Ok(arguments) => Ok(typed(alloc, row, item.name, arguments, early)?),
+        Err(at) => Ok(Err(or_this(
+            early,
+            Fault {
+                rule: RuleFault::WrongType,
+                at,
+            },
+        ))),
+    }
+}
+
+/// The constraint of arguments of the right types, or the first fault.
+fn typed(
+    alloc: Global,
+    row: &Row,
+    name: Name<'_>,
+    arguments: Vec<Argument>,
+    early: Option<Fault>,
+) -> Result<Result<Constraint, Fault>, AllocError>
+    ensures { IfOk result (IsTyped early (row_of row.now) name.entry.at (map argument_of arguments.items)) }
+{
+    if let Some(fault) = early {
+        return Ok(Err(fault));
+    }
+    let lengths = lengths_of(alloc, &arguments)?;
+    if have_lengths(row.3, &lengths) {
+        return Ok(Ok(Constraint::new(row.1, arguments)));
+    }
+    Ok(Err(Fault {
+        rule: RuleFault::WrongLengths,
+        at: name.at,
+    }))
+}
+
+/// The arguments, or the place of the first of a wrong type.
+fn arguments_of(
+    alloc: Global,
+    names: &Names<'_>,
+    signature: &[Asked],
+    expressions: &[Expression<'_>],
+) -> Result<Result<Vec<Argument>, u32>, AllocError>
+    requires arity { length signature.now ≡ length expressions.now }
+    requires fits { AllByRecursion ExpressionFits (map trees.expression_of expressions.now) }
+    ensures { IfOk result (λ made. AreArguments (environment_of names.now) signature.now (map trees.expression_of expressions.now)
+        (with_value (λ arguments. map argument_of arguments.items) made)) }
+{
+    let mut arguments = Vec::with_capacity(alloc, signature.len())?;
+    for i in 0..signature.len() {
+        match resolve(alloc, names, signature[i], &expressions[i])? {
+            Ok(argument) => arguments.push(argument)?,
+            Err(at) => return Ok(Err(at)),
+        }
+    }
+    Ok(Ok(arguments))
+}
+
+/// The lengths of the lists among arguments.
+fn lengths_of(alloc: Global, arguments: &[Argument]) -> Result<Vec<usize>, AllocError>
+    ensures { IfOk result (λ lengths. lengths.items ≡ rules.lengths_in (map argument_of arguments.now)) }
+{
+    let mut lengths = Vec::new(alloc);
     for argument in arguments {
-        let length = match argument {
-            Argument::One(_) | Argument::Set(_) => continue,
-            Argument::Numbers(numbers) => numbers.len(),
-            Argument::Terms(terms) => terms.len(),
-        };
-        match first {
-            None => first = Some(length),
-            Some(first) => {
-                if !fits(lengths, first, length) {
-                    return false;
-                }
-            }
+        push_length(&mut lengths, argument)?;
+    }
+    Ok(lengths)
+}
+
+fn push_length(lengths: &mut Vec<usize>, argument: &Argument) -> Result<(), AllocError>
+    ensures { OnOk result (lengths.new.items ≡ lengths.old.items ++ rules.lengths_in (argument_of argument.now ∷ [])) }
+{
+    match argument {
+        Argument::Numbers(numbers) => lengths.push(numbers.len())?,
+        Argument::Terms(terms) => lengths.push(terms.len())?,
+        Argument::One(_) | Argument::Set(_) => {}
+    }
+    Ok(())
+}
+
+/// Whether the lists of a constraint have the lengths that are asked.
+fn have_lengths(asked: Lengths, lengths: &[usize]) -> bool
+    ensures { result ≡ rules.have_lengths asked lengths.now }
+{
+    match (asked, lengths) {
+        (Lengths::Equal, [first, rest @ ..]) => are_all(*first, rest),
+        (Lengths::Rows, [first, second]) => *first > 0 && *second % *first == 0,
+        _ => true,
+    }
+}
+
+fn are_all(length: usize, lengths: &[usize]) -> bool
+    ensures { result ≡ list_all (λ m. m == length) lengths.now }
+{
+    for other in lengths {
+        if *other != length {
+            return false;
         }
     }
     true
-}
-
-/// Whether a list of this length may stand behind a first one.
-fn fits(lengths: Lengths, first: usize, length: usize) -> bool {
-    match lengths {
-        Lengths::Any => true,
-        Lengths::Equal => length == first,
-        Lengths::Rows => first > 0 && length % first == 0,
-    }
 }

@@ -1,71 +1,52 @@
 //! What the items so far make.
-use fz_resolve::annotations::{
-    OUTPUT_ARRAY, annotation_of, element_count, output_array_at, output_var_at, shape_of,
-};
+ghost use Rattle.std.specs.Prelude.{◌≡◌, ◌≤◌, ◌++◌, ◌∷◌, [], IfOk, OnOk, Some, None, false, length, List, map, option_map, slice_get};
+ghost use Rattle.std.specs.List.{AllByRecursion};
+ghost use Rattle.fz_spec.specs.declared.limits.TheConstants.{VARIABLE_LIMIT};
+ghost use Rattle.fz_language.specs.Entries.{Environment};
+ghost use Rattle.fz_language.specs.Models as models;
+ghost use Rattle.fz_language.specs.Rules as rules;
+ghost use Rattle.fz_language.specs.Rules.{Counts, none_yet, call_faults};
+ghost use Rattle.fz_language.specs.Trees as lang;
+ghost use Rattle.fz_language.specs.Within.{ItemFits, VariableFits, ParameterFits, ArrayFits, TypeFits, ExpressionFits};
+ghost use Rattle.fz_model.specs.Kept.{IsVariable};
+ghost use Rattle.fz_syntax.specs.Trees as trees;
+ghost use Rattle.fz_resolve.specs.Meant.{environment_of, meant};
+ghost use Rattle.fz_resolve.specs.Shapes.{shape_among};
+ghost use Rattle.fz_check.specs.Drafts.{scope_of, IsCounted, IsAdded, Adds};
+ghost use Rattle.fz_check.specs.Entered.{IsArrayEntry};
+ghost use Rattle.fz_check.specs.Parts.{scope};
+
 use crate::call::call;
-use fz_resolve::Entry;
-use fz_resolve::{Fault, fault_at};
-use fz_resolve::Room;
-use fz_resolve::Names;
-use fz_resolve::resolve::{literal, numbers, resolve, set, term, terms};
-use fz_resolve::rules::{
-    declared_twice, misplaced_at_array, misplaced_at_parameter, unsupported_array,
-    unsupported_parameter, unsupported_variable,
-};
-use crate::search::search;
-use fz_resolve::types::{is_bound, kind_of, term_asked, value_asked};
-use fz_dom::Dom;
-use fz_language::fault::RuleFault;
-use fz_model::{Argument, Constraint, Goal, Kind, Model, Output, Term, Text, Variable};
-use fz_spec::asked::{Asked, Element};
-use fz_spec::builtin::Builtin;
-use fz_syntax::{
-    ArrayItem, ConstraintItem, Item, Method, Name, ParameterItem, Plain, SolveItem, ValueType,
-    VariableItem,
-};
+use crate::declared::{array_fault, parameter_fault, variable_fault};
+use crate::entered::{array_entry, parameter_entry};
+use crate::faults::room_behind;
+use crate::parts::{push_array, push_bounds, push_scalar, push_value, value_of, variable_of};
+use fz_model::{Constraint, Output, Variable};
+use fz_resolve::annotations::output_shape;
+use fz_resolve::types::kind_of;
+use fz_resolve::{Entry, Fault, Names, Room};
+use fz_syntax::{ArrayItem, ConstraintItem, Item, Name, ParameterItem, ValueType, VariableItem};
 use std::alloc::{AllocError, Global};
 
 /// The parts of a model that the items so far make, what their names stand for, and how much more there may be.
 #[derive(Drop)]
 pub(crate) struct Draft<'a> {
-    names: Names<'a>,
-    variables: Vec<Variable>,
-    constraints: Vec<Constraint>,
-    outputs: Vec<Output>,
+    pub(crate) names: Names<'a>,
+    pub(crate) variables: Vec<Variable>,
+    pub(crate) constraints: Vec<Constraint>,
+    pub(crate) outputs: Vec<Output>,
     room: Room,
-}
-
-/// Memory ran out, or a rule is broken.
-pub(crate) enum Stop {
-    Memory,
-    Broken(Fault),
-}
-
-impl From<AllocError> for Stop {
-    fn from(_error: AllocError) -> Stop {
-        Stop::Memory
-    }
-}
-
-fn broken(rule: RuleFault, at: u32) -> Stop {
-    Stop::Broken(Fault { rule, at })
-}
-
-/// Stops where there is a fault.
-fn keep(fault: Option<Fault>) -> Result<(), Stop> {
-    match fault {
-        Some(fault) => Err(Stop::Broken(fault)),
-        None => Ok(()),
-    }
-}
-
-fn keep_rule(rule: RuleFault, at: Option<u32>) -> Result<(), Stop> {
-    keep(fault_at(rule, at))
 }
 
 impl<'a> Draft<'a> {
     /// The draft of no items.
-    pub(crate) fn new(alloc: Global) -> Draft<'a> {
+    pub(crate) fn new(alloc: Global) -> Draft<'a>
+        ensures counted { IsCounted result none_yet }
+        ensures scope { scope_of result ≡ models.empty_scope }
+        ensures variables { result.variables.items ≡ [] }
+        ensures constraints { result.constraints.items ≡ [] }
+        ensures outputs { result.outputs.items ≡ [] }
+    {
         Draft {
             names: Names::new(alloc),
             variables: Vec::new(alloc),
@@ -75,25 +56,22 @@ impl<'a> Draft<'a> {
         }
     }
 
-    /// Adds an item, or stops at the first rule that it breaks.
-    pub(crate) fn add(&mut self, alloc: Global, item: &Item<'a>) -> Result<(), Stop> {
+    /// Adds an item, or gives the first rule that it breaks.
+    pub(crate) fn add(
+        &mut self,
+        alloc: Global,
+        item: &Item<'a>,
+    ) -> Result<Option<Fault>, AllocError>
+        requires counted { (n : Counts) × IsCounted self.old n }
+        requires fits { ItemFits (trees.item_of item.now) }
+        ensures { (n : Counts) → IsCounted self.old n → IfOk result (IsAdded self.old self.new n (trees.item_of item.now)) }
+    {
         match item {
-            Item::Predicate(_) => Ok(()),
+            Item::Predicate(_) => Ok(None),
             Item::Variable(variable) => self.variable(alloc, item, variable),
             Item::Parameter(parameter) => self.parameter(alloc, item, parameter),
             Item::Array(array) => self.array(alloc, item, array),
             Item::Constraint(constraint) => self.constraint(alloc, item, constraint),
-        }
-    }
-
-    /// Takes the room of an item, the last of its rules.
-    fn take_room(&mut self, item: &Item<'_>) -> Result<(), Stop> {
-        match self.room.behind(item) {
-            Ok(room) => {
-                self.room = room;
-                Ok(())
-            }
-            Err(at) => Err(broken(RuleFault::OverLimit, at)),
         }
     }
 
@@ -102,60 +80,41 @@ impl<'a> Draft<'a> {
         alloc: Global,
         item: &Item<'a>,
         variable: &VariableItem<'a>,
-    ) -> Result<(), Stop> {
-        keep_rule(RuleFault::Unsupported, unsupported_variable(variable))?;
-        let asked = term_asked(&variable.value_type);
-        let value = match &variable.value {
-            Some(basic) => {
-                keep_rule(RuleFault::UnknownName, self.names.unknown(basic))?;
-                keep_rule(RuleFault::WrongType, output_array_at(&variable.annotations))?;
-                match term(&self.names, asked, basic) {
-                    Some(term) => Some(term),
-                    None => return Err(broken(RuleFault::WrongType, basic.at())),
-                }
+    ) -> Result<Option<Fault>, AllocError>
+        requires counted { (n : Counts) × IsCounted self.old n }
+        requires fits { VariableFits (trees.variable_item_of variable.now) }
+        requires item { trees.item_of item.now ≡ lang.Variable (trees.variable_item_of variable.now) }
+        ensures { (n : Counts) → IsCounted self.old n → IfOk result (IsAdded self.old self.new n (trees.item_of item.now)) }
+    {
+        let fault = variable_fault(&self.names, variable);
+        match room_behind(fault, self.room, item) {
+            Ok(room) => {
+                self.declare_variable(alloc, variable)?;
+                self.room = room;
+                Ok(None)
             }
-            None => {
-                keep_rule(RuleFault::WrongType, output_array_at(&variable.annotations))?;
-                None
-            }
-        };
-        keep(declared_twice(&self.names, variable.name))?;
-        self.take_room(item)?;
-        self.push_variable(alloc, variable, value)?;
-        Ok(())
+            Err(fault) => Ok(Some(fault)),
+        }
     }
 
-    fn push_variable(
+    fn declare_variable(
         &mut self,
         alloc: Global,
         item: &VariableItem<'a>,
-        value: Option<Term>,
-    ) -> Result<(), AllocError> {
-        let kind = kind_of(&item.value_type);
+    ) -> Result<(), AllocError>
+        requires few { length self.old.variables.items ≤ VARIABLE_LIMIT }
+        requires fits { TypeFits (trees.type_of item.now.value_type) }
+        requires variable { let t = trees.type_of item.now.value_type in
+            IsVariable (record { kind = rules.kind_of t; set = models.type_set t }) }
+        ensures { OnOk result (Adds self.old self.new (scope_of self.old) (lang.Variable (trees.variable_item_of item.now))) }
+    {
         let number = self.variables.len() as u32;
-        let set = type_set(alloc, &item.value_type)?;
-        self.variables.push(Variable::new(kind, set))?;
-        if let Some(value) = value {
-            let builtin = if kind == Kind::Bool {
-                Builtin::BoolEq
-            } else {
-                Builtin::IntEq
-            };
-            let mut arguments = Vec::with_capacity(alloc, 2)?;
-            arguments.push(Argument::One(Term::Var(number)))?;
-            arguments.push(Argument::One(value))?;
-            self.constraints.push(Constraint::new(builtin, arguments))?;
-        }
-        if output_var_at(&item.annotations).is_some() {
-            let mut terms = Vec::with_capacity(alloc, 1)?;
-            terms.push(Term::Var(number))?;
-            let name = text(alloc, item.name)?;
-            self.outputs
-                .push(Output::new(name, kind, false, Vec::new(alloc), terms))?;
-        }
-        self.names
-            .declare(item.name, Entry::Variable { kind, number })?;
-        Ok(())
+        let kind = kind_of(&item.value_type);
+        let value = value_of(&self.names, item);
+        push_variable(alloc, &mut self.variables, &item.value_type)?;
+        push_value(alloc, &mut self.constraints, kind, number, value)?;
+        push_scalar(alloc, &mut self.outputs, item, number)?;
+        self.names.declare(item.name, Entry::Variable { kind, number })
     }
 
     fn parameter(
@@ -163,108 +122,77 @@ impl<'a> Draft<'a> {
         alloc: Global,
         item: &Item<'a>,
         parameter: &ParameterItem<'a>,
-    ) -> Result<(), Stop> {
-        keep_rule(RuleFault::Unsupported, unsupported_parameter(parameter))?;
-        keep_rule(RuleFault::UnknownName, self.names.unknown(&parameter.value))?;
-        keep_rule(RuleFault::WrongType, misplaced_at_parameter(parameter))?;
-        let entry = match value_asked(&parameter.value_type) {
-            Asked::Set => match set(alloc, &self.names, &parameter.value)? {
-                Some(set) => Entry::Set(set),
-                None => return Err(broken(RuleFault::WrongType, parameter.value.at())),
-            },
-            Asked::One(asked) | Asked::List(asked) => match term(
-                &self.names,
-                asked,
-                &parameter.value,
-            ) {
-                Some(Term::Num(value)) => Entry::Value {
-                    kind: asked.kind,
-                    value,
-                },
-                _ => return Err(broken(RuleFault::WrongType, parameter.value.at())),
-            },
-        };
-        keep(declared_twice(&self.names, parameter.name))?;
-        self.take_room(item)?;
-        self.names.declare(parameter.name, entry)?;
-        Ok(())
-    }
-
-    fn array(&mut self, alloc: Global, item: &Item<'a>, array: &ArrayItem<'a>) -> Result<(), Stop> {
-        keep_rule(RuleFault::Unsupported, unsupported_array(array))?;
-        keep_rule(
-            RuleFault::UnknownName,
-            self.names.unknown_element(&array.list.elements),
-        )?;
-        let annotation = annotation_of(OUTPUT_ARRAY, &array.annotations);
-        let shape = match annotation {
-            Some(annotation) => shape_of(alloc, annotation)?,
-            None => None,
-        };
-        let malformed = match (annotation, &shape) {
-            (Some(annotation), None) => Some(annotation.name.at),
-            _ => None,
-        };
-        keep_rule(RuleFault::WrongType, misplaced_at_array(array, malformed))?;
-        let entry = self.array_entry(alloc, array)?;
-        keep_rule(RuleFault::WrongLengths, wrong_length(array, &shape))?;
-        keep(declared_twice(&self.names, array.name))?;
-        self.take_room(item)?;
-        self.push_array(alloc, array, &entry, shape)?;
-        self.names.declare(array.name, entry)?;
-        Ok(())
-    }
-
-    fn array_entry(&self, alloc: Global, array: &ArrayItem<'a>) -> Result<Entry, Stop> {
-        let kind = kind_of(&array.value_type);
-        let elements = array.list.elements.as_slice();
-        if !array.variable && matches!(array.value_type, ValueType::SetOf { .. }) {
-            for element in elements {
-                if set(alloc, &self.names, element)?.is_none() {
-                    return Err(broken(RuleFault::WrongType, element.at()));
-                }
+    ) -> Result<Option<Fault>, AllocError>
+        requires fits { ParameterFits (trees.parameter_item_of parameter.now) }
+        requires item { trees.item_of item.now ≡ lang.Parameter (trees.parameter_item_of parameter.now) }
+        ensures { (n : Counts) → IsCounted self.old n → IfOk result (IsAdded self.old self.new n (trees.item_of item.now)) }
+    {
+        let entry = parameter_entry(alloc, &self.names, parameter)?;
+        let fault = parameter_fault(&self.names, parameter, &entry);
+        match room_behind(fault, self.room, item) {
+            Ok(room) => {
+                self.declare_parameter(parameter.name, entry)?;
+                self.room = room;
+                Ok(None)
             }
-            return Ok(Entry::Sets);
-        }
-        let asked = Element {
-            kind,
-            may_vary: array.variable,
-        };
-        match terms(alloc, &self.names, asked, elements)? {
-            Ok(terms) if array.variable => Ok(Entry::Terms { kind, terms }),
-            Ok(terms) => Ok(Entry::Numbers {
-                kind,
-                numbers: numbers(alloc, &terms)?,
-            }),
-            Err(at) => Err(broken(RuleFault::WrongType, at)),
+            Err(fault) => Ok(Some(fault)),
         }
     }
 
-    fn push_array(
+    fn declare_parameter(&mut self, name: Name<'a>, entry: Option<Entry>) -> Result<(), AllocError>
+        ensures { OnOk result ((p : lang.ParameterItem) → p.name ≡ trees.name_of name.entry
+            → option_map meant entry ≡ models.parameter_entry (environment_of self.old.names) p.value_type p.value
+            → Adds self.old self.new (scope_of self.old) (lang.Parameter p)) }
+    {
+        match entry {
+            Some(entry) => self.names.declare(name, entry),
+            None => Ok(()),
+        }
+    }
+
+    fn array(
         &mut self,
         alloc: Global,
+        item: &Item<'a>,
         array: &ArrayItem<'a>,
-        entry: &Entry,
-        shape: Option<Vec<(i32, i32)>>,
-    ) -> Result<(), AllocError> {
-        let Entry::Terms { kind, terms } = entry else {
-            return Ok(());
-        };
-        if is_bound(&array.value_type) {
-            for term in terms {
-                let mut arguments = Vec::with_capacity(alloc, 2)?;
-                arguments.push(Argument::One(*term))?;
-                arguments.push(Argument::Set(type_set(alloc, &array.value_type)?))?;
-                self.constraints
-                    .push(Constraint::new(Builtin::SetIn, arguments))?;
+    ) -> Result<Option<Fault>, AllocError>
+        requires fits { ArrayFits (trees.array_item_of array.now) }
+        requires item { trees.item_of item.now ≡ lang.Array (trees.array_item_of array.now) }
+        ensures { (n : Counts) → IsCounted self.old n → IfOk result (IsAdded self.old self.new n (trees.item_of item.now)) }
+    {
+        let shape = output_shape(alloc, &array.annotations)?;
+        let entry = array_entry(alloc, &self.names, array)?;
+        let fault = array_fault(&self.names, array, &shape, place_of(&entry));
+        match room_behind(fault, self.room, item) {
+            Ok(room) => {
+                self.declare_array(alloc, array, entry, shape)?;
+                self.room = room;
+                Ok(None)
             }
+            Err(fault) => Ok(Some(fault)),
         }
-        if let Some(shape) = shape {
-            let terms = Vec::from_slice(alloc, terms)?;
-            let name = text(alloc, array.name)?;
-            self.outputs
-                .push(Output::new(name, *kind, true, shape, terms))?;
-        }
+    }
+
+    fn declare_array(
+        &mut self,
+        alloc: Global,
+        item: &ArrayItem<'a>,
+        entry: Result<Entry, u32>,
+        shape: Option<Vec<(i32, i32)>>,
+    ) -> Result<(), AllocError>
+        requires fits { TypeFits (trees.type_of item.now.value_type) }
+        requires shape { option_map (λ ranges. ranges.items) shape ≡ shape_among (trees.annotations_of item.now.annotations.items) }
+        ensures { let a = trees.array_item_of item.now in
+            OnOk result (IsArrayEntry (environment_of self.old.names) a entry
+            → (a.variable ≡ false → shape_among a.annotations ≡ None)
+            → Adds self.old self.new (scope_of self.old) (lang.Array a)) }
+    {
+        let Ok(entry) = entry else {
+            return Err(AllocError);
+        };
+        push_bounds(alloc, &mut self.constraints, item, &entry)?;
+        push_array(alloc, &mut self.outputs, item, &entry, shape)?;
+        self.names.declare(item.name, entry)?;
         Ok(())
     }
 
@@ -273,76 +201,60 @@ impl<'a> Draft<'a> {
         alloc: Global,
         item: &Item<'a>,
         constraint: &ConstraintItem<'a>,
-    ) -> Result<(), Stop> {
-        let made = match call(alloc, &self.names, constraint)? {
-            Ok(made) => made,
-            Err(fault) => return Err(Stop::Broken(fault)),
-        };
-        self.take_room(item)?;
-        self.push_constraint(made)?;
-        Ok(())
-    }
-
-    fn push_constraint(&mut self, constraint: Constraint) -> Result<(), AllocError> {
-        self.constraints.push(constraint)?;
-        Ok(())
-    }
-
-    /// The model of the items and the solve item, or the first rule that this breaks.
-    pub(crate) fn finish(self, alloc: Global, solve: &SolveItem<'a>) -> Result<Model, Stop> {
-        let Draft {
-            names,
-            variables,
-            constraints,
-            outputs,
-            room: _room,
-        } = self;
-        match &solve.method {
-            Method::Satisfy { .. } => {}
-            Method::Minimize { at, .. } | Method::Maximize { at, .. } => {
-                return Err(broken(RuleFault::Unsupported, *at));
-            }
+    ) -> Result<Option<Fault>, AllocError>
+        requires fits { AllByRecursion ExpressionFits (map trees.expression_of constraint.now.arguments.items) }
+        requires item { trees.item_of item.now ≡ lang.Constraint (trees.constraint_item_of constraint.now) }
+        ensures { (n : Counts) → IsCounted self.old n → IfOk result (IsAdded self.old self.new n (trees.item_of item.now)) }
+    {
+        match call(alloc, &self.names, constraint)? {
+            Ok(made) => Ok(self.push_constraint(item, made)?),
+            Err(fault) => Ok(Some(fault)),
         }
-        let search = search(alloc, &names, &solve.annotations)?;
-        Ok(Model::new(variables, constraints, Goal::Satisfy, outputs, search))
+    }
+
+    fn push_constraint(
+        &mut self,
+        item: &Item<'a>,
+        made: Constraint,
+    ) -> Result<Option<Fault>, AllocError>
+        ensures { IfOk result (λ fault. (n : Counts) (c : lang.ConstraintItem) → IsCounted self.old n → trees.item_of item.now ≡ lang.Constraint c
+            → call_faults (environment_of self.old.names) c ≡ [] → models.call_constraints (scope (environment_of self.old.names) 0) c ≡ made ∷ []
+            → IsAdded self.old self.new n (trees.item_of item.now) fault) }
+    {
+        match room_behind(None, self.room, item) {
+            Ok(room) => {
+                self.constraints.push(made)?;
+                self.room = room;
+                Ok(None)
+            }
+            Err(fault) => Ok(Some(fault)),
+        }
     }
 }
 
-/// The set of a type of variables.
-fn type_set(alloc: Global, value_type: &ValueType) -> Result<Dom, AllocError> {
-    match value_type {
-        ValueType::One(Plain::AnyBool { .. }) => Dom::from_ranges(alloc, &[(0, 1)]),
-        ValueType::One(Plain::Within(set)) => match literal(alloc, set)? {
-            Some(set) => Ok(set),
-            None => Dom::from_ranges(alloc, &[]),
-        },
-        ValueType::One(Plain::AnyInt { .. }) => Dom::from_ranges(
-            alloc,
-            &[(-2_147_483_646, 2_147_483_646)],
-        ),
-        _ => Dom::from_ranges(alloc, &[]),
+/// The place of what is of a wrong type.
+fn place_of(entry: &Result<Entry, u32>) -> Option<u32>
+    ensures { (env : Environment) (a : lang.ArrayItem) → IsArrayEntry env a entry.now
+        → result ≡ slice_get (rules.wrong_element env a.variable a.value_type a.list) 0 }
+{
+    match entry {
+        Ok(_) => None,
+        Err(at) => Some(*at),
     }
 }
 
-fn text(alloc: Global, name: Name<'_>) -> Result<Text, AllocError> {
-    let mut text = String::with_capacity(alloc, name.bytes.len())?;
-    for byte in name.bytes {
-        text.push(char::from(*byte))?;
-    }
-    Ok(Text::new(text))
-}
-
-/// Where an array hasn't the length of its index set, which is 1..n, or its index ranges for output don't multiply to it.
-fn wrong_length(array: &ArrayItem<'_>, shape: &Option<Vec<(i32, i32)>>) -> Option<u32> {
-    let length = array.list.elements.len();
-    if array.low.value != 1 || usize::try_from(array.high.value) != Ok(length) {
-        return Some(array.name.at);
-    }
-    let Some(shape) = shape else {
-        return None;
-    };
-    if element_count(shape) == length as u64 {
-        return None;
-    }
-    output_array_at(&array.annotations)
+fn push_variable(
+    alloc: Global,
+    variables: &mut Vec<Variable>,
+    value_type: &ValueType,
+) -> Result<(), AllocError>
+    requires fits { TypeFits (trees.type_of value_type.now) }
+    requires variable { let t = trees.type_of value_type.now in
+        IsVariable (record { kind = rules.kind_of t; set = models.type_set t }) }
+    ensures { let t = trees.type_of value_type.now in
+        OnOk result (variables.new.items ≡ variables.old.items ++ record { kind = rules.kind_of t; set = models.type_set t } ∷ []) }
+{
+    let variable = variable_of(alloc, value_type)?;
+    variables.push(variable)?;
+    Ok(())
 }

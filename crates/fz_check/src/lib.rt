@@ -3,11 +3,17 @@
 //! place.
 #![tactic(auto)]
 
-mod call;
+pub mod call;
 pub mod checker;
-mod draft;
-mod rows;
-mod search;
+pub mod declared;
+pub mod draft;
+pub mod entered;
+pub mod faults;
+pub mod laws;
+pub mod parts;
+pub mod rows;
+pub mod search;
+pub mod textual;
 
 pub use checker::check;
 pub use fz_resolve::Fault;

@@ -1,7 +1,14 @@
 //! Search annotations of the solve item. One that isn't of their form is ignored.
-use fz_resolve::Entry;
-use fz_resolve::Names;
+ghost use Rattle.std.specs.Prelude.{◌≡◌, ◌++◌, ◌∷◌, [], IfOk, OnOk, List, Some, None, map, flat_map, bytes_eq, option_map, codes};
+ghost use Rattle.fz_language.specs.Numerals.{all_of};
+ghost use Rattle.fz_language.specs.Search as searches;
+ghost use Rattle.fz_language.specs.Trees as lang;
+ghost use Rattle.fz_syntax.specs.Trees as trees;
+ghost use Rattle.fz_resolve.specs.Meant.{environment_of};
+ghost use Rattle.fz_check.specs.Searches.{parts_of_call, option_list, word_of, part_of_words, has_name, parts_of_first};
+
 use fz_model::{SearchPart, Term};
+use fz_resolve::{Entry, Names};
 use fz_spec::search::{Pick, Value};
 use fz_syntax::{Annotation, Argument, Basic, Name};
 use std::alloc::{AllocError, Global};
@@ -11,126 +18,317 @@ pub(crate) fn search(
     alloc: Global,
     names: &Names<'_>,
     annotations: &[Annotation<'_>],
-) -> Result<Vec<SearchPart>, AllocError> {
+) -> Result<Vec<SearchPart>, AllocError>
+    ensures { IfOk result (λ parts. parts.items ≡ searches.search_of (environment_of names.now) (trees.annotations_of annotations.now)) }
+{
     let mut parts = Vec::new(alloc);
-    for (i, annotation) in annotations.iter().enumerate() {
-        if is_named(&annotations[..i], annotation.name.bytes) {
-            continue;
-        }
-        if let Some(arguments) = &annotation.arguments {
-            push_parts(alloc, names, annotation.name, arguments, &mut parts)?;
-        }
+    for i in 0..annotations.len() {
+        push_first(alloc, names, &annotations[..i], &annotations[i], &mut parts)?;
     }
     Ok(parts)
 }
 
-fn is_named(annotations: &[Annotation<'_>], name: &[u8]) -> bool {
-    annotations
-        .iter()
-        .any(|annotation| annotation.name.bytes == name)
+/// Adds the parts of an annotation, if it is the first of its name behind these.
+fn push_first(
+    alloc: Global,
+    names: &Names<'_>,
+    before: &[Annotation<'_>],
+    annotation: &Annotation<'_>,
+    parts: &mut Vec<SearchPart>,
+) -> Result<(), AllocError>
+    ensures { OnOk result (parts.new.items ≡ parts.old.items
+        ++ parts_of_first (environment_of names.now) (map trees.annotation_of before.now) (trees.annotation_of annotation.now)) }
+{
+    if is_among(before, annotation.name.bytes) {
+        return Ok(());
+    }
+    push_annotation(alloc, names, annotation, parts)?;
+    Ok(())
 }
 
-fn push_parts(
+/// Whether an annotation of this name is among these.
+fn is_among(annotations: &[Annotation<'_>], name: &[u8]) -> bool
+    ensures { result ≡ has_name name.now (map trees.annotation_of annotations.now) }
+{
+    for annotation in annotations {
+        if is_named(annotation, name) {
+            return true;
+        }
+    }
+    false
+}
+
+fn is_named(annotation: &Annotation<'_>, name: &[u8]) -> bool
+    ensures { result ≡ bytes_eq name.now (trees.annotation_of annotation.now).name.bytes }
+{
+    name == annotation.name.bytes
+}
+
+fn push_annotation(
+    alloc: Global,
+    names: &Names<'_>,
+    annotation: &Annotation<'_>,
+    parts: &mut Vec<SearchPart>,
+) -> Result<(), AllocError>
+    ensures { OnOk result (parts.new.items ≡ parts.old.items
+        ++ flat_map (searches.parts_in (environment_of names.now)) (searches.as_argument (trees.annotation_of annotation.now))) }
+{
+    match &annotation.arguments {
+        Some(arguments) => {
+            push_call(alloc, names, annotation.name, arguments, parts)?;
+            Ok(())
+        }
+        None => Ok(()),
+    }
+}
+
+#[cycle(calls)]
+fn push_call(
     alloc: Global,
     names: &Names<'_>,
     name: Name<'_>,
     arguments: &[Argument<'_>],
     parts: &mut Vec<SearchPart>,
-) -> Result<(), AllocError> {
-    match name.bytes {
-        b"int_search" | b"bool_search" => push_part(alloc, names, arguments, parts),
-        b"seq_search" => {
-            let [only] = arguments else {
-                return Ok(());
-            };
-            let Argument::Brackets { arguments, .. } = only else {
-                return Ok(());
-            };
-            for argument in arguments {
-                if let Argument::Call { name, arguments } = argument {
-                    push_parts(alloc, names, *name, arguments, parts)?;
-                }
+) -> Result<(), AllocError>
+    ensures { OnOk result (parts.new.items ≡ parts.old.items
+        ++ parts_of_call (environment_of names.now) (trees.name_of name.entry) arguments.now) }
+{
+    if is_basic_search(name.bytes) {
+        push_part(alloc, names, arguments, parts)?;
+        return Ok(());
+    }
+    if !is_seq_search(name.bytes) {
+        return Ok(());
+    }
+    if arguments.len() != 1 {
+        return Ok(());
+    }
+    match &arguments[0] {
+        Argument::Brackets {
+            arguments: members,
+            ..
+        } => {
+            for member in members {
+                push_member_call(alloc, names, member, parts)?;
             }
             Ok(())
         }
-        _ => Ok(()),
+        Argument::Simple(_) => Ok(()),
+        Argument::Text { .. } => Ok(()),
+        Argument::Call { .. } => Ok(()),
     }
 }
 
+#[cycle(calls)]
+fn push_member_call(
+    alloc: Global,
+    names: &Names<'_>,
+    member: &Argument<'_>,
+    parts: &mut Vec<SearchPart>,
+) -> Result<(), AllocError>
+    ensures { OnOk result (parts.new.items ≡ parts.old.items
+        ++ searches.parts_in (environment_of names.now) (trees.argument_of member.now)) }
+{
+    match member {
+        Argument::Call { name, arguments } => {
+            push_call(alloc, names, *name, arguments, parts)?;
+            Ok(())
+        }
+        Argument::Simple(_) | Argument::Text { .. } | Argument::Brackets { .. } => Ok(()),
+    }
+}
+
+fn is_basic_search(word: &[u8]) -> bool
+    ensures { result ≡ searches.is_basic_search word.now }
+{
+    word == b"int_search".as_slice() || word == b"bool_search".as_slice()
+}
+
+fn is_seq_search(word: &[u8]) -> bool
+    ensures { result ≡ bytes_eq word.now (codes "seq_search") }
+{
+    word == b"seq_search".as_slice()
+}
+
+/// Adds the part of `(variables, pick, value)`, with a fourth argument or without.
 fn push_part(
     alloc: Global,
     names: &Names<'_>,
     arguments: &[Argument<'_>],
     parts: &mut Vec<SearchPart>,
-) -> Result<(), AllocError> {
+) -> Result<(), AllocError>
+    ensures { OnOk result (parts.new.items ≡ parts.old.items
+        ++ searches.part_in (environment_of names.now) (map trees.argument_of arguments.now)) }
+{
     if arguments.len() != 3 && arguments.len() != 4 {
         return Ok(());
     }
-    let (Argument::Simple(Basic::Named(pick)), Argument::Simple(Basic::Named(value))) = (
-        &arguments[1],
-        &arguments[2],
-    ) else {
-        return Ok(());
-    };
-    if let Some(variables) = variables(alloc, names, &arguments[0])? {
-        parts.push(SearchPart::new(variables, pick_of(pick.bytes), value_of(value.bytes)))?;
-    }
+    push_words(
+        alloc,
+        names,
+        &arguments[0],
+        named(&arguments[1]),
+        named(&arguments[2]),
+        parts,
+    )?;
     Ok(())
 }
 
+/// The name that an argument is.
+fn named<'a>(argument: &Argument<'a>) -> Option<Name<'a>>
+    ensures { option_map trees.name_of result ≡ word_of (trees.argument_of argument.now) }
+{
+    match argument {
+        Argument::Simple(Basic::Named(name)) => Some(*name),
+        _ => None,
+    }
+}
+
+fn push_words(
+    alloc: Global,
+    names: &Names<'_>,
+    variables: &Argument<'_>,
+    pick: Option<Name<'_>>,
+    value: Option<Name<'_>>,
+    parts: &mut Vec<SearchPart>,
+) -> Result<(), AllocError>
+    ensures { OnOk result (parts.new.items ≡ parts.old.items
+        ++ part_of_words (environment_of names.now) (trees.argument_of variables.now) (option_map trees.name_of pick.entry) (option_map trees.name_of value.entry)) }
+{
+    match (pick, value) {
+        (Some(pick), Some(value)) => push_over(alloc, names, variables, pick, value, parts),
+        _ => Ok(()),
+    }
+}
+
+fn push_over(
+    alloc: Global,
+    names: &Names<'_>,
+    variables: &Argument<'_>,
+    pick: Name<'_>,
+    value: Name<'_>,
+    parts: &mut Vec<SearchPart>,
+) -> Result<(), AllocError>
+    ensures { OnOk result (parts.new.items ≡ parts.old.items
+        ++ searches.part_of (environment_of names.now) (trees.argument_of variables.now) (trees.name_of pick.entry) (trees.name_of value.entry)) }
+{
+    match variables_in(alloc, names, variables)? {
+        Some(variables) => {
+            parts.push(SearchPart::new(variables, pick_of(pick.bytes), value_of(value.bytes)))?;
+            Ok(())
+        }
+        None => Ok(()),
+    }
+}
+
 /// The variables of a list of variables and numbers, or of a declared array of them.
-fn variables(
+fn variables_in(
     alloc: Global,
     names: &Names<'_>,
     argument: &Argument<'_>,
-) -> Result<Option<Vec<u32>>, AllocError> {
+) -> Result<Option<Vec<u32>>, AllocError>
+    ensures { IfOk result (λ found. option_map (λ variables. variables.items) found
+        ≡ searches.variables_in (environment_of names.now) (trees.argument_of argument.now)) }
+{
     match argument {
-        Argument::Brackets { arguments, .. } => {
-            let mut variables = Vec::new(alloc);
-            for member in arguments {
-                match member {
-                    Argument::Simple(Basic::Truth { .. } | Basic::Numeral(_)) => {}
-                    Argument::Simple(Basic::Named(name)) => match names.entry(*name) {
-                        Some(Entry::Variable { number, .. }) => variables.push(*number)?,
-                        _ => return Ok(None),
-                    },
-                    _ => return Ok(None),
-                }
-            }
-            Ok(Some(variables))
-        }
+        Argument::Brackets { arguments, .. } => Ok(members(alloc, names, arguments)?),
         Argument::Simple(Basic::Named(name)) => match names.entry(*name) {
-            Some(Entry::Terms { terms, .. }) => {
-                let mut variables = Vec::new(alloc);
-                for term in terms {
-                    if let Term::Var(variable) = term {
-                        variables.push(*variable)?;
-                    }
-                }
-                Ok(Some(variables))
-            }
+            Some(Entry::Terms { terms, .. }) => Ok(Some(variables_of(alloc, terms)?)),
             _ => Ok(None),
         },
         _ => Ok(None),
     }
 }
 
-fn pick_of(word: &[u8]) -> Pick {
-    match word {
-        b"first_fail" => Pick::FirstFail,
-        b"anti_first_fail" => Pick::AntiFirstFail,
-        b"smallest" => Pick::Smallest,
-        b"largest" => Pick::Largest,
-        _ => Pick::InputOrder,
+/// The variables among terms.
+fn variables_of(alloc: Global, terms: &[Term]) -> Result<Vec<u32>, AllocError>
+    ensures { IfOk result (λ variables. variables.items ≡ searches.variables_of_terms terms.now) }
+{
+    let mut variables = Vec::new(alloc);
+    for term in terms {
+        push_term(&mut variables, *term)?;
+    }
+    Ok(variables)
+}
+
+fn push_term(variables: &mut Vec<u32>, term: Term) -> Result<(), AllocError>
+    ensures { OnOk result (variables.new.items ≡ variables.old.items ++ searches.variables_of_terms (term ∷ [])) }
+{
+    if let Term::Var(variable) = term {
+        variables.push(variable)?;
+    }
+    Ok(())
+}
+
+fn members(
+    alloc: Global,
+    names: &Names<'_>,
+    arguments: &[Argument<'_>],
+) -> Result<Option<Vec<u32>>, AllocError>
+    ensures { IfOk result (λ found. option_map (λ variables. variables.items) found
+        ≡ option_map searches.joined (all_of (map (searches.member (environment_of names.now)) (map trees.argument_of arguments.now)))) }
+{
+    let mut variables = Vec::new(alloc);
+    for argument in arguments {
+        match member(names, argument) {
+            Some(variable) => push_member(&mut variables, variable)?,
+            None => return Ok(None),
+        }
+    }
+    Ok(Some(variables))
+}
+
+fn push_member(variables: &mut Vec<u32>, variable: Option<u32>) -> Result<(), AllocError>
+    ensures { OnOk result (variables.new.items ≡ variables.old.items ++ option_list variable) }
+{
+    if let Some(variable) = variable {
+        variables.push(variable)?;
+    }
+    Ok(())
+}
+
+/// The variable that a member of a list is, if it is one; nothing where the list isn't of the form.
+fn member(names: &Names<'_>, argument: &Argument<'_>) -> Option<Option<u32>>
+    ensures { option_map (λ v. option_list v) result ≡ searches.member (environment_of names.now) (trees.argument_of argument.now) }
+{
+    match argument {
+        Argument::Simple(Basic::Truth { .. }) | Argument::Simple(Basic::Numeral(_)) => Some(None),
+        Argument::Simple(Basic::Named(name)) => match names.entry(*name) {
+            Some(Entry::Variable { number, .. }) => Some(Some(*number)),
+            _ => None,
+        },
+        _ => None,
     }
 }
 
-fn value_of(word: &[u8]) -> Value {
-    match word {
-        b"indomain_max" => Value::IndomainMax,
-        b"indomain_median" => Value::IndomainMedian,
-        b"indomain_split" => Value::IndomainSplit,
-        b"indomain_reverse_split" => Value::IndomainReverseSplit,
-        _ => Value::IndomainMin,
+fn pick_of(word: &[u8]) -> Pick
+    ensures { result ≡ searches.pick_of word.now }
+{
+    if word == b"first_fail".as_slice() {
+        Pick::FirstFail
+    } else if word == b"anti_first_fail".as_slice() {
+        Pick::AntiFirstFail
+    } else if word == b"smallest".as_slice() {
+        Pick::Smallest
+    } else if word == b"largest".as_slice() {
+        Pick::Largest
+    } else {
+        Pick::InputOrder
+    }
+}
+
+fn value_of(word: &[u8]) -> Value
+    ensures { result ≡ searches.value_of word.now }
+{
+    if word == b"indomain_max".as_slice() {
+        Value::IndomainMax
+    } else if word == b"indomain_median".as_slice() {
+        Value::IndomainMedian
+    } else if word == b"indomain_split".as_slice() {
+        Value::IndomainSplit
+    } else if word == b"indomain_reverse_split".as_slice() {
+        Value::IndomainReverseSplit
+    } else {
+        Value::IndomainMin
     }
 }

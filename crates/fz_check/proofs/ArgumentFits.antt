@@ -1,0 +1,113 @@
+-- Arguments that are what is asked.
+use Rattle.std.proofs.Common.{◌≡◌, ℕ, suc, ◌≤◌, ◌<◌, ℤ, Bool, true, false, ◌&&◌, cond, Option, Some, None, option_map, List, [], ◌∷◌, ◌++◌, length, map, refl, sym, ap, ◌∙◌, subst, arith}
+use Rattle.std.specs.Prelude.{Result, Ok, Err, IsTrue, find, MatchOption, ◌==◌, nat_lt, ◌%◌}
+use Rattle.std.specs.List.{AllByRecursion, list_all}
+use Rattle.std.proofs.lemmas.Bool.{and_parts, eqb-true, ltb-true}
+use Rattle.fz_spec.specs.declared.limits.TheConstants.{ELEMENT_LIMIT}
+use Rattle.fz_spec.specs.declared.term.Term.{Term}
+use Rattle.fz_spec.specs.declared.asked.Element.{Element}
+use Rattle.fz_spec.specs.declared.asked.Asked.{Asked}
+use Rattle.fz_spec.specs.declared.asked.Asked.TheVariants as asked
+use Rattle.fz_spec.specs.declared.asked.Lengths.{Lengths}
+use Rattle.fz_spec.specs.declared.asked.Lengths.TheVariants as lengths
+use Rattle.fz_spec.specs.Constraints.{Argument}
+use Rattle.fz_spec.specs.Constraints as meaning
+use Rattle.fz_spec.specs.Instance.{Variable}
+use Rattle.fz_spec.specs.Signatures.{Row, HaveLengths}
+use Rattle.fz_language.specs.Trees.{Basic, Truth, Numeral, Literal, Named, Expression, Scalar, Listed, basic_at}
+use Rattle.fz_language.specs.Entries.{Environment, or_place, with_value, term_in, set_of, each_of, named, entry_list, list_argument, resolve}
+use Rattle.fz_language.specs.Rules.{wrong_place, wrong_arguments, arguments_in, lengths_in, have_lengths}
+use Rattle.fz_language.specs.Within.{BasicFits, ExpressionFits}
+use Rattle.fz_model.specs.Kept.{FitsElement, FitsList, FitsAsked, AllFit, list_lengths}
+use Rattle.fz_check.specs.Fits.{EntryFits, Sound}
+use Rattle.fz_check.proofs.TermFits.{term_fits, terms_fit, list_fits, entry_list_fits, found_named}
+use Rattle.fz_check.proofs.SetFits.{set_fits}
+use Rattle.fz_check.proofs.Counting.{FewIn, nil_parts}
+
+placed : {X : Type 0} (o : Option X) (at : ℕ) (x : X) → or_place o at ≡ Ok x → o ≡ Some x
+placed (Some y) at x e = let is : y ≡ x = cc in ap Some is
+placed None at x e = cc
+
+record Mapped {X Y : Type 0} (f : X → Y) (o : Option X) (y : Y) : Type 0 where
+  x : X
+  o_is : o ≡ Some x
+  is : f x ≡ y
+
+mapped : {X Y : Type 0} (f : X → Y) (o : Option X) (y : Y) → option_map f o ≡ Some y → Mapped f o y
+mapped f (Some x) y e = record { x = x; o_is = refl; is = cc }
+mapped f None y e = cc
+
+record Valued {X Y : Type 0} (f : X → Y) (r : Result X ℕ) (y : Y) : Type 0 where
+  x : X
+  r_is : r ≡ Ok x
+  is : f x ≡ y
+
+valued : {X Y : Type 0} (f : X → Y) (r : Result X ℕ) (y : Y) → with_value f r ≡ Ok y → Valued f r y
+valued f (Ok x) y e = record { x = x; r_is = refl; is = cc }
+valued f (Err at) y e = cc
+
+resolved : (vs : List Variable) (env : Environment) (wanted : Asked) (e : Expression) (a : Argument) → Sound vs env → ExpressionFits e → FewIn e → resolve env wanted e ≡ Ok a → FitsAsked vs wanted a
+resolved vs env (asked.One e) (Scalar basic) a s h few o =
+    let w = mapped meaning.One (term_in env e basic) a (placed (option_map meaning.One (term_in env e basic)) (basic_at basic) a o) in
+    subst (FitsAsked vs (asked.One e)) w.is (term_fits vs env e basic w.x s h w.o_is)
+resolved vs env (asked.One e) (Listed list) a s h few o = cc
+resolved vs env (asked.List e) (Scalar (Named name)) a s h few o =
+    let f = found_named env (entry_list e) name a (placed (named env (entry_list e) name) name.at a o) in
+    entry_list_fits vs e.kind e.may_vary f.entry a (s name.bytes f.entry f.is) f.gives
+resolved vs env (asked.List e) (Scalar (Truth value at)) a s h few o = cc
+resolved vs env (asked.List e) (Scalar (Numeral number)) a s h few o = cc
+resolved vs env (asked.List e) (Scalar (Literal set)) a s h few o = cc
+resolved vs env (asked.List e) (Listed list) a s h few o =
+    let w = valued (list_argument e) (each_of (term_in env e) list.elements) a o in
+    let t = terms_fit vs env e list.elements w.x s h w.r_is in
+    subst (FitsAsked vs (asked.List e)) w.is (list_fits vs e.kind e.may_vary w.x (omega (arith, few, t.count)) t.all)
+resolved vs env asked.Set (Scalar basic) a s h few o =
+    let w = mapped meaning.Set (set_of env basic) a (placed (option_map meaning.Set (set_of env basic)) (basic_at basic) a o) in
+    subst (FitsAsked vs asked.Set) w.is (set_fits vs env basic w.x s h few w.o_is)
+resolved vs env asked.Set (Listed list) a s h few o = cc
+
+-- ---- all arguments
+
+pub record Fitting (vs : List Variable) (signature : List Asked) (es : List Expression) (arguments : List Argument) : Type 0 where
+  pub fit : AllFit vs signature arguments
+  pub count : length arguments ≡ length es
+
+pub all_fit : (vs : List Variable) (env : Environment) (signature : List Asked) (es : List Expression) → Sound vs env → length signature ≡ length es → AllByRecursion ExpressionFits es → AllByRecursion FewIn es → wrong_arguments env signature es ≡ []
+    → Fitting vs signature es (arguments_in env signature es)
+all_fit vs env [] [] s n h few e = record { fit = tt; count = refl }
+all_fit vs env [] (x ∷ es) s n h few e = absurd (omega (arith, n))
+all_fit vs env (wanted ∷ rest) [] s n h few e = absurd (omega (arith, n))
+all_fit vs env (wanted ∷ rest) (x ∷ es) s n h few e =
+    let p = nil_parts (wrong_place (resolve env wanted x)) (wrong_arguments env rest es) e in
+    go (all_fit vs env rest es s (omega (arith, n)) h.1 few.1 p.1) (resolve env wanted x) refl p.0
+  where
+    go : Fitting vs rest es (arguments_in env rest es) → (r : Result Argument ℕ) → resolve env wanted x ≡ r → wrong_place r ≡ []
+        → Fitting vs (wanted ∷ rest) (x ∷ es) (elim r [ Ok argument ↦ argument ∷ arguments_in env rest es | Err at ↦ arguments_in env rest es ])
+    go others (Ok a) k i = record { fit = (resolved vs env wanted x a s h.0 few.0 k, others.fit); count = ap (λ m. suc m) others.count }
+    go others (Err at) k i = cc
+
+-- ---- lengths
+
+pub same_lengths : (arguments : List Argument) → lengths_in arguments ≡ list_lengths arguments
+same_lengths [] = refl
+same_lengths (meaning.One term ∷ arguments) = same_lengths arguments
+same_lengths (meaning.Numbers ns ∷ arguments) = ap (λ l. length ns ∷ l) (same_lengths arguments)
+same_lengths (meaning.Terms ts ∷ arguments) = ap (λ l. length ts ∷ l) (same_lengths arguments)
+same_lengths (meaning.Set set ∷ arguments) = same_lengths arguments
+
+all_equal : (n : ℕ) (ns : List ℕ) → list_all (λ m. m == n) ns ≡ true → AllByRecursion (λ m. m ≡ n) ns
+all_equal n [] h = tt
+all_equal n (m ∷ ns) h =
+    let p = and_parts (m == n) (list_all (λ k. k == n) ns) h in
+    (eqb-true m n p.0, all_equal n ns p.1)
+
+pub lengths_fit : (wanted : Lengths) (ns : List ℕ) → have_lengths wanted ns ≡ true → HaveLengths wanted ns
+lengths_fit lengths.Any ns h = tt
+lengths_fit lengths.Equal [] h = tt
+lengths_fit lengths.Equal (n ∷ ns) h = all_equal n ns h
+lengths_fit lengths.Rows [] h = tt
+lengths_fit lengths.Rows (n ∷ []) h = tt
+lengths_fit lengths.Rows (n ∷ m ∷ []) h =
+    let p = and_parts (nat_lt 0 n) (m % n == 0) h in
+    (ltb-true 0 n p.0, eqb-true (m % n) 0 p.1)
+lengths_fit lengths.Rows (n ∷ m ∷ k ∷ ns) h = tt

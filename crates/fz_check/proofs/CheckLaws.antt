@@ -1,0 +1,73 @@
+-- From drafts to what the checker says of a program.
+use Rattle.std.proofs.Common.{◌≡◌, ℕ, ◌+◌, ◌<◌, drop, length, get_or, Option, Some, None, List, [], ◌∷◌, ◌++◌, map, refl, sym, ap, ap₂, ◌∙◌, subst, append-nil}
+use Rattle.std.specs.Prelude.{slice_get}
+use Rattle.std.proofs.lemmas.List.{drop_more}
+use Rattle.fz_spec.specs.declared.goal.Goal.{Goal}
+use Rattle.fz_spec.specs.declared.goal.Goal.TheVariants as goals
+use Rattle.fz_spec.specs.Instance.{Instance, SearchPart}
+use Rattle.fz_language.specs.declared.fault.RuleFault.TheVariants.{Unsupported}
+use Rattle.fz_language.specs.Trees.{Item, SolveItem, Method, Satisfy, Minimize, Maximize, Program}
+use Rattle.fz_language.specs.Entries.{Environment}
+use Rattle.fz_language.specs.Rules.{Fault, none_yet, at_places, faults_of, all_counted, additions, solve_faults}
+use Rattle.fz_language.specs.Models.{Scope, empty_scope, behind, scope_behind, made, model_of, goal_of, goal_term, variables_of, constraints_of, outputs_of}
+use Rattle.fz_language.specs.Reads.{faults_from, program_faults, IsFirst, rule_code}
+use Rattle.fz_language.specs.Search.{search_of}
+use Rattle.fz_resolve.specs.declared.fault.Fault as found
+use Rattle.fz_resolve.specs.Meant.{environment_of, fault_of}
+use Rattle.fz_check.specs.Checked.{IsFirstFault, IsFirstOf}
+use Rattle.fz_check.specs.Drafts.{scope_of, IsCounted, IsAhead}
+use Rattle.fz_check.specs.declared.draft.Draft.{Draft}
+use Rattle.fz_check.proofs.FaultLaws.{first_front, no_first}
+
+pub ahead_start : (p : Program) (d : Draft) → IsCounted d none_yet → scope_of d ≡ empty_scope → d.variables.items ≡ [] → d.constraints.items ≡ [] → d.outputs.items ≡ [] → IsAhead p d p.items
+ahead_start p d c s v cs o = record {
+  counts = none_yet;
+  counted = c;
+  faults = ap (λ (x : Scope). faults_from x none_yet p.items p.solve) (sym s);
+  scope = ap (λ (x : Scope). scope_behind x p.items) (sym s);
+  variables = ap₂ (λ us (x : Scope). us ++ made variables_of x p.items) (sym v) (sym s);
+  constraints = ap₂ (λ us (x : Scope). us ++ made constraints_of x p.items) (sym cs) (sym s);
+  outputs = ap₂ (λ us (x : Scope). us ++ made outputs_of x p.items) (sym o) (sym s);
+}
+
+is_first : (faults : List Fault) (f : found.Fault) → IsFirstFault faults f → IsFirst faults (rule_code f.rule) f.at
+is_first [] f e = cc
+is_first (x ∷ xs) f e = let is : x ≡ fault_of f = cc in (ap (λ (y : Fault). rule_code y.rule) (sym is), ap (λ (y : Fault). y.at) (sym is))
+
+-- the first fault of an item is the program's
+pub first_broken : (p : Program) (d : Draft) (item : Item) (rest : List Item) (f : found.Fault) (a : IsAhead p d (item ∷ rest)) → IsFirstFault (faults_of (environment_of d.names) a.counts item) f → IsFirst (program_faults p) (rule_code f.rule) f.at
+first_broken p d item rest f a e =
+    is_first (program_faults p) f
+    (ap (λ (fs : List Fault). slice_get fs 0) a.faults
+    ∙ first_front (faults_of (environment_of d.names) a.counts item) (faults_from (behind (scope_of d) item) (all_counted a.counts (additions item)) rest p.solve) (fault_of f) e)
+
+-- and so is that of the solve item
+pub first_of_solve : (p : Program) (d : Draft) (f : found.Fault) (a : IsAhead p d []) → IsFirstOf (solve_faults (environment_of d.names) p.solve) (Some f) → IsFirst (program_faults p) (rule_code f.rule) f.at
+first_of_solve p d f a e = is_first (program_faults p) f (ap (λ (fs : List Fault). slice_get fs 0) a.faults ∙ sym e)
+
+pub all_kept : (p : Program) (d : Draft) (a : IsAhead p d []) → IsFirstOf (solve_faults (environment_of d.names) p.solve) None → program_faults p ≡ []
+all_kept p d a e = a.faults ∙ no_first (solve_faults (environment_of d.names) p.solve) (sym e)
+
+satisfied : (env : Environment) (m : Method) → ◌≡◌ {A = List Fault} (elim m [ Satisfy at ↦ [] | Minimize at objective ↦ at_places Unsupported (at ∷ []) | Maximize at objective ↦ at_places Unsupported (at ∷ []) ]) []
+    → ◌≡◌ {A = Goal} (elim m [ Satisfy at ↦ goals.Satisfy | Minimize at objective ↦ goals.Minimize (goal_term env objective) | Maximize at objective ↦ goals.Maximize (goal_term env objective) ]) goals.Satisfy
+satisfied env (Satisfy at) e = refl
+satisfied env (Minimize at objective) e = cc
+satisfied env (Maximize at objective) e = cc
+
+abbrev pub instance_of : Draft → List SearchPart → Instance
+instance_of d parts = record { variables = d.variables.items; constraints = d.constraints.items; goal = goals.Satisfy; outputs = d.outputs.items; search = parts }
+
+-- the parts of a draft of all items make the model
+pub model_is : (p : Program) (d : Draft) (parts : List SearchPart) (a : IsAhead p d []) → program_faults p ≡ [] → parts ≡ search_of (environment_of d.names) p.solve.annotations → model_of p ≡ instance_of d parts
+model_is p d parts a keep s =
+    let env = ap (λ (x : Scope). x.entries) a.scope in
+    let vs = a.variables ∙ append-nil d.variables.items in
+    let cs = a.constraints ∙ append-nil d.constraints.items in
+    let os = a.outputs ∙ append-nil d.outputs.items in
+    let goal : goal_of (scope_behind empty_scope p.items).entries p.solve ≡ goals.Satisfy = satisfied (scope_behind empty_scope p.items).entries p.solve.method (sym a.faults ∙ keep) in
+    let search : search_of (scope_behind empty_scope p.items).entries p.solve.annotations ≡ parts = ap (λ (e : Environment). search_of e p.solve.annotations) env ∙ sym s in
+    λ i. record { variables = vs i; constraints = cs i; goal = goal i; outputs = os i; search = search i }
+
+-- the items that are left, the first of them apart
+pub left_items : {X Y : Type 0} (f : X → Y) (xs : List X) (i : ℕ) (x : X) → i < length xs → x ≡ get_or xs i x → map f (drop i xs) ≡ f x ∷ map f (drop (i + 1) xs)
+left_items {X} f xs i x l is = ap (map f) (drop_more xs i x l) ∙ ap (λ (y : X). f y ∷ map f (drop (i + 1) xs)) (sym is)

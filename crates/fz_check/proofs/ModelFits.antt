@@ -1,0 +1,260 @@
+-- The model of a program that keeps all rules is one.
+use Rattle.std.proofs.Common.{◌≡◌, ℕ, zero, suc, ◌+◌, ◌-◌, ◌≤◌, ◌<◌, Bool, true, false, ◌&&◌, cond, Option, Some, None, option_map, List, [], ◌∷◌, ◌++◌, length, map, refl, sym, ap, ◌∙◌, subst, append_assoc, append-nil, length-append, arith}
+use Rattle.std.specs.Prelude.{ℤ, slice_get, flat_map, nat_lt}
+use Rattle.std.specs.List.{AllByRecursion}
+use Rattle.std.proofs.lemmas.List.{length-map}
+use Rattle.fz_spec.specs.declared.limits.TheConstants.{TEXT_LIMIT, VARIABLE_LIMIT, CONSTRAINT_LIMIT, ELEMENT_LIMIT}
+use Rattle.fz_spec.specs.declared.term.Term.{Term}
+use Rattle.fz_spec.specs.declared.term.Term.TheVariants.{Var}
+use Rattle.fz_spec.specs.declared.asked.Asked.{Asked}
+use Rattle.fz_spec.specs.declared.goal.Goal.TheVariants as goals
+use Rattle.fz_spec.specs.Constraints as meaning
+use Rattle.fz_spec.specs.Instance.{Output, SearchPart}
+use Rattle.fz_spec.specs.Instance as instance
+use Rattle.fz_spec.specs.Signatures.{Row, row_named, signature_of}
+use Rattle.fz_language.specs.declared.fault.RuleFault.TheVariants.{Unsupported, UnknownConstraint, WrongArity, UnknownName, WrongType, WrongLengths, DeclaredTwice, OverLimit}
+use Rattle.fz_language.specs.Trees.{Basic, VariableItem, ParameterItem, ArrayItem, ConstraintItem, Item, Predicate, Variable, Parameter, Array, Constraint, SolveItem, Method, Satisfy, Minimize, Maximize, Program}
+use Rattle.fz_language.specs.Numerals.{floats_in}
+use Rattle.fz_language.specs.Entries.{Environment, nothing_declared, term_in, resolve}
+use Rattle.fz_language.specs.Entries as entries
+use Rattle.fz_language.specs.Rules.{Fault, Addition, AVariable, AConstraint, Counts, none_yet, all_counted, additions, over, at_places, faults_of, item_faults, solve_faults, kind_of, term_asked, is_bound, bad_variable_type, bad_element_type, bad_parameter_type, seventh_ranges, floats_of_value, unknown_of_value, unknown_in, misplaced_output_array, misplaced_output_var, malformed_output_array, in_order, arguments_in, wrong_value, wrong_element, wrong_index_set, wrong_shape, declared_already, type_additions, value_additions, array_element_additions, expression_additions, members_in}
+use Rattle.fz_language.specs.Models.{equal_to, goal_term, Scope, empty_scope, behind, scope_behind, made, model_of, goal_of, type_set, variables_of, constraints_of, outputs_of, value_constraints, element_constraints, call_constraints, terms_of, bound_to, scalar_outputs, array_outputs}
+use Rattle.fz_language.specs.Reads.{faults_from, program_faults}
+use Rattle.fz_language.specs.Search.{search_of}
+use Rattle.fz_language.specs.Within.{BasicFits, ItemFits, ProgramFits}
+use Rattle.fz_model.specs.Kept.{IsVariable, IsConstraint, IsOutput, IsGoal, IsModel, IsSearchPart, IsIndexRange, HasShape, kind_at}
+use Rattle.fz_check.specs.Fits.{EntryFits, Sound, IsTextual, IsShortPart, AreTextual, ModelsFit}
+use Rattle.fz_check.proofs.Counting.{nil_parts, variables_in, constraints_in, elements_in, Few, few, elements_both, constraints_both, variables_both, among_counted, array_counted, bound_counted, arguments_few}
+use Rattle.fz_check.proofs.ItemFits.{no_places, variable_fits, entered, parameter_fits, listing, array_entered, value_fits, elements_fit, call_fits, Shown, scalar_shown, array_shown, HasForm}
+use Rattle.fz_check.proofs.SearchFits.{both_all, search_fits, OfModel}
+
+-- what an item makes
+record Making (vs : List instance.Variable) (s : Scope) (item : Item) : Type 0 where
+  sets : AllByRecursion IsVariable (variables_of s item)
+  constrained : AllByRecursion (IsConstraint vs) (constraints_of s item)
+  shown : AllByRecursion (Shown vs) (outputs_of s item)
+  sound : Sound vs (behind s item).entries
+  count : (behind s item).variables ≡ s.variables + length (variables_of s item)
+  few_variables : length (variables_of s item) ≤ variables_in (additions item)
+  few_constraints : length (constraints_of s item) ≤ constraints_in (additions item)
+
+-- the variable that an item declares has its number
+abbrev IsNumbered : List instance.Variable → Scope → Item → Type 0
+IsNumbered vs s item = (u : instance.Variable) → variables_of s item ≡ u ∷ [] → kind_at vs s.variables ≡ Some u.kind
+
+value_count : (s : Scope) (v : VariableItem) (value : Option Basic) → length (value_constraints s v value) ≤ constraints_in (value_additions value)
+value_count s v None = omega arith
+value_count s v (Some b) = go (term_in s.entries (term_asked v.value_type) b)
+  where
+    go : (o : Option Term) → length {A = meaning.Constraint} (elim o [ Some t ↦ equal_to (kind_of v.value_type) (Var s.variables) t ∷ [] | None ↦ [] ]) ≤ constraints_in (value_additions (Some b))
+    go None = omega arith
+    go (Some t) = omega arith
+
+variable_made : (vs : List instance.Variable) (s : Scope) (n : Counts) (v : VariableItem) → Sound vs s.entries → ItemFits (Variable v) → IsNumbered vs s (Variable v) → item_faults s.entries (Variable v) ≡ [] → Few n (additions (Variable v)) → Making vs s (Variable v)
+variable_made vs s n v sound h k e w =
+    let kind = k (record { kind = kind_of v.value_type; set = type_set v.value_type }) refl in
+    let unsupported = at_places Unsupported (bad_variable_type v.value_type ++ seventh_ranges v.annotations ++ floats_of_value v.value) in
+    let unknown = at_places UnknownName (unknown_of_value s.entries v.value) in
+    let wrong = at_places WrongType (misplaced_output_array v.annotations ++ wrong_value s.entries v.value_type v.value) in
+    let p = nil_parts (unsupported ++ unknown ++ wrong) (at_places DeclaredTwice (declared_already s.entries v.name)) e in
+    let q = nil_parts (unsupported ++ unknown) wrong p.0 in
+    let r = nil_parts unsupported unknown q.0 in
+    let u = no_places Unsupported (bad_variable_type v.value_type ++ seventh_ranges v.annotations ++ floats_of_value v.value) r.0 in
+    let t = nil_parts (bad_variable_type v.value_type ++ seventh_ranges v.annotations) (floats_of_value v.value) u in
+    let bad = (nil_parts (bad_variable_type v.value_type) (seventh_ranges v.annotations) t.0).0 in
+    let rest = AVariable v.name.at ∷ value_additions v.value in
+    record {
+      sets = (variable_fits v.value_type h.0 bad (omega (arith, w.elements, elements_both (type_additions v.value_type) rest)), tt);
+      constrained = value_fits vs s v v.value sound kind h.1;
+      shown = scalar_shown vs s v kind;
+      sound = entered vs s.entries v.name.bytes (entries.Variable (kind_of v.value_type) s.variables) sound kind;
+      count = refl;
+      few_variables = omega (arith, variables_both (type_additions v.value_type) rest);
+      few_constraints = omega (arith, constraints_both (type_additions v.value_type) rest, value_count s v v.value);
+    }
+
+parameter_made : (vs : List instance.Variable) (s : Scope) (n : Counts) (p : ParameterItem) → Sound vs s.entries → ItemFits (Parameter p) → Few n (additions (Parameter p)) → Making vs s (Parameter p)
+parameter_made vs s n p sound h w = record {
+  sets = tt;
+  constrained = tt;
+  shown = tt;
+  sound = parameter_fits vs s.entries p.name.bytes p.value_type p.value sound h.1 (omega (arith, w.elements, elements_both (type_additions p.value_type) (members_in p.value), among_counted p.value));
+  count = omega arith;
+  few_variables = omega arith;
+  few_constraints = omega arith;
+}
+
+element_count : (s : Scope) (a : ArrayItem) → AllByRecursion BasicFits a.list.elements → (vs : List instance.Variable) → Sound vs s.entries
+    → (variable bound : Bool) → length (cond variable (cond bound (map (bound_to (type_set a.value_type)) (terms_of s.entries (term_asked a.value_type) a.list)) []) []) ≤ constraints_in (flat_map (array_element_additions (variable && bound)) a.list.elements)
+element_count s a h vs sound true true =
+    let l = listing vs s.entries (kind_of a.value_type) true a.list sound h in
+    omega (arith, length-map (terms_of s.entries (term_asked a.value_type) a.list) (bound_to (type_set a.value_type)), l.count, bound_counted a.list.elements)
+element_count s a h vs sound true false = omega arith
+element_count s a h vs sound false bound = omega arith
+
+pub lists_placed : (xs ys zs : List ℕ) (b : Bool) → in_order xs (cond b ys zs) ≡ [] → b ≡ false → zs ≡ []
+lists_placed [] ys zs true e f = cc
+lists_placed (x ∷ xs) ys zs true e f = cc
+lists_placed [] ys [] false e f = refl
+lists_placed [] ys (z ∷ zs) false e f = cc
+lists_placed (x ∷ xs) ys [] false e f = refl
+lists_placed (x ∷ xs) ys (z ∷ zs) false e f = none (nat_lt z x) e
+  where
+    none : (c : Bool) → cond c (z ∷ x ∷ []) (x ∷ z ∷ []) ≡ [] → z ∷ zs ≡ []
+    none true i = cc
+    none false i = cc
+
+array_made : (vs : List instance.Variable) (s : Scope) (n : Counts) (a : ArrayItem) → Sound vs s.entries → ItemFits (Array a) → item_faults s.entries (Array a) ≡ [] → Few n (additions (Array a)) → Making vs s (Array a)
+array_made vs s n a sound h e w =
+    let bad = bad_element_type a.variable a.value_type in
+    let seven = seventh_ranges a.annotations in
+    let places = in_order (misplaced_output_var a.annotations) (cond a.variable (malformed_output_array a.annotations) (misplaced_output_array a.annotations)) in
+    let typed = wrong_element s.entries a.variable a.value_type a.list in
+    let unsupported = at_places Unsupported (bad ++ seven ++ flat_map floats_in a.list.elements) in
+    let unknown = at_places UnknownName (flat_map (unknown_in s.entries) a.list.elements) in
+    let wrong = at_places WrongType (places ++ typed) in
+    let long = at_places WrongLengths (wrong_index_set a ++ wrong_shape a) in
+    let p = nil_parts (unsupported ++ unknown ++ wrong ++ long) (at_places DeclaredTwice (declared_already s.entries a.name)) e in
+    let q = nil_parts (unsupported ++ unknown ++ wrong) long p.0 in
+    let r = nil_parts (unsupported ++ unknown) wrong q.0 in
+    let t = nil_parts unsupported unknown r.0 in
+    let u = nil_parts (bad ++ seven) (flat_map floats_in a.list.elements) (no_places Unsupported (bad ++ seven ++ flat_map floats_in a.list.elements) t.0) in
+    let types = nil_parts places typed (no_places WrongType (places ++ typed) r.1) in
+    let lengths = nil_parts (wrong_index_set a) (wrong_shape a) (no_places WrongLengths (wrong_index_set a ++ wrong_shape a) q.1) in
+    let more = flat_map (array_element_additions (a.variable && is_bound a.value_type)) a.list.elements in
+    let both = elements_both (type_additions a.value_type) more in
+    let few : length a.list.elements ≤ ELEMENT_LIMIT = omega (arith, w.elements, both, array_counted (a.variable && is_bound a.value_type) a.list.elements) in
+    let few_members : elements_in (type_additions a.value_type) ≤ ELEMENT_LIMIT = omega (arith, w.elements, both) in
+    record {
+      sets = tt;
+      constrained = elements_fit vs s a sound h.2 few_members h.3;
+      shown = array_shown vs s a sound h.3 few (nil_parts bad seven u.0).1 types.1
+          (lists_placed (misplaced_output_var a.annotations) (malformed_output_array a.annotations) (misplaced_output_array a.annotations) a.variable types.0) lengths.1;
+      sound = array_entered vs s.entries a sound h.3 few;
+      count = omega arith;
+      few_variables = omega arith;
+      few_constraints = omega (arith, constraints_both (type_additions a.value_type) more, element_count s a h.3 vs sound a.variable (is_bound a.value_type));
+    }
+
+call_count : (s : Scope) (c : ConstraintItem) → length (call_constraints s c) ≤ 1
+call_count s c = named (row_named c.name.bytes)
+  where
+    called : (row : Row) (o : Option (List Asked))
+        → length {A = meaning.Constraint} (elim o [ Some signature ↦ record { name = row.builtin; arguments = arguments_in s.entries signature c.arguments } ∷ [] | None ↦ [] ]) ≤ 1
+    called row None = omega arith
+    called row (Some signature) = omega arith
+
+    named : (o : Option Row)
+        → length {A = meaning.Constraint}
+          (elim o [
+            | Some row ↦ elim (signature_of row (length c.arguments)) [ Some signature ↦ record { name = row.builtin; arguments = arguments_in s.entries signature c.arguments } ∷ [] | None ↦ [] ]
+            | None ↦ []
+          ]) ≤ 1
+    named None = omega arith
+    named (Some row) = called row (signature_of row (length c.arguments))
+
+constraint_made : (vs : List instance.Variable) (s : Scope) (n : Counts) (c : ConstraintItem) → Sound vs s.entries → ItemFits (Constraint c) → item_faults s.entries (Constraint c) ≡ [] → Few n (additions (Constraint c)) → Making vs s (Constraint c)
+constraint_made vs s n c sound h e w = record {
+  sets = tt;
+  constrained = call_fits vs s c sound h (arguments_few c.arguments (omega (arith, w.elements))) e;
+  shown = tt;
+  sound = sound;
+  count = omega arith;
+  few_variables = omega arith;
+  few_constraints = omega (arith, call_count s c);
+}
+
+item_made : (vs : List instance.Variable) (s : Scope) (n : Counts) (item : Item) → Sound vs s.entries → ItemFits item → IsNumbered vs s item → item_faults s.entries item ≡ [] → Few n (additions item) → Making vs s item
+item_made vs s n (Predicate p) sound h k e w = record { sets = tt; constrained = tt; shown = tt; sound = sound; count = omega arith; few_variables = omega arith; few_constraints = omega arith }
+item_made vs s n (Variable v) sound h k e w = variable_made vs s n v sound h k e w
+item_made vs s n (Parameter p) sound h k e w = parameter_made vs s n p sound h w
+item_made vs s n (Array a) sound h k e w = array_made vs s n a sound h e w
+item_made vs s n (Constraint c) sound h k e w = constraint_made vs s n c sound h e w
+
+-- ---- all items
+
+record All (vs : List instance.Variable) (s : Scope) (n : Counts) (items : List Item) : Type 0 where
+  sets : AllByRecursion IsVariable (made variables_of s items)
+  constrained : AllByRecursion (IsConstraint vs) (made constraints_of s items)
+  shown : AllByRecursion (Shown vs) (made outputs_of s items)
+  sound : Sound vs (scope_behind s items).entries
+  few_variables : length (made variables_of s items) ≤ VARIABLE_LIMIT - n.variables
+  few_constraints : length (made constraints_of s items) ≤ CONSTRAINT_LIMIT - n.constraints
+
+kind_behind : (front : List instance.Variable) (u : instance.Variable) (others : List instance.Variable) (i : ℕ) → length front ≡ i → kind_at (front ++ u ∷ others) i ≡ Some u.kind
+kind_behind [] u others zero e = refl
+kind_behind [] u others (suc i) e = absurd (omega (arith, e))
+kind_behind (x ∷ front) u others zero e = absurd (omega (arith, e))
+kind_behind (x ∷ front) u others (suc i) e = kind_behind front u others i (omega (arith, e))
+
+numbered : (vs front : List instance.Variable) (s : Scope) (item : Item) (others : List instance.Variable) → vs ≡ front ++ (variables_of s item ++ others) → length front ≡ s.variables → IsNumbered vs s item
+numbered vs front s item others is count u one =
+    ap (λ (ws : List instance.Variable). kind_at ws s.variables) (is ∙ ap (λ (us : List instance.Variable). front ++ (us ++ others)) one) ∙ kind_behind front u others s.variables count
+
+all_made : (vs front : List instance.Variable) (s : Scope) (n : Counts) (items : List Item) (solve : SolveItem) → vs ≡ front ++ made variables_of s items → length front ≡ s.variables → Sound vs s.entries → AllByRecursion ItemFits items
+    → faults_from s n items solve ≡ [] → All vs s n items
+all_made vs front s n [] solve is count sound h e = record { sets = tt; constrained = tt; shown = tt; sound = sound; few_variables = omega arith; few_constraints = omega arith }
+all_made vs front s n (item ∷ items) solve is count sound h e =
+    let p = nil_parts (faults_of s.entries n item) (faults_from (behind s item) (all_counted n (additions item)) items solve) e in
+    let q = nil_parts (item_faults s.entries item) (at_places OverLimit (over n (additions item))) p.0 in
+    let w = few n (additions item) (no_places OverLimit (over n (additions item)) q.1) in
+    let others = made variables_of (behind s item) items in
+    let here = item_made vs s n item sound h.0 (numbered vs front s item others is count) q.0 w in
+    let rest = all_made vs (front ++ variables_of s item) (behind s item) (all_counted n (additions item)) items solve (is ∙ sym (append_assoc front (variables_of s item) others))
+    (length-append front (variables_of s item) ∙ omega (arith, count, here.count)) here.sound h.1 p.1 in
+    record {
+      sets = both_all IsVariable (variables_of s item) others here.sets rest.sets;
+      constrained = both_all (IsConstraint vs) (constraints_of s item) (made constraints_of (behind s item) items) here.constrained rest.constrained;
+      shown = both_all (Shown vs) (outputs_of s item) (made outputs_of (behind s item) items) here.shown rest.shown;
+      sound = rest.sound;
+      few_variables = omega (arith, length-append (variables_of s item) others, here.few_variables, rest.few_variables, w.variables_are, w.variables);
+      few_constraints = omega (arith, length-append (constraints_of s item) (made constraints_of (behind s item) items), here.few_constraints, rest.few_constraints, w.constraints_are, w.constraints);
+    }
+
+-- ---- the model
+
+outputs_fit : (vs : List instance.Variable) (os : List Output) → AllByRecursion (Shown vs) os → AllByRecursion IsTextual os → AllByRecursion (IsOutput vs) os
+outputs_fit vs [] h t = tt
+outputs_fit vs (o ∷ os) h t = (record { name = t.0.0; few = h.0.few; terms = h.0.terms; shape = go o.array o.shape (length o.terms) h.0.form t.0.1 }, outputs_fit vs os h.1 t.1)
+  where
+    go : (b : Bool) (shape : List (ℤ × ℤ)) (count : ℕ) → HasForm b shape count → AllByRecursion IsIndexRange shape → HasShape b shape count
+    go false shape count f w = f
+    go true shape count f w = record { some = f.0; few = f.1; within = w; whole = f.2 }
+
+searched : (vs : List instance.Variable) (parts : List SearchPart) → AllByRecursion (OfModel vs) parts → AllByRecursion IsShortPart parts → AllByRecursion (IsSearchPart vs) parts
+searched vs [] h t = tt
+searched vs (part ∷ parts) h t = ((t.0, h.0), searched vs parts h.1 t.1)
+
+-- the faults of the solve item come behind those of items
+solved : (s : Scope) (n : Counts) (items : List Item) (solve : SolveItem) → faults_from s n items solve ≡ [] → solve_faults (scope_behind s items).entries solve ≡ []
+solved s n [] solve e = e
+solved s n (item ∷ items) solve e = solved (behind s item) (all_counted n (additions item)) items solve (nil_parts (faults_of s.entries n item) (faults_from (behind s item) (all_counted n (additions item)) items solve) e).1
+
+goal_fits : (vs : List instance.Variable) (env : Environment) (solve : SolveItem) → solve_faults env solve ≡ [] → IsGoal vs (goal_of env solve)
+goal_fits vs env solve e = go solve.method e
+  where
+    go : (m : Method) → ◌≡◌ {A = List Fault} (elim m [ Satisfy at ↦ [] | Minimize at objective ↦ at_places Unsupported (at ∷ []) | Maximize at objective ↦ at_places Unsupported (at ∷ []) ]) []
+        → IsGoal vs (elim m [ Satisfy at ↦ goals.Satisfy | Minimize at objective ↦ goals.Minimize (goal_term env objective) | Maximize at objective ↦ goals.Maximize (goal_term env objective) ])
+    go (Satisfy at) i = tt
+    go (Minimize at objective) i = cc
+    go (Maximize at objective) i = cc
+
+empty_sound : (vs : List instance.Variable) → Sound vs nothing_declared
+empty_sound vs name entry e = cc
+
+pub models_fit : ModelsFit
+models_fit p h e t =
+    let vs = made variables_of empty_scope p.items in
+    let a = all_made vs [] empty_scope none_yet p.items p.solve refl refl (empty_sound vs) h.0 e in
+    let env = (scope_behind empty_scope p.items).entries in
+    record {
+      few = a.few_variables;
+      sets = a.sets;
+      few_constraints = a.few_constraints;
+      constrained = a.constrained;
+      goal = goal_fits vs env p.solve (solved empty_scope none_yet p.items p.solve e);
+      few_outputs = t.few_outputs;
+      shown = outputs_fit vs (made outputs_of empty_scope p.items) a.shown t.textual;
+      few_parts = t.few_parts;
+      searched = searched vs (search_of env p.solve.annotations) (search_fits vs env p.solve.annotations a.sound) t.short;
+    }

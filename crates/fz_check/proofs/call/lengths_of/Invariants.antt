@@ -1,0 +1,8 @@
+use Rattle.std.proofs.Common.{◌≡◌, take, map}
+use Rattle.fz_language.specs.Rules.{lengths_in}
+use Rattle.fz_model.specs.Arguments.{argument_of}
+use Rattle.fz_check.proofs.call.lengths_of.Given as goal
+
+-- those of the arguments so far
+abbrev pub invariant-loop-argument : goal.invariant-loop-argument
+invariant-loop-argument l = l.lengths.items ≡ lengths_in (map argument_of (take l.argument-index l.arguments))

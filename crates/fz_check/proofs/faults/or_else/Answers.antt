@@ -1,0 +1,10 @@
+use Rattle.std.proofs.Common.{◌∙◌, sym, ap, option_map}
+use Rattle.fz_resolve.specs.Meant.{fault_of}
+use Rattle.fz_check.proofs.FaultLaws.{first_front, behind_none}
+use Rattle.fz_check.proofs.faults.or_else.Goals as goal
+
+pub returns-in-Some : goal.returns-in-Some
+returns-in-Some c = λ xs ys e k. sym (first_front xs ys (fault_of c.in-Some.fault) (sym e ∙ ap (option_map fault_of) c.in-Some.is))
+
+pub returns-in-None : goal.returns-in-None
+returns-in-None c = λ xs ys e k. k ∙ sym (behind_none xs ys (sym e ∙ ap (option_map fault_of) c.in-None.is))

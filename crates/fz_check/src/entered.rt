@@ -1,0 +1,163 @@
+//! What the name of a parameter or an array stands for.
+ghost use Rattle.std.specs.Prelude.{◌≡◌, IfOk, option_map, map, true, false};
+ghost use Rattle.std.specs.List.{AllByRecursion};
+ghost use Rattle.fz_language.specs.Entries as entries;
+ghost use Rattle.fz_language.specs.Models as models;
+ghost use Rattle.fz_language.specs.Rules as rules;
+ghost use Rattle.fz_language.specs.Within.{BasicFits};
+ghost use Rattle.fz_syntax.specs.Trees as trees;
+ghost use Rattle.fz_resolve.specs.Meant.{environment_of, meant};
+ghost use Rattle.fz_check.specs.Entered.{value_entry, set_entry, IsArrayEntry};
+
+use fz_resolve::resolve::{numbers, set, term, terms};
+use fz_resolve::types::kind_of;
+use fz_resolve::{Entry, Names};
+use fz_spec::asked::Element;
+use fz_spec::kind::Kind;
+use fz_spec::term::Term;
+use fz_syntax::{ArrayItem, Basic, ParameterItem, ValueType};
+use std::alloc::{AllocError, Global};
+
+/// What the name of a parameter stands for, if its value has the type.
+pub(crate) fn parameter_entry(
+    alloc: Global,
+    names: &Names<'_>,
+    item: &ParameterItem<'_>,
+) -> Result<Option<Entry>, AllocError>
+    requires { BasicFits (trees.basic_of item.now.value) }
+    ensures { let p = trees.parameter_item_of item.now in
+        IfOk result (λ entry. option_map meant entry
+        ≡ models.parameter_entry (environment_of names.now) p.value_type p.value) }
+{
+    match &item.value_type {
+        ValueType::One(_) => Ok(one_value(names, kind_of(&item.value_type), &item.value)),
+        ValueType::SetOf { .. } => set_value(alloc, names, &item.value),
+    }
+}
+
+fn one_value(names: &Names<'_>, kind: Kind, basic: &Basic<'_>) -> Option<Entry>
+    ensures { option_map meant result
+        ≡ value_entry kind (entries.term_in (environment_of names.now) (record { kind = kind; may_vary = false }) (trees.basic_of basic.now)) }
+{
+    let asked = Element {
+        kind,
+        may_vary: false,
+    };
+    match term(names, asked, basic) {
+        Some(term) => Some(Entry::Value {
+            kind,
+            value: number_of(term),
+        }),
+        None => None,
+    }
+}
+
+fn number_of(term: Term) -> i32
+    ensures { result ≡ entries.number_of term }
+{
+    match term {
+        Term::Num(number) => number,
+        Term::Var(_) => 0,
+    }
+}
+
+fn set_value(
+    alloc: Global,
+    names: &Names<'_>,
+    basic: &Basic<'_>,
+) -> Result<Option<Entry>, AllocError>
+    requires { BasicFits (trees.basic_of basic.now) }
+    ensures { IfOk result (λ entry. option_map meant entry
+        ≡ set_entry (entries.set_of (environment_of names.now) (trees.basic_of basic.now))) }
+{
+    match set(alloc, names, basic)? {
+        Some(set) => Ok(Some(Entry::Set(set))),
+        None => Ok(None),
+    }
+}
+
+/// What the name of an array stands for, or the place of its first element that hasn't the type.
+pub(crate) fn array_entry(
+    alloc: Global,
+    names: &Names<'_>,
+    item: &ArrayItem<'_>,
+) -> Result<Result<Entry, u32>, AllocError>
+    requires { AllByRecursion BasicFits (map trees.basic_of item.now.list.elements.items) }
+    ensures { IfOk result (IsArrayEntry (environment_of names.now) (trees.array_item_of item.now)) }
+{
+    let kind = kind_of(&item.value_type);
+    if item.variable {
+        let entry = term_list(alloc, names, kind, &item.list.elements)?;
+        return Ok(entry);
+    }
+    match &item.value_type {
+        ValueType::One(_) => Ok(number_list(alloc, names, kind, &item.list.elements)?),
+        ValueType::SetOf { .. } => Ok(set_list(alloc, names, &item.list.elements)?),
+    }
+}
+
+fn term_list(
+    alloc: Global,
+    names: &Names<'_>,
+    kind: Kind,
+    elements: &[Basic<'_>],
+) -> Result<Result<Entry, u32>, AllocError>
+    ensures { IfOk result (λ entry. entries.with_value meant entry
+        ≡ entries.with_value (λ terms. entries.Terms kind terms)
+        (entries.each_of (entries.term_in (environment_of names.now) (record { kind = kind; may_vary = true })) (map trees.basic_of elements.now))) }
+{
+    let asked = Element {
+        kind,
+        may_vary: true,
+    };
+    match terms(alloc, names, asked, elements)? {
+        Ok(terms) => Ok(Ok(Entry::Terms { kind, terms })),
+        Err(at) => Ok(Err(at)),
+    }
+}
+
+fn number_list(
+    alloc: Global,
+    names: &Names<'_>,
+    kind: Kind,
+    elements: &[Basic<'_>],
+) -> Result<Result<Entry, u32>, AllocError>
+    ensures { IfOk result (λ entry. entries.with_value meant entry
+        ≡ entries.with_value (λ terms. entries.Numbers kind (map entries.number_of terms))
+        (entries.each_of (entries.term_in (environment_of names.now) (record { kind = kind; may_vary = false })) (map trees.basic_of elements.now))) }
+{
+    let asked = Element {
+        kind,
+        may_vary: false,
+    };
+    match terms(alloc, names, asked, elements)? {
+        Ok(terms) => Ok(Ok(numbers_entry(alloc, kind, &terms)?)),
+        Err(at) => Ok(Err(at)),
+    }
+}
+
+fn numbers_entry(alloc: Global, kind: Kind, terms: &[Term]) -> Result<Entry, AllocError>
+    ensures { IfOk result (λ entry. meant entry ≡ entries.Numbers kind (map entries.number_of terms.now)) }
+{
+    let numbers = numbers(alloc, terms)?;
+    Ok(Entry::Numbers { kind, numbers })
+}
+
+fn set_list(
+    alloc: Global,
+    names: &Names<'_>,
+    elements: &[Basic<'_>],
+) -> Result<Result<Entry, u32>, AllocError>
+    requires { AllByRecursion BasicFits (map trees.basic_of elements.now) }
+    ensures { IfOk result (λ entry. entries.with_value meant entry
+        ≡ entries.with_value (λ sets. entries.Sets)
+        (entries.each_of (entries.set_of (environment_of names.now)) (map trees.basic_of elements.now))) }
+{
+    for element in elements {
+        match set(alloc, names, element)? {
+            Some(_set) => {}
+            None => return Ok(Err(element.at())),
+        }
+    }
+    Ok(Ok(Entry::Sets))
+}
