@@ -1,5 +1,5 @@
 -- The arguments of a constraint, one by one.
-use Rattle.std.proofs.Common.{◌≡◌, ℕ, suc, Bool, true, false, cond, Option, ◌+◌, ◌<◌, ◌≤◌, List, [], ◌∷◌, ◌++◌, map, take, drop, length, get_or, refl, sym, ap, ap₂, ◌∙◌, subst, append_assoc, append-nil, arith}
+use Rattle.std.proofs.Common.{◌≡◌, ℕ, suc, true, false, cond, Option, ◌+◌, ◌<◌, ◌≤◌, List, [], ◌∷◌, ◌++◌, map, take, drop, length, get_or, refl, sym, ap, ap₂, ◌∙◌, append_assoc, append-nil}
 use Rattle.std.specs.Prelude.{Result, Ok, Err, Some, None, MatchResult, slice_get, flat_map}
 use Rattle.std.proofs.lemmas.List.{drop_more, drop_all, take_more, map-append}
 use Rattle.fz_spec.specs.declared.asked.Asked.{Asked}
