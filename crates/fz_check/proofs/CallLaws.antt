@@ -101,7 +101,7 @@ faults_are others env c row signature arguments right are =
 pub signed_typed : (others : List Fault) (env : Environment) (c : ConstraintItem) (row : Row) (signature : List Asked) (arguments : List Argument) (r : Result meaning.Constraint found.Fault)
     → AreArguments env signature c.arguments (Ok arguments)
     → MatchResult r (λ m. ((others ++ unknown_names env c) ++ wrong_lengths row c.name.at arguments ≡ []) × (m ≡ record { name = row.builtin; arguments = arguments }))
-      (IsFirstFault ((others ++ unknown_names env c) ++ wrong_lengths row c.name.at arguments))
+    (IsFirstFault ((others ++ unknown_names env c) ++ wrong_lengths row c.name.at arguments))
     → IsSigned others env c row signature r
 signed_typed others env c row signature arguments (Ok m) a h =
     (sym (faults_are others env c row signature arguments a.0 a.1) ∙ h.0, h.1 ∙ ap (λ (xs : List Argument). record { name = row.builtin; arguments = xs }) a.1)
@@ -133,11 +133,12 @@ constraints_of_row env c o = elim o [
 ]
 
 pub rowed_call : (env : Environment) (c : ConstraintItem) (row : Row) (r : Result meaning.Constraint found.Fault) → row_named c.name.bytes ≡ Some row → IsRowed (at_places Unsupported (flat_map floats_of c.arguments)) env c row r → IsCall env c r
-rowed_call env c row (Ok m) e h =
-    (ap (faults_of_row env c) e ∙ h.0,
-     ap (constraints_of_row env c) e
-     ∙ ap (λ (o : Option (List Asked)). elim o [ Some signature ↦ record { name = row.builtin; arguments = arguments_in env signature c.arguments } ∷ [] | None ↦ [] ]) h.1.1
-     ∙ ap (λ (x : meaning.Constraint). x ∷ []) (sym h.1.2))
+rowed_call env c row (Ok m) e h = (
+  ap (faults_of_row env c) e ∙ h.0,
+  ap (constraints_of_row env c) e
+      ∙ ap (λ (o : Option (List Asked)). elim o [ Some signature ↦ record { name = row.builtin; arguments = arguments_in env signature c.arguments } ∷ [] | None ↦ [] ]) h.1.1
+      ∙ ap (λ (x : meaning.Constraint). x ∷ []) (sym h.1.2),
+)
 rowed_call env c row (Err f) e h = ap (λ o. slice_get (faults_of_row env c o) 0) e ∙ h
 
 pub unnamed_call : (env : Environment) (c : ConstraintItem) (f : found.Fault) → row_named c.name.bytes ≡ None

@@ -187,10 +187,10 @@ call_fits vs s c sound h few e = named (row_named c.name.bytes) refl (nil_parts 
 
     named : (o : Option Row) → row_named c.name.bytes ≡ o → row_faults s.entries c o ≡ []
         → AllByRecursion (IsConstraint vs)
-          (elim o [
-            | Some row ↦ elim (signature_of row (length c.arguments)) [ Some signature ↦ record { name = row.builtin; arguments = arguments_in s.entries signature c.arguments } ∷ [] | None ↦ [] ]
-            | None ↦ []
-          ])
+        (elim o [
+          | Some row ↦ elim (signature_of row (length c.arguments)) [ Some signature ↦ record { name = row.builtin; arguments = arguments_in s.entries signature c.arguments } ∷ [] | None ↦ [] ]
+          | None ↦ []
+        ])
     named None r f = tt
     named (Some row) r f = called row r (signature_of row (length c.arguments)) refl f
 
@@ -319,9 +319,11 @@ array_shown vs s a sound h few seven typed placed whole = go (annotation_of OUTP
         → ◌≡◌ {A = List ℕ} (elim o [ Some shape ↦ cond (element_count shape == length a.list.elements) [] (ann.name.at ∷ []) | None ↦ [] ]) []
         → AllByRecursion (Shown vs) (elim o [ Some shape ↦ shown_as s a shape ∷ [] | None ↦ [] ])
     shown ann None k n p w = tt
-    shown ann (Some shape) k n p w =
-        (array_shown_of vs s a shape sound h few (shaped ann shape k n) (eqb-true (element_count shape) (length a.list.elements) (whole_shape (element_count shape == length a.list.elements) ann.name.at w))
-        (is_variable a.variable refl ann.name.at p typed), tt)
+    shown ann (Some shape) k n p w = (
+      array_shown_of vs s a shape sound h few (shaped ann shape k n) (eqb-true (element_count shape) (length a.list.elements) (whole_shape (element_count shape == length a.list.elements) ann.name.at w))
+          (is_variable a.variable refl ann.name.at p typed),
+      tt,
+    )
 
     go : (o : Option Annotation) → annotation_of OUTPUT_ARRAY a.annotations ≡ o → ◌≡◌ {A = List ℕ} (elim o [ Some ann ↦ seventh ann | None ↦ [] ]) []
         → (a.variable ≡ false → ◌≡◌ {A = List ℕ} (elim o [ Some ann ↦ ann.name.at ∷ [] | None ↦ [] ]) [])

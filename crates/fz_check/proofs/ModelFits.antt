@@ -146,10 +146,10 @@ call_count s c = named (row_named c.name.bytes)
 
     named : (o : Option Row)
         → length {A = meaning.Constraint}
-          (elim o [
-            | Some row ↦ elim (signature_of row (length c.arguments)) [ Some signature ↦ record { name = row.builtin; arguments = arguments_in s.entries signature c.arguments } ∷ [] | None ↦ [] ]
-            | None ↦ []
-          ]) ≤ 1
+        (elim o [
+          | Some row ↦ elim (signature_of row (length c.arguments)) [ Some signature ↦ record { name = row.builtin; arguments = arguments_in s.entries signature c.arguments } ∷ [] | None ↦ [] ]
+          | None ↦ []
+        ]) ≤ 1
     named None = omega arith
     named (Some row) = called row (signature_of row (length c.arguments))
 
