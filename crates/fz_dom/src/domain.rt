@@ -199,13 +199,13 @@ impl Dom {
         ensures narrow { greatest other.now ≤ℤ (least other.now +ℤ pos 63) → IsOk result }
         ensures domain { IsDomain other.now }
     {
-        if !other.rest.is_empty() {
-            self.rest.reserve(other.rest.len())?;
+        match write_over(&mut self.rest, &other.rest) {
+            Ok(()) => {
+                self.head = other.head;
+                Ok(())
+            }
+            Err(error) => Err(error),
         }
-        self.rest.clear();
-        self.rest.extend_from_slice(other.rest.as_slice())?;
-        self.head = other.head;
-        Ok(())
     }
 
     /// Whether the two are the same set.
@@ -444,4 +444,25 @@ fn settle(ranges: &mut SmallVec<(i32, i32), 2>) -> Head
         ranges.clear();
     }
     head
+}
+
+/// Writes some ranges over others; most domains have none, and then there is nothing to do.
+fn write_over(
+    old: &mut SmallVec<(i32, i32), 2>,
+    new: &SmallVec<(i32, i32), 2>,
+) -> Result<(), AllocError>
+    ensures same { OnOk result (old.new.items ≡ new.now.items) }
+    ensures err { OnErr result (old.new ≡ old.old) }
+    ensures succeeds { length new.now.items ≡ 0 → IsOk result }
+{
+    if new.is_empty() {
+        if !old.is_empty() {
+            old.clear();
+        }
+        return Ok(());
+    }
+    old.reserve(new.len())?;
+    old.clear();
+    old.extend_from_slice(new.as_slice())?;
+    Ok(())
 }

@@ -61,10 +61,11 @@ TypesOfElements = program_faults (program (call (name (codes "int_lin_le") 11) (
 abbrev pub UnequalLists : Type 0
 UnequalLists = program_faults (program (call (name (codes "int_lin_le") 11) (list 22 (numeral (pos 1) 23 ∷ numeral (pos 2) 25 ∷ []) ∷ list 28 (numeral (pos 3) 29 ∷ []) ∷ Scalar (numeral (pos 4) 32) ∷ []) ∷ [])) ≡ fault WrongLengths 11 ∷ []
 
--- `constraint foo(1.5);`: the float comes before the unknown constraint; `constraint set_union(x);` isn't supported
+-- `constraint foo(1.5);`: the float comes before the unknown constraint
 abbrev pub FloatsBeforeConstraints : Type 0
 FloatsBeforeConstraints = program_faults (program (call (name (codes "foo") 11) (Scalar (Numeral (Float 15)) ∷ []) ∷ [])) ≡ fault Unsupported 15 ∷ fault UnknownConstraint 11 ∷ []
 
+-- `constraint set_union();` and `constraint int_le_imp();`: neither is supported
 abbrev pub UnsupportedConstraint : Type 0
 UnsupportedConstraint = program_faults (program (call (name (codes "set_union") 11) [] ∷ call (name (codes "int_le_imp") 40) [] ∷ [])) ≡ fault Unsupported 11 ∷ fault Unsupported 40 ∷ []
 

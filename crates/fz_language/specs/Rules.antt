@@ -81,7 +81,7 @@ begins (a ∷ name) (b ∷ prefix) = (a == b) && begins name prefix
 abbrev pub ends_with : List ℕ → List ℕ → Bool
 ends_with name suffix = begins (reverse name) (reverse suffix)
 
--- a name of a constraint over floats, over sets that vary, or of a half reified one
+-- of the names that the table has not: a constraint over floats, over sets that vary, a half reified one, a power, a conversion to floats
 abbrev pub is_unsupported : List ℕ → Bool
 is_unsupported name =
     bytes_eq name (codes "int_pow") || bytes_eq name (codes "int2float") || begins name (codes "float_") || begins name (codes "set_") || begins name (codes "array_float_") || begins name (codes "array_var_float_")

@@ -159,7 +159,7 @@ pub data IsGap (text : List ℕ) : ℕ → ℕ → Type 0 where
   Ends : (at : ℕ) → at ≤ length text → IsGap text at at
   Skips : (start mid stop : ℕ) → IsBlank text start mid → IsGap text mid stop → IsGap text start stop
 
--- no white space and no comment begins there
+-- white space or a comment begins with this byte
 abbrev pub is_blank : ℕ → Bool
 is_blank b = is_space b || (b == 37)
 

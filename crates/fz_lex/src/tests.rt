@@ -4,21 +4,24 @@ use fz_language::fault::TokenFault;
 use fz_language::keyword::Keyword;
 use fz_language::sign::Sign;
 use fz_language::token_kind::TokenKind;
+use fz_tokens::Tokens;
 use std::alloc::{AllocError, Global};
 use std::test::Fail;
 
+/// The tokens of a text of at most a thousand bytes, or its fault.
+fn lexed(alloc: Global, text: &str) -> Result<Result<Tokens<'_>, LexFault>, AllocError> {
+    let bytes = text.as_bytes();
+    tokens(alloc, &bytes[..bytes.len().min(1_000)])
+}
+
 /// The text's fault.
 fn fault_of(alloc: Global, text: &str) -> Result<Option<LexFault>, AllocError> {
-    Ok(tokens(alloc, text.as_bytes())?.err())
+    Ok(lexed(alloc, text)?.err())
 }
 
 /// How many tokens a text has, or none where it has a fault.
 fn count_of(alloc: Global, text: &str) -> Result<Option<usize>, AllocError> {
-    Ok(
-        tokens(alloc, text.as_bytes())?
-            .ok()
-            .map(|lexed| lexed.len()),
-    )
+    Ok(lexed(alloc, text)?.ok().map(|lexed| lexed.len()))
 }
 
 #[test]

@@ -1,12 +1,23 @@
 -- What is read of a text that is too long, and the text.
-use Rattle.std.proofs.Common.{◌≡◌, ◌∙◌, ℕ, ◌+◌, ◌<◌, List, [], ◌∷◌, zero, suc, ap, refl, length, take, subst, inl, inr, arith, length-take, reverse, count_by, take_while}
+use Rattle.std.proofs.Common.{◌≡◌, ◌∙◌, ℕ, ◌+◌, ◌<◌, ◌⊎◌, List, [], ◌∷◌, zero, suc, ap, refl, length, take, subst, inl, inr, arith, length-take, reverse, count_by, take_while}
 use Rattle.std.proofs.lemmas.Bool.{cases_lt}
 use Rattle.std.proofs.lemmas.List.{take_all}
 use Rattle.std.proofs.Math.Nat.{suc-add}
 use Rattle.fz_spec.specs.declared.code.Code.{Code}
 use Rattle.fz_language.specs.Places.{line_of, column_of, is_line_end, is_in_line}
-use Rattle.fz_language.specs.Reads.{IsShort, Reads, Reading, Accepted, Refused, IsRefused, IsRefusedAt}
+use Rattle.fz_language.specs.Reads.{IsShort, place_of, syntax_code, Reads, Reading, Accepted, Refused, IsRefused, IsRefusedAt}
 use Rattle.fz_spec.specs.declared.limits.TheConstants.{TEXT_LIMIT}
+use Rattle.fz_language.specs.declared.fault.SyntaxFault.{SyntaxFault}
+use Rattle.fz_language.specs.declared.fault.SyntaxFault.TheVariants.{Unexpected, TooDeep}
+use Rattle.fz_language.specs.Tokens.{Token}
+use Rattle.fz_language.specs.Grammar.{Breaks, IsTooDeep}
+use Rattle.fz_tokens.specs.Lexed.{LexedText, IsLexed, place_in}
+use Rattle.fz_parse.specs.declared.parser.ParseFault.{ParseFault}
+use Rattle.fz_parse.specs.Parsed.{IsAtFault, HasSyntaxFault}
+use Rattle.fz_spec.specs.declared.code.Code.TheVariants.{OverLimit}
+use Rattle.fz_spec.specs.Codes.{code_number}
+use Rattle.fz_print.specs.declared.refusal.Refusal.{Refusal}
+use Rattle.fzn.specs.Steps.{IsRefusal}
 
 -- the first bytes of a text, one more than the limit, are read as the text
 front_is_long : (text : List ℕ) → TEXT_LIMIT < length text → IsShort (take (TEXT_LIMIT + 1) text) → ⊥
@@ -32,7 +43,7 @@ refused_front text code line column at long h l c = elim h [
   }
   | inr short ↦ elim short [
     | inl unlexed ↦ absurd (front_is_long text long unlexed.short)
-    | inr lexed ↦ elim lexed [ | inl unspelt ↦ absurd (front_is_long text long unspelt.short) | inr wrong ↦ absurd (front_is_long text long wrong.spelt.short) ]
+    | inr lexed ↦ elim lexed [ inl unspelt ↦ absurd (front_is_long text long unspelt.short) | inr wrong ↦ absurd (front_is_long text long wrong.spelt.short) ]
   ]
 ]
 
@@ -42,3 +53,42 @@ read_of_long text (Refused code line column) long h = refused_front text code li
 
 pub read_of_front : (text : List ℕ) (r : Reading) → Reads (take (TEXT_LIMIT + 1) text) r → Reads text r
 read_of_front text r h = elim (cases_lt TEXT_LIMIT (length text)) [ inl long ↦ read_of_long text r long h | inr short ↦ subst (λ (t : List ℕ). Reads t r) (take_all (TEXT_LIMIT + 1) text (omega arith)) h ]
+
+-- ---- a fault of syntax
+
+same_place : (text : List ℕ) (ts : List Token) → place_in text ts ≡ place_of text ts
+same_place text [] = refl
+same_place text (t ∷ ts) = refl
+
+abbrev IsSyntaxFault : List Token → List Token → Code → Type 0
+IsSyntaxFault ts behind c = ((c ≡ syntax_code Unexpected) × Breaks ts behind) ⊎ ((c ≡ syntax_code TooDeep) × IsTooDeep ts behind)
+
+by_cause : (cause : SyntaxFault) (ts behind : List Token) (c : Code) → c ≡ syntax_code cause → IsAtFault ts cause behind → IsSyntaxFault ts behind c
+by_cause Unexpected ts behind c e h = inl (e, h)
+by_cause TooDeep ts behind c e h = inr (e, h)
+
+pub unspelt_is : (lexed : LexedText) (fault : ParseFault) (c : Code) (at : ℕ) → IsLexed lexed → HasSyntaxFault lexed fault → c ≡ syntax_code fault.cause → at ≡ fault.at → IsRefusedAt lexed.text c at
+unspelt_is lexed fault c at l h e p = inr (inr (inl (record {
+  short = l.short;
+  tokens = lexed.tokens;
+  lexed = l.are;
+  tokens_behind = h.behind;
+  fault = by_cause fault.cause lexed.tokens h.behind c e h.faulty;
+  place = p ∙ h.placed ∙ same_place lexed.text h.behind;
+})))
+
+-- ---- a text that is too long
+
+pub long_refusal : (text : List ℕ) (r : Refusal) → TEXT_LIMIT < length text → r.code ≡ code_number OverLimit → r.line ≡ line_of (take TEXT_LIMIT text) TEXT_LIMIT → r.column ≡ column_of (take TEXT_LIMIT text) TEXT_LIMIT → IsRefusal text r
+long_refusal text r long n l c =
+    let same : take TEXT_LIMIT (take TEXT_LIMIT text) ≡ take TEXT_LIMIT text = take_take TEXT_LIMIT 0 text in
+    record {
+      code = OverLimit;
+      number = n;
+      reads = record {
+        at = TEXT_LIMIT;
+        refused = inl (record { long = long; code = refl; place = refl });
+        line_is = l ∙ ap (λ u. count_by is_line_end u + 1) same;
+        column_is = c ∙ ap (λ u. length (take_while is_in_line (reverse u)) + 1) same;
+      };
+    }

@@ -30,9 +30,9 @@ abbrev pub IsCause : List ℕ → Cause → Type 0
 IsCause text cause = IsRefusedAt text cause.code cause.at
 
 -- the text is short, these are its tokens, and they spell this program
-pub record IsSpeltBy (lexed : LexedText) (p : syntax.Program) : Type 0 where
-  pub lexed : IsLexed lexed
-  pub spelt : Spells lexed.tokens (program_of p)
+pub record IsSpeltBy (text : LexedText) (p : syntax.Program) : Type 0 where
+  pub lexed : IsLexed text
+  pub spelt : Spells text.tokens (program_of p)
 
 -- the text is refused so
 pub record IsRefusal (text : List ℕ) (r : Refusal) : Type 0 where

@@ -1,11 +1,11 @@
 //! From a text to its model.
-ghost use Rattle.std.specs.Prelude.{◌≡◌, ◌<◌, ◌^◌, IfOk, MatchResult, length};
+ghost use Rattle.std.specs.Prelude.{◌≡◌, ◌<◌, ◌≤◌, IfOk, MatchResult, length};
 ghost use Rattle.fz_spec.specs.Codes.{code_number};
+ghost use Rattle.fz_spec.specs.declared.limits.TheConstants.{TEXT_LIMIT};
 ghost use Rattle.fz_language.specs.Places.{line_of, column_of};
 ghost use Rattle.fz_language.specs.Reads.{Reads, Accepted};
 ghost use Rattle.fz_language.specs.Reads as reads;
-ghost use Rattle.fz_language.specs.Within.{ProgramFits};
-ghost use Rattle.fz_syntax.specs.Trees.{program_of};
+ghost use Rattle.fz_tokens.specs.Lexed.{IsLexed};
 ghost use Rattle.fzn.specs.Steps.{IsRefusal, IsCause, IsSpeltBy};
 
 use fz_check::{Fault, check};
@@ -30,9 +30,11 @@ pub(crate) struct Cause {
 /// The model of a text that is accepted, or its refusal. Of a text that is too long, the first bytes are enough, one more than a
 /// text may have.
 pub(crate) fn model_of(alloc: Global, text: &[u8]) -> Result<Result<Model, Refusal>, AllocError>
-    requires near { length text.now < 2 ^ 31 }
     ensures { IfOk result (λ reading. MatchResult reading (λ model. Reads text.now (Accepted model)) (IsRefusal text.now)) }
 {
+    if text.len() > TEXT_LIMIT {
+        return Ok(Err(too_long(text)));
+    }
     match read(alloc, text) {
         Ok(Ok(model)) => Ok(Ok(model)),
         Ok(Err(cause)) => Ok(Err(refusal_of(text, cause))),
@@ -40,9 +42,23 @@ pub(crate) fn model_of(alloc: Global, text: &[u8]) -> Result<Result<Model, Refus
     }
 }
 
+/// The refusal of a text that is too long, at its first byte over the limit.
+fn too_long(text: &[u8]) -> Refusal
+    requires long { TEXT_LIMIT < length text.now }
+    ensures { IsRefusal text.now result }
+{
+    refusal_of(
+        &text[..TEXT_LIMIT],
+        Cause {
+            code: Code::OverLimit,
+            at: TEXT_LIMIT,
+        },
+    )
+}
+
 /// The refusal of a text for a cause, by line and column.
 fn refusal_of(text: &[u8], cause: Cause) -> Refusal
-    requires near { length text.now < 2 ^ 31 }
+    requires short { length text.now ≤ TEXT_LIMIT }
     ensures code { result.code ≡ code_number cause.code }
     ensures line { result.line ≡ line_of text.now cause.at }
     ensures column { result.column ≡ column_of text.now cause.at }
@@ -57,11 +73,9 @@ fn refusal_of(text: &[u8], cause: Cause) -> Refusal
 
 /// The model of a text that is accepted, or the cause of its refusal.
 fn read(alloc: Global, text: &[u8]) -> Result<Result<Model, Cause>, AllocError>
+    requires short { length text.now ≤ TEXT_LIMIT }
     ensures { IfOk result (λ reading. MatchResult reading (λ model. Reads text.now (Accepted model)) (IsCause text.now)) }
 {
-    if text.len() > TEXT_LIMIT {
-        return Ok(Err(too_long()));
-    }
     match tokens(alloc, text) {
         Ok(Ok(tokens)) => read_tokens(alloc, &tokens),
         Ok(Err(fault)) => Ok(Err(unlexed(fault))),
@@ -71,6 +85,7 @@ fn read(alloc: Global, text: &[u8]) -> Result<Result<Model, Cause>, AllocError>
 
 /// The same of a text that has tokens.
 fn read_tokens(alloc: Global, tokens: &Tokens<'_>) -> Result<Result<Model, Cause>, AllocError>
+    requires lexed { IsLexed tokens.now }
     ensures { IfOk result (λ reading. MatchResult reading
         (λ model. Reads tokens.now.text (Accepted model)) (IsCause tokens.now.text)) }
 {
@@ -95,16 +110,6 @@ fn read_program(
         Ok(Ok(model)) => Ok(Ok(model)),
         Ok(Err(fault)) => Ok(Err(wrong(fault))),
         Err(error) => Err(error),
-    }
-}
-
-fn too_long() -> Cause
-    ensures code { result.code ≡ Code.OverLimit }
-    ensures at { result.at ≡ TEXT_LIMIT }
-{
-    Cause {
-        code: Code::OverLimit,
-        at: TEXT_LIMIT,
     }
 }
 

@@ -71,48 +71,6 @@ fn blocks_of(alloc: Global, printed: &[u8]) -> Result<Vec<String>, Fail> {
 
 const THREE_VALUES: &str = "var 1..3: x :: output_var; solve satisfy;";
 
-#[test]
-fn all_solutions_are_printed(rt: HostRuntime) -> Result<(), Fail> {
-    let alloc = rt.alloc();
-    let rows = [
-        (
-            THREE_VALUES,
-            "x = 1;\n----------\nx = 2;\n----------\nx = 3;\n----------\n==========\n",
-        ),
-        ("solve satisfy;", "----------\n==========\n"),
-        ("var 3..1: x; solve satisfy;", "=====UNSATISFIABLE=====\n"),
-        (
-            "var 1..2: x :: output_var; var 1..2: y :: output_var; constraint int_ne(x,y); solve satisfy;",
-            "x = 1;\ny = 2;\n----------\nx = 2;\ny = 1;\n----------\n==========\n",
-        ),
-        (
-            "var 1..2: x; constraint int_ne(x,x); solve satisfy;",
-            "=====UNSATISFIABLE=====\n",
-        ),
-        (
-            "constraint int_lin_le([2147483646,2147483646],[2147483646,2147483646],-2147483646); solve satisfy;",
-            "=====UNSATISFIABLE=====\n",
-        ),
-        (
-            "var 0..1: x :: output_var; constraint int_lin_le([-3,2],[x,1],-1) :: domain; solve satisfy;",
-            "x = 1;\n----------\n==========\n",
-        ),
-        (
-            "var 1..2: x :: output_var; var 1..2: y; solve satisfy;",
-            "x = 1;\n----------\nx = 1;\n----------\nx = 2;\n----------\nx = 2;\n----------\n==========\n",
-        ),
-    ];
-    for (text, printed) in rows {
-        let outcome = run(alloc, text, &["-a"])?;
-        assert_eq!(rt; outcome.status, Status::Done, "{text}");
-        assert_eq!(rt; outcome.flushed, printed.len(), "{text}");
-        let got = blocks_of(alloc, &outcome.printed)?;
-        let wanted = blocks_of(alloc, printed.as_bytes())?;
-        assert_eq!(rt; got, wanted, "{text}");
-    }
-    Ok(())
-}
-
 /// Runs with `-a` on a text that is refused in line 1, and compares the status and the text.
 fn expect_refusal(
     rt: &impl Abort,
@@ -136,55 +94,6 @@ fn expect_refusal(
 }
 
 #[test]
-fn refusals_have_the_first_code_and_its_place(rt: HostRuntime) -> Result<(), Fail> {
-    let rows = [
-        ("var 1..2147483647: x; solve satisfy;", 8, 2),
-        ("solve satisfy", 14, 3),
-        ("", 1, 3),
-        ("var 1..2: x solve satisfy;", 13, 3),
-        ("solve satisfy; var 1..2: x;", 16, 3),
-        ("var float: f; solve satisfy;", 5, 3),
-        ("constraint int_ne(x,1 solve satisfy;", 23, 3),
-        ("constraint int_ne(x,1); solve satisfy;", 19, 5),
-        ("constraint int_ne(x,1); var 1..2: x; solve satisfy;", 19, 5),
-        ("constraint int_ne(1); solve satisfy;", 12, 7),
-        ("var 1..2: x; constraint foo(x); solve satisfy;", 25, 8),
-        ("constraint foo(x); solve satisfy;", 12, 8),
-        ("constraint int_lin_le([1,2],[3],4); solve satisfy;", 12, 10),
-        ("constraint int_ne([1],2); solve satisfy;", 19, 6),
-        ("constraint int_lin_le(1,[1],2); solve satisfy;", 23, 6),
-        (
-            "var 1..2: x; constraint int_lin_le([1],x,2); solve satisfy;",
-            40,
-            6,
-        ),
-        (
-            "var 1..2: x; constraint int_lin_le([x],[x],4); solve satisfy;",
-            37,
-            6,
-        ),
-        ("var 1..2: x; #", 14, 1),
-        ("var 1..2: x; var 1..2: x; solve satisfy;", 24, 4),
-    ];
-    for (text, column, code) in rows {
-        expect_refusal(&rt, rt.alloc(), text.as_bytes(), column, code)?;
-    }
-    Ok(())
-}
-
-#[test]
-fn a_refusal_in_a_later_line_has_its_line(rt: HostRuntime) -> Result<(), Fail> {
-    let outcome = run(rt.alloc(), "var 1..2: x;\n\r\n\t x", &["-a"])?;
-    let refusal = Refusal {
-        code: 3,
-        line: 3,
-        column: 3,
-    };
-    assert_eq!(rt; outcome.status, Status::Refused(refusal));
-    Ok(())
-}
-
-#[test]
 fn a_text_over_the_limit_is_refused_at_its_first_byte_over_it(rt: HostRuntime) -> Result<(), Fail> {
     let blanks = vec![in rt.alloc(); b' '; 67_108_865]?;
     expect_refusal(&rt, rt.alloc(), &blanks, 67_108_865, 11)
@@ -201,22 +110,6 @@ fn the_first_variable_over_the_limit_is_refused_at_its_name(rt: HostRuntime) -> 
     text.push_str("solve satisfy;")?;
     // A million declarations of 12 bytes and a number, whose digits are 5,888,890; then ten bytes before the name.
     expect_refusal(&rt, alloc, text.as_bytes(), 12_000_000 + 5_888_890 + 11, 11)
-}
-
-#[test]
-fn the_first_element_over_the_limit_is_refused_there(rt: HostRuntime) -> Result<(), Fail> {
-    let alloc = rt.alloc();
-    let mut text = String::from_str(alloc, "constraint int_lin_le([1")?;
-    for _ in 0..1_000_000 {
-        text.push_str(",1")?;
-    }
-    text.push_str("],[1")?;
-    for _ in 0..1_000_000 {
-        text.push_str(",1")?;
-    }
-    text.push_str("],1); solve satisfy;")?;
-    // The first element is the byte 24, and each takes two.
-    expect_refusal(&rt, alloc, text.as_bytes(), 2_000_024, 11)
 }
 
 #[test]

@@ -57,6 +57,12 @@ pub(crate) fn expect_printed(
     let got = blocks_of(alloc, &outcome.printed)?;
     let wanted = blocks_of(alloc, printed.as_bytes())?;
     assert_eq!(rt; got, wanted);
+    let completes = |text: &[u8]| { text.ends_with(b"==========\n") };
+    assert_eq!(rt;
+        completes(&outcome.printed),
+        completes(printed.as_bytes()),
+        "the closing line comes last"
+    );
     Ok(())
 }
 

@@ -5,7 +5,7 @@ use std::test::Fail;
 /// A text, and what is printed of it.
 type Row = (&'static str, &'static str);
 
-const ROWS: [Row; 13] = [
+const ROWS: [Row; 14] = [
     ("solve satisfy;", "----------\n==========\n"),
     ("var 3..1: x; solve satisfy;", "=====UNSATISFIABLE=====\n"),
     (
@@ -43,6 +43,10 @@ const ROWS: [Row; 13] = [
     (
         "var 1..1: x :: output_var(1) :: output_var; var 2..2: y :: output_var(); var 3..3: z :: output_var :: output_var; var 4..4: u :: output_var(1); solve satisfy;",
         "x = 1;\ny = 2;\nz = 3;\n----------\n==========\n",
+    ),
+    (
+        "array [1..1] of var int: a :: output_array([1..1]) :: output_array(7) = [1]; solve satisfy;",
+        "a = array1d(1..1, [1]);\n----------\n==========\n",
     ),
     (
         "array [1..2] of int: w = [0x10,-0o17]; var {5,-3,5}: x :: output_var; var 0..9: y :: output_var; constraint int_lin_eq(w,[x,y],-63); solve satisfy;",

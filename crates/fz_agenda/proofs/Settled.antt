@@ -1,0 +1,127 @@
+-- What is settled lasts.
+use Rattle.std.proofs.Common.{◌≡◌, ◌≢◌, get_or-set_same, get_or-set_other, ℕ, ◌<◌, List, [], ◌∷◌, refl, sym, ◌∙◌, subst, arith, length, ◌⊎◌, inl, inr}
+use Rattle.std.specs.Prelude.{ℤ, slice_get, slice_index, slice_set, Some}
+use Rattle.std.specs.List.{AllByRecursion}
+use Rattle.std.proofs.lemmas.Bool.{cases_eq}
+use Rattle.std.proofs.lemmas.List.{length-set}
+use Rattle.fz_spec.specs.Constraints.{Constraint}
+use Rattle.fz_strength.specs.declared.event.Event.{Event}
+use Rattle.fz_strength.specs.declared.event.Event.TheVariants.{Any, Bound, Fixed}
+use Rattle.fz_strength.specs.Domains.{IsNarrower, dom_at, room}
+use Rattle.fz_strength.specs.Events.{Wait, level, AreQuiet, IsQuiet}
+use Rattle.fz_strength.specs.Lines.{Rests, waits}
+use Rattle.fz_strength.specs.Promises.{RestsForGood}
+use Rattle.fz_strength.proofs.Keeping.{kept_where_quiet}
+use Rattle.fz_prop.specs.Stores.{Stored, Shrinks, mark_at, without_first}
+use Rattle.fz_agenda.specs.Agendas.{AreUnmarked, IsSettled, SettledLasts, AllRestAtRest, ShrinksTwice, MayBeIdle, MayBeGone, MayBeQueued, MayBeTaken}
+
+narrower_twice : (ds es fs : List (List (ℤ × ℤ))) → IsNarrower ds es → IsNarrower es fs → IsNarrower ds fs
+narrower_twice ds es fs p q = record { size = q.size ∙ p.size; members = λ v x i. p.members v x (q.members v x i) }
+
+unmarked_before : (ws : List Wait) (s t : Stored) → Shrinks s t → AreUnmarked ws t → AreUnmarked ws s
+unmarked_before [] s t shrinks un = tt
+unmarked_before (w ∷ ws) s t shrinks un = (omega (arith, shrinks.marks_grow w.variable, un.0), unmarked_before ws s t shrinks un.1)
+
+quiet_since : (ws : List Wait) (s t : Stored) → Shrinks s t → AreUnmarked ws t → AreQuiet ws s.doms t.doms
+quiet_since [] s t shrinks un = tt
+quiet_since (w ∷ ws) s t shrinks un = (shrinks.marks_tell w.variable w.event un.0, quiet_since ws s t shrinks un.1)
+
+pub settled_lasts : SettledLasts
+settled_lasts cs states s t store shrinks settled = record {
+  size = settled.size;
+  idle = λ i c is idle un. kept_where_quiet c s.doms t.doms store.domains shrinks.narrower (quiet_since (waits c) s t shrinks un)
+      (settled.idle i c is idle (unmarked_before (waits c) s t shrinks un));
+  gone = λ i c is gone es domains narrower. settled.gone i c is gone es domains (narrower_twice s.doms t.doms es shrinks.narrower narrower);
+}
+
+some_level : (event : Event) → 0 < level event
+some_level Any = omega arith
+some_level Bound = omega arith
+some_level Fixed = omega arith
+
+all_unmarked : (ws : List Wait) (s : Stored) → ((v : ℕ) → mark_at s v ≡ 0) → AreUnmarked ws s
+all_unmarked [] s none = tt
+all_unmarked (w ∷ ws) s none = (omega (arith, none w.variable, some_level w.event), all_unmarked ws s none)
+
+pub all_rest_at_rest : AllRestAtRest
+all_rest_at_rest cs states s store none free settled i c is = elim (free i) [
+  | inl idle ↦ settled.idle i c is idle (all_unmarked (waits c) s none)
+  | inr gone ↦ settled.gone i c is gone s.doms store.domains (record { size = refl; members = λ v x m. m })
+]
+
+quiet_twice : (event : Event) (d e f : List (ℤ × ℤ)) → IsQuiet event d e → IsQuiet event e f → IsQuiet event d f
+quiet_twice Any d e f p q = p ∙ q
+quiet_twice Bound d e f p q = (p.0 ∙ q.0, p.1 ∙ q.1)
+quiet_twice Fixed d e f p q = λ x only. p x (q x only ∙ only) ∙ q x only
+
+falls_twice : (r s t : Stored) → (s ≡ r) ⊎ (room s.doms < room r.doms) → (t ≡ s) ⊎ (room t.doms < room s.doms) → (t ≡ r) ⊎ (room t.doms < room r.doms)
+falls_twice r s t (inl p) (inl q) = inl (q ∙ p)
+falls_twice r s t (inl p) (inr q) = inr (subst (λ (u : Stored). room t.doms < room u.doms) p q)
+falls_twice r s t (inr p) (inl q) = inr (subst (λ (u : Stored). room u.doms < room r.doms) (sym q) p)
+falls_twice r s t (inr p) (inr q) = inr (omega (arith, p, q))
+
+pub shrinks_twice : ShrinksTwice
+shrinks_twice r s t p q = record {
+  narrower = narrower_twice r.doms s.doms t.doms p.narrower q.narrower;
+  marks_grow = λ v. omega (arith, p.marks_grow v, q.marks_grow v);
+  marks_tell = λ v event h. quiet_twice event (dom_at r.doms v) (dom_at s.doms v) (dom_at t.doms v) (p.marks_tell v event (omega (arith, h, q.marks_grow v))) (q.marks_tell v event h);
+  falls = falls_twice r s t p.falls q.falls;
+}
+
+-- ---- what happens to a propagator
+
+by_place : (P : ℕ → Type 0) (i : ℕ) → P i → ((j : ℕ) → j ≢ i → P j) → (j : ℕ) → P j
+by_place P i here there j = elim (cases_eq j i) [ inl e ↦ subst P (sym e) here | inr ne ↦ there j ne ]
+
+one_at : (cs : List Constraint) (i : ℕ) (c d : Constraint) → slice_get cs i ≡ Some c → slice_get cs i ≡ Some d → c ≡ d
+one_at cs i c d p q = let e : Some c ≡ Some d = sym p ∙ q in cc
+
+-- the state of one is set to what it may be
+set_state : (cs : List Constraint) (states : List ℕ) (s : Stored) (i k : ℕ) → IsSettled cs states s → i < length states
+    → ((c : Constraint) → slice_get cs i ≡ Some c → k ≡ 0 → Rests c s.doms) → ((c : Constraint) → slice_get cs i ≡ Some c → k ≡ 2 → RestsForGood c s.doms)
+    → IsSettled cs (slice_set states i k) s
+set_state cs states s i k settled within idle gone =
+    let here : slice_index (slice_set states i k) i ≡ k = get_or-set_same states i k 0 within in
+    let there : (j : ℕ) → j ≢ i → slice_index (slice_set states i k) j ≡ slice_index states j = λ j ne. get_or-set_other states i j k 0 ne in
+    record {
+      size = length-set states i k ∙ settled.size;
+      idle = by_place (λ j. (c : Constraint) → slice_get cs j ≡ Some c → slice_index (slice_set states i k) j ≡ 0 → AreUnmarked (waits c) s → Rests c s.doms) i
+          (λ c is state un. idle c is (sym here ∙ state))
+          (λ j ne c is state un. settled.idle j c is (sym (there j ne) ∙ state) un);
+      gone = by_place (λ j. (c : Constraint) → slice_get cs j ≡ Some c → slice_index (slice_set states i k) j ≡ 2 → RestsForGood c s.doms) i
+          (λ c is state. gone c is (sym here ∙ state))
+          (λ j ne c is state. settled.gone j c is (sym (there j ne) ∙ state));
+    }
+
+pub may_be_idle : MayBeIdle
+may_be_idle cs states s i c settled at within rests =
+    set_state cs states s i 0 settled within (λ d is zero. subst (λ (e : Constraint). Rests e s.doms) (one_at cs i c d at is) rests) (λ d is two. absurd (omega (arith, two)))
+
+pub may_be_gone : MayBeGone
+may_be_gone cs states s i c settled at within rests =
+    set_state cs states s i 2 settled within (λ d is zero. absurd (omega (arith, zero))) (λ d is two. subst (λ (e : Constraint). RestsForGood e s.doms) (one_at cs i c d at is) rests)
+
+pub may_be_queued : MayBeQueued
+may_be_queued cs states s i settled within =
+    set_state cs states s i 1 settled within (λ d is zero. absurd (omega (arith, zero))) (λ d is two. absurd (omega (arith, two)))
+
+unmarked_there : (s : Stored) (v u : ℕ) (rest : List ℕ) → u ≢ v → mark_at (without_first s v rest) u ≡ mark_at s u
+unmarked_there s v u rest ne = get_or-set_other s.marks v u 0 0 ne
+
+still_unmarked : (ws : List Wait) (s : Stored) (v : ℕ) (rest : List ℕ) → AllByRecursion (λ (w : Wait). w.variable ≡ v → mark_at s v < level w.event) ws
+    → AreUnmarked ws (without_first s v rest) → AreUnmarked ws s
+still_unmarked [] s v rest woken un = tt
+still_unmarked (w ∷ ws) s v rest woken un = (
+  (elim (cases_eq w.variable v) [
+    | inl e ↦ subst (λ (u : ℕ). mark_at s u < level w.event) (sym e) (woken.0 e)
+    | inr ne ↦ subst (λ (n : ℕ). n < level w.event) (unmarked_there s v w.variable rest ne) un.0
+  ]),
+  still_unmarked ws s v rest woken.1 un.1,
+)
+
+pub may_be_taken : MayBeTaken
+may_be_taken cs states s v rest settled woken = record {
+  size = settled.size;
+  idle = λ i c is idle un. settled.idle i c is idle (still_unmarked (waits c) s v rest (woken i c is idle) un);
+  gone = settled.gone;
+}

@@ -1,0 +1,5 @@
+use Rattle.fz_agenda.proofs.Settled.{may_be_idle}
+use Rattle.fz_agenda.proofs.laws.may_be_idle.Goals as goal
+
+pub returns : goal.returns
+returns c = may_be_idle

@@ -1,0 +1,6 @@
+pub mod Spaces
+pub mod Nodes
+pub mod Trails
+pub mod Steps
+pub mod Paths
+pub mod Starts

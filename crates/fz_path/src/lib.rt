@@ -1,0 +1,20 @@
+//! Paths: one worker's depth-first search of a frontier, with recomputation (Schulte, Tack, Lagerkvist: "Modeling and Programming
+//! with Gecode", "Recomputation"; Gecode's `search/seq/path.hh`).
+//!
+//! What a path holds is an account of the frontier that it was started with. The space of a node is remade from the nearest copy
+//! above it by the taken decisions, and covers exactly these.
+#![tactic(auto)]
+
+mod expand;
+mod kept;
+mod numbers;
+pub mod path;
+pub mod space;
+pub mod start;
+pub mod step;
+mod trail;
+
+pub use path::Path;
+pub use space::{Space, Status};
+pub use start::Start;
+pub use step::Step;

@@ -1,0 +1,261 @@
+//! The spaces beside a path.
+ghost use Rattle.std.specs.Prelude.{◌≡◌, ◌≤◌, ◌<◌, ◌-◌, ◌++◌, ◌∷◌, [], ℕ, List, length, take, true, false, IsTrue, None, IfOk, IfSome, OnOk};
+ghost use Rattle.fz_spec.specs.Instance.{Instance};
+ghost use Rattle.fz_tree.specs.declared.decision.Decision.{Decision};
+ghost use Rattle.fz_tree.specs.Frontier as frontier;
+ghost use Rattle.fz_tree.specs.Frontier.{AreEdges, can_cut, next_edges};
+ghost use Rattle.fz_path.specs.Spaces.{Covers};
+ghost use Rattle.fz_path.specs.Nodes.{IsAt, decisions_of};
+ghost use Rattle.fz_path.specs.Trails.{IsTrail, IsKept, AreKept, last_of};
+
+use crate::kept::Kept;
+use crate::space::Space;
+use fz_region::Edge;
+use std::alloc::{AllocError, Global};
+
+/// The space of the root, copies of spaces at nodes of the path, and the space of the node below its edges, if that is at hand.
+/// Spaces that are done with are written over.
+#[derive(Drop)]
+pub struct Trail<S> {
+    pub root: S,
+    pub copies: Vec<Kept<S>>,
+    pub current: Option<S>,
+    pub spare: Vec<S>,
+    pub distance: u32,
+}
+
+impl<S: Space> Trail<S> {
+    /// The root's space alone.
+    pub fn new(alloc: Global, root: S, distance: u32) -> Trail<S>
+        requires { 1 ≤ distance }
+        ensures { (m : Instance) (es : List frontier.Edge) → IsAt m [] (S.spaced root)
+            → IsTrail S.spaced m es result }
+    {
+        Trail {
+            root,
+            copies: Vec::new(alloc),
+            current: None,
+            spare: Vec::new(alloc),
+            distance,
+        }
+    }
+
+    /// Forgets all but the root.
+    pub fn clear(&mut self)
+        ensures { (m : Instance) (es fs : List frontier.Edge) → IsTrail S.spaced m es self.old
+            → IsTrail S.spaced m fs self.new }
+    {
+        self.copies.clear();
+        self.current = None;
+    }
+
+    /// The path has moved to these edges: what isn't above them goes.
+    pub fn retreat(&mut self, edges: &[Edge])
+        ensures { (m : Instance) (es : List frontier.Edge) → edges.now ≡ next_edges es
+            → IsTrail S.spaced m es self.old → IsTrail S.spaced m edges.now self.new }
+    {
+        drop_current(&mut self.current, &mut self.spare);
+        let depth = count_above(edges);
+        drop_below(&mut self.copies, &mut self.spare, depth);
+    }
+
+    /// The space of the node below the edges.
+    ///
+    /// # Errors
+    /// `AllocError` where there is no memory.
+    pub fn take_at(&mut self, edges: &[Edge]) -> Result<S, AllocError>
+        requires edges { AreEdges edges.now }
+        requires trail { (m : Instance) × IsTrail S.spaced m edges.now self.old }
+        ensures space { IfOk result (λ s. (m : Instance) → IsTrail S.spaced m edges.now self.old
+            → IsAt m edges.now (S.spaced s)) }
+        ensures kept { (m : Instance) → IsTrail S.spaced m edges.now self.old
+            → IsTrail S.spaced m edges.now self.new }
+    {
+        if let Some(space) = self.current.take() {
+            return Ok(space);
+        }
+        self.remade(edges)
+    }
+
+    /// The same, from the nearest copy by the decisions behind it.
+    fn remade(&mut self, edges: &[Edge]) -> Result<S, AllocError>
+        requires edges { AreEdges edges.now }
+        requires trail { (m : Instance) × IsTrail S.spaced m edges.now self.old }
+        ensures space { IfOk result (λ s. (m : Instance) → IsTrail S.spaced m edges.now self.old
+            → IsAt m edges.now (S.spaced s)) }
+        ensures kept { (m : Instance) → IsTrail S.spaced m edges.now self.old
+            → IsTrail S.spaced m edges.now self.new }
+    {
+        let kept = self.nearest(edges)?;
+        let depth = kept.depth;
+        let mut space = kept.space;
+        commit_all(&mut space, &edges[depth..])?;
+        Ok(space)
+    }
+
+    /// A space above the node below the edges: the nearest copy, or what was one.
+    fn nearest(&mut self, edges: &[Edge]) -> Result<Kept<S>, AllocError>
+        ensures space { IfOk result (λ k. (m : Instance) → IsTrail S.spaced m edges.now self.old
+            → IsKept S.spaced m edges.now k) }
+        ensures kept { (m : Instance) → IsTrail S.spaced m edges.now self.old
+            → IsTrail S.spaced m edges.now self.new }
+    {
+        match self.used_copy(edges) {
+            Some(kept) => Ok(kept),
+            None => self.copy_of_nearest(),
+        }
+    }
+
+    /// The nearest copy itself, where no other node is remade from it.
+    fn used_copy(&mut self, edges: &[Edge]) -> Option<Kept<S>>
+        ensures space { IfSome result (λ k. (m : Instance) → IsTrail S.spaced m edges.now self.old
+            → IsKept S.spaced m edges.now k) }
+        ensures kept { (m : Instance) → IsTrail S.spaced m edges.now self.old
+            → IsTrail S.spaced m edges.now self.new }
+    {
+        if !self.has_used_copy(edges) {
+            return None;
+        }
+        self.copies.pop()
+    }
+
+    /// A copy of the nearest copy, or of the root's space.
+    fn copy_of_nearest(&mut self) -> Result<Kept<S>, AllocError>
+        ensures space { IfOk result (λ k. (m : Instance) (es : List frontier.Edge)
+            → IsTrail S.spaced m es self.old → IsKept S.spaced m es k) }
+        ensures kept { (m : Instance) (es : List frontier.Edge)
+            → IsTrail S.spaced m es self.old → IsTrail S.spaced m es self.new }
+    {
+        match self.copies.last() {
+            Some(kept) => copy_of(&mut self.spare, kept.depth, &kept.space),
+            None => copy_of(&mut self.spare, 0, &self.root),
+        }
+    }
+
+    /// Whether the nearest copy stands at the last edge, which takes its last alternative: no other node is remade from it.
+    fn has_used_copy(&self, edges: &[Edge]) -> bool {
+        match (self.copies.last(), edges.last()) {
+            (Some(kept), Some(edge)) => kept.depth == edges.len() - 1 && !edge.has_rest(),
+            _ => false,
+        }
+    }
+
+    /// Keeps a copy of the space at the node below so many edges, where none is within the commit distance above it.
+    ///
+    /// # Errors
+    /// `AllocError` where there is no memory.
+    pub fn keep(&mut self, depth: usize, space: &S) -> Result<(), AllocError>
+        ensures { (m : Instance) (es : List frontier.Edge) → depth ≡ length es
+            → IsAt m es (S.spaced space.now) → IsTrail S.spaced m es self.old
+            → IsTrail S.spaced m es self.new }
+    {
+        if !self.is_due(depth) {
+            return Ok(());
+        }
+        let space = copied(&mut self.spare, space)?;
+        self.copies.push(Kept { depth, space })?;
+        Ok(())
+    }
+
+    /// Whether no copy is within the commit distance above the node below so many edges.
+    fn is_due(&self, depth: usize) -> bool
+        ensures { IsTrue result → IfSome (last_of self.now.copies.items) (λ kept. kept.depth < depth) }
+    {
+        match self.copies.last() {
+            Some(kept) => { kept.depth < depth && depth - kept.depth >= self.distance as usize }
+            None => true,
+        }
+    }
+
+    /// The path goes on below one edge more, and this is the space there.
+    pub fn descend(&mut self, space: S)
+        ensures { (m : Instance) (es : List frontier.Edge) (e : frontier.Edge)
+            → IsAt m (es ++ e ∷ []) (S.spaced space) → IsTrail S.spaced m es self.old
+            → IsTrail S.spaced m (es ++ e ∷ []) self.new }
+    {
+        self.current = Some(space);
+    }
+
+    /// A space that is done with.
+    pub fn release(&mut self, space: S)
+        ensures { (m : Instance) (es : List frontier.Edge) → IsTrail S.spaced m es self.old
+            → IsTrail S.spaced m es self.new }
+    {
+        let _ = self.spare.push(space);
+    }
+}
+
+/// How many edges are above the last one.
+fn count_above(edges: &[Edge]) -> usize
+    ensures { result ≡ length edges.now - 1 }
+{
+    if edges.is_empty() { 0 } else { edges.len() - 1 }
+}
+
+/// The space at hand is done with.
+fn drop_current<S: Space>(current: &mut Option<S>, spare: &mut Vec<S>)
+    ensures { current.new ≡ None }
+{
+    if let Some(space) = current.take() {
+        let _ = spare.push(space);
+    }
+}
+
+/// Drops the copies below a depth.
+fn drop_below<S: Space>(copies: &mut Vec<Kept<S>>, spare: &mut Vec<S>, depth: usize)
+    ensures { (m : Instance) (es fs : List frontier.Edge) → take depth fs ≡ take depth es
+        → depth ≤ length fs → AreKept S.spaced m es 0 copies.old.items
+        → AreKept S.spaced m fs 0 copies.new.items }
+{
+    'copies: while is_below(copies, depth) {
+        if let Some(kept) = copies.pop() {
+            let _ = spare.push(kept.space);
+        }
+    }
+}
+
+/// Whether the last copy is below a depth.
+fn is_below<S: Space>(copies: &[Kept<S>], depth: usize) -> bool
+    ensures below { IsTrue result → 0 < length copies.now }
+    ensures above { result ≡ false → IfSome (last_of copies.now) (λ kept. kept.depth ≤ depth) }
+{
+    match copies.last() {
+        Some(kept) => kept.depth > depth,
+        None => false,
+    }
+}
+
+/// Another space that is the same, in place of one that is done with, if there is one.
+fn copied<S: Space>(spare: &mut Vec<S>, space: &S) -> Result<S, AllocError>
+    ensures { IfOk result (λ s. S.spaced s ≡ S.spaced space.now) }
+{
+    match spare.pop() {
+        Some(mut other) => {
+            other.copy_from(space)?;
+            Ok(other)
+        }
+        None => space.copy(),
+    }
+}
+
+/// The same below so many edges.
+fn copy_of<S: Space>(spare: &mut Vec<S>, depth: usize, space: &S) -> Result<Kept<S>, AllocError>
+    ensures depth { IfOk result (λ k. k.depth ≡ depth) }
+    ensures space { IfOk result (λ k. S.spaced k.space ≡ S.spaced space.now) }
+{
+    let space = copied(spare, space)?;
+    Ok(Kept { depth, space })
+}
+
+/// Takes the decisions of some edges, one after the other.
+fn commit_all<S: Space>(space: &mut S, edges: &[Edge]) -> Result<(), AllocError>
+    requires { AreEdges edges.now }
+    ensures model { (S.spaced space.new).model ≡ (S.spaced space.old).model }
+    ensures covers { OnOk result ((ds : List Decision) → Covers ds (S.spaced space.old)
+        → Covers (ds ++ decisions_of edges.now) (S.spaced space.new)) }
+{
+    'edges: for edge in edges {
+        space.commit(&edge.choice, edge.taken)?;
+    }
+    Ok(())
+}

@@ -1,0 +1,149 @@
+-- A change of one domain is a step of the store.
+use Rattle.std.proofs.Common.{◌≡◌, ◌≢◌, ℕ, zero, suc, ◌<◌, ◌≤◌, List, [], ◌∷◌, ◌++◌, refl, sym, subst, ◌∙◌, arith, length, true, false, nat_eq, inl, inr, cond, max, get_or, get_or-set_same, get_or-set_other, drop, length-append}
+use Rattle.std.specs.Prelude.{ℤ, slice_set, slice_index}
+use Rattle.std.specs.List.{AllByRecursion}
+use Rattle.std.proofs.lemmas.Bool.{cases_eq}
+use Rattle.std.proofs.lemmas.List.{length-set, set-get_or, drop-append-le}
+use Rattle.std.proofs.lemmas.List.Sums.{sum_by-set}
+use Rattle.fz_sets.specs.Sets.{IsInSet, set_size}
+use Rattle.fz_dom.specs.Shape.{IsDomain, least, greatest}
+use Rattle.fz_dom.specs.Changes.{IsKeeping}
+use Rattle.fz_strength.specs.declared.event.Event.{Event}
+use Rattle.fz_strength.specs.declared.event.Event.TheVariants.{Any, Bound, Fixed}
+use Rattle.fz_strength.specs.Domains.{dom_at, room}
+use Rattle.fz_strength.specs.Events.{level, IsQuiet}
+use Rattle.fz_strength.proofs.Lists.{all_both}
+use Rattle.fz_prop.specs.Cuts.{change_level}
+use Rattle.fz_prop.specs.Stores.{Stored, IsStore, Shrinks, Narrows, mark_at, IsListed, with_listed, with_dom}
+use Rattle.fz_prop.proofs.Levels.{tells}
+
+pub quiet_self : (event : Event) (d : List (ℤ × ℤ)) → IsQuiet event d d
+quiet_self Any d = refl
+quiet_self Bound d = (refl, refl)
+quiet_self Fixed d = λ x only. refl
+
+-- ---- lists of changed variables
+
+listed_before : (xs ys : List ℕ) (v : ℕ) → IsListed xs v → IsListed (xs ++ ys) v
+listed_before [] ys v is = absurd is
+listed_before (x ∷ xs) ys v is = elim is [ inl h ↦ inl h | inr h ↦ inr (listed_before xs ys v h) ]
+
+listed_last : (xs : List ℕ) (v : ℕ) → IsListed (xs ++ v ∷ []) v
+listed_last [] v = inl refl
+listed_last (x ∷ xs) v = inr (listed_last xs v)
+
+listed_still : (n v u : ℕ) (xs : List ℕ) → IsListed xs u → IsListed (with_listed n v xs) u
+listed_still n v u xs is = elim (nat_eq n 0) as (λ b. IsListed (cond b (xs ++ v ∷ []) xs) u) [ true ↦ listed_before xs (v ∷ []) u is | false ↦ is ]
+
+listed_now : (n v : ℕ) (xs : List ℕ) → (0 < n → IsListed xs v) → IsListed (with_listed n v xs) v
+listed_now n v xs listed = elim (nat_eq n 0) as (λ b. nat_eq n 0 ≡ b → IsListed (cond b (xs ++ v ∷ []) xs) v) [
+  | true ↦ λ e. listed_last xs v
+  | false ↦ λ e. listed (grind arith)
+] refl
+
+all_listed : (P : ℕ → Type 0) (n v : ℕ) (xs : List ℕ) → P v → AllByRecursion P xs → AllByRecursion P (with_listed n v xs)
+all_listed P n v xs here all = elim (nat_eq n 0) as (λ b. AllByRecursion P (cond b (xs ++ v ∷ []) xs)) [ true ↦ all_both P xs (v ∷ []) all (here, tt) | false ↦ all ]
+
+pub drop_listed : (h n v : ℕ) (xs : List ℕ) → h ≤ length xs → drop h (with_listed n v xs) ≡ with_listed n v (drop h xs)
+drop_listed h n v xs within = elim (nat_eq n 0) as (λ b. drop h (cond b (xs ++ v ∷ []) xs) ≡ cond b (drop h xs ++ v ∷ []) (drop h xs)) [
+  | true ↦ drop-append-le h xs (v ∷ []) within
+  | false ↦ refl
+]
+
+pub length_listed : (n v : ℕ) (xs : List ℕ) → length xs ≤ length (with_listed n v xs)
+length_listed n v xs = elim (nat_eq n 0) as (λ b. length xs ≤ length (cond b (xs ++ v ∷ []) xs)) [ true ↦ omega (arith, length-append xs (v ∷ [])) | false ↦ omega arith ]
+
+-- ---- the step
+
+-- everywhere, or at one place and elsewhere
+by_place : (P : ℕ → Type 0) (v : ℕ) → P v → ((u : ℕ) → u ≢ v → P u) → (u : ℕ) → P u
+by_place P v here there u = elim (cases_eq u v) [ inl e ↦ subst P (sym e) here | inr ne ↦ there u ne ]
+
+pub record IsStep (s : Stored) (v : ℕ) (P : ℤ → Type 0) (t : Stored) : Type 0 where
+  pub store : IsStore t
+  pub shrinks : Shrinks s t
+  pub narrows : Narrows v P s t
+
+pub step : (s : Stored) (v : ℕ) (P : ℤ → Type 0) (e : List (ℤ × ℤ)) (n : ℕ) → IsStore s → v < length s.doms → n ≡ change_level (least (dom_at s.doms v)) (greatest (dom_at s.doms v)) e
+    → IsKeeping P (dom_at s.doms v) e → set_size e < set_size (dom_at s.doms v) → 0 < length e → IsDomain e → IsStep s v P (with_dom s v e n)
+step s v P e n is within level_is keeping smaller filled domain =
+    let ds = s.doms in
+    let d : List (ℤ × ℤ) = dom_at ds v in
+    let t : Stored = with_dom s v e n in
+    let in_marks : v < length s.marks = omega (arith, within, is.size) in
+    let here : dom_at t.doms v ≡ e = get_or-set_same ds v e [] within in
+    let there : (u : ℕ) → u ≢ v → dom_at t.doms u ≡ dom_at ds u = λ u ne. get_or-set_other ds v u e [] ne in
+    let mark_here : mark_at t v ≡ max (mark_at s v) n = get_or-set_same s.marks v (max (mark_at s v) n) 0 in_marks in
+    let mark_there : (u : ℕ) → u ≢ v → mark_at t u ≡ mark_at s u = λ u ne. get_or-set_other s.marks v u (max (mark_at s v) n) 0 ne in
+    let size : length t.doms ≡ length ds = length-set ds v e in
+    let marks_size : length t.marks ≡ length s.marks = length-set s.marks v (max (mark_at s v) n) in
+    let falls : room t.doms < room ds = omega (arith, smaller, sum_by-set set_size ds v e [] within) in
+    record {
+      store = record {
+        size = marks_size ∙ (is.size ∙ sym size);
+        domains = by_place (λ u. u < length t.doms → IsDomain (dom_at t.doms u) × (0 < length (dom_at t.doms u))) v
+            (λ h. rw here (domain, filled))
+            (λ u ne h. rw (there u ne) (is.domains u (omega (arith, h, size))));
+        listed = by_place (λ u. 0 < mark_at t u → IsListed t.changed u) v
+            (λ h. listed_now (mark_at s v) v s.changed (is.listed v))
+            (λ u ne h. listed_still (mark_at s v) v u s.changed (is.listed u (rw (mark_there u ne) at h)));
+        inside = all_listed (λ u. u < length t.doms) (mark_at s v) v s.changed (omega (arith, within, size)) (subst (λ (k : ℕ). AllByRecursion (λ u. u < k) s.changed) (sym size) is.inside);
+      };
+      shrinks = record {
+        narrower = record {
+          size = size;
+          members = by_place (λ u. (x : ℤ) → IsInSet (dom_at t.doms u) x → IsInSet (dom_at ds u) x) v
+              (λ x i. ((keeping x).0 (rw here at i)).0)
+              (λ u ne x i. rw (there u ne) at i);
+        };
+        marks_grow = by_place (λ u. mark_at s u ≤ mark_at t u) v (omega (arith, mark_here)) (λ u ne. omega (arith, mark_there u ne));
+        marks_tell = by_place (λ u. (event : Event) → mark_at t u < level event → IsQuiet event (dom_at ds u) (dom_at t.doms u)) v
+            (λ event h. rw here (tells d e event (omega (arith, h, mark_here, level_is))))
+            (λ u ne event h. rw (there u ne) (quiet_self event (dom_at ds u)));
+        falls = inr falls;
+      };
+      narrows = record {
+        kept = λ x. rw here (keeping x);
+        others = there;
+        whole = rw (here, ← level_is) refl;
+        smaller = rw here smaller;
+        filled = rw here filled;
+        falls = falls;
+      };
+    }
+
+pub same_shrinks : (s : Stored) → Shrinks s s
+same_shrinks s = record {
+  narrower = record { size = refl; members = λ v x i. i };
+  marks_grow = λ v. omega arith;
+  marks_tell = λ v event h. quiet_self event (dom_at s.doms v);
+  falls = inl refl;
+}
+
+-- a domain that is put where it stood changes nothing
+pub put_back : (ds : List (List (ℤ × ℤ))) (v : ℕ) (e : List (ℤ × ℤ)) → e ≡ dom_at ds v → slice_set ds v e ≡ ds
+put_back ds v e same = rw same (set-get_or ds v [])
+
+-- ---- the step of a store that is kept as lists, with the changed variables behind a place
+
+pub record IsKeptStep (ds es : List (List (ℤ × ℤ))) (ms ns cs gs : List ℕ) (h v : ℕ) (P : ℤ → Type 0) : Type 0 where
+  pub step : IsStep (record { doms = ds; marks = ms; changed = drop h cs }) v P (record { doms = es; marks = ns; changed = drop h gs })
+  pub head : h ≤ length gs
+
+pub kept_step : (ds : List (List (ℤ × ℤ))) (ms ns cs bs gs : List ℕ) (h v n : ℕ) (e : List (ℤ × ℤ)) (P : ℤ → Type 0)
+    → IsStore (record { doms = ds; marks = ms; changed = drop h cs }) → h ≤ length cs → v < length ds → n ≡ change_level (least (dom_at ds v)) (greatest (dom_at ds v)) e
+    → IsKeeping P (dom_at ds v) e → set_size e < set_size (dom_at ds v) → 0 < length e → IsDomain e
+    → bs ≡ cs → ns ≡ slice_set ms v (max (slice_index ms v) n) → gs ≡ with_listed (slice_index ms v) v bs
+    → IsKeptStep ds (slice_set ds v e) ms ns cs gs h v P
+kept_step ds ms ns cs bs gs h v n e P is head within level_is keeping smaller filled domain same_bs at_marks at_changed =
+    let s : Stored = record { doms = ds; marks = ms; changed = drop h cs } in
+    let moved : drop h gs ≡ with_listed (slice_index ms v) v (drop h cs) = rw (at_changed, same_bs) (drop_listed h (slice_index ms v) v cs head) in
+    record {
+      step = rw (at_marks, moved) (step s v P e n is within level_is keeping smaller filled domain);
+      head = rw (at_changed, same_bs) (omega (arith, head, length_listed (slice_index ms v) v cs));
+    }
+
+pub same_at : {X : Type 0} (xs : List X) (v : ℕ) (d e : X) → v < length xs → get_or xs v d ≡ get_or xs v e
+same_at [] v d e within = absurd (omega (arith, within))
+same_at (x ∷ xs) zero d e within = refl
+same_at (x ∷ xs) (suc v) d e within = same_at xs v d e (omega (arith, within))

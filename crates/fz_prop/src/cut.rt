@@ -1,0 +1,67 @@
+//! Changes of one domain.
+ghost use Rattle.std.specs.Prelude.{◌≡◌, ◌<◌, List, length, IfOk, OnErr};
+ghost use Rattle.fz_dom.specs.Changes.{IsChange};
+ghost use Rattle.fz_dom.specs.Shape.{IsDomain, least, greatest};
+ghost use Rattle.fz_prop.specs.Cuts.{Keeps, change_level};
+ghost use Rattle.fz_prop.specs.Stores.{IsCut};
+
+use fz_dom::{Change, Dom};
+use std::alloc::AllocError;
+
+/// Which numbers of a domain are to stay.
+#[derive(Clone, Copy)]
+pub enum Cut {
+    From(i32),
+    To(i32),
+    Only(i32),
+    Range(i32, i32),
+    Without(i32),
+    WithoutRange(i32, i32),
+}
+
+fn keep(dom: &mut Dom, cut: Cut) -> Result<Change, AllocError>
+    ensures change { IfOk result (λ r. IsChange r (Keeps cut) dom.old dom.new) }
+    ensures err { OnErr result (dom.new ≡ dom.old) }
+    ensures domain { IsDomain dom.new }
+{
+    match cut {
+        Cut::From(value) => Ok(dom.keep_from(value)),
+        Cut::To(value) => Ok(dom.keep_to(value)),
+        Cut::Only(value) => Ok(dom.keep_only(value)),
+        Cut::Range(low, high) => Ok(dom.keep_range(low, high)),
+        Cut::Without(value) => dom.remove(value),
+        Cut::WithoutRange(low, high) => dom.remove_range(low, high),
+    }
+}
+
+/// How much of a change it was from a domain with these ends.
+fn level_since(low: i32, high: i32, dom: &Dom) -> u8
+    requires { 0 < length dom.now }
+    ensures { result ≡ change_level low high dom.now }
+{
+    if dom.size() == 1 {
+        return 3;
+    }
+    if low != dom.min() {
+        return 2;
+    }
+    if high != dom.max() {
+        return 2;
+    }
+    1
+}
+
+/// Cuts a domain: what became of it, and how much of a change it was, 0 where nothing left.
+pub fn cut_one(dom: &mut Dom, cut: Cut) -> Result<(Change, u8), AllocError>
+    requires { 0 < length dom.old }
+    ensures cut { IfOk result (λ r. IsCut r.0 r.1 (Keeps cut) dom.old dom.new) }
+    ensures err { OnErr result (dom.new ≡ dom.old) }
+    ensures domain { IsDomain dom.new }
+    ensures old_domain { IsDomain dom.old }
+{
+    let (low, high) = (dom.min(), dom.max());
+    match keep(dom, cut)? {
+        Change::Changed => Ok((Change::Changed, level_since(low, high, dom))),
+        change => Ok((change, 0)),
+    }
+}

@@ -1,0 +1,120 @@
+//! Terms over a store: a variable has its domain, a number itself alone.
+ghost use Rattle.std.specs.Prelude.{◌≡◌, ◌≢◌, ℤ, ◌≤ℤ◌, List, length, IfOk, OnErr, MatchOption};
+ghost use Rattle.fz_sets.specs.Sets.{IsInSet, IsWithinLimits};
+ghost use Rattle.fz_dom.specs.Shape.{least, greatest};
+ghost use Rattle.fz_strength.specs.Domains.{term_set};
+ghost use Rattle.fz_strength.specs.Events.{IsOnly};
+ghost use Rattle.fz_prop.specs.Stores.{Shrinks, IsTermOf, FitsTerm, IsTermChange};
+
+use crate::store::Store;
+use fz_dom::Change;
+use fz_spec::term::Term;
+use std::alloc::AllocError;
+
+/// The least number of a term.
+pub fn least_of(store: &Store, term: Term) -> i32
+    requires { IsTermOf (length store.now.doms) term }
+    ensures least { result ≡ least (term_set store.now.doms term) }
+    ensures member { IsInSet (term_set store.now.doms term) result }
+    ensures limits { FitsTerm term → IsWithinLimits result }
+    ensures lower_bound { (x : ℤ) → IsInSet (term_set store.now.doms term) x → result ≤ℤ x }
+{
+    match term {
+        Term::Var(variable) => store.dom(variable).min(),
+        Term::Num(number) => number,
+    }
+}
+
+/// The greatest number of a term.
+pub fn greatest_of(store: &Store, term: Term) -> i32
+    requires { IsTermOf (length store.now.doms) term }
+    ensures greatest { result ≡ greatest (term_set store.now.doms term) }
+    ensures member { IsInSet (term_set store.now.doms term) result }
+    ensures limits { FitsTerm term → IsWithinLimits result }
+    ensures upper_bound { (x : ℤ) → IsInSet (term_set store.now.doms term) x → x ≤ℤ result }
+{
+    match term {
+        Term::Var(variable) => store.dom(variable).max(),
+        Term::Num(number) => number,
+    }
+}
+
+/// The number that alone is left of a term, if it is one.
+pub fn value_of(store: &Store, term: Term) -> Option<i32>
+    requires { IsTermOf (length store.now.doms) term }
+    ensures { MatchOption result ((x : ℤ) → IsOnly (term_set store.now.doms term) x → ⊥)
+        (λ x. IsOnly (term_set store.now.doms term) x) }
+{
+    match term {
+        Term::Var(variable) => {
+            let dom = store.dom(variable);
+            if dom.is_fixed() {
+                Some(dom.min())
+            } else {
+                None
+            }
+        }
+        Term::Num(number) => Some(number),
+    }
+}
+
+/// Keeps the numbers of a term at or above a value.
+///
+/// # Errors
+/// `AllocError` where there is no memory; the store is then left as it was. So it is at each change.
+pub fn keep_from(store: &mut Store, term: Term, value: i32) -> Result<Change, AllocError>
+    requires { IsTermOf (length store.old.doms) term }
+    ensures shrinks { Shrinks store.old store.new }
+    ensures err { OnErr result (store.new ≡ store.old) }
+    ensures change { IfOk result
+        (λ r. IsTermChange r term (λ x. value ≤ℤ x) store.old store.new) }
+{
+    match term {
+        Term::Var(variable) => store.keep_from(variable, value),
+        Term::Num(number) if value <= number => Ok(Change::Same),
+        Term::Num(_) => Ok(Change::Wiped),
+    }
+}
+
+/// Keeps the numbers of a term at or below a value.
+pub fn keep_to(store: &mut Store, term: Term, value: i32) -> Result<Change, AllocError>
+    requires { IsTermOf (length store.old.doms) term }
+    ensures shrinks { Shrinks store.old store.new }
+    ensures err { OnErr result (store.new ≡ store.old) }
+    ensures change { IfOk result
+        (λ r. IsTermChange r term (λ x. x ≤ℤ value) store.old store.new) }
+{
+    match term {
+        Term::Var(variable) => store.keep_to(variable, value),
+        Term::Num(number) if number <= value => Ok(Change::Same),
+        Term::Num(_) => Ok(Change::Wiped),
+    }
+}
+
+/// Keeps one number of a term.
+pub fn keep_only(store: &mut Store, term: Term, value: i32) -> Result<Change, AllocError>
+    requires { IsTermOf (length store.old.doms) term }
+    ensures shrinks { Shrinks store.old store.new }
+    ensures err { OnErr result (store.new ≡ store.old) }
+    ensures change { IfOk result (λ r. IsTermChange r term (λ x. x ≡ value) store.old store.new) }
+{
+    match term {
+        Term::Var(variable) => store.keep_only(variable, value),
+        Term::Num(number) if number == value => Ok(Change::Same),
+        Term::Num(_) => Ok(Change::Wiped),
+    }
+}
+
+/// Removes a number of a term.
+pub fn remove(store: &mut Store, term: Term, value: i32) -> Result<Change, AllocError>
+    requires { IsTermOf (length store.old.doms) term }
+    ensures shrinks { Shrinks store.old store.new }
+    ensures err { OnErr result (store.new ≡ store.old) }
+    ensures change { IfOk result (λ r. IsTermChange r term (λ x. x ≢ value) store.old store.new) }
+{
+    match term {
+        Term::Var(variable) => store.remove(variable, value),
+        Term::Num(number) if number != value => Ok(Change::Same),
+        Term::Num(_) => Ok(Change::Wiped),
+    }
+}

@@ -1,0 +1,4 @@
+pub mod Terms
+pub mod Apartness
+pub mod Orders
+pub mod Names

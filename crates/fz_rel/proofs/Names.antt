@@ -1,0 +1,122 @@
+-- A comparison by its name is its relation.
+use Rattle.std.proofs.Common.{◌≡◌, ℕ, ◌<◌, List, [], ◌∷◌, ◌++◌, refl, ap, subst, map}
+use Rattle.std.specs.Prelude.{ℤ, Option, Some, ◌↔◌, IfOk}
+use Rattle.std.proofs.Common.{Result, Ok, Err}
+use Rattle.fz_strength.specs.declared.cost.Cost.TheVariants.{Binary}
+use Rattle.fz_strength.specs.Costs.{cost_of}
+use Rattle.fz_spec.specs.declared.builtin.Builtin.{Builtin}
+use Rattle.fz_spec.specs.declared.builtin.Builtin.TheVariants.{Bool2Int, BoolEq, BoolLe, BoolLt, BoolNot, BoolXor, IntEq, IntLe, IntLt, IntNe}
+use Rattle.fz_spec.specs.declared.term.Term.{Term}
+use Rattle.fz_spec.specs.declared.term.Term.TheVariants.{Num, Var}
+use Rattle.fz_spec.specs.Constraints.{One, Constraint, term_value}
+use Rattle.fz_spec.specs.Truth.{HoldsOfTwo}
+use Rattle.fz_strength.specs.declared.relation.Relation.{Relation}
+use Rattle.fz_strength.specs.declared.relation.Relation.TheVariants.{Equal, NotEqual, AtMost, Below}
+use Rattle.fz_strength.specs.declared.event.Event.{Event}
+use Rattle.fz_strength.specs.Domains.{term_set, dom_at}
+use Rattle.fz_strength.specs.Events.{IsOnly, Wait, wait_for, AreBelow, AreFixed}
+use Rattle.fz_strength.specs.Relations.{relation_of, Relates, RestsAs, event_of}
+use Rattle.fz_strength.specs.Lines.{RestsOfTwo, waits_of_two, waits}
+use Rattle.fz_strength.specs.Promises.{IsCorrect}
+use Rattle.fz_strength.proofs.Lists.{all_left, all_right}
+use Rattle.fz_prop.specs.declared.answer.Answer.{Answer}
+use Rattle.fz_prop.specs.declared.answer.Answer.TheVariants.{Fix, NoFix, Subsumed, Failed}
+use Rattle.fz_prop.specs.Answers.{IsAnswer, IsCorrectOf}
+use Rattle.fz_prop.specs.Stores.{IsTermOf}
+use Rattle.fz_rel.specs.Truths.{TruthOf, IsAnswerAs, AreSingle}
+use Rattle.fz_rel.specs.Comparisons.{variables_of}
+
+-- the constraint of a name over two terms
+abbrev pub comparing : Builtin → Term → Term → Constraint
+comparing name x y = record { name = name; arguments = One x ∷ One y ∷ [] }
+
+same : (r q : Relation) (x y : ℤ) → Some r ≡ Some q → Relates r x y ↔ Relates q x y
+same r q x y e = let f : r ≡ q = cc in rw f ((λ h. h), (λ h. h))
+
+pub truth_is : (name : Builtin) (relation : Relation) (x y : ℤ) → relation_of name ≡ Some relation → HoldsOfTwo name x y ↔ Relates relation x y
+truth_is IntEq relation x y e = same Equal relation x y e
+truth_is BoolEq relation x y e = same Equal relation x y e
+truth_is Bool2Int relation x y e = same Equal relation x y e
+truth_is IntNe relation x y e = same NotEqual relation x y e
+truth_is BoolNot relation x y e = same NotEqual relation x y e
+truth_is BoolXor relation x y e = same NotEqual relation x y e
+truth_is IntLe relation x y e = same AtMost relation x y e
+truth_is BoolLe relation x y e = same AtMost relation x y e
+truth_is IntLt relation x y e = same Below relation x y e
+truth_is BoolLt relation x y e = same Below relation x y e
+truth_is name relation x y e = absurd (cc (e))
+
+pub line_is : (name : Builtin) (relation : Relation) (d e : List (ℤ × ℤ)) → relation_of name ≡ Some relation → RestsAs relation d e → RestsOfTwo (relation_of name) d e
+line_is name relation d e is h = rw is h
+
+pub answer_is : (name : Builtin) (relation : Relation) (x y : Term) (answer : Answer) (ds es : List (List (ℤ × ℤ))) → relation_of name ≡ Some relation
+    → IsAnswerAs relation x y answer ds es → IsAnswer answer (comparing name x y) ds es
+answer_is name relation x y Fix ds es is h = line_is name relation (term_set es x) (term_set es y) is h
+answer_is name relation x y NoFix ds es is h = h
+answer_is name relation x y Subsumed ds es is h = (
+  (λ a within. (truth_is name relation (term_value a x) (term_value a y) is).1 (h.0 a within)),
+  (λ fs domains narrower. line_is name relation (term_set fs x) (term_set fs y) is (h.1 fs domains narrower)),
+)
+answer_is name relation x y Failed ds es is h = λ a within holds. h a within ((truth_is name relation (term_value a x) (term_value a y) is).0 holds)
+
+pub correct_is : (name : Builtin) (relation : Relation) (x y : Term) (ds es : List (List (ℤ × ℤ))) → relation_of name ≡ Some relation
+    → IsCorrectOf (TruthOf relation x y) ds es → IsCorrect (comparing name x y) ds es
+correct_is name relation x y ds es is h = λ a holds within. h a ((truth_is name relation (term_value a x) (term_value a y) is).0 holds) within
+
+-- ---- its variables
+
+waits_are : (name : Builtin) (relation : Relation) (x y : Term) → relation_of name ≡ Some relation
+    → waits (comparing name x y) ≡ wait_for (event_of relation) x ++ wait_for (event_of relation) y
+waits_are name relation x y is = ap (λ (o : Option Relation). waits_of_two o x y) is
+
+term_of : (event : Event) (t : Term) (n : ℕ) → AreBelow (wait_for event t) n → IsTermOf n t
+term_of event (Num number) n below = tt
+term_of event (Var v) n below = below.0
+
+pub terms_of : (name : Builtin) (relation : Relation) (x y : Term) (n : ℕ) → relation_of name ≡ Some relation → AreBelow (waits (comparing name x y)) n → IsTermOf n x × IsTermOf n y
+terms_of name relation x y n is below =
+    let is_below : Wait → Type 0 = λ (w : Wait). w.variable < n in
+    let both : AreBelow (wait_for (event_of relation) x ++ wait_for (event_of relation) y) n = subst (λ (ws : List Wait). AreBelow ws n) (waits_are name relation x y is) below in (
+      term_of (event_of relation) x n (all_left is_below (wait_for (event_of relation) x) (wait_for (event_of relation) y) both),
+      term_of (event_of relation) y n (all_right is_below (wait_for (event_of relation) x) (wait_for (event_of relation) y) both),
+    )
+
+single_of : (event : Event) (t : Term) (ds : List (List (ℤ × ℤ))) → AreFixed (wait_for event t) ds → (u : ℤ) × IsOnly (term_set ds t) u
+single_of event (Num n) ds fixed = (n, refl)
+single_of event (Var v) ds fixed = fixed.0
+
+pub singles_of : (name : Builtin) (relation : Relation) (x y : Term) (ds : List (List (ℤ × ℤ))) → relation_of name ≡ Some relation → AreFixed (waits (comparing name x y)) ds → AreSingle x y ds
+singles_of name relation x y ds is fixed =
+    let is_fixed : Wait → Type 0 = λ (w : Wait). (u : ℤ) × IsOnly (dom_at ds w.variable) u in
+    let both : AreFixed (wait_for (event_of relation) x ++ wait_for (event_of relation) y) ds = subst (λ (ws : List Wait). AreFixed ws ds) (waits_are name relation x y is) fixed in (
+      single_of (event_of relation) x ds (all_left is_fixed (wait_for (event_of relation) x) (wait_for (event_of relation) y) both),
+      single_of (event_of relation) y ds (all_right is_fixed (wait_for (event_of relation) x) (wait_for (event_of relation) y) both),
+    )
+
+variables_waited : (event : Event) (x y : Term) → map (λ (w : Wait). w.variable) (wait_for event x ++ wait_for event y) ≡ variables_of x y
+variables_waited event (Num m) (Num n) = refl
+variables_waited event (Num m) (Var w) = refl
+variables_waited event (Var v) (Num n) = refl
+variables_waited event (Var v) (Var w) = refl
+
+pub variables_are : (name : Builtin) (relation : Relation) (x y : Term) → relation_of name ≡ Some relation → map (λ (w : Wait). w.variable) (waits (comparing name x y)) ≡ variables_of x y
+variables_are name relation x y is = rw (waits_are name relation x y is) (variables_waited (event_of relation) x y)
+
+-- ---- its cost
+
+pub cost_is : (name : Builtin) (relation : Relation) (x y : Term) → relation_of name ≡ Some relation → Binary ≡ cost_of (comparing name x y)
+cost_is IntEq relation x y e = refl
+cost_is BoolEq relation x y e = refl
+cost_is Bool2Int relation x y e = refl
+cost_is IntNe relation x y e = refl
+cost_is BoolNot relation x y e = refl
+cost_is BoolXor relation x y e = refl
+cost_is IntLe relation x y e = refl
+cost_is BoolLe relation x y e = refl
+cost_is IntLt relation x y e = refl
+cost_is BoolLt relation x y e = refl
+cost_is name relation x y e = absurd (cc (e))
+
+pub weaker : {T E : Type 0} (r : Result T E) (P Q : T → Type 0) → ((x : T) → P x → Q x) → IfOk r P → IfOk r Q
+weaker (Ok x) P Q f h = f x h
+weaker (Err e) P Q f h = tt

@@ -1,0 +1,134 @@
+//! Comparisons of two terms.
+ghost use Rattle.std.specs.Prelude.{◌≡◌, ◌≢◌, ◌≤◌, ℕ, List, [], ◌∷◌, length, map, take, IfOk, Some};
+ghost use Rattle.fz_strength.specs.declared.relation.Relation.TheVariants.{Equal};
+ghost use Rattle.fz_strength.specs.Relations.{relation_of};
+ghost use Rattle.fz_spec.specs.Constraints.{One};
+ghost use Rattle.fz_prop.specs.Answers.{IsCorrectOf, IsDecided};
+ghost use Rattle.fz_prop.specs.Stores.{Shrinks, IsTermOf, FitsTerm};
+ghost use Rattle.fz_rel.specs.Truths.{TruthOf, IsAnswerAs, AreSingle};
+ghost use Rattle.fz_rel.specs.Comparisons.{IsComparison, variables_of};
+
+use crate::apart::keep_apart;
+use crate::order::keep_order;
+use fz_prop::{Answer, Cost, Event, Propagator, Store};
+use fz_spec::builtin::Builtin;
+use fz_spec::term::Term;
+use fz_strength::relation::Relation;
+use std::alloc::AllocError;
+use std::marker::Model;
+
+/// A comparison of two terms that isn't an equation.
+#[derive(Drop)]
+pub struct Comparison {
+    name: Builtin,
+    relation: Relation,
+    x: Term,
+    y: Term,
+    /// Its variables, the first so many of these.
+    variables: [u32; 2],
+    count: usize,
+}
+
+impl Model for Comparison {
+    ghost use Rattle.std.specs.Prelude.{[], ◌∷◌};
+    ghost use Rattle.fz_spec.specs.Constraints.{Constraint, One};
+    ghost use Rattle.fz_rel.specs.Comparisons.{IsComparison};
+
+    ghost Value = { Constraint };
+
+    ghost view = { λ p. record { name = p.name; arguments = One p.x ∷ One p.y ∷ [] } };
+
+    ghost invariant = { λ p. IsComparison p.name p.relation p.x p.y p.variables p.count };
+}
+
+impl Comparison {
+    /// The propagator of a comparison of two terms that isn't an equation.
+    pub fn new(name: Builtin, relation: Relation, x: Term, y: Term) -> Comparison
+        requires relation { relation_of name ≡ Some relation }
+        requires unequal { relation ≢ Equal }
+        requires fits_x { FitsTerm x }
+        requires fits_y { FitsTerm y }
+        ensures { result ≡ record { name = name; arguments = One x ∷ One y ∷ [] } }
+    {
+        let (variables, count) = variables_of(x, y);
+        Comparison {
+            name,
+            relation,
+            x,
+            y,
+            variables,
+            count,
+        }
+    }
+}
+
+/// The variables of two terms, the first so many.
+fn variables_of(x: Term, y: Term) -> ([u32; 2], usize)
+    ensures count { result.1 ≤ 2 }
+    ensures variables { take result.1 result.0 ≡ variables_of x y }
+{
+    match (x, y) {
+        (Term::Var(v), Term::Var(w)) => ([v, w], 2),
+        (Term::Var(v), Term::Num(_)) => ([v, 0], 1),
+        (Term::Num(_), Term::Var(w)) => ([w, 0], 1),
+        (Term::Num(_), Term::Num(_)) => ([0, 0], 0),
+    }
+}
+
+/// Narrows a store by a relation of two terms.
+fn relate(store: &mut Store, relation: Relation, x: Term, y: Term) -> Result<Answer, AllocError>
+    requires unequal { relation ≢ Equal }
+    requires x { IsTermOf (length store.old.doms) x }
+    requires y { IsTermOf (length store.old.doms) y }
+    requires fits_x { FitsTerm x }
+    requires fits_y { FitsTerm y }
+    ensures shrinks { Shrinks store.old store.new }
+    ensures correct { IsCorrectOf (TruthOf relation x y) store.old.doms store.new.doms }
+    ensures answer { IfOk result (λ r. IsAnswerAs relation x y r store.old.doms store.new.doms) }
+    ensures checking { IfOk result (λ r. AreSingle x y store.old.doms → IsDecided r) }
+{
+    match relation {
+        Relation::AtMost => keep_order(store, false, x, y),
+        Relation::Below => keep_order(store, true, x, y),
+        _ => keep_apart(store, x, y),
+    }
+}
+
+impl Propagator for Comparison {
+    ghost constraint = { λ p. p };
+
+    fn vars(&self) -> &[u32] {
+        &self.variables[..self.count]
+    }
+
+    fn event(&self, place: usize) -> Event {
+        let _ = place;
+        match self.relation {
+            Relation::AtMost | Relation::Below => Event::Bound,
+            Relation::NotEqual => Event::Fixed,
+            Relation::Equal => Event::Any,
+        }
+    }
+
+    fn cost(&self) -> Cost {
+        let _ = &self.relation;
+        Cost::Binary
+    }
+
+    fn propagate(&mut self, store: &mut Store) -> Result<Answer, AllocError> {
+        relate(store, self.relation, self.x, self.y)
+    }
+
+    fn advise(&mut self, _variable: u32, _store: &Store) {}
+
+    fn copy(&self) -> Result<Comparison, AllocError> {
+        Ok(Comparison {
+            name: self.name,
+            relation: self.relation,
+            x: self.x,
+            y: self.y,
+            variables: self.variables,
+            count: self.count,
+        })
+    }
+}

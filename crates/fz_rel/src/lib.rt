@@ -1,0 +1,11 @@
+//! Propagators of comparisons (Schulte, Tack, Lagerkvist: "Modeling and Programming with Gecode", "Rel").
+#![tactic(auto)]
+
+mod apart;
+pub mod comparison;
+mod order;
+
+pub use comparison::Comparison;
+
+#[cfg(test)]
+mod tests;

@@ -1,0 +1,6 @@
+//! One worker's search of a whole book: each open frontier by a path, until none is left or enough is recorded.
+#![tactic(auto)]
+
+pub mod solo;
+
+pub use solo::{End, finish};

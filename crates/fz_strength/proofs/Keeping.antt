@@ -1,0 +1,95 @@
+-- A line lasts while nothing happens that may break it.
+use Rattle.std.proofs.Common.{◌≡◌, List, [], ◌∷◌, ◌++◌, refl, ◌∙◌}
+use Rattle.std.specs.Prelude.{ℤ, Option, Some, None}
+use Rattle.fz_sets.specs.Sets.{IsInSet}
+use Rattle.fz_spec.specs.declared.builtin.Builtin.{Builtin}
+use Rattle.fz_spec.specs.declared.builtin.Builtin.TheVariants.{SetIn}
+use Rattle.fz_spec.specs.declared.term.Term.{Term}
+use Rattle.fz_spec.specs.declared.term.Term.TheVariants.{Num, Var}
+use Rattle.fz_spec.specs.Constraints.{Argument, One, Set}
+use Rattle.fz_strength.specs.declared.relation.Relation.{Relation}
+use Rattle.fz_strength.specs.declared.relation.Relation.TheVariants.{Equal, NotEqual, AtMost, Below}
+use Rattle.fz_strength.specs.declared.event.Event.{Event}
+use Rattle.fz_strength.specs.declared.event.Event.TheVariants.{Any, Bound, Fixed}
+use Rattle.fz_strength.specs.Domains.{dom_at, term_set, IsNarrower}
+use Rattle.fz_strength.specs.Events.{IsQuiet, Wait, wait_for, AreQuiet}
+use Rattle.fz_strength.specs.Relations.{relation_of, reified_of, RestsAs, event_of, reified_event}
+use Rattle.fz_strength.specs.Lines.{RestsOfTwo, RestsReified, RestsOfSet, RestsOfSetReified, RestsOf, waits_of_two, waits_of_reified, waits_of}
+use Rattle.fz_strength.specs.Laws.{KeptWhereQuiet}
+use Rattle.fz_strength.proofs.Lists.{all_left, all_right}
+
+quiet_self : (event : Event) (d : List (ℤ × ℤ)) → IsQuiet event d d
+quiet_self Any d = refl
+quiet_self Bound d = (refl, refl)
+quiet_self Fixed d = λ x only. refl
+
+pub term_quiet : (event : Event) (t : Term) (ds es : List (List (ℤ × ℤ))) → AreQuiet (wait_for event t) ds es → IsQuiet event (term_set ds t) (term_set es t)
+term_quiet event (Num n) ds es quiet = quiet_self event ((n, n) ∷ [])
+term_quiet event (Var v) ds es quiet = quiet.0
+
+pub term_narrower : (t : Term) (ds es : List (List (ℤ × ℤ))) → IsNarrower ds es → (x : ℤ) → IsInSet (term_set es t) x → IsInSet (term_set ds t) x
+term_narrower (Num n) ds es narrower x is = is
+term_narrower (Var v) ds es narrower x is = narrower.members v x is
+
+kept_as : (relation : Relation) (d e f g : List (ℤ × ℤ)) → ((x : ℤ) → IsInSet f x → IsInSet d x) → ((x : ℤ) → IsInSet g x → IsInSet e x)
+    → IsQuiet (event_of relation) d f → IsQuiet (event_of relation) e g → RestsAs relation d e → RestsAs relation f g
+kept_as Equal d e f g to_d to_e at_d at_e h = cc
+kept_as NotEqual d e f g to_d to_e at_d at_e h = (
+  (λ x only is. h.0 x (at_d x only ∙ only) (to_e x is)),
+  (λ x only is. h.1 x (at_e x only ∙ only) (to_d x is)),
+)
+kept_as AtMost d e f g to_d to_e at_d at_e h = rw (← at_d.0, ← at_d.1, ← at_e.0, ← at_e.1) h
+kept_as Below d e f g to_d to_e at_d at_e h = rw (← at_d.0, ← at_d.1, ← at_e.0, ← at_e.1) h
+
+kept_two : (o : Option Relation) (x y : Term) (ds es : List (List (ℤ × ℤ))) → IsNarrower ds es → AreQuiet (waits_of_two o x y) ds es
+    → RestsOfTwo o (term_set ds x) (term_set ds y) → RestsOfTwo o (term_set es x) (term_set es y)
+kept_two None x y ds es narrower quiet h = absurd h
+kept_two (Some relation) x y ds es narrower quiet h =
+    let is_quiet : Wait → Type 0 = λ (w : Wait). IsQuiet w.event (dom_at ds w.variable) (dom_at es w.variable) in
+    let wx = wait_for (event_of relation) x in
+    let wy = wait_for (event_of relation) y in
+    kept_as relation (term_set ds x) (term_set ds y) (term_set es x) (term_set es y) (term_narrower x ds es narrower) (term_narrower y ds es narrower)
+    (term_quiet (event_of relation) x ds es (all_left is_quiet wx wy quiet)) (term_quiet (event_of relation) y ds es (all_right is_quiet wx wy quiet)) h
+
+kept_line : (relation : Relation) (d e r f g s : List (ℤ × ℤ)) → IsQuiet (reified_event relation) d f → IsQuiet (reified_event relation) e g → r ≡ s
+    → RestsReified (Some relation) d e r → RestsReified (Some relation) f g s
+kept_line Equal d e r f g s at_d at_e at_r h = rw (← at_d, ← at_e, ← at_r) h
+kept_line NotEqual d e r f g s at_d at_e at_r h = rw (← at_d, ← at_e, ← at_r) h
+kept_line AtMost d e r f g s at_d at_e at_r h = rw (← at_d.0, ← at_d.1, ← at_e.0, ← at_e.1, ← at_r) h
+kept_line Below d e r f g s at_d at_e at_r h = rw (← at_d.0, ← at_d.1, ← at_e.0, ← at_e.1, ← at_r) h
+
+kept_reified : (o : Option Relation) (x y r : Term) (ds es : List (List (ℤ × ℤ))) → AreQuiet (waits_of_reified o x y r) ds es
+    → RestsReified o (term_set ds x) (term_set ds y) (term_set ds r) → RestsReified o (term_set es x) (term_set es y) (term_set es r)
+kept_reified None x y r ds es quiet h = absurd h
+kept_reified (Some relation) x y r ds es quiet h =
+    let is_quiet : Wait → Type 0 = λ (w : Wait). IsQuiet w.event (dom_at ds w.variable) (dom_at es w.variable) in
+    let wx = wait_for (reified_event relation) x in
+    let wy = wait_for (reified_event relation) y in
+    let wr = wait_for Any r in
+    let behind = all_right is_quiet wx (wy ++ wr) quiet in
+    kept_line relation (term_set ds x) (term_set ds y) (term_set ds r) (term_set es x) (term_set es y) (term_set es r)
+    (term_quiet (reified_event relation) x ds es (all_left is_quiet wx (wy ++ wr) quiet)) (term_quiet (reified_event relation) y ds es (all_left is_quiet wy wr behind))
+    (term_quiet Any r ds es (all_right is_quiet wy wr behind)) h
+
+kept_set : (name : Builtin) (d e set : List (ℤ × ℤ)) → ((x : ℤ) → IsInSet e x → IsInSet d x) → RestsOfSet name d set → RestsOfSet name e set
+kept_set SetIn d e set to_d h = λ x is. h x (to_d x is)
+kept_set name d e set to_d h = absurd h
+
+kept_set_reified : (name : Builtin) (x r : Term) (set : List (ℤ × ℤ)) (ds es : List (List (ℤ × ℤ))) → AreQuiet (wait_for Any x ++ wait_for Any r) ds es
+    → RestsOfSetReified name (term_set ds x) set (term_set ds r) → RestsOfSetReified name (term_set es x) set (term_set es r)
+kept_set_reified name x r set ds es quiet h =
+    let is_quiet : Wait → Type 0 = λ (w : Wait). IsQuiet w.event (dom_at ds w.variable) (dom_at es w.variable) in
+    let of_x = term_quiet Any x ds es (all_left is_quiet (wait_for Any x) (wait_for Any r) quiet) in
+    let of_r = term_quiet Any r ds es (all_right is_quiet (wait_for Any x) (wait_for Any r) quiet) in
+    rw (← of_x, ← of_r) h
+
+arguments_kept : (name : Builtin) (arguments : List Argument) (ds es : List (List (ℤ × ℤ))) → IsNarrower ds es → AreQuiet (waits_of name arguments) ds es
+    → RestsOf name arguments ds → RestsOf name arguments es
+arguments_kept name (One x ∷ One y ∷ []) ds es narrower quiet h = kept_two (relation_of name) x y ds es narrower quiet h
+arguments_kept name (One x ∷ One y ∷ One r ∷ []) ds es narrower quiet h = kept_reified (reified_of name) x y r ds es quiet h
+arguments_kept name (One x ∷ Set set ∷ []) ds es narrower quiet h = kept_set name (term_set ds x) (term_set es x) set (term_narrower x ds es narrower) h
+arguments_kept name (One x ∷ Set set ∷ One r ∷ []) ds es narrower quiet h = kept_set_reified name x r set ds es quiet h
+arguments_kept name arguments ds es narrower quiet h = absurd h
+
+pub kept_where_quiet : KeptWhereQuiet
+kept_where_quiet c ds es domains narrower quiet h = arguments_kept c.name c.arguments ds es narrower quiet h

@@ -1,0 +1,140 @@
+-- Where one number is left of each variable, a line says that the constraint is true.
+use Rattle.std.proofs.Common.{◌≡◌, ◌<◌, List, [], ◌∷◌, ◌++◌, refl, sym, ap, subst, arith, length, inl, inr}
+use Rattle.std.specs.Prelude.{ℤ, pos, Some}
+use Rattle.std.proofs.lemmas.Int.{ints}
+use Rattle.fz_sets.specs.Sets.{IsInSet}
+use Rattle.fz_dom.specs.Shape.{least}
+use Rattle.fz_spec.specs.declared.builtin.Builtin.{Builtin}
+use Rattle.fz_spec.specs.declared.builtin.Builtin.TheVariants.{Bool2Int, BoolEq, BoolEqReif, BoolLe, BoolLeReif, BoolLt, BoolLtReif, BoolNot, BoolXor, IntEq, IntEqReif, IntLe, IntLeReif, IntLt, IntLtReif, IntNe, IntNeReif, SetIn, SetInReif}
+use Rattle.fz_spec.specs.declared.term.Term.{Term}
+use Rattle.fz_spec.specs.declared.term.Term.TheVariants.{Num, Var}
+use Rattle.fz_spec.specs.Constraints.{Argument, One, Set, term_value, Holds}
+use Rattle.fz_spec.specs.Truth.{HoldsOfTwo, HoldsOfThree, HoldsOfSet, IsReifiedOf, IsReified, plain_of}
+use Rattle.fz_strength.specs.declared.relation.Relation.{Relation}
+use Rattle.fz_strength.specs.declared.relation.Relation.TheVariants.{Equal, NotEqual, AtMost, Below}
+use Rattle.fz_strength.specs.declared.event.Event.{Event}
+use Rattle.fz_strength.specs.declared.event.Event.TheVariants.{Any, Fixed}
+use Rattle.fz_strength.specs.Domains.{term_set, Alone}
+use Rattle.fz_strength.specs.Events.{Wait, wait_for, AreBelow}
+use Rattle.fz_strength.specs.Relations.{relation_of, reified_of, Relates, RestsAs, RestsAgainst, IsShown, IsRefuted, event_of, reified_event}
+use Rattle.fz_strength.specs.Lines.{IsReifiedLine, RestsOfTwo, RestsReified, LiesIn, LiesOutside, RestsOfSet, RestsOfSetReified, RestsOf, waits_of_two, waits_of_reified, waits_of}
+use Rattle.fz_strength.specs.Laws.{TrueWhereAlone}
+use Rattle.fz_strength.proofs.Lists.{all_left, all_right}
+
+-- the set of one number
+abbrev pub single : ℤ → List (ℤ × ℤ)
+single x = (x, x) ∷ []
+
+pub in_single : (x y : ℤ) → x ≡ y → IsInSet (single y) x
+in_single x y same = inl (omega (arith, ints, same), omega (arith, ints, same))
+
+pub is_single : (x y : ℤ) → IsInSet (single y) x → x ≡ y
+is_single x y is = elim is [ inl h ↦ omega (arith, ints, h.0, h.1) | inr h ↦ absurd h ]
+
+pub term_alone : (ds : List (List (ℤ × ℤ))) (a : List ℤ) (event : Event) (t : Term) → AreBelow (wait_for event t) (length ds) → Alone ds a → term_set ds t ≡ single (term_value a t)
+term_alone ds a event (Num n) below alone = refl
+term_alone ds a event (Var v) below alone = alone.alone v below.0
+
+-- ---- relations
+
+pub true_as : (relation : Relation) (x y : ℤ) → RestsAs relation (single x) (single y) → Relates relation x y
+true_as Equal x y h = ap least h
+true_as NotEqual x y h = λ same. h.0 x refl (in_single x y same)
+true_as AtMost x y h = h.0
+true_as Below x y h = h.0
+
+pub shown_as : (relation : Relation) (x y : ℤ) → Relates relation x y → IsShown relation (single x) (single y)
+shown_as Equal x y h = (omega (arith, ints, h), omega (arith, ints, h))
+shown_as NotEqual x y h = grind (arith, ints)
+shown_as AtMost x y h = h
+shown_as Below x y h = h
+
+relates : (relation : Relation) (x y : Term) (ds : List (List (ℤ × ℤ))) (a : List ℤ) → AreBelow (waits_of_two (Some relation) x y) (length ds) → Alone ds a
+    → RestsAs relation (term_set ds x) (term_set ds y) → Relates relation (term_value a x) (term_value a y)
+relates relation x y ds a below alone h =
+    let is_below : Wait → Type 0 = λ (w : Wait). w.variable < length ds in
+    let of_x = term_alone ds a (event_of relation) x (all_left is_below (wait_for (event_of relation) x) (wait_for (event_of relation) y) below) alone in
+    let of_y = term_alone ds a (event_of relation) y (all_right is_below (wait_for (event_of relation) x) (wait_for (event_of relation) y) below) alone in
+    true_as relation (term_value a x) (term_value a y) (rw (of_x, of_y) at h)
+
+reified_line : (relation : Relation) (x y r : ℤ)
+    → IsReifiedLine (IsShown relation (single x) (single y)) (IsRefuted relation (single x) (single y)) (RestsAs relation (single x) (single y)) (RestsAgainst relation (single x) (single y)) (single r)
+    → IsReified (Relates relation x y) r
+reified_line relation x y r h = (
+  (λ one. true_as relation x y (h.line_if_one (ap single one))),
+  (λ holds. let e : single r ≡ single (pos 1) = h.one_if_shown (shown_as relation x y holds) in ap least e),
+)
+
+relates_reified : (relation : Relation) (x y r : Term) (ds : List (List (ℤ × ℤ))) (a : List ℤ) → AreBelow (waits_of_reified (Some relation) x y r) (length ds) → Alone ds a
+    → RestsReified (Some relation) (term_set ds x) (term_set ds y) (term_set ds r) → IsReified (Relates relation (term_value a x) (term_value a y)) (term_value a r)
+relates_reified relation x y r ds a below alone h =
+    let is_below : Wait → Type 0 = λ (w : Wait). w.variable < length ds in
+    let wx = wait_for (reified_event relation) x in
+    let wy = wait_for (reified_event relation) y in
+    let wr = wait_for Any r in
+    let behind = all_right is_below wx (wy ++ wr) below in
+    let of_x = term_alone ds a (reified_event relation) x (all_left is_below wx (wy ++ wr) below) alone in
+    let of_y = term_alone ds a (reified_event relation) y (all_left is_below wy wr behind) alone in
+    let of_r = term_alone ds a Any r (all_right is_below wy wr behind) alone in
+    reified_line relation (term_value a x) (term_value a y) (term_value a r) (rw (of_x, of_y, of_r) at h)
+
+-- ---- names
+
+two : (name : Builtin) (x y : Term) (ds : List (List (ℤ × ℤ))) (a : List ℤ) → AreBelow (waits_of_two (relation_of name) x y) (length ds) → Alone ds a
+    → RestsOfTwo (relation_of name) (term_set ds x) (term_set ds y) → HoldsOfTwo name (term_value a x) (term_value a y)
+two IntEq x y ds a below alone h = relates Equal x y ds a below alone h
+two BoolEq x y ds a below alone h = relates Equal x y ds a below alone h
+two Bool2Int x y ds a below alone h = relates Equal x y ds a below alone h
+two IntNe x y ds a below alone h = relates NotEqual x y ds a below alone h
+two BoolNot x y ds a below alone h = relates NotEqual x y ds a below alone h
+two BoolXor x y ds a below alone h = relates NotEqual x y ds a below alone h
+two IntLe x y ds a below alone h = relates AtMost x y ds a below alone h
+two BoolLe x y ds a below alone h = relates AtMost x y ds a below alone h
+two IntLt x y ds a below alone h = relates Below x y ds a below alone h
+two BoolLt x y ds a below alone h = relates Below x y ds a below alone h
+two name x y ds a below alone h = absurd h
+
+three : (name : Builtin) (x y r : Term) (ds : List (List (ℤ × ℤ))) (a : List ℤ) → AreBelow (waits_of_reified (reified_of name) x y r) (length ds) → Alone ds a
+    → RestsReified (reified_of name) (term_set ds x) (term_set ds y) (term_set ds r) → HoldsOfThree name (term_value a x) (term_value a y) (term_value a r)
+three IntEqReif x y r ds a below alone h = relates_reified Equal x y r ds a below alone h
+three BoolEqReif x y r ds a below alone h = relates_reified Equal x y r ds a below alone h
+three IntNeReif x y r ds a below alone h = relates_reified NotEqual x y r ds a below alone h
+three IntLeReif x y r ds a below alone h = relates_reified AtMost x y r ds a below alone h
+three BoolLeReif x y r ds a below alone h = relates_reified AtMost x y r ds a below alone h
+three IntLtReif x y r ds a below alone h = relates_reified Below x y r ds a below alone h
+three BoolLtReif x y r ds a below alone h = relates_reified Below x y r ds a below alone h
+three name x y r ds a below alone h = absurd h
+
+set : (name : Builtin) (x : Term) (s : List (ℤ × ℤ)) (ds : List (List (ℤ × ℤ))) (a : List ℤ) → AreBelow (wait_for Fixed x) (length ds) → Alone ds a
+    → RestsOfSet name (term_set ds x) s → HoldsOfSet name (term_value a x) s
+set SetIn x s ds a below alone h =
+    let of_x = term_alone ds a Fixed x below alone in
+    let at_x : LiesIn (single (term_value a x)) s = rw of_x at h in
+    at_x (term_value a x) (in_single (term_value a x) (term_value a x) refl)
+set name x s ds a below alone h = absurd h
+
+set_line : (x r : ℤ) (s : List (ℤ × ℤ)) → IsReifiedLine (LiesIn (single x) s) (LiesOutside (single x) s) (LiesIn (single x) s) (LiesOutside (single x) s) (single r) → IsReified (IsInSet s x) r
+set_line x r s h = (
+  (λ one. h.line_if_one (ap single one) x (in_single x x refl)),
+  (λ holds. let e : single r ≡ single (pos 1) = h.one_if_shown (λ y i. subst (λ (z : ℤ). IsInSet s z) (sym (is_single y x i)) holds) in ap least e),
+)
+
+set_reified : (name : Builtin) (x r : Term) (s : List (ℤ × ℤ)) (ds : List (List (ℤ × ℤ))) (a : List ℤ) → AreBelow (wait_for Any x ++ wait_for Any r) (length ds) → Alone ds a
+    → RestsOfSetReified name (term_set ds x) s (term_set ds r) → IsReifiedOf (plain_of name) (λ plain. HoldsOfSet plain (term_value a x) s) (term_value a r)
+set_reified SetInReif x r s ds a below alone h =
+    let is_below : Wait → Type 0 = λ (w : Wait). w.variable < length ds in
+    let of_x = term_alone ds a Any x (all_left is_below (wait_for Any x) (wait_for Any r) below) alone in
+    let of_r = term_alone ds a Any r (all_right is_below (wait_for Any x) (wait_for Any r) below) alone in
+    set_line (term_value a x) (term_value a r) s (rw (of_x, of_r) at h)
+set_reified name x r s ds a below alone h = absurd h
+
+arguments_true : (name : Builtin) (arguments : List Argument) (ds : List (List (ℤ × ℤ))) (a : List ℤ) → AreBelow (waits_of name arguments) (length ds) → Alone ds a
+    → RestsOf name arguments ds → Holds name arguments a
+arguments_true name (One x ∷ One y ∷ []) ds a below alone h = two name x y ds a below alone h
+arguments_true name (One x ∷ One y ∷ One r ∷ []) ds a below alone h = three name x y r ds a below alone h
+arguments_true name (One x ∷ Set s ∷ []) ds a below alone h = set name x s ds a below alone h
+arguments_true name (One x ∷ Set s ∷ One r ∷ []) ds a below alone h = set_reified name x r s ds a below alone h
+arguments_true name arguments ds a below alone h = absurd h
+
+pub true_where_alone : TrueWhereAlone
+true_where_alone c ds a below alone h = arguments_true c.name c.arguments ds a below alone h

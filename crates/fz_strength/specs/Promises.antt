@@ -1,0 +1,37 @@
+-- What propagators promise.
+use Rattle.std.specs.Prelude.{ℤ, pos, List, [], ◌∷◌}
+use Rattle.std.specs.List.{AllByRecursion}
+use Rattle.fz_sets.specs.Sets.{IsInSet, IsInRange}
+use Rattle.fz_spec.specs.declared.builtin.Builtin.{Builtin}
+use Rattle.fz_spec.specs.declared.term.Term.{Term}
+use Rattle.fz_spec.specs.Constraints.{Argument, One, Set, Constraint, IsTrueOf}
+use Rattle.fz_strength.specs.Domains.{term_set, AreDomains, Within, IsNarrower}
+use Rattle.fz_strength.specs.Lines.{Rests}
+
+-- no assignment that makes it true is lost
+abbrev pub IsCorrect : Constraint → List (List (ℤ × ℤ)) → List (List (ℤ × ℤ)) → Type 0
+IsCorrect c ds es = (a : List ℤ) → IsTrueOf a c → Within ds a → Within es a
+
+-- each assignment within the domains makes it true, and none does
+abbrev pub IsAlwaysTrue : Constraint → List (List (ℤ × ℤ)) → Type 0
+IsAlwaysTrue c ds = (a : List ℤ) → Within ds a → IsTrueOf a c
+
+abbrev pub IsNeverTrue : Constraint → List (List (ℤ × ℤ)) → Type 0
+IsNeverTrue c ds = (a : List ℤ) → Within ds a → IsTrueOf a c → ⊥
+
+-- its line holds of these domains and of all narrower ones
+abbrev pub RestsForGood : Constraint → List (List (ℤ × ℤ)) → Type 0
+RestsForGood c ds = (es : List (List (ℤ × ℤ))) → AreDomains es → IsNarrower ds es → Rests c es
+
+-- The terms that a constraint takes for 0 or 1, where that matters to its propagator.
+abbrev pub truths_of : Builtin → List Argument → List Term
+truths_of name (One x ∷ One y ∷ One r ∷ []) = r ∷ []
+truths_of name (One x ∷ Set set ∷ One r ∷ []) = r ∷ []
+truths_of name arguments = []
+
+-- only 0 and 1 are left of a term
+abbrev pub IsTruth : List (List (ℤ × ℤ)) → Term → Type 0
+IsTruth ds t = (x : ℤ) → IsInSet (term_set ds t) x → IsInRange (pos 0, pos 1) x
+
+abbrev pub Suits : Constraint → List (List (ℤ × ℤ)) → Type 0
+Suits c ds = AllByRecursion (IsTruth ds) (truths_of c.name c.arguments)

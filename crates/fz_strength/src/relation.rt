@@ -1,0 +1,42 @@
+//! Relations of two numbers.
+ghost use Rattle.std.specs.Prelude.{◌≡◌};
+ghost use Rattle.fz_strength.specs.Relations.{relation_of, reified_of};
+
+use fz_spec::builtin::Builtin;
+
+/// How a comparison relates two numbers.
+#[derive(Clone, Copy, Debug, PartialEq, Eq)]
+pub enum Relation {
+    Equal,
+    NotEqual,
+    AtMost,
+    Below,
+}
+
+impl Relation {
+    /// The relation that a comparison says, if the name is one.
+    pub fn of(name: Builtin) -> Option<Relation>
+        ensures { result ≡ relation_of name }
+    {
+        match name {
+            Builtin::IntEq | Builtin::BoolEq | Builtin::Bool2Int => Some(Relation::Equal),
+            Builtin::IntNe | Builtin::BoolNot | Builtin::BoolXor => Some(Relation::NotEqual),
+            Builtin::IntLe | Builtin::BoolLe => Some(Relation::AtMost),
+            Builtin::IntLt | Builtin::BoolLt => Some(Relation::Below),
+            _ => None,
+        }
+    }
+
+    /// The relation that a reified comparison speaks of, if the name is one.
+    pub fn of_reified(name: Builtin) -> Option<Relation>
+        ensures { result ≡ reified_of name }
+    {
+        match name {
+            Builtin::IntEqReif | Builtin::BoolEqReif => Some(Relation::Equal),
+            Builtin::IntNeReif => Some(Relation::NotEqual),
+            Builtin::IntLeReif | Builtin::BoolLeReif => Some(Relation::AtMost),
+            Builtin::IntLtReif | Builtin::BoolLtReif => Some(Relation::Below),
+            _ => None,
+        }
+    }
+}

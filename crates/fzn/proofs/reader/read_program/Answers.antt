@@ -1,0 +1,5 @@
+use Rattle.fz_language.proofs.WithinProofs.{programs_fit}
+use Rattle.fzn.proofs.reader.read_program.Goals as goal
+
+pub check-requires : goal.check-requires
+check-requires c = record { fits = programs_fit _ _ _ c.requires.spelt.lexed.are c.requires.spelt.spelt }
