@@ -1,11 +1,8 @@
 -- Arguments that are what is asked.
-use Rattle.std.proofs.Common.{◌≡◌, ℕ, suc, ◌≤◌, ◌<◌, ℤ, Bool, true, false, ◌&&◌, cond, Option, Some, None, option_map, List, [], ◌∷◌, ◌++◌, length, map, refl, sym, ap, ◌∙◌, subst, arith}
-use Rattle.std.specs.Prelude.{Result, Ok, Err, IsTrue, find, MatchOption, ◌==◌, nat_lt, ◌%◌}
+use Rattle.std.proofs.Common.{◌≡◌, ℕ, suc, true, Option, Some, None, option_map, List, [], ◌∷◌, length, refl, ap, subst, arith}
+use Rattle.std.specs.Prelude.{Result, Ok, Err, ◌==◌, nat_lt, ◌%◌}
 use Rattle.std.specs.List.{AllByRecursion, list_all}
 use Rattle.std.proofs.lemmas.Bool.{and_parts, eqb-true, ltb-true}
-use Rattle.fz_spec.specs.declared.limits.TheConstants.{ELEMENT_LIMIT}
-use Rattle.fz_spec.specs.declared.term.Term.{Term}
-use Rattle.fz_spec.specs.declared.asked.Element.{Element}
 use Rattle.fz_spec.specs.declared.asked.Asked.{Asked}
 use Rattle.fz_spec.specs.declared.asked.Asked.TheVariants as asked
 use Rattle.fz_spec.specs.declared.asked.Lengths.{Lengths}
@@ -13,13 +10,13 @@ use Rattle.fz_spec.specs.declared.asked.Lengths.TheVariants as lengths
 use Rattle.fz_spec.specs.Constraints.{Argument}
 use Rattle.fz_spec.specs.Constraints as meaning
 use Rattle.fz_spec.specs.Instance.{Variable}
-use Rattle.fz_spec.specs.Signatures.{Row, HaveLengths}
-use Rattle.fz_language.specs.Trees.{Basic, Truth, Numeral, Literal, Named, Expression, Scalar, Listed, basic_at}
+use Rattle.fz_spec.specs.Signatures.{HaveLengths}
+use Rattle.fz_language.specs.Trees.{Truth, Numeral, Literal, Named, Expression, Scalar, Listed, basic_at}
 use Rattle.fz_language.specs.Entries.{Environment, or_place, with_value, term_in, set_of, each_of, named, entry_list, list_argument, resolve}
 use Rattle.fz_language.specs.Rules.{wrong_place, wrong_arguments, arguments_in, lengths_in, have_lengths}
-use Rattle.fz_language.specs.Within.{BasicFits, ExpressionFits}
-use Rattle.fz_model.specs.Kept.{FitsElement, FitsList, FitsAsked, AllFit, list_lengths}
-use Rattle.fz_check.specs.Fits.{EntryFits, Sound}
+use Rattle.fz_language.specs.Within.{ExpressionFits}
+use Rattle.fz_model.specs.Kept.{FitsAsked, AllFit, list_lengths}
+use Rattle.fz_check.specs.Fits.{Sound}
 use Rattle.fz_check.proofs.TermFits.{term_fits, terms_fit, list_fits, entry_list_fits, found_named}
 use Rattle.fz_check.proofs.SetFits.{set_fits}
 use Rattle.fz_check.proofs.Counting.{FewIn, nil_parts}

@@ -1,5 +1,5 @@
 -- What a name begins and ends with, as slices say it.
-use Rattle.std.proofs.Common.{◌≡◌, ℕ, ◌-◌, Bool, true, false, ◌&&◌, List, [], ◌∷◌, ◌++◌, length, drop, take, reverse, refl, sym, ap, ap₂, ◌∙◌, subst}
+use Rattle.std.proofs.Common.{◌≡◌, ℕ, ◌-◌, true, ◌&&◌, List, [], ◌∷◌, ◌++◌, length, drop, take, reverse, refl, sym, ap, ap₂, ◌∙◌, subst}
 use Rattle.std.specs.Prelude.{◌==◌, nat_eq}
 use Rattle.std.specs.Bool.{Decides}
 use Rattle.std.specs.List.{starts_with, ends_with}

@@ -1,5 +1,5 @@
 -- The arguments of a constraint, one by one.
-use Rattle.std.proofs.Common.{◌≡◌, ℕ, suc, Bool, true, false, cond, Option, ◌+◌, ◌<◌, ◌≤◌, List, [], ◌∷◌, ◌++◌, map, take, drop, length, get_or, refl, sym, ap, ap₂, ◌∙◌, subst, append_assoc, append-nil, arith}
+use Rattle.std.proofs.Common.{◌≡◌, ℕ, suc, true, false, cond, Option, ◌+◌, ◌<◌, ◌≤◌, List, [], ◌∷◌, ◌++◌, map, take, drop, length, get_or, refl, sym, ap, ap₂, ◌∙◌, append_assoc, append-nil}
 use Rattle.std.specs.Prelude.{Result, Ok, Err, Some, None, MatchResult, slice_get, flat_map}
 use Rattle.std.proofs.lemmas.List.{drop_more, drop_all, take_more, map-append}
 use Rattle.fz_spec.specs.declared.asked.Asked.{Asked}
@@ -101,7 +101,7 @@ faults_are others env c row signature arguments right are =
 pub signed_typed : (others : List Fault) (env : Environment) (c : ConstraintItem) (row : Row) (signature : List Asked) (arguments : List Argument) (r : Result meaning.Constraint found.Fault)
     → AreArguments env signature c.arguments (Ok arguments)
     → MatchResult r (λ m. ((others ++ unknown_names env c) ++ wrong_lengths row c.name.at arguments ≡ []) × (m ≡ record { name = row.builtin; arguments = arguments }))
-      (IsFirstFault ((others ++ unknown_names env c) ++ wrong_lengths row c.name.at arguments))
+    (IsFirstFault ((others ++ unknown_names env c) ++ wrong_lengths row c.name.at arguments))
     → IsSigned others env c row signature r
 signed_typed others env c row signature arguments (Ok m) a h =
     (sym (faults_are others env c row signature arguments a.0 a.1) ∙ h.0, h.1 ∙ ap (λ (xs : List Argument). record { name = row.builtin; arguments = xs }) a.1)
@@ -133,11 +133,12 @@ constraints_of_row env c o = elim o [
 ]
 
 pub rowed_call : (env : Environment) (c : ConstraintItem) (row : Row) (r : Result meaning.Constraint found.Fault) → row_named c.name.bytes ≡ Some row → IsRowed (at_places Unsupported (flat_map floats_of c.arguments)) env c row r → IsCall env c r
-rowed_call env c row (Ok m) e h =
-    (ap (faults_of_row env c) e ∙ h.0,
-     ap (constraints_of_row env c) e
-     ∙ ap (λ (o : Option (List Asked)). elim o [ Some signature ↦ record { name = row.builtin; arguments = arguments_in env signature c.arguments } ∷ [] | None ↦ [] ]) h.1.1
-     ∙ ap (λ (x : meaning.Constraint). x ∷ []) (sym h.1.2))
+rowed_call env c row (Ok m) e h = (
+  ap (faults_of_row env c) e ∙ h.0,
+  ap (constraints_of_row env c) e
+      ∙ ap (λ (o : Option (List Asked)). elim o [ Some signature ↦ record { name = row.builtin; arguments = arguments_in env signature c.arguments } ∷ [] | None ↦ [] ]) h.1.1
+      ∙ ap (λ (x : meaning.Constraint). x ∷ []) (sym h.1.2),
+)
 rowed_call env c row (Err f) e h = ap (λ o. slice_get (faults_of_row env c o) 0) e ∙ h
 
 pub unnamed_call : (env : Environment) (c : ConstraintItem) (f : found.Fault) → row_named c.name.bytes ≡ None

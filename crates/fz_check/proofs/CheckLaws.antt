@@ -1,12 +1,12 @@
 -- From drafts to what the checker says of a program.
-use Rattle.std.proofs.Common.{◌≡◌, ℕ, ◌+◌, ◌<◌, drop, length, get_or, Option, Some, None, List, [], ◌∷◌, ◌++◌, map, refl, sym, ap, ap₂, ◌∙◌, subst, append-nil}
+use Rattle.std.proofs.Common.{◌≡◌, ℕ, ◌+◌, ◌<◌, drop, length, get_or, Some, None, List, [], ◌∷◌, ◌++◌, map, refl, sym, ap, ap₂, ◌∙◌, append-nil}
 use Rattle.std.specs.Prelude.{slice_get}
 use Rattle.std.proofs.lemmas.List.{drop_more}
 use Rattle.fz_spec.specs.declared.goal.Goal.{Goal}
 use Rattle.fz_spec.specs.declared.goal.Goal.TheVariants as goals
 use Rattle.fz_spec.specs.Instance.{Instance, SearchPart}
 use Rattle.fz_language.specs.declared.fault.RuleFault.TheVariants.{Unsupported}
-use Rattle.fz_language.specs.Trees.{Item, SolveItem, Method, Satisfy, Minimize, Maximize, Program}
+use Rattle.fz_language.specs.Trees.{Item, Method, Satisfy, Minimize, Maximize, Program}
 use Rattle.fz_language.specs.Entries.{Environment}
 use Rattle.fz_language.specs.Rules.{Fault, none_yet, at_places, faults_of, all_counted, additions, solve_faults}
 use Rattle.fz_language.specs.Models.{Scope, empty_scope, behind, scope_behind, made, model_of, goal_of, goal_term, variables_of, constraints_of, outputs_of}

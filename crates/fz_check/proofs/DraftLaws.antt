@@ -1,17 +1,17 @@
 -- What an item that keeps all rules makes of a draft.
-use Rattle.std.proofs.Common.{◌≡◌, ℕ, suc, ◌+◌, ◌-◌, ◌≤◌, Bool, true, false, cond, ◌&&◌, Option, Some, None, List, [], ◌∷◌, ◌++◌, length, map, refl, sym, ap, ap₂, ◌∙◌, subst, append_assoc, append-nil, length-append, arith}
-use Rattle.std.specs.Prelude.{ℤ, flat_map, slice_get}
+use Rattle.std.proofs.Common.{◌≡◌, ℕ, Bool, true, false, cond, ◌&&◌, Option, Some, None, List, [], ◌∷◌, ◌++◌, length, refl, sym, ap, ap₂, ◌∙◌, subst, append_assoc, length-append, arith}
+use Rattle.std.specs.Prelude.{ℤ, flat_map}
 use Rattle.fz_language.specs.declared.fault.RuleFault.TheVariants.{Unsupported, UnknownName, WrongType, WrongLengths, DeclaredTwice, OverLimit}
-use Rattle.fz_language.specs.Trees.{Number, SetLiteral, Range, Braces, Basic, Truth, Numeral, Literal, Named, Plain, AnyBool, AnyInt, AnyFloat, Within, ValueType, One, SetOf, Expression, Scalar, Listed, Annotation, VariableItem, ArrayItem, Item, Predicate, Variable, Parameter, Array, Constraint, SolveItem, Program, number_at}
-use Rattle.fz_language.specs.Rules.{Addition, AVariable, AConstraint, AnElement, Counts, none_yet, all_counted, additions, over, at_places, item_faults, faults_of, kind_of, term_asked, is_bound, members_of, members_in, element_additions, expression_additions, type_additions, value_additions, array_element_additions, bad_variable_type, bad_element_type, seventh_ranges, floats_of_value, unknown_of_value, unknown_in, misplaced_output_array, misplaced_output_var, malformed_output_array, in_order, wrong_value, wrong_element, wrong_index_set, wrong_shape, declared_already, OUTPUT_ARRAY}
+use Rattle.fz_language.specs.Trees.{Number, SetLiteral, Range, Braces, Basic, Truth, Numeral, Literal, Named, AnyBool, AnyInt, AnyFloat, Within, ValueType, One, SetOf, Expression, Scalar, Listed, Annotation, VariableItem, ArrayItem, Item, Predicate, Variable, Parameter, Array, Constraint, Program, number_at}
+use Rattle.fz_language.specs.Rules.{AVariable, AnElement, Counts, all_counted, additions, over, at_places, item_faults, kind_of, term_asked, is_bound, members_of, members_in, element_additions, expression_additions, type_additions, value_additions, array_element_additions, bad_variable_type, bad_element_type, seventh_ranges, floats_of_value, unknown_of_value, unknown_in, misplaced_output_array, misplaced_output_var, malformed_output_array, in_order, wrong_value, wrong_element, wrong_index_set, wrong_shape, declared_already, OUTPUT_ARRAY}
 use Rattle.fz_language.specs.Annotations.{annotation_of, shape_in}
 use Rattle.fz_language.specs.Numerals.{floats_in}
 use Rattle.fz_language.specs.Within.{VariableFits}
 use Rattle.fz_model.specs.Kept.{IsVariable}
 use Rattle.fz_resolve.specs.Shapes.{shape_among}
 use Rattle.fz_language.specs.Entries.{Environment, term_in}
-use Rattle.fz_language.specs.Models.{Scope, empty_scope, behind, scope_behind, made, model_of, variables_of, constraints_of, outputs_of, value_constraints, type_set}
-use Rattle.fz_language.specs.Reads.{faults_from, program_faults}
+use Rattle.fz_language.specs.Models.{Scope, empty_scope, behind, scope_behind, made, variables_of, constraints_of, outputs_of, value_constraints, type_set}
+use Rattle.fz_language.specs.Reads.{faults_from}
 use Rattle.fz_resolve.specs.Meant.{environment_of}
 use Rattle.fz_resolve.specs.Rooms.{IsRoom}
 use Rattle.fz_check.specs.Drafts.{scope_of, IsCounted, Adds, IsGrown, IsAhead}

@@ -1,6 +1,6 @@
 -- What an array stands for, by what its elements are.
-use Rattle.std.proofs.Common.{◌≡◌, ℕ, Bool, true, false, ◌+◌, ◌<◌, zero, suc, List, [], ◌∷◌, map, length, get_or, take, refl, sym, ap, ◌∙◌, subst, arith}
-use Rattle.std.specs.Prelude.{Option, Some, None, Result, Ok, Err, MatchResult, slice_get, ℤ}
+use Rattle.std.proofs.Common.{◌≡◌, ℕ, Bool, true, false, ◌<◌, zero, suc, List, [], ◌∷◌, map, length, get_or, refl, sym, ap, subst, arith}
+use Rattle.std.specs.Prelude.{Some, Result, Ok, Err, MatchResult, slice_get, ℤ}
 use Rattle.std.specs.List.{AllByRecursion}
 use Rattle.fz_language.specs.Trees.{Basic, ArrayItem, Plain, ValueType, One, SetOf}
 use Rattle.fz_language.specs.Entries.{Environment, with_value, term_in, set_of, each_of, number_of}

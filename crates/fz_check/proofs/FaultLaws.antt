@@ -1,6 +1,6 @@
 -- The first of two lists of faults.
-use Rattle.std.proofs.Common.{◌≡◌, ℕ, List, [], ◌∷◌, ◌++◌, refl, sym, ap, ◌∙◌, subst, map}
-use Rattle.std.specs.Prelude.{Option, Some, None, option_map, slice_get}
+use Rattle.std.proofs.Common.{◌≡◌, ℕ, List, [], ◌∷◌, ◌++◌, refl, ap}
+use Rattle.std.specs.Prelude.{Some, None, slice_get}
 use Rattle.fz_language.specs.declared.fault.RuleFault.{RuleFault}
 use Rattle.fz_language.specs.Rules.{at_places}
 

@@ -1,40 +1,38 @@
 -- What an item makes fits the variables of the model.
-use Rattle.std.proofs.Common.{◌≡◌, ℕ, zero, suc, ◌+◌, ◌*◌, ◌≤◌, ◌<◌, ℤ, pos, Bool, true, false, ◌&&◌, cond, Option, Some, None, option_map, List, [], ◌∷◌, ◌++◌, length, map, refl, sym, ap, ap₂, ◌∙◌, subst, arith, rules}
-use Rattle.std.specs.Prelude.{Result, Ok, Err, IsTrue, find, MatchOption, ◌==◌, bytes_eq, slice_get, flat_map}
+use Rattle.std.proofs.Common.{◌≡◌, ℕ, zero, suc, ◌*◌, ◌≤◌, ℤ, Bool, true, false, cond, Option, Some, None, option_map, List, [], ◌∷◌, ◌++◌, length, map, refl, sym, ap, ◌∙◌, subst, arith, rules}
+use Rattle.std.specs.Prelude.{Result, Ok, Err, MatchOption, ◌==◌, bytes_eq, slice_get, flat_map}
 use Rattle.std.specs.List.{AllByRecursion}
 use Rattle.std.proofs.lemmas.Int.{ints}
 use Rattle.std.proofs.lemmas.Bool.{eqb-true}
-use Rattle.fz_sets.specs.Sets.{LEAST, GREATEST, interval, set_size}
-use Rattle.fz_spec.specs.declared.limits.TheConstants.{TEXT_LIMIT, VARIABLE_LIMIT, CONSTRAINT_LIMIT, ELEMENT_LIMIT}
+use Rattle.fz_sets.specs.Sets.{interval, set_size}
+use Rattle.fz_spec.specs.declared.limits.TheConstants.{ELEMENT_LIMIT}
 use Rattle.fz_spec.specs.declared.kind.Kind.{Kind}
 use Rattle.fz_spec.specs.declared.kind.Kind.TheVariants as kinds
-use Rattle.fz_spec.specs.declared.builtin.Builtin.TheVariants.{BoolEq, IntEq, SetIn}
 use Rattle.fz_spec.specs.declared.term.Term.{Term}
-use Rattle.fz_spec.specs.declared.term.Term.TheVariants.{Num, Var}
+use Rattle.fz_spec.specs.declared.term.Term.TheVariants.{Var}
 use Rattle.fz_spec.specs.declared.asked.Asked.{Asked}
 use Rattle.fz_spec.specs.declared.asked.Element.{Element}
-use Rattle.fz_spec.specs.declared.asked.Asked.TheVariants as asked
 use Rattle.fz_spec.specs.Constraints as meaning
 use Rattle.fz_spec.specs.Instance.{Variable, Output}
 use Rattle.fz_spec.specs.Signatures.{Row, row_named, row_of, signature_of}
 use Rattle.fz_language.specs.declared.fault.RuleFault.{RuleFault}
-use Rattle.fz_language.specs.declared.fault.RuleFault.TheVariants.{Unsupported, UnknownConstraint, WrongArity, UnknownName, WrongType, WrongLengths, DeclaredTwice, OverLimit}
+use Rattle.fz_language.specs.declared.fault.RuleFault.TheVariants.{Unsupported, UnknownName, WrongType, WrongLengths}
 use Rattle.fz_language.specs.Trees.{Plain, AnyBool, AnyInt, AnyFloat, Within, ValueType, One, SetOf, Basic, ListLiteral, Annotation, VariableItem, ParameterItem, ArrayItem, ConstraintItem}
 use Rattle.fz_language.specs.Trees as trees
 use Rattle.fz_language.specs.Numerals.{set_in, all_of}
 use Rattle.fz_language.specs.Entries.{Environment, Entry, with_entry, term_in, set_of, each_of, number_of}
 use Rattle.fz_language.specs.Entries as entries
 use Rattle.fz_language.specs.Annotations.{annotation_of, plain_annotation_of, arguments_of, shape_in, bracketed, range_of, place_of, seventh}
-use Rattle.fz_language.specs.Rules.{OUTPUT_VAR, OUTPUT_ARRAY, Fault, Addition, kind_of, term_asked, is_bound, bad_variable_type, type_additions, element_count, at_places, named_unsupported, floats_of, named_unknown, unknown_of, wrong_arguments, arguments_in, have_lengths, lengths_in, signature_faults, row_faults, call_faults, wrong_place, wrong_element, seventh_ranges, wrong_index_set, wrong_shape, misplaced_output_array}
+use Rattle.fz_language.specs.Rules.{OUTPUT_VAR, OUTPUT_ARRAY, kind_of, term_asked, is_bound, bad_variable_type, type_additions, element_count, at_places, named_unsupported, floats_of, unknown_of, wrong_arguments, arguments_in, have_lengths, lengths_in, signature_faults, row_faults, call_faults, wrong_place, wrong_element, seventh_ranges, wrong_shape, misplaced_output_array}
 use Rattle.fz_language.specs.Models.{type_set, plain_set, terms_of, parameter_entry, array_entry, declare, Scope, equal_to, value_constraints, bound_to, element_constraints, call_constraints, scalar_outputs, array_outputs}
-use Rattle.fz_language.specs.Within.{SetFits, ValueFits, PlainFits, TypeFits, BasicFits, ExpressionFits, VariableFits, ParameterFits, ArrayFits}
+use Rattle.fz_language.specs.Within.{SetFits, ValueFits, TypeFits, BasicFits, ExpressionFits}
 use Rattle.fz_model.specs.Kept.{IsNumberOf, IsSet, IsVariable, HasSetOf, IsTermOf, FitsElement, IsConstraint, FitsRow, AllFit, IsIndexRange, kind_at, list_lengths}
 use Rattle.fz_model.specs.Kept as kept
 use Rattle.fz_check.specs.Fits.{EntryFits, Sound}
 use Rattle.fz_check.proofs.TermFits.{term_fits, terms_fit, are_terms, is_number, are_numbers}
 use Rattle.fz_check.proofs.SetFits.{literal_fits, set_fits, members_among}
 use Rattle.fz_check.proofs.Counting.{nil_parts, elements_in, members_counted, FewIn}
-use Rattle.fz_check.proofs.ArgumentFits.{Fitting, all_fit, same_lengths, lengths_fit}
+use Rattle.fz_check.proofs.ArgumentFits.{all_fit, same_lengths, lengths_fit}
 use Rattle.fz_check.proofs.RowLaws.{row_is_of, signature_length}
 
 pub no_places : (rule : RuleFault) (places : List ℕ) → at_places rule places ≡ [] → places ≡ []
@@ -189,10 +187,10 @@ call_fits vs s c sound h few e = named (row_named c.name.bytes) refl (nil_parts 
 
     named : (o : Option Row) → row_named c.name.bytes ≡ o → row_faults s.entries c o ≡ []
         → AllByRecursion (IsConstraint vs)
-          (elim o [
-            | Some row ↦ elim (signature_of row (length c.arguments)) [ Some signature ↦ record { name = row.builtin; arguments = arguments_in s.entries signature c.arguments } ∷ [] | None ↦ [] ]
-            | None ↦ []
-          ])
+        (elim o [
+          | Some row ↦ elim (signature_of row (length c.arguments)) [ Some signature ↦ record { name = row.builtin; arguments = arguments_in s.entries signature c.arguments } ∷ [] | None ↦ [] ]
+          | None ↦ []
+        ])
     named None r f = tt
     named (Some row) r f = called row r (signature_of row (length c.arguments)) refl f
 
@@ -321,9 +319,11 @@ array_shown vs s a sound h few seven typed placed whole = go (annotation_of OUTP
         → ◌≡◌ {A = List ℕ} (elim o [ Some shape ↦ cond (element_count shape == length a.list.elements) [] (ann.name.at ∷ []) | None ↦ [] ]) []
         → AllByRecursion (Shown vs) (elim o [ Some shape ↦ shown_as s a shape ∷ [] | None ↦ [] ])
     shown ann None k n p w = tt
-    shown ann (Some shape) k n p w =
-        (array_shown_of vs s a shape sound h few (shaped ann shape k n) (eqb-true (element_count shape) (length a.list.elements) (whole_shape (element_count shape == length a.list.elements) ann.name.at w))
-        (is_variable a.variable refl ann.name.at p typed), tt)
+    shown ann (Some shape) k n p w = (
+      array_shown_of vs s a shape sound h few (shaped ann shape k n) (eqb-true (element_count shape) (length a.list.elements) (whole_shape (element_count shape == length a.list.elements) ann.name.at w))
+          (is_variable a.variable refl ann.name.at p typed),
+      tt,
+    )
 
     go : (o : Option Annotation) → annotation_of OUTPUT_ARRAY a.annotations ≡ o → ◌≡◌ {A = List ℕ} (elim o [ Some ann ↦ seventh ann | None ↦ [] ]) []
         → (a.variable ≡ false → ◌≡◌ {A = List ℕ} (elim o [ Some ann ↦ ann.name.at ∷ [] | None ↦ [] ]) [])

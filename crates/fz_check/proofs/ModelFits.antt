@@ -1,9 +1,9 @@
 -- The model of a program that keeps all rules is one.
-use Rattle.std.proofs.Common.{◌≡◌, ℕ, zero, suc, ◌+◌, ◌-◌, ◌≤◌, ◌<◌, Bool, true, false, ◌&&◌, cond, Option, Some, None, option_map, List, [], ◌∷◌, ◌++◌, length, map, refl, sym, ap, ◌∙◌, subst, append_assoc, append-nil, length-append, arith}
-use Rattle.std.specs.Prelude.{ℤ, slice_get, flat_map, nat_lt}
+use Rattle.std.proofs.Common.{◌≡◌, ℕ, zero, suc, ◌+◌, ◌-◌, ◌≤◌, Bool, true, false, ◌&&◌, cond, Option, Some, None, List, [], ◌∷◌, ◌++◌, length, map, refl, sym, ap, ◌∙◌, append_assoc, length-append, arith}
+use Rattle.std.specs.Prelude.{ℤ, flat_map, nat_lt}
 use Rattle.std.specs.List.{AllByRecursion}
 use Rattle.std.proofs.lemmas.List.{length-map}
-use Rattle.fz_spec.specs.declared.limits.TheConstants.{TEXT_LIMIT, VARIABLE_LIMIT, CONSTRAINT_LIMIT, ELEMENT_LIMIT}
+use Rattle.fz_spec.specs.declared.limits.TheConstants.{VARIABLE_LIMIT, CONSTRAINT_LIMIT, ELEMENT_LIMIT}
 use Rattle.fz_spec.specs.declared.term.Term.{Term}
 use Rattle.fz_spec.specs.declared.term.Term.TheVariants.{Var}
 use Rattle.fz_spec.specs.declared.asked.Asked.{Asked}
@@ -12,18 +12,18 @@ use Rattle.fz_spec.specs.Constraints as meaning
 use Rattle.fz_spec.specs.Instance.{Output, SearchPart}
 use Rattle.fz_spec.specs.Instance as instance
 use Rattle.fz_spec.specs.Signatures.{Row, row_named, signature_of}
-use Rattle.fz_language.specs.declared.fault.RuleFault.TheVariants.{Unsupported, UnknownConstraint, WrongArity, UnknownName, WrongType, WrongLengths, DeclaredTwice, OverLimit}
-use Rattle.fz_language.specs.Trees.{Basic, VariableItem, ParameterItem, ArrayItem, ConstraintItem, Item, Predicate, Variable, Parameter, Array, Constraint, SolveItem, Method, Satisfy, Minimize, Maximize, Program}
+use Rattle.fz_language.specs.declared.fault.RuleFault.TheVariants.{Unsupported, UnknownName, WrongType, WrongLengths, DeclaredTwice, OverLimit}
+use Rattle.fz_language.specs.Trees.{Basic, VariableItem, ParameterItem, ArrayItem, ConstraintItem, Item, Predicate, Variable, Parameter, Array, Constraint, SolveItem, Method, Satisfy, Minimize, Maximize}
 use Rattle.fz_language.specs.Numerals.{floats_in}
 use Rattle.fz_language.specs.Entries.{Environment, nothing_declared, term_in, resolve}
 use Rattle.fz_language.specs.Entries as entries
-use Rattle.fz_language.specs.Rules.{Fault, Addition, AVariable, AConstraint, Counts, none_yet, all_counted, additions, over, at_places, faults_of, item_faults, solve_faults, kind_of, term_asked, is_bound, bad_variable_type, bad_element_type, bad_parameter_type, seventh_ranges, floats_of_value, unknown_of_value, unknown_in, misplaced_output_array, misplaced_output_var, malformed_output_array, in_order, arguments_in, wrong_value, wrong_element, wrong_index_set, wrong_shape, declared_already, type_additions, value_additions, array_element_additions, expression_additions, members_in}
-use Rattle.fz_language.specs.Models.{equal_to, goal_term, Scope, empty_scope, behind, scope_behind, made, model_of, goal_of, type_set, variables_of, constraints_of, outputs_of, value_constraints, element_constraints, call_constraints, terms_of, bound_to, scalar_outputs, array_outputs}
-use Rattle.fz_language.specs.Reads.{faults_from, program_faults}
+use Rattle.fz_language.specs.Rules.{Fault, AVariable, Counts, none_yet, all_counted, additions, over, at_places, faults_of, item_faults, solve_faults, kind_of, term_asked, is_bound, bad_variable_type, bad_element_type, seventh_ranges, floats_of_value, unknown_of_value, unknown_in, misplaced_output_array, misplaced_output_var, malformed_output_array, in_order, arguments_in, wrong_value, wrong_element, wrong_index_set, wrong_shape, declared_already, type_additions, value_additions, array_element_additions, members_in}
+use Rattle.fz_language.specs.Models.{equal_to, goal_term, Scope, empty_scope, behind, scope_behind, made, goal_of, type_set, variables_of, constraints_of, outputs_of, value_constraints, call_constraints, terms_of, bound_to}
+use Rattle.fz_language.specs.Reads.{faults_from}
 use Rattle.fz_language.specs.Search.{search_of}
-use Rattle.fz_language.specs.Within.{BasicFits, ItemFits, ProgramFits}
-use Rattle.fz_model.specs.Kept.{IsVariable, IsConstraint, IsOutput, IsGoal, IsModel, IsSearchPart, IsIndexRange, HasShape, kind_at}
-use Rattle.fz_check.specs.Fits.{EntryFits, Sound, IsTextual, IsShortPart, AreTextual, ModelsFit}
+use Rattle.fz_language.specs.Within.{BasicFits, ItemFits}
+use Rattle.fz_model.specs.Kept.{IsVariable, IsConstraint, IsOutput, IsGoal, IsSearchPart, IsIndexRange, HasShape, kind_at}
+use Rattle.fz_check.specs.Fits.{Sound, IsTextual, IsShortPart, ModelsFit}
 use Rattle.fz_check.proofs.Counting.{nil_parts, variables_in, constraints_in, elements_in, Few, few, elements_both, constraints_both, variables_both, among_counted, array_counted, bound_counted, arguments_few}
 use Rattle.fz_check.proofs.ItemFits.{no_places, variable_fits, entered, parameter_fits, listing, array_entered, value_fits, elements_fit, call_fits, Shown, scalar_shown, array_shown, HasForm}
 use Rattle.fz_check.proofs.SearchFits.{both_all, search_fits, OfModel}
@@ -146,10 +146,10 @@ call_count s c = named (row_named c.name.bytes)
 
     named : (o : Option Row)
         → length {A = meaning.Constraint}
-          (elim o [
-            | Some row ↦ elim (signature_of row (length c.arguments)) [ Some signature ↦ record { name = row.builtin; arguments = arguments_in s.entries signature c.arguments } ∷ [] | None ↦ [] ]
-            | None ↦ []
-          ]) ≤ 1
+        (elim o [
+          | Some row ↦ elim (signature_of row (length c.arguments)) [ Some signature ↦ record { name = row.builtin; arguments = arguments_in s.entries signature c.arguments } ∷ [] | None ↦ [] ]
+          | None ↦ []
+        ]) ≤ 1
     named None = omega arith
     named (Some row) = called row (signature_of row (length c.arguments))
 

@@ -1,8 +1,6 @@
 -- Where an expression is of a wrong type.
-use Rattle.std.proofs.Common.{◌≡◌, ℕ, false, List, [], ◌∷◌, refl, sym, ap, ◌∙◌, subst}
+use Rattle.std.proofs.Common.{◌≡◌, ℕ, false, List, refl}
 use Rattle.std.specs.Prelude.{Option, Some, None, option_map, slice_get, ℤ}
-use Rattle.fz_spec.specs.declared.asked.Asked.TheVariants as asked
-use Rattle.fz_spec.specs.declared.asked.Element.{Element}
 use Rattle.fz_spec.specs.declared.term.Term.{Term}
 use Rattle.fz_spec.specs.Constraints as meaning
 use Rattle.fz_language.specs.Trees.{ValueType, One, SetOf, Basic, Scalar, basic_at}

@@ -1,12 +1,12 @@
 -- The parts of the search are over variables of the model.
-use Rattle.std.proofs.Common.{◌≡◌, ℕ, zero, suc, ◌≤◌, ◌<◌, Bool, true, false, cond, Option, Some, None, option_map, List, [], ◌∷◌, ◌++◌, length, map, refl, sym, ap, ◌∙◌, subst, arith}
-use Rattle.std.specs.Prelude.{slice_get, bytes_eq, codes, flat_map}
+use Rattle.std.proofs.Common.{◌≡◌, ℕ, zero, suc, ◌<◌, Bool, true, false, cond, Option, Some, None, option_map, List, [], ◌∷◌, ◌++◌, length, map, refl, subst, arith}
+use Rattle.std.specs.Prelude.{bytes_eq, codes, flat_map}
 use Rattle.std.specs.List.{AllByRecursion}
 use Rattle.fz_spec.specs.declared.kind.Kind.{Kind}
 use Rattle.fz_spec.specs.declared.term.Term.{Term}
 use Rattle.fz_spec.specs.declared.term.Term.TheVariants.{Num, Var}
 use Rattle.fz_spec.specs.Instance.{Variable, SearchPart}
-use Rattle.fz_language.specs.Trees.{Name, Basic, Truth, Numeral, Literal, Named, Argument, Arguments, Simple, Text, Call, Brackets, Nil, More, Annotation}
+use Rattle.fz_language.specs.Trees.{Name, Truth, Numeral, Literal, Named, Argument, Arguments, Simple, Text, Call, Brackets, Nil, More, Annotation}
 use Rattle.fz_language.specs.Numerals.{all_of}
 use Rattle.fz_language.specs.Annotations.{list_of}
 use Rattle.fz_language.specs.Entries.{Environment, Entry}
@@ -42,14 +42,14 @@ terms_of_model vs kind (Var v ∷ ts) h = (declared vs v kind h.0, terms_of_mode
 
 member_of_entry : (vs : List Variable) (entry : Entry) (numbers : List ℕ) → EntryFits vs entry
     → ◌≡◌ {A = Option (List ℕ)}
-      (elim entry [
-        | entries.Variable kind number ↦ Some (number ∷ [])
-        | entries.Value kind value ↦ None
-        | entries.Set set ↦ None
-        | entries.Numbers kind ns ↦ None
-        | entries.Terms kind terms ↦ None
-        | entries.Sets ↦ None
-      ]) (Some numbers)
+    (elim entry [
+      | entries.Variable kind number ↦ Some (number ∷ [])
+      | entries.Value kind value ↦ None
+      | entries.Set set ↦ None
+      | entries.Numbers kind ns ↦ None
+      | entries.Terms kind terms ↦ None
+      | entries.Sets ↦ None
+    ]) (Some numbers)
     → Variables vs numbers
 member_of_entry vs (entries.Variable kind number) numbers h e = let is : number ∷ [] ≡ numbers = cc in subst (Variables vs) is (declared vs number kind h, tt)
 member_of_entry vs (entries.Value kind value) numbers h e = cc
@@ -66,17 +66,17 @@ member_fits vs env (Simple (Named name)) numbers s e = go (env name.bytes) refl 
   where
     go : (o : Option Entry) → env name.bytes ≡ o
         → ◌≡◌ {A = Option (List ℕ)}
-          (elim o [
-            | Some entry ↦ elim entry [
-              | entries.Variable kind number ↦ Some (number ∷ [])
-              | entries.Value kind value ↦ None
-              | entries.Set set ↦ None
-              | entries.Numbers kind ns ↦ None
-              | entries.Terms kind terms ↦ None
-              | entries.Sets ↦ None
-            ]
-            | None ↦ None
-          ]) (Some numbers)
+        (elim o [
+          | Some entry ↦ elim entry [
+            | entries.Variable kind number ↦ Some (number ∷ [])
+            | entries.Value kind value ↦ None
+            | entries.Set set ↦ None
+            | entries.Numbers kind ns ↦ None
+            | entries.Terms kind terms ↦ None
+            | entries.Sets ↦ None
+          ]
+          | None ↦ None
+        ]) (Some numbers)
         → Variables vs numbers
     go None k i = cc
     go (Some entry) k i = member_of_entry vs entry numbers (s name.bytes entry k) i
@@ -108,14 +108,14 @@ members_fit vs env (a ∷ args) lists s e = go (λ ls k. members_fit vs env args
 
 array_of_entry : (vs : List Variable) (entry : Entry) (numbers : List ℕ) → EntryFits vs entry
     → ◌≡◌ {A = Option (List ℕ)}
-      (elim entry [
-        | entries.Terms kind terms ↦ Some (variables_of_terms terms)
-        | entries.Variable kind number ↦ None
-        | entries.Value kind value ↦ None
-        | entries.Set set ↦ None
-        | entries.Numbers kind ns ↦ None
-        | entries.Sets ↦ None
-      ]) (Some numbers)
+    (elim entry [
+      | entries.Terms kind terms ↦ Some (variables_of_terms terms)
+      | entries.Variable kind number ↦ None
+      | entries.Value kind value ↦ None
+      | entries.Set set ↦ None
+      | entries.Numbers kind ns ↦ None
+      | entries.Sets ↦ None
+    ]) (Some numbers)
     → Variables vs numbers
 array_of_entry vs (entries.Terms kind ts) numbers h e = let is : variables_of_terms ts ≡ numbers = cc in subst (Variables vs) is (terms_of_model vs kind ts h.1)
 array_of_entry vs (entries.Variable kind number) numbers h e = cc
@@ -132,17 +132,17 @@ variables_fit vs env (Simple (Named name)) numbers s e = go (env name.bytes) ref
   where
     go : (o : Option Entry) → env name.bytes ≡ o
         → ◌≡◌ {A = Option (List ℕ)}
-          (elim o [
-            | Some entry ↦ elim entry [
-              | entries.Terms kind terms ↦ Some (variables_of_terms terms)
-              | entries.Variable kind number ↦ None
-              | entries.Value kind value ↦ None
-              | entries.Set set ↦ None
-              | entries.Numbers kind ns ↦ None
-              | entries.Sets ↦ None
-            ]
-            | None ↦ None
-          ]) (Some numbers)
+        (elim o [
+          | Some entry ↦ elim entry [
+            | entries.Terms kind terms ↦ Some (variables_of_terms terms)
+            | entries.Variable kind number ↦ None
+            | entries.Value kind value ↦ None
+            | entries.Set set ↦ None
+            | entries.Numbers kind ns ↦ None
+            | entries.Sets ↦ None
+          ]
+          | None ↦ None
+        ]) (Some numbers)
         → Variables vs numbers
     go None k i = cc
     go (Some entry) k i = array_of_entry vs entry numbers (s name.bytes entry k) i

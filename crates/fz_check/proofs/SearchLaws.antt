@@ -15,7 +15,7 @@ use Rattle.fz_language.specs.Annotations.{list_of}
 use Rattle.fz_resolve.proofs.AnnotationLaws.{list_joined}
 use Rattle.fz_language.specs.Search as searches
 use Rattle.fz_syntax.specs.Trees.{joined}
-use Rattle.fz_check.specs.Searches.{option_list, word_of, part_of_words, has_name, parts_of_first}
+use Rattle.fz_check.specs.Searches.{word_of, part_of_words, has_name, parts_of_first}
 
 -- ---- variables
 

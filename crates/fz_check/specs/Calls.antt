@@ -1,15 +1,13 @@
 -- What the item of a constraint makes.
-use Rattle.std.specs.Prelude.{◌≡◌, ℕ, List, [], ◌∷◌, ◌++◌, Option, Some, None, Result, MatchResult, slice_get, map, length, cond}
+use Rattle.std.specs.Prelude.{◌≡◌, ℕ, List, [], ◌∷◌, ◌++◌, Option, Some, Result, MatchResult, slice_get, length, cond}
 use Rattle.fz_spec.specs.declared.asked.Asked.{Asked}
 use Rattle.fz_spec.specs.Constraints as meaning
 use Rattle.fz_spec.specs.Signatures as signatures
 use Rattle.fz_language.specs.Trees.{ConstraintItem, Expression}
 use Rattle.fz_language.specs.Entries.{Environment}
-use Rattle.fz_language.specs.Rules.{Fault, call_faults, signature_faults, row_faults, wrong_arguments, arguments_in, wrong_place, at_places, have_lengths, lengths_in}
+use Rattle.fz_language.specs.Rules.{Fault, call_faults, signature_faults, row_faults, wrong_arguments, arguments_in, at_places, have_lengths, lengths_in}
 use Rattle.fz_language.specs.declared.fault.RuleFault.TheVariants.{WrongLengths}
 use Rattle.fz_language.specs.Models.{call_constraints}
-use Rattle.fz_model.specs.Arguments.{argument_of}
-use Rattle.fz_model.specs.declared.constraint.Argument.{Argument}
 use Rattle.fz_resolve.specs.declared.fault.Fault as found
 use Rattle.fz_check.specs.Checked.{IsFirstOf, IsFirstFault}
 use Rattle.fz_check.specs.Parts.{scope}

@@ -1,5 +1,5 @@
 -- What the checker says of a program.
-use Rattle.std.specs.Prelude.{◌≡◌, ◌⊎◌, Result, Option, Some, None, List, [], ◌∷◌, MatchResult, slice_get, option_map}
+use Rattle.std.specs.Prelude.{◌≡◌, Result, Option, Some, List, [], MatchResult, slice_get, option_map}
 use Rattle.fz_spec.specs.Instance.{Instance}
 use Rattle.fz_language.specs.Trees.{Program}
 use Rattle.fz_language.specs.Rules as rules

@@ -1,5 +1,5 @@
 -- What a draft stands for, and what an item makes of it.
-use Rattle.std.specs.Prelude.{◌≡◌, ℕ, List, [], ◌++◌, Option, MatchOption, length}
+use Rattle.std.specs.Prelude.{◌≡◌, List, [], ◌++◌, Option, MatchOption, length}
 use Rattle.fz_language.specs.Trees.{Item, Program}
 use Rattle.fz_language.specs.Rules.{Counts, all_counted, additions, faults_of}
 use Rattle.fz_language.specs.Models.{Scope, empty_scope, behind, scope_behind, made, variables_of, constraints_of, outputs_of}

@@ -1,8 +1,8 @@
 -- What names stand for, as a model's variables allow it.
-use Rattle.std.specs.Prelude.{◌≡◌, ℕ, ◌≤◌, List, Option, Some, length, []}
+use Rattle.std.specs.Prelude.{◌≡◌, ℕ, ◌≤◌, List, Some, length, []}
 use Rattle.std.specs.List.{AllByRecursion}
 use Rattle.fz_spec.specs.declared.limits.TheConstants.{TEXT_LIMIT, ELEMENT_LIMIT}
-use Rattle.fz_spec.specs.Instance.{Instance, Variable, Output, SearchPart}
+use Rattle.fz_spec.specs.Instance.{Variable, Output, SearchPart}
 use Rattle.fz_language.specs.Entries.{Environment, Entry}
 use Rattle.fz_language.specs.Entries as entries
 use Rattle.fz_language.specs.Trees.{Program}

@@ -53,11 +53,7 @@ fn wrong_at_variable(names: &Names<'_>, item: &VariableItem<'_>) -> Option<u32>
     first_place(misplaced, wrong_value(names, &item.value_type, &item.value))
 }
 
-fn wrong_value(
-    names: &Names<'_>,
-    value_type: &ValueType,
-    value: &Option<Basic<'_>>,
-) -> Option<u32>
+fn wrong_value(names: &Names<'_>, value_type: &ValueType, value: &Option<Basic<'_>>) -> Option<u32>
     ensures { result ≡ slice_get (rules.wrong_value (environment_of names.now) (trees.type_of value_type.now) (option_map trees.basic_of value.now)) 0 }
 {
     match value {
@@ -137,5 +133,8 @@ pub(crate) fn array_fault(
     let typed = fault_at(RuleFault::WrongType, first_place(misplaced, wrong));
     let long = fault_at(RuleFault::WrongLengths, wrong_length_at(item, shape));
     let twice = fault_at(RuleFault::DeclaredTwice, declared_already(names, item.name));
-    or_else(or_else(or_else(or_else(unsupported, unknown), typed), long), twice)
+    or_else(
+        or_else(or_else(or_else(unsupported, unknown), typed), long),
+        twice,
+    )
 }

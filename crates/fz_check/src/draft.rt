@@ -97,11 +97,7 @@ impl<'a> Draft<'a> {
         }
     }
 
-    fn declare_variable(
-        &mut self,
-        alloc: Global,
-        item: &VariableItem<'a>,
-    ) -> Result<(), AllocError>
+    fn declare_variable(&mut self, alloc: Global, item: &VariableItem<'a>) -> Result<(), AllocError>
         requires few { length self.old.variables.items ≤ VARIABLE_LIMIT }
         requires fits { TypeFits (trees.type_of item.now.value_type) }
         requires variable { let t = trees.type_of item.now.value_type in
@@ -114,7 +110,8 @@ impl<'a> Draft<'a> {
         push_variable(alloc, &mut self.variables, &item.value_type)?;
         push_value(alloc, &mut self.constraints, kind, number, value)?;
         push_scalar(alloc, &mut self.outputs, item, number)?;
-        self.names.declare(item.name, Entry::Variable { kind, number })
+        self.names
+            .declare(item.name, Entry::Variable { kind, number })
     }
 
     fn parameter(

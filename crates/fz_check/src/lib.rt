@@ -3,17 +3,17 @@
 //! place.
 #![tactic(auto)]
 
-pub mod call;
+mod call;
 pub mod checker;
-pub mod declared;
-pub mod draft;
-pub mod entered;
-pub mod faults;
+mod declared;
+mod draft;
+mod entered;
+mod faults;
 pub mod laws;
-pub mod parts;
-pub mod rows;
-pub mod search;
-pub mod textual;
+mod parts;
+mod rows;
+mod search;
+mod textual;
 
 pub use checker::check;
 pub use fz_resolve::Fault;

@@ -55,7 +55,8 @@ fn ends_with(name: &[u8], suffix: &[u8]) -> bool
 fn is_of_floats_or_sets(name: &[u8]) -> bool
     ensures { result ≡ is_of_floats_or_sets name.now }
 {
-    begins(name, b"float_") || begins(name, b"set_")
+    begins(name, b"float_")
+        || begins(name, b"set_")
         || begins(name, b"array_float_")
         || begins(name, b"array_var_float_")
         || begins(name, b"array_set_")

@@ -1,4 +1,4 @@
-use Rattle.std.proofs.Common.{◌≡◌, ◌∙◌, ◌++◌, ◌∷◌, [], ◌<◌, ◌+◌, List, map, length, arith, refl, sym, ap, subst}
+use Rattle.std.proofs.Common.{◌∙◌, ◌++◌, ◌∷◌, [], ◌<◌, ◌+◌, List, map, length, arith, refl, sym, ap, subst}
 use Rattle.std.proofs.lemmas.List.{map-append}
 use Rattle.fz_spec.specs.Constraints as meaning
 use Rattle.fz_language.specs.Entries.{with_value}
@@ -9,7 +9,7 @@ use Rattle.fz_model.specs.declared.constraint.Argument.{Argument}
 use Rattle.fz_syntax.specs.Trees.{expression_of}
 use Rattle.fz_resolve.specs.Meant.{environment_of}
 use Rattle.fz_check.proofs.EntryLaws.{at_item}
-use Rattle.fz_check.proofs.CallLaws.{SoFar, Whole, one_argument, wrong_argument, all_arguments}
+use Rattle.fz_check.proofs.CallLaws.{SoFar, one_argument, wrong_argument, all_arguments}
 use Rattle.fz_check.proofs.call.arguments_of.Goals as goal
 
 pub loop-i-init : goal.loop-i-init

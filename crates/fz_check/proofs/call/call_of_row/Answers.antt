@@ -1,5 +1,5 @@
 use Rattle.std.proofs.Common.{◌≡◌, ◌∙◌, ap, sym, map, List, length}
-use Rattle.std.specs.Prelude.{flat_map, slice_get, Some}
+use Rattle.std.specs.Prelude.{flat_map, slice_get}
 use Rattle.fz_language.specs.declared.fault.RuleFault.TheVariants.{Unsupported}
 use Rattle.fz_language.specs.Rules.{at_places, floats_of}
 use Rattle.fz_spec.specs.Signatures as signatures

@@ -1,4 +1,4 @@
-use Rattle.std.proofs.Common.{◌≡◌, ◌∙◌, ◌++◌, ◌∷◌, [], ap, sym, take, map, List}
+use Rattle.std.proofs.Common.{◌∙◌, ◌++◌, ◌∷◌, [], ap, sym, map, List}
 use Rattle.std.proofs.lemmas.List.{take_all}
 use Rattle.fz_language.specs.Rules.{lengths_in}
 use Rattle.fz_model.specs.Arguments.{argument_of}

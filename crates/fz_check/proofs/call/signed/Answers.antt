@@ -1,13 +1,12 @@
-use Rattle.std.proofs.Common.{◌≡◌, ◌∙◌, ◌++◌, ap, sym, map, option_map, List, subst}
-use Rattle.std.specs.Prelude.{ℕ, Result, Ok, Err, flat_map, slice_get}
-use Rattle.fz_spec.specs.Constraints as meaning
+use Rattle.std.proofs.Common.{◌∙◌, ◌++◌, ap, map, List, subst}
+use Rattle.std.specs.Prelude.{Ok, Err, flat_map, slice_get}
 use Rattle.fz_language.specs.declared.fault.RuleFault.TheVariants.{WrongType}
 use Rattle.fz_language.specs.Entries.{with_value}
 use Rattle.fz_language.specs.Rules.{at_places, wrong_arguments, unknown_of}
 use Rattle.fz_model.specs.Arguments.{argument_of}
 use Rattle.fz_syntax.specs.Trees as trees
 use Rattle.fz_syntax.specs.declared.expression.Expression.{Expression}
-use Rattle.fz_resolve.specs.Meant.{environment_of, fault_of}
+use Rattle.fz_resolve.specs.Meant.{environment_of}
 use Rattle.fz_check.specs.Calls.{AreArguments}
 use Rattle.fz_check.specs.Rows.{row_of}
 use Rattle.fz_check.proofs.CallLaws.{unknown_names, signed_typed, signed_wrong}

@@ -1,5 +1,4 @@
-use Rattle.std.proofs.Common.{◌≡◌, ◌∙◌, ap, sym, map, option_map, List, true, false, Bool}
-use Rattle.std.specs.Prelude.{ℕ}
+use Rattle.std.proofs.Common.{◌∙◌, ap, sym, map, option_map, List}
 use Rattle.fz_language.specs.Rules.{have_lengths, lengths_in}
 use Rattle.fz_model.specs.Arguments.{argument_of}
 use Rattle.fz_model.specs.declared.constraint.Argument.{Argument}

@@ -1,6 +1,6 @@
-use Rattle.std.proofs.Common.{◌≡◌, ◌∙◌, ◌+◌, ◌∷◌, [], ap, sym, map, drop, subst, List, Some, None, Option}
+use Rattle.std.proofs.Common.{◌+◌, sym, map, drop, subst, List, Option}
 use Rattle.std.specs.List.{AllByRecursion}
-use Rattle.std.proofs.lemmas.List.{drop_more, drop_all}
+use Rattle.std.proofs.lemmas.List.{drop_all}
 use Rattle.fz_language.specs.Trees as lang
 use Rattle.fz_language.specs.Within.{ItemFits}
 use Rattle.fz_syntax.specs.Trees.{program_of, item_of}

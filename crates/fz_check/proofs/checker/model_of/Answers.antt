@@ -1,14 +1,12 @@
-use Rattle.std.proofs.Common.{◌≡◌, ◌∙◌, ap, sym, subst, List}
-use Rattle.std.specs.Prelude.{true}
+use Rattle.std.proofs.Common.{◌∙◌, ap, sym, subst, List}
 use Rattle.fz_spec.specs.Instance.{Instance, SearchPart, Output}
-use Rattle.fz_language.specs.Models.{model_of}
 use Rattle.fz_language.specs.Search.{search_of}
 use Rattle.fz_model.specs.Kept.{IsModel}
 use Rattle.fz_syntax.specs.Trees as trees
 use Rattle.fz_syntax.specs.declared.annotation.Annotation.{Annotation}
 use Rattle.fz_resolve.specs.Meant.{environment_of}
 use Rattle.fz_check.specs.Fits.{AreTextual}
-use Rattle.fz_check.proofs.CheckLaws.{model_is, instance_of}
+use Rattle.fz_check.proofs.CheckLaws.{model_is}
 use Rattle.fz_check.proofs.ModelFits.{models_fit}
 use Rattle.fz_check.proofs.checker.model_of.Goals as goal
 

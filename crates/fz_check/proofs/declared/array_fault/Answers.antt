@@ -2,8 +2,6 @@ use Rattle.std.proofs.Common.{◌++◌, map, cond, ◌∙◌, ap, List}
 use Rattle.std.specs.Prelude.{flat_map, slice_get}
 use Rattle.fz_language.specs.declared.fault.RuleFault.TheVariants.{Unsupported, UnknownName, WrongType, WrongLengths, DeclaredTwice}
 use Rattle.fz_language.specs.Numerals.{floats_in}
-use Rattle.fz_language.specs.Trees.{Scalar}
-use Rattle.fz_language.specs.Entries.{resolve}
 use Rattle.fz_language.specs.Rules as rules
 use Rattle.fz_language.specs.Rules.{at_places}
 use Rattle.fz_syntax.specs.Trees as trees

@@ -1,9 +1,5 @@
-use Rattle.std.proofs.Common.{◌++◌, map}
-use Rattle.std.specs.Prelude.{flat_map}
-use Rattle.fz_language.specs.declared.fault.RuleFault.TheVariants.{Unsupported, UnknownName, WrongType, WrongLengths, DeclaredTwice}
-use Rattle.fz_language.specs.Numerals.{floats_in}
-use Rattle.fz_language.specs.Trees.{Scalar}
-use Rattle.fz_language.specs.Entries.{resolve}
+use Rattle.std.proofs.Common.{◌++◌}
+use Rattle.fz_language.specs.declared.fault.RuleFault.TheVariants.{Unsupported, UnknownName, WrongType, DeclaredTwice}
 use Rattle.fz_language.specs.Rules as rules
 use Rattle.fz_language.specs.Rules.{at_places}
 use Rattle.fz_syntax.specs.Trees as trees

@@ -1,5 +1,4 @@
-use Rattle.std.proofs.Common.{◌∙◌, sym, ap, Some, None}
-use Rattle.std.specs.Prelude.{slice_get}
+use Rattle.std.proofs.Common.{◌∙◌, sym, ap, Some}
 use Rattle.fz_spec.specs.Constraints as meaning
 use Rattle.fz_language.specs.Trees.{basic_at}
 use Rattle.fz_language.specs.Entries.{term_in}

@@ -1,4 +1,4 @@
-use Rattle.std.proofs.Common.{◌∙◌, ap, map}
+use Rattle.std.proofs.Common.{ap, map}
 use Rattle.fz_syntax.specs.Trees as trees
 use Rattle.fz_resolve.specs.Meant.{environment_of}
 use Rattle.fz_check.proofs.EntryLaws.{terms_are, numbers_are, sets_are}

@@ -18,10 +18,11 @@ pub set-requires : goal.set-requires
 set-requires c = at_item BasicFits basic_of c.args.elements.now c.loop-element.element-index c.element-item.result c.requires c.loop-element-test.true c.element-item.is
 
 pub loop-element-preserved : goal.loop-element-preserved
-loop-element-preserved c =
-    (c.loop-element.invariant.0 ++ c.in-Some._set ∷ [],
-     each_more (set_of (environment_of c.args.names.now)) basic_of c.args.elements.now c.loop-element.element-index c.element-item.result c.loop-element.invariant.0 c.in-Some._set c.loop-element-test.true c.element-item.is
-     (sym c.in-Some.is ∙ c.in_ok-_set.ensures) c.loop-element.invariant.1)
+loop-element-preserved c = (
+  c.loop-element.invariant.0 ++ c.in-Some._set ∷ [],
+  each_more (set_of (environment_of c.args.names.now)) basic_of c.args.elements.now c.loop-element.element-index c.element-item.result c.loop-element.invariant.0 c.in-Some._set c.loop-element-test.true c.element-item.is
+      (sym c.in-Some.is ∙ c.in_ok-_set.ensures) c.loop-element.invariant.1,
+)
 
 pub returns-in-None : goal.returns-in-None
 returns-in-None c =

@@ -1,4 +1,4 @@
-use Rattle.std.proofs.Common.{◌∙◌, sym, refl}
+use Rattle.std.proofs.Common.{◌∙◌, sym}
 use Rattle.std.specs.Prelude.{bytes_eq}
 use Rattle.fz_spec.specs.Signatures as signatures
 use Rattle.fz_resolve.proofs.Firsts.{passes_none}

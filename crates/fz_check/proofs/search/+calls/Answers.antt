@@ -1,4 +1,4 @@
-use Rattle.std.proofs.Common.{◌≡◌, ◌∙◌, ◌++◌, [], List, map, ap, sym, append-nil, append_assoc, take, arith}
+use Rattle.std.proofs.Common.{◌∙◌, ◌++◌, [], List, map, ap, sym, append_assoc, take}
 use Rattle.std.proofs.lemmas.List.{take_all}
 use Rattle.fz_language.specs.Search.{parts_in, parts_of_list, parts_of_all}
 use Rattle.fz_language.specs.Trees.{More, Nil}

@@ -1,4 +1,4 @@
-use Rattle.std.proofs.Common.{◌≡◌, ◌∙◌, ap, sym, map, option_map, Some, List}
+use Rattle.std.proofs.Common.{◌∙◌, ap, sym, map, option_map, Some, List}
 use Rattle.std.proofs.lemmas.List.{take_all}
 use Rattle.fz_language.specs.Numerals.{all_of}
 use Rattle.fz_language.specs.Search as searches

@@ -1,4 +1,4 @@
-use Rattle.std.proofs.Common.{◌≡◌, ◌∙◌, ◌++◌, ◌+◌, List, subst, sym}
+use Rattle.std.proofs.Common.{◌+◌, List, subst, sym}
 use Rattle.fz_spec.specs.Instance.{SearchPart}
 use Rattle.fz_syntax.specs.Trees as trees
 use Rattle.fz_resolve.specs.Meant.{environment_of}

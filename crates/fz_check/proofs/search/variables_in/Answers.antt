@@ -1,4 +1,4 @@
-use Rattle.std.proofs.Common.{◌≡◌, ◌∙◌, ap, sym, map, option_map, List}
+use Rattle.std.proofs.Common.{◌∙◌, ap, sym, map, option_map, List}
 use Rattle.fz_language.specs.Numerals.{all_of}
 use Rattle.fz_language.specs.Search as searches
 use Rattle.fz_language.specs.Trees as lang

@@ -1,4 +1,4 @@
-use Rattle.std.proofs.Common.{◌≡◌, ◌∙◌, ◌++◌, ◌∷◌, [], ap, sym, get_or}
+use Rattle.std.proofs.Common.{◌∙◌, ◌++◌, ◌∷◌, [], ap, sym, get_or}
 use Rattle.std.specs.Prelude.{pos}
 use Rattle.fz_spec.specs.declared.term.Term.TheVariants.{Num}
 use Rattle.std.proofs.lemmas.List.{take_all}

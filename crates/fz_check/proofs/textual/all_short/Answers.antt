@@ -1,5 +1,5 @@
 use Rattle.fz_check.specs.Fits.{IsShortPart}
-use Rattle.fz_check.proofs.Kept.{kept_more, kept_item, kept_all}
+use Rattle.fz_check.proofs.Kept.{kept_item, kept_all}
 use Rattle.fz_check.proofs.textual.all_short.Goals as goal
 
 pub loop-part-preserved : goal.loop-part-preserved

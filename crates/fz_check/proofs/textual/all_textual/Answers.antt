@@ -1,5 +1,5 @@
 use Rattle.fz_check.specs.Fits.{IsTextual}
-use Rattle.fz_check.proofs.Kept.{kept_more, kept_item, kept_all}
+use Rattle.fz_check.proofs.Kept.{kept_item, kept_all}
 use Rattle.fz_check.proofs.textual.all_textual.Goals as goal
 
 pub loop-output-preserved : goal.loop-output-preserved

@@ -1,5 +1,5 @@
 use Rattle.fz_model.specs.Kept.{IsIndexRange}
-use Rattle.fz_check.proofs.Kept.{kept_more, kept_item, kept_all}
+use Rattle.fz_check.proofs.Kept.{kept_more, kept_all}
 use Rattle.fz_check.proofs.textual.all_within.Goals as goal
 
 pub loop-range-preserved : goal.loop-range-preserved

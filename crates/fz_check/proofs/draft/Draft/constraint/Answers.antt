@@ -1,4 +1,4 @@
-use Rattle.std.proofs.Common.{◌≡◌, ◌∙◌, sym, ap, subst}
+use Rattle.std.proofs.Common.{sym, subst}
 use Rattle.fz_language.specs.declared.fault.RuleFault.TheVariants.{OverLimit}
 use Rattle.fz_language.specs.Trees as lang
 use Rattle.fz_language.specs.Trees.{Item}

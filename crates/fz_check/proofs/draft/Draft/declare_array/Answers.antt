@@ -1,5 +1,4 @@
-use Rattle.std.proofs.Common.{◌≡◌, ◌∙◌, ◌++◌, sym, ap, subst, length, append-nil}
-use Rattle.std.specs.Prelude.{Ok}
+use Rattle.std.proofs.Common.{◌≡◌, ◌∙◌, sym, ap, subst, length, append-nil}
 use Rattle.fz_language.specs.Entries.{Environment, with_entry}
 use Rattle.fz_language.specs.Models as models
 use Rattle.fz_syntax.specs.Trees as trees

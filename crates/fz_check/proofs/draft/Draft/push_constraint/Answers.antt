@@ -1,4 +1,4 @@
-use Rattle.std.proofs.Common.{◌≡◌, ◌∙◌, ◌++◌, sym, ap, refl, append-nil}
+use Rattle.std.proofs.Common.{◌∙◌, ◌++◌, sym, ap, refl, append-nil}
 use Rattle.std.specs.Prelude.{slice_get, List}
 use Rattle.fz_language.specs.Trees as lang
 use Rattle.fz_language.specs.Rules.{Fault, call_faults}
