@@ -202,27 +202,25 @@ number_no_float v bs (inr p) (inr f) = natural_no_float p.0 p.1 p.3 (subst IsPla
 
 -- the sign and the word of these bytes
 
-pub sign_of : List ℕ → Sign
+abbrev pub sign_of : List ℕ → Sign
 sign_of bs = cond (bytes_eq bs (codes ";")) Semicolon (cond (bytes_eq bs (codes ":")) Colon (cond (bytes_eq bs (codes "::")) DoubleColon
     (cond (bytes_eq bs (codes ",")) Comma (cond (bytes_eq bs (codes "(")) LeftParenthesis (cond (bytes_eq bs (codes ")")) RightParenthesis
     (cond (bytes_eq bs (codes "[")) LeftBracket (cond (bytes_eq bs (codes "]")) RightBracket (cond (bytes_eq bs (codes "{")) LeftBrace
     (cond (bytes_eq bs (codes "}")) RightBrace (cond (bytes_eq bs (codes "=")) Equals DoubleDot))))))))))
 
 pub sign_back : (s : Sign) → sign_of (sign_bytes s) ≡ s
-unfolding sign_of
 sign_back Semicolon = refl
 sign_back _ = refl
 
-keyword_in : List ℕ → List Keyword → Keyword
+abbrev pub keyword_in : List ℕ → List Keyword → Keyword
 keyword_in bs [] = keyword.Var
 keyword_in bs (k ∷ ks) = cond (bytes_eq bs (keyword_bytes k)) k (keyword_in bs ks)
 
-pub keyword_of : List ℕ → Keyword
+abbrev pub keyword_of : List ℕ → Keyword
 keyword_of bs = keyword_in bs (keyword.Array ∷ keyword.Bool ∷ keyword.Constraint ∷ keyword.False ∷ keyword.Float ∷ keyword.Int ∷ keyword.Maximize
     ∷ keyword.Minimize ∷ keyword.Of ∷ keyword.Predicate ∷ keyword.Satisfy ∷ keyword.Set ∷ keyword.Solve ∷ keyword.True ∷ [])
 
 pub keyword_back : (k : Keyword) → keyword_of (keyword_bytes k) ≡ k
-unfolding keyword_of keyword_in
 keyword_back keyword.Array = refl
 keyword_back _ = refl
 

@@ -11,3 +11,4 @@ pub mod Lefts
 pub mod Decisions
 pub mod SomeTokens
 pub mod SomeReading
+pub mod TextExamples

@@ -106,6 +106,13 @@ MillionthAndOne = faults_of nothing_declared (record { variables = 1000000; cons
 abbrev pub LongTextIsRefused : Type 0
 LongTextIsRefused = (text : List ℕ) → TEXT_LIMIT < length text → Reads text (Refused code.OverLimit (line_of text TEXT_LIMIT) (column_of text TEXT_LIMIT))
 
+-- `var 1..2: x; #` is refused at its last byte, which begins no token
+abbrev pub unknown_byte : List ℕ
+unknown_byte = codes "var 1..2: x; #"
+
+abbrev pub UnknownByteIsRefused : Type 0
+UnknownByteIsRefused = Reads unknown_byte (Refused code.UnknownByte 1 14)
+
 -- the end of `solve satisfy` and a line feed is line 2, column 1
 abbrev pub EndIsOnLineTwo : Type 0
 EndIsOnLineTwo = IsPlaceOf (codes "solve satisfy\n") 14 2 1

@@ -1,6 +1,6 @@
 //! Programs whose rules come in the order that is meant: each is the clause of a function that does nothing, so that the clause is
 //! proved.
-ghost use Rattle.fz_language.specs.Examples.{ArityBeforeNames, NamesBeforeTypes, TypesOfElements, UnequalLists, FloatsBeforeConstraints, UnsupportedConstraint, LengthsBeforeTwice, TypesBeforeLengths, LengthsBeforeLimits, MillionthAndOne, LongTextIsRefused, EndIsOnLineTwo, LinearIsRead, BoundIsRead};
+ghost use Rattle.fz_language.specs.Examples.{ArityBeforeNames, NamesBeforeTypes, TypesOfElements, UnequalLists, FloatsBeforeConstraints, UnsupportedConstraint, LengthsBeforeTwice, TypesBeforeLengths, LengthsBeforeLimits, MillionthAndOne, LongTextIsRefused, UnknownByteIsRefused, EndIsOnLineTwo, LinearIsRead, BoundIsRead};
 
 /// A wrong number of arguments comes before an unknown name among them.
 pub fn arity_before_names()
@@ -55,6 +55,11 @@ pub fn millionth_and_one()
 /// A text that is too long is refused at its first byte over the limit.
 pub fn long_text_is_refused()
     ensures { LongTextIsRefused }
+{}
+
+/// `var 1..2: x; #` is refused in line 1 at column 14, with E01.
+pub fn unknown_byte_is_refused()
+    ensures { UnknownByteIsRefused }
 {}
 
 /// The end of a line and its line feed is on the next line.
