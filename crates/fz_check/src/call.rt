@@ -44,7 +44,9 @@ pub(crate) fn call(
 /// The fault of a constraint whose name isn't in the table.
 fn unknown(item: &ConstraintItem<'_>) -> Fault
     ensures { let c = trees.constraint_item_of item.now in signatures.row_named c.name.bytes ≡ None
-        → (others : List rules.Fault) → IsFirstFault (at_places rule.Unsupported (rules.named_unsupported c.name ++ flat_map rules.floats_of c.arguments)
+        → (others : List rules.Fault)
+        → IsFirstFault (at_places rule.Unsupported (rules.named_unsupported c.name
+        ++ flat_map rules.floats_of c.arguments)
         ++ (at_places rule.UnknownConstraint (rules.named_unknown c.name) ++ others)) result }
 {
     let name = item.name;
@@ -75,7 +77,8 @@ fn call_of_row(
 ) -> Result<Result<Constraint, Fault>, AllocError>
     requires { AllByRecursion ExpressionFits (map trees.expression_of item.now.arguments.items) }
     ensures { let c = trees.constraint_item_of item.now in
-        IfOk result (IsRowed (at_places rule.Unsupported (flat_map rules.floats_of c.arguments)) (environment_of names.now) c (row_of row.now)) }
+        IfOk result (IsRowed (at_places rule.Unsupported (flat_map rules.floats_of c.arguments))
+        (environment_of names.now) c (row_of row.now)) }
 {
     let floats = fault_at(
         RuleFault::Unsupported,
@@ -96,7 +99,8 @@ fn call_of_row(
 
 /// Of the signatures of a constraint, that of so many arguments.
 fn signature_of(signatures: Signatures, arity: usize) -> Option<&'static [Asked]>
-    ensures { option_map (λ s. s.now) result ≡ find (λ (asked : List Asked). length asked == arity) (map (λ s. s.now) signatures.now) }
+    ensures { option_map (λ s. s.now) result
+        ≡ find (λ (asked : List Asked). length asked == arity) (map (λ s. s.now) signatures.now) }
 {
     for signature in signatures {
         if signature.len() == arity {
@@ -114,10 +118,12 @@ fn signed(
     signature: &[Asked],
     floats: Option<Fault>,
 ) -> Result<Result<Constraint, Fault>, AllocError>
-    requires fits { AllByRecursion ExpressionFits (map trees.expression_of item.now.arguments.items) }
+    requires fits { AllByRecursion ExpressionFits
+        (map trees.expression_of item.now.arguments.items) }
     requires arity { length signature.now ≡ length item.now.arguments.items }
     ensures { (others : List rules.Fault) → IsFirstOf others floats
-        → IfOk result (IsSigned others (environment_of names.now) (trees.constraint_item_of item.now) (row_of row.now) signature.now) }
+        → IfOk result (IsSigned others (environment_of names.now)
+        (trees.constraint_item_of item.now) (row_of row.now) signature.now) }
 {
     let unknown = fault_at(
         RuleFault::UnknownName,
@@ -144,7 +150,8 @@ fn typed(
     arguments: Vec<Argument>,
     early: Option<Fault>,
 ) -> Result<Result<Constraint, Fault>, AllocError>
-    ensures { IfOk result (IsTyped early (row_of row.now) name.entry.at (map argument_of arguments.items)) }
+    ensures { IfOk result (IsTyped early (row_of row.now) name.entry.at
+        (map argument_of arguments.items)) }
 {
     if let Some(fault) = early {
         return Ok(Err(fault));
@@ -168,7 +175,8 @@ fn arguments_of(
 ) -> Result<Result<Vec<Argument>, u32>, AllocError>
     requires arity { length signature.now ≡ length expressions.now }
     requires fits { AllByRecursion ExpressionFits (map trees.expression_of expressions.now) }
-    ensures { IfOk result (λ made. AreArguments (environment_of names.now) signature.now (map trees.expression_of expressions.now)
+    ensures { IfOk result (λ made. AreArguments (environment_of names.now) signature.now
+        (map trees.expression_of expressions.now)
         (with_value (λ arguments. map argument_of arguments.items) made)) }
 {
     let mut arguments = Vec::with_capacity(alloc, signature.len())?;
@@ -183,7 +191,8 @@ fn arguments_of(
 
 /// The lengths of the lists among arguments.
 fn lengths_of(alloc: Global, arguments: &[Argument]) -> Result<Vec<usize>, AllocError>
-    ensures { IfOk result (λ lengths. lengths.items ≡ rules.lengths_in (map argument_of arguments.now)) }
+    ensures { IfOk result (λ lengths. lengths.items
+        ≡ rules.lengths_in (map argument_of arguments.now)) }
 {
     let mut lengths = Vec::new(alloc);
     for argument in arguments {
@@ -193,7 +202,8 @@ fn lengths_of(alloc: Global, arguments: &[Argument]) -> Result<Vec<usize>, Alloc
 }
 
 fn push_length(lengths: &mut Vec<usize>, argument: &Argument) -> Result<(), AllocError>
-    ensures { OnOk result (lengths.new.items ≡ lengths.old.items ++ rules.lengths_in (argument_of argument.now ∷ [])) }
+    ensures { OnOk result (lengths.new.items ≡ lengths.old.items
+        ++ rules.lengths_in (argument_of argument.now ∷ [])) }
 {
     match argument {
         Argument::Numbers(numbers) => lengths.push(numbers.len())?,

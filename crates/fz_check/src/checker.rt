@@ -41,7 +41,8 @@ pub fn check(alloc: Global, program: &Program<'_>) -> Result<Result<Model, Fault
 
 /// The goal of a solve item that isn't supported.
 fn solve_fault(solve: &SolveItem<'_>) -> Option<Fault>
-    ensures { (env : Environment) → IsFirstOf (rules.solve_faults env (trees.solve_item_of solve.now)) result }
+    ensures { (env : Environment)
+        → IsFirstOf (rules.solve_faults env (trees.solve_item_of solve.now)) result }
 {
     match &solve.method {
         Method::Satisfy { .. } => None,

@@ -26,7 +26,8 @@ use fz_syntax::{ArrayItem, Basic, ParameterItem, ValueType, VariableItem};
 
 /// The first rule that the declaration of a variable breaks.
 pub(crate) fn variable_fault(names: &Names<'_>, item: &VariableItem<'_>) -> Option<Fault>
-    ensures { IsFirstOf (rules.item_faults (environment_of names.now) (lang.Variable (trees.variable_item_of item.now))) result }
+    ensures { IsFirstOf (rules.item_faults (environment_of names.now) (lang.Variable
+        (trees.variable_item_of item.now))) result }
 {
     let unsupported = fault_at(RuleFault::Unsupported, unsupported_variable(item));
     let unknown = fault_at(RuleFault::UnknownName, unknown_in_value(names, &item.value));
@@ -36,7 +37,8 @@ pub(crate) fn variable_fault(names: &Names<'_>, item: &VariableItem<'_>) -> Opti
 }
 
 fn unknown_in_value(names: &Names<'_>, value: &Option<Basic<'_>>) -> Option<u32>
-    ensures { result ≡ slice_get (rules.unknown_of_value (environment_of names.now) (option_map trees.basic_of value.now)) 0 }
+    ensures { result ≡ slice_get (rules.unknown_of_value (environment_of names.now)
+        (option_map trees.basic_of value.now)) 0 }
 {
     match value {
         Some(basic) => names.unknown(basic),
@@ -54,7 +56,8 @@ fn wrong_at_variable(names: &Names<'_>, item: &VariableItem<'_>) -> Option<u32>
 }
 
 fn wrong_value(names: &Names<'_>, value_type: &ValueType, value: &Option<Basic<'_>>) -> Option<u32>
-    ensures { result ≡ slice_get (rules.wrong_value (environment_of names.now) (trees.type_of value_type.now) (option_map trees.basic_of value.now)) 0 }
+    ensures { result ≡ slice_get (rules.wrong_value (environment_of names.now)
+        (trees.type_of value_type.now) (option_map trees.basic_of value.now)) 0 }
 {
     match value {
         Some(basic) => wrong_term(names, term_asked(value_type), basic),
@@ -64,7 +67,8 @@ fn wrong_value(names: &Names<'_>, value_type: &ValueType, value: &Option<Basic<'
 
 /// The place of an expression that isn't the term that is asked.
 fn wrong_term(names: &Names<'_>, asked: Element, basic: &Basic<'_>) -> Option<u32>
-    ensures { result ≡ slice_get (rules.wrong_place (entries.resolve (environment_of names.now) (Asked.One asked) (lang.Scalar (trees.basic_of basic.now)))) 0 }
+    ensures { result ≡ slice_get (rules.wrong_place (entries.resolve (environment_of names.now)
+        (Asked.One asked) (lang.Scalar (trees.basic_of basic.now)))) 0 }
 {
     match term(names, asked, basic) {
         Some(_) => None,
@@ -79,8 +83,10 @@ pub(crate) fn parameter_fault(
     entry: &Option<Entry>,
 ) -> Option<Fault>
     requires { let p = trees.parameter_item_of item.now in
-        option_map meant entry.now ≡ models.parameter_entry (environment_of names.now) p.value_type p.value }
-    ensures { IsFirstOf (rules.item_faults (environment_of names.now) (lang.Parameter (trees.parameter_item_of item.now))) result }
+        option_map meant entry.now
+        ≡ models.parameter_entry (environment_of names.now) p.value_type p.value }
+    ensures { IsFirstOf (rules.item_faults (environment_of names.now) (lang.Parameter
+        (trees.parameter_item_of item.now))) result }
 {
     let unsupported = fault_at(RuleFault::Unsupported, unsupported_parameter(item));
     let unknown = fault_at(RuleFault::UnknownName, names.unknown(&item.value));
@@ -100,9 +106,11 @@ fn wrong_parameter(
     entry: &Option<Entry>,
 ) -> Option<u32>
     requires { let p = trees.parameter_item_of item.now in
-        option_map meant entry.now ≡ models.parameter_entry (environment_of _names.now) p.value_type p.value }
+        option_map meant entry.now
+        ≡ models.parameter_entry (environment_of _names.now) p.value_type p.value }
     ensures { let p = trees.parameter_item_of item.now in
-        result ≡ slice_get (rules.wrong_place (entries.resolve (environment_of _names.now) (rules.value_asked p.value_type) (lang.Scalar p.value))) 0 }
+        result ≡ slice_get (rules.wrong_place (entries.resolve (environment_of _names.now)
+        (rules.value_asked p.value_type) (lang.Scalar p.value))) 0 }
 {
     match entry {
         Some(_) => None,
@@ -121,8 +129,10 @@ pub(crate) fn array_fault(
     requires shape { option_map (λ ranges. ranges.items) shape.now
         ≡ shape_among (trees.annotations_of item.now.annotations.items) }
     requires wrong { let a = trees.array_item_of item.now in
-        wrong ≡ slice_get (rules.wrong_element (environment_of names.now) a.variable a.value_type a.list) 0 }
-    ensures { IsFirstOf (rules.item_faults (environment_of names.now) (lang.Array (trees.array_item_of item.now))) result }
+        wrong ≡ slice_get (rules.wrong_element
+        (environment_of names.now) a.variable a.value_type a.list) 0 }
+    ensures { IsFirstOf (rules.item_faults (environment_of names.now) (lang.Array
+        (trees.array_item_of item.now))) result }
 {
     let unsupported = fault_at(RuleFault::Unsupported, unsupported_array(item));
     let unknown = fault_at(

@@ -64,7 +64,8 @@ impl<'a> Draft<'a> {
     ) -> Result<Option<Fault>, AllocError>
         requires counted { (n : Counts) × IsCounted self.old n }
         requires fits { ItemFits (trees.item_of item.now) }
-        ensures { (n : Counts) → IsCounted self.old n → IfOk result (IsAdded self.old self.new n (trees.item_of item.now)) }
+        ensures { (n : Counts) → IsCounted self.old n
+            → IfOk result (IsAdded self.old self.new n (trees.item_of item.now)) }
     {
         match item {
             Item::Predicate(_) => Ok(None),
@@ -83,8 +84,10 @@ impl<'a> Draft<'a> {
     ) -> Result<Option<Fault>, AllocError>
         requires counted { (n : Counts) × IsCounted self.old n }
         requires fits { VariableFits (trees.variable_item_of variable.now) }
-        requires item { trees.item_of item.now ≡ lang.Variable (trees.variable_item_of variable.now) }
-        ensures { (n : Counts) → IsCounted self.old n → IfOk result (IsAdded self.old self.new n (trees.item_of item.now)) }
+        requires item { trees.item_of item.now
+            ≡ lang.Variable (trees.variable_item_of variable.now) }
+        ensures { (n : Counts) → IsCounted self.old n
+            → IfOk result (IsAdded self.old self.new n (trees.item_of item.now)) }
     {
         let fault = variable_fault(&self.names, variable);
         match room_behind(fault, self.room, item) {
@@ -102,7 +105,8 @@ impl<'a> Draft<'a> {
         requires fits { TypeFits (trees.type_of item.now.value_type) }
         requires variable { let t = trees.type_of item.now.value_type in
             IsVariable (record { kind = rules.kind_of t; set = models.type_set t }) }
-        ensures { OnOk result (Adds self.old self.new (scope_of self.old) (lang.Variable (trees.variable_item_of item.now))) }
+        ensures { OnOk result (Adds self.old self.new (scope_of self.old) (lang.Variable
+            (trees.variable_item_of item.now))) }
     {
         let number = self.variables.len() as u32;
         let kind = kind_of(&item.value_type);
@@ -121,8 +125,10 @@ impl<'a> Draft<'a> {
         parameter: &ParameterItem<'a>,
     ) -> Result<Option<Fault>, AllocError>
         requires fits { ParameterFits (trees.parameter_item_of parameter.now) }
-        requires item { trees.item_of item.now ≡ lang.Parameter (trees.parameter_item_of parameter.now) }
-        ensures { (n : Counts) → IsCounted self.old n → IfOk result (IsAdded self.old self.new n (trees.item_of item.now)) }
+        requires item { trees.item_of item.now
+            ≡ lang.Parameter (trees.parameter_item_of parameter.now) }
+        ensures { (n : Counts) → IsCounted self.old n
+            → IfOk result (IsAdded self.old self.new n (trees.item_of item.now)) }
     {
         let entry = parameter_entry(alloc, &self.names, parameter)?;
         let fault = parameter_fault(&self.names, parameter, &entry);
@@ -138,7 +144,8 @@ impl<'a> Draft<'a> {
 
     fn declare_parameter(&mut self, name: Name<'a>, entry: Option<Entry>) -> Result<(), AllocError>
         ensures { OnOk result ((p : lang.ParameterItem) → p.name ≡ trees.name_of name.entry
-            → option_map meant entry ≡ models.parameter_entry (environment_of self.old.names) p.value_type p.value
+            → option_map meant entry
+            ≡ models.parameter_entry (environment_of self.old.names) p.value_type p.value
             → Adds self.old self.new (scope_of self.old) (lang.Parameter p)) }
     {
         match entry {
@@ -155,7 +162,8 @@ impl<'a> Draft<'a> {
     ) -> Result<Option<Fault>, AllocError>
         requires fits { ArrayFits (trees.array_item_of array.now) }
         requires item { trees.item_of item.now ≡ lang.Array (trees.array_item_of array.now) }
-        ensures { (n : Counts) → IsCounted self.old n → IfOk result (IsAdded self.old self.new n (trees.item_of item.now)) }
+        ensures { (n : Counts) → IsCounted self.old n
+            → IfOk result (IsAdded self.old self.new n (trees.item_of item.now)) }
     {
         let shape = output_shape(alloc, &array.annotations)?;
         let entry = array_entry(alloc, &self.names, array)?;
@@ -178,7 +186,8 @@ impl<'a> Draft<'a> {
         shape: Option<Vec<(i32, i32)>>,
     ) -> Result<(), AllocError>
         requires fits { TypeFits (trees.type_of item.now.value_type) }
-        requires shape { option_map (λ ranges. ranges.items) shape ≡ shape_among (trees.annotations_of item.now.annotations.items) }
+        requires shape { option_map (λ ranges. ranges.items) shape
+            ≡ shape_among (trees.annotations_of item.now.annotations.items) }
         ensures { let a = trees.array_item_of item.now in
             OnOk result (IsArrayEntry (environment_of self.old.names) a entry
             → (a.variable ≡ false → shape_among a.annotations ≡ None)
@@ -199,9 +208,12 @@ impl<'a> Draft<'a> {
         item: &Item<'a>,
         constraint: &ConstraintItem<'a>,
     ) -> Result<Option<Fault>, AllocError>
-        requires fits { AllByRecursion ExpressionFits (map trees.expression_of constraint.now.arguments.items) }
-        requires item { trees.item_of item.now ≡ lang.Constraint (trees.constraint_item_of constraint.now) }
-        ensures { (n : Counts) → IsCounted self.old n → IfOk result (IsAdded self.old self.new n (trees.item_of item.now)) }
+        requires fits { AllByRecursion ExpressionFits
+            (map trees.expression_of constraint.now.arguments.items) }
+        requires item { trees.item_of item.now
+            ≡ lang.Constraint (trees.constraint_item_of constraint.now) }
+        ensures { (n : Counts) → IsCounted self.old n
+            → IfOk result (IsAdded self.old self.new n (trees.item_of item.now)) }
     {
         match call(alloc, &self.names, constraint)? {
             Ok(made) => Ok(self.push_constraint(item, made)?),
@@ -214,8 +226,10 @@ impl<'a> Draft<'a> {
         item: &Item<'a>,
         made: Constraint,
     ) -> Result<Option<Fault>, AllocError>
-        ensures { IfOk result (λ fault. (n : Counts) (c : lang.ConstraintItem) → IsCounted self.old n → trees.item_of item.now ≡ lang.Constraint c
-            → call_faults (environment_of self.old.names) c ≡ [] → models.call_constraints (scope (environment_of self.old.names) 0) c ≡ made ∷ []
+        ensures { IfOk result (λ fault. (n : Counts) (c : lang.ConstraintItem)
+            → IsCounted self.old n → trees.item_of item.now ≡ lang.Constraint c
+            → call_faults (environment_of self.old.names) c ≡ []
+            → models.call_constraints (scope (environment_of self.old.names) 0) c ≡ made ∷ []
             → IsAdded self.old self.new n (trees.item_of item.now) fault) }
     {
         match room_behind(None, self.room, item) {
@@ -249,7 +263,8 @@ fn push_variable(
     requires variable { let t = trees.type_of value_type.now in
         IsVariable (record { kind = rules.kind_of t; set = models.type_set t }) }
     ensures { let t = trees.type_of value_type.now in
-        OnOk result (variables.new.items ≡ variables.old.items ++ record { kind = rules.kind_of t; set = models.type_set t } ∷ []) }
+        OnOk result (variables.new.items ≡ variables.old.items
+        ++ record { kind = rules.kind_of t; set = models.type_set t } ∷ []) }
 {
     let variable = variable_of(alloc, value_type)?;
     variables.push(variable)?;

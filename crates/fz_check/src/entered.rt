@@ -37,7 +37,8 @@ pub(crate) fn parameter_entry(
 
 fn one_value(names: &Names<'_>, kind: Kind, basic: &Basic<'_>) -> Option<Entry>
     ensures { option_map meant result
-        ≡ value_entry kind (entries.term_in (environment_of names.now) (record { kind = kind; may_vary = false }) (trees.basic_of basic.now)) }
+        ≡ value_entry kind (entries.term_in (environment_of names.now)
+        (record { kind = kind; may_vary = false }) (trees.basic_of basic.now)) }
 {
     let asked = Element {
         kind,
@@ -104,7 +105,8 @@ fn term_list(
 ) -> Result<Result<Entry, u32>, AllocError>
     ensures { IfOk result (λ entry. entries.with_value meant entry
         ≡ entries.with_value (λ terms. entries.Terms kind terms)
-        (entries.each_of (entries.term_in (environment_of names.now) (record { kind = kind; may_vary = true })) (map trees.basic_of elements.now))) }
+        (entries.each_of (entries.term_in (environment_of names.now)
+        (record { kind = kind; may_vary = true })) (map trees.basic_of elements.now))) }
 {
     let asked = Element {
         kind,
@@ -124,7 +126,8 @@ fn number_list(
 ) -> Result<Result<Entry, u32>, AllocError>
     ensures { IfOk result (λ entry. entries.with_value meant entry
         ≡ entries.with_value (λ terms. entries.Numbers kind (map entries.number_of terms))
-        (entries.each_of (entries.term_in (environment_of names.now) (record { kind = kind; may_vary = false })) (map trees.basic_of elements.now))) }
+        (entries.each_of (entries.term_in (environment_of names.now)
+        (record { kind = kind; may_vary = false })) (map trees.basic_of elements.now))) }
 {
     let asked = Element {
         kind,
@@ -137,7 +140,8 @@ fn number_list(
 }
 
 fn numbers_entry(alloc: Global, kind: Kind, terms: &[Term]) -> Result<Entry, AllocError>
-    ensures { IfOk result (λ entry. meant entry ≡ entries.Numbers kind (map entries.number_of terms.now)) }
+    ensures { IfOk result (λ entry. meant entry
+        ≡ entries.Numbers kind (map entries.number_of terms.now)) }
 {
     let numbers = numbers(alloc, terms)?;
     Ok(Entry::Numbers { kind, numbers })
@@ -151,7 +155,8 @@ fn set_list(
     requires { AllByRecursion BasicFits (map trees.basic_of elements.now) }
     ensures { IfOk result (λ entry. entries.with_value meant entry
         ≡ entries.with_value (λ sets. entries.Sets)
-        (entries.each_of (entries.set_of (environment_of names.now)) (map trees.basic_of elements.now))) }
+        (entries.each_of (entries.set_of (environment_of names.now))
+        (map trees.basic_of elements.now))) }
 {
     for element in elements {
         match set(alloc, names, element)? {

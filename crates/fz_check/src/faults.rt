@@ -46,7 +46,8 @@ pub(crate) fn or_this(first: Option<Fault>, second: Fault) -> Fault
 
 /// The room behind an item, or the first rule that it breaks: that of `fault`, and the limits last.
 pub(crate) fn room_behind(fault: Option<Fault>, room: Room, item: &Item<'_>) -> Result<Room, Fault>
-    ensures { (faults : List rules.Fault) (n : Counts) → IsFirstOf faults fault → IsRoom room n → MatchResult result
+    ensures { (faults : List rules.Fault) (n : Counts) → IsFirstOf faults fault → IsRoom room n
+        → MatchResult result
         (λ left. (faults ≡ []) × (over n (additions (item_of item.now)) ≡ [])
         × IsRoom left (all_counted n (additions (item_of item.now))))
         (IsFirstFault (faults ++ at_places OverLimit (over n (additions (item_of item.now))))) }

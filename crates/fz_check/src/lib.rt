@@ -13,6 +13,8 @@ pub mod laws;
 mod parts;
 mod rows;
 mod search;
+#[cfg(test)]
+mod tests;
 mod textual;
 
 pub use checker::check;

@@ -100,7 +100,8 @@ pub(crate) fn push_value(
     number: u32,
     value: Option<Term>,
 ) -> Result<(), AllocError>
-    ensures { OnOk result (constraints.new.items ≡ constraints.old.items ++ equal_to_value kind number value) }
+    ensures { OnOk result (constraints.new.items ≡ constraints.old.items
+        ++ equal_to_value kind number value) }
 {
     let Some(value) = value else {
         return Ok(());
@@ -132,7 +133,8 @@ pub(crate) fn push_scalar(
     number: u32,
 ) -> Result<(), AllocError>
     ensures { OnOk result ((env : Environment) → outputs.new.items
-        ≡ outputs.old.items ++ models.scalar_outputs (scope env number) (trees.variable_item_of item.now)) }
+        ≡ outputs.old.items ++ models.scalar_outputs (scope env number)
+        (trees.variable_item_of item.now)) }
 {
     if output_var_at(&item.annotations).is_none() {
         return Ok(());
@@ -143,7 +145,8 @@ pub(crate) fn push_scalar(
 }
 
 fn scalar(alloc: Global, name: Name<'_>, kind: Kind, number: u32) -> Result<Output, AllocError>
-    ensures { IfOk result (λ o. o ≡ record { name = name.entry.bytes.now; kind = kind; array = false; shape = []; terms = Var number ∷ [] }) }
+    ensures { IfOk result (λ o. o
+        ≡ record { name = name.entry.bytes.now; kind = kind; array = false; shape = []; terms = Var number ∷ [] }) }
 {
     let name = text(alloc, name.bytes)?;
     let terms = Vec::from_array(alloc, [Term::Var(number)])?;
@@ -170,7 +173,8 @@ pub(crate) fn push_bounds(
     requires { TypeFits (trees.type_of item.now.value_type) }
     ensures { OnOk result ((env : Environment) → let a = trees.array_item_of item.now in
         meant entry.now ≡ models.array_entry env a a.variable a.value_type
-        → constraints.new.items ≡ constraints.old.items ++ models.element_constraints (scope env 0) a) }
+        → constraints.new.items ≡ constraints.old.items
+        ++ models.element_constraints (scope env 0) a) }
 {
     match entry {
         Entry::Terms { terms, .. } if is_bound(&item.value_type) => {
@@ -188,7 +192,8 @@ fn push_bound_terms(
 ) -> Result<(), AllocError>
     requires { TypeFits (trees.type_of value_type.now) }
     ensures { OnOk result (constraints.new.items
-        ≡ constraints.old.items ++ map (models.bound_to (models.type_set (trees.type_of value_type.now))) terms.now) }
+        ≡ constraints.old.items ++ map (models.bound_to (models.type_set
+        (trees.type_of value_type.now))) terms.now) }
 {
     for term in terms {
         let constraint = bound_to(alloc, value_type, *term)?;
@@ -199,7 +204,8 @@ fn push_bound_terms(
 
 fn bound_to(alloc: Global, value_type: &ValueType, term: Term) -> Result<Constraint, AllocError>
     requires { TypeFits (trees.type_of value_type.now) }
-    ensures { IfOk result (λ c. c ≡ models.bound_to (models.type_set (trees.type_of value_type.now)) term) }
+    ensures { IfOk result (λ c. c
+        ≡ models.bound_to (models.type_set (trees.type_of value_type.now)) term) }
 {
     let set = type_set(alloc, value_type)?;
     let arguments = Vec::from_array(alloc, [Argument::One(term), Argument::Set(set)])?;
@@ -214,7 +220,8 @@ pub(crate) fn push_array(
     entry: &Entry,
     shape: Option<Vec<(i32, i32)>>,
 ) -> Result<(), AllocError>
-    requires { option_map (λ ranges. ranges.items) shape ≡ shape_among (trees.annotations_of item.now.annotations.items) }
+    requires { option_map (λ ranges. ranges.items) shape
+        ≡ shape_among (trees.annotations_of item.now.annotations.items) }
     ensures { OnOk result ((env : Environment) → let a = trees.array_item_of item.now in
         meant entry.now ≡ models.array_entry env a a.variable a.value_type
         → (a.variable ≡ false → shape_among a.annotations ≡ None)
@@ -240,7 +247,8 @@ fn array(
     shape: Vec<(i32, i32)>,
     terms: &[Term],
 ) -> Result<Output, AllocError>
-    ensures { IfOk result (λ o. o ≡ record { name = name.entry.bytes.now; kind = kind; array = true; shape = shape.items; terms = terms.now }) }
+    ensures { IfOk result (λ o. o
+        ≡ record { name = name.entry.bytes.now; kind = kind; array = true; shape = shape.items; terms = terms.now }) }
 {
     let name = text(alloc, name.bytes)?;
     let terms = Vec::from_slice(alloc, terms)?;

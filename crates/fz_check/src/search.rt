@@ -19,7 +19,8 @@ pub(crate) fn search(
     names: &Names<'_>,
     annotations: &[Annotation<'_>],
 ) -> Result<Vec<SearchPart>, AllocError>
-    ensures { IfOk result (λ parts. parts.items ≡ searches.search_of (environment_of names.now) (trees.annotations_of annotations.now)) }
+    ensures { IfOk result (λ parts. parts.items
+        ≡ searches.search_of (environment_of names.now) (trees.annotations_of annotations.now)) }
 {
     let mut parts = Vec::new(alloc);
     for i in 0..annotations.len() {
@@ -37,7 +38,8 @@ fn push_first(
     parts: &mut Vec<SearchPart>,
 ) -> Result<(), AllocError>
     ensures { OnOk result (parts.new.items ≡ parts.old.items
-        ++ parts_of_first (environment_of names.now) (map trees.annotation_of before.now) (trees.annotation_of annotation.now)) }
+        ++ parts_of_first (environment_of names.now) (map trees.annotation_of before.now)
+        (trees.annotation_of annotation.now)) }
 {
     if is_among(before, annotation.name.bytes) {
         return Ok(());
@@ -71,7 +73,8 @@ fn push_annotation(
     parts: &mut Vec<SearchPart>,
 ) -> Result<(), AllocError>
     ensures { OnOk result (parts.new.items ≡ parts.old.items
-        ++ flat_map (searches.parts_in (environment_of names.now)) (searches.as_argument (trees.annotation_of annotation.now))) }
+        ++ flat_map (searches.parts_in (environment_of names.now)) (searches.as_argument
+        (trees.annotation_of annotation.now))) }
 {
     match &annotation.arguments {
         Some(arguments) => {
@@ -193,7 +196,8 @@ fn push_words(
     parts: &mut Vec<SearchPart>,
 ) -> Result<(), AllocError>
     ensures { OnOk result (parts.new.items ≡ parts.old.items
-        ++ part_of_words (environment_of names.now) (trees.argument_of variables.now) (option_map trees.name_of pick.entry) (option_map trees.name_of value.entry)) }
+        ++ part_of_words (environment_of names.now) (trees.argument_of variables.now)
+        (option_map trees.name_of pick.entry) (option_map trees.name_of value.entry)) }
 {
     match (pick, value) {
         (Some(pick), Some(value)) => push_over(alloc, names, variables, pick, value, parts),
@@ -210,7 +214,8 @@ fn push_over(
     parts: &mut Vec<SearchPart>,
 ) -> Result<(), AllocError>
     ensures { OnOk result (parts.new.items ≡ parts.old.items
-        ++ searches.part_of (environment_of names.now) (trees.argument_of variables.now) (trees.name_of pick.entry) (trees.name_of value.entry)) }
+        ++ searches.part_of (environment_of names.now) (trees.argument_of variables.now)
+        (trees.name_of pick.entry) (trees.name_of value.entry)) }
 {
     match variables_in(alloc, names, variables)? {
         Some(variables) => {
@@ -252,7 +257,8 @@ fn variables_of(alloc: Global, terms: &[Term]) -> Result<Vec<u32>, AllocError>
 }
 
 fn push_term(variables: &mut Vec<u32>, term: Term) -> Result<(), AllocError>
-    ensures { OnOk result (variables.new.items ≡ variables.old.items ++ searches.variables_of_terms (term ∷ [])) }
+    ensures { OnOk result (variables.new.items ≡ variables.old.items
+        ++ searches.variables_of_terms (term ∷ [])) }
 {
     if let Term::Var(variable) = term {
         variables.push(variable)?;
@@ -266,7 +272,8 @@ fn members(
     arguments: &[Argument<'_>],
 ) -> Result<Option<Vec<u32>>, AllocError>
     ensures { IfOk result (λ found. option_map (λ variables. variables.items) found
-        ≡ option_map searches.joined (all_of (map (searches.member (environment_of names.now)) (map trees.argument_of arguments.now)))) }
+        ≡ option_map searches.joined (all_of (map (searches.member (environment_of names.now))
+        (map trees.argument_of arguments.now)))) }
 {
     let mut variables = Vec::new(alloc);
     for argument in arguments {
@@ -289,7 +296,8 @@ fn push_member(variables: &mut Vec<u32>, variable: Option<u32>) -> Result<(), Al
 
 /// The variable that a member of a list is, if it is one; nothing where the list isn't of the form.
 fn member(names: &Names<'_>, argument: &Argument<'_>) -> Option<Option<u32>>
-    ensures { option_map (λ v. option_list v) result ≡ searches.member (environment_of names.now) (trees.argument_of argument.now) }
+    ensures { option_map (λ v. option_list v) result
+        ≡ searches.member (environment_of names.now) (trees.argument_of argument.now) }
 {
     match argument {
         Argument::Simple(Basic::Truth { .. }) | Argument::Simple(Basic::Numeral(_)) => Some(None),
