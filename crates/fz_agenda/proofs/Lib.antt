@@ -1,1 +1,5 @@
 pub mod Settled
+pub mod Places
+pub mod Woken
+pub mod Standing
+pub mod Drained

@@ -1,5 +1,14 @@
 //! Which propagators of a space are idle, queued or gone, and what that says of their lines (Schulte, Stuckey: "Efficient
-//! Constraint Propagation Engines"). The definitions stand in `specs/`; here are the laws that they keep.
+//! Constraint Propagation Engines"). The definitions stand in `specs/`, with the laws that they keep; here are the queues, and who
+//! is woken by which change.
 #![tactic(auto)]
 
+pub mod agenda;
+pub mod draining;
 pub mod laws;
+pub mod queue;
+pub mod wakes;
+
+pub use agenda::Agenda;
+pub use draining::drain;
+pub use wakes::Wakes;

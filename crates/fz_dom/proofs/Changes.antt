@@ -37,7 +37,7 @@ change_as Wiped P Q d e f c = (c.0, λ x i q. c.1 x i ((f x i).1 q))
 pub word_form : (h : Head) → IsWhole h → 0 < h.bits → head_set h ≡ bit_ranges h.base h.bits
 word_form h w p = head_word h.low h.high h.base h.size h.bits p
 
-word_some : (base : ℤ) (bits : ℕ) → 0 < bits → bits < 2 ^ 64 → 0 < length (bit_ranges base bits)
+pub word_some : (base : ℤ) (bits : ℕ) → 0 < bits → bits < 2 ^ 64 → 0 < length (bit_ranges base bits)
 word_some base bits p q =
     let a = lowest_bit bits p q in
     filled (bit_ranges base bits) (base +ℤ pos (trailing_zeros w64 bits)) ((bits_read base bits).from (base +ℤ pos (trailing_zeros w64 bits)) (trailing_zeros w64 bits, a.0, refl, a.1))
@@ -52,7 +52,7 @@ same_bits h kept w p e = (
   bits_some h w p,
 )
 
-above_none : (bits i : ℕ) → bits < 2 ^ 64 → bit_at bits i ≡ 1 → i < 64
+pub above_none : (bits i : ℕ) → bits < 2 ^ 64 → bit_at bits i ≡ 1 → i < 64
 above_none bits i q e = elim (leb_tells 64 i) [ inl t ↦ (let z = bit_at_above bits 64 i q t.1 in absurd (omega arith)) | inr t ↦ t.1 ]
 
 pub fewer_bits : (base : ℤ) (bits kept : ℕ) → bits < 2 ^ 64 → kept < 2 ^ 64 → kept ≢ bits → 0 < kept

@@ -7,3 +7,6 @@ pub mod Changes
 pub mod Lists
 pub mod Runs
 pub mod Kept
+pub mod Shared
+pub mod Windows
+pub mod Left

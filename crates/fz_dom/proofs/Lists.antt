@@ -75,7 +75,7 @@ dropped_at (suc n) (r ∷ rs) s ds d e = dropped_at n rs s ds d e
 
 -- ---- the last range, cut from above, and the first, cut from below
 
-part_within : (rs es : List (ℤ × ℤ)) → AreRanges es → AreWithinLimits rs → ((x : ℤ) → IsInSet es x → IsInSet rs x) → AreWithinLimits es
+pub part_within : (rs es : List (ℤ × ℤ)) → AreRanges es → AreWithinLimits rs → ((x : ℤ) → IsInSet es x → IsInSet rs x) → AreWithinLimits es
 part_within rs es h w f = within_all es h (λ x i. within_limits rs x w (f x i))
 
 -- n is where the first range that begins above u stands

@@ -5,3 +5,4 @@ pub mod Heads
 pub mod Changes
 pub mod Kept
 pub mod Wide
+pub mod Left

@@ -1,15 +1,20 @@
 //! The domain of a variable.
-ghost use Rattle.std.specs.Prelude.{◌≡◌, ℕ, ℤ, pos, ◌≤ℤ◌, ◌<ℤ◌, ◌+ℤ◌, ◌≤◌, ◌<◌, ◌↔◌, ◌⊎◌, ◌≢◌, List, [], ◌∷◌, length, IfOk, IsOk, OnOk, OnErr, IsTrue, IsNone, IsSome, IfSome, slice_index_or, MatchOption};
-ghost use Rattle.fz_sets.specs.Sets.{AreRanges, AreWithinLimits, AreOneSet, IsInSet, IsWithinLimits, set_size, interval};
+ghost use Rattle.std.specs.Prelude.{◌≡◌, ℕ, ℤ, pos, neg_ℤ, false, ◌≤ℤ◌, ◌<ℤ◌, ◌+ℤ◌, ◌-ℤ◌, ◌^◌, ◌≤◌, ◌<◌, ◌↔◌, ◌⊎◌, ◌≢◌, List, [], ◌∷◌, length, IfOk, IsOk, OnOk, OnErr, IsTrue, IsNone, IsSome, IfSome, slice_index_or, MatchOption};
+ghost use Rattle.std.specs.Int.{bit_at};
+ghost use Rattle.fz_sets.specs.Sets.{AreRanges, AreWithinLimits, AreOneSet, IsInSet, IsWithinLimits, set_size, interval, LEAST, GREATEST};
 ghost use Rattle.fz_dom.specs.Shape.{IsDomain, least, greatest, IsNextFrom, IsNextAbove, IsNoneFrom, IsNoneAbove};
 ghost use Rattle.fz_dom.specs.Changes.{IsChange, IsFromTo};
 ghost use Rattle.fz_dom.specs.Kept.{kept_ranges, IsKept};
 ghost use Rattle.fz_dom.specs.Wide.{IsPart};
+ghost use Rattle.fz_dom.specs.Places.{IsBit};
 
 use crate::change::Change;
 use crate::head::Head;
-use crate::rising::{cut, has_between, keep_between, next_in};
+use crate::range_iter::RangeIter;
+use crate::rising::{cut, has_between, keep_between, next_in, size_of, word_of};
+use crate::meet::{base_of, moved, shared};
 use crate::union::union_of;
+use crate::word::common;
 use smallvec::SmallVec;
 use std::alloc::{AllocError, Global};
 use std::marker::Model;
@@ -166,6 +171,18 @@ impl Dom {
             self.head.range_at(index)
         } else {
             self.rest[index]
+        }
+    }
+
+    /// The ranges from the lowest up, each a low and a high, both in the set.
+    pub fn ranges(&self) -> RangeIter<'_>
+        ensures ranges { result ≡ self.now }
+        ensures domain { IsDomain self.now }
+    {
+        if self.rest.is_empty() {
+            RangeIter::of_head(&self.head)
+        } else {
+            RangeIter::of_list(self.rest.as_slice())
         }
     }
 
@@ -417,6 +434,205 @@ impl Dom {
             return Ok(None);
         }
         Ok(Some(cut(alloc, self.rest.as_slice(), low, high)?))
+    }
+
+    /// Keeps the numbers of another domain.
+    ///
+    /// # Errors
+    /// `AllocError` where there is no memory for its ranges; it is then left as it was. Where one of the two is at most 64
+    /// wide, or the other has no hole, it takes none.
+    pub fn keep(&mut self, other: &Dom) -> Result<Change, AllocError>
+        ensures change { IfOk result (λ r. IsChange r (λ x. IsInSet other.now x) self.old self.new) }
+        ensures err { OnErr result (self.new ≡ self.old) }
+        ensures one { length other.now ≤ 1 → IsOk result }
+        ensures narrow { greatest self.old ≤ℤ (least self.old +ℤ pos 63) → IsOk result }
+        ensures narrow_other { greatest other.now ≤ℤ (least other.now +ℤ pos 63) → IsOk result }
+        ensures domain { IsDomain self.new }
+    {
+        self.keep_shifted(other, 0)
+    }
+
+    /// Keeps the numbers that lie a shift above those of another domain.
+    ///
+    /// # Errors
+    /// `AllocError` where there is no memory for its ranges; it is then left as it was. Where one of the two is at most 64
+    /// wide, or the other has no hole, it takes none.
+    pub fn keep_shifted(&mut self, other: &Dom, shift: i32) -> Result<Change, AllocError>
+        ensures change { IfOk result (λ r. IsChange r (λ x. IsInSet other.now (x -ℤ shift)) self.old self.new) }
+        ensures err { OnErr result (self.new ≡ self.old) }
+        ensures one { length other.now ≤ 1 → IsOk result }
+        ensures narrow { greatest self.old ≤ℤ (least self.old +ℤ pos 63) → IsOk result }
+        ensures narrow_other { greatest other.now ≤ℤ (least other.now +ℤ pos 63) → IsOk result }
+        ensures domain { IsDomain self.new }
+    {
+        if other.is_interval() {
+            return Ok(self.keep_interval(other, shift));
+        }
+        if self.is_narrow() {
+            return Ok(self.keep_narrow(other, shift));
+        }
+        if other.is_narrow() {
+            return Ok(self.keep_narrow_other(other, shift));
+        }
+        self.keep_wide(other, shift)
+    }
+
+    /// Keeps the numbers that lie a shift above those of an interval.
+    fn keep_interval(&mut self, other: &Dom, shift: i32) -> Change
+        requires one { other.now ≡ (least other.now, greatest other.now) ∷ [] }
+        requires some { 0 < length other.now }
+        ensures change { IsChange result (λ x. IsInSet other.now (x -ℤ shift)) self.old self.new }
+        ensures domain { IsDomain self.new }
+    {
+        let low = moved(other.min(), shift);
+        let high = moved(other.max(), shift);
+        self.keep_range(low, high)
+    }
+
+    /// Keeps the numbers that lie a shift above those of another domain, where it is at most 64 wide.
+    fn keep_narrow(&mut self, other: &Dom, shift: i32) -> Change
+        requires narrow { greatest self.old ≤ℤ (least self.old +ℤ pos 63) }
+        ensures change { IsChange result (λ x. IsInSet other.now (x -ℤ shift)) self.old self.new }
+        ensures domain { IsDomain self.new }
+    {
+        let base = self.window_base(0);
+        self.keep_window(base, other, shift)
+    }
+
+    /// The same where the other domain is at most 64 wide.
+    fn keep_narrow_other(&mut self, other: &Dom, shift: i32) -> Change
+        requires narrow { greatest other.now ≤ℤ (least other.now +ℤ pos 63) }
+        ensures change { IsChange result (λ x. IsInSet other.now (x -ℤ shift)) self.old self.new }
+        ensures domain { IsDomain self.new }
+    {
+        let _ = self.is_narrow();
+        let base = other.window_base(shift);
+        self.keep_window(base, other, shift)
+    }
+
+    /// Whether it is kept by its ends alone, and has numbers.
+    fn is_interval(&self) -> bool
+        ensures one { IsTrue result → (self.now ≡ (least self.now, greatest self.now) ∷ []) }
+        ensures some { IsTrue result → 0 < length self.now }
+        ensures several { result ≡ false
+            → (2 ≤ length self.now) ⊎ (greatest self.now ≤ℤ (least self.now +ℤ pos 63)) }
+        ensures domain { IsDomain self.now }
+    {
+        self.rest.is_empty() && self.head.bits == 0 && self.head.size != 0
+    }
+
+    /// Whether it is at most 64 wide.
+    fn is_narrow(&self) -> bool
+        ensures narrow { IsTrue result ↔ (greatest self.now ≤ℤ (least self.now +ℤ pos 63)) }
+        ensures domain { IsDomain self.now }
+    {
+        self.head.high.abs_diff(self.head.low) < 64
+    }
+
+    /// The base of a word for its numbers, each moved up by a shift, as far as they are within the limits.
+    fn window_base(&self, shift: i32) -> i32
+        requires { greatest self.now ≤ℤ (least self.now +ℤ pos 63) }
+        ensures floor { LEAST ≤ℤ result }
+        ensures ceiling { (result +ℤ pos 63) ≤ℤ GREATEST }
+        ensures window { (x : ℤ) → IsWithinLimits x → IsInSet self.now (x -ℤ shift)
+            → (result ≤ℤ x) × (x ≤ℤ (result +ℤ pos 63)) }
+        ensures domain { IsDomain self.now }
+    {
+        base_of(self.head.low, shift)
+    }
+
+    /// Its numbers as bits, where bit 0 stands for a base.
+    fn word_at(&self, base: i64) -> u64
+        requires floor { neg_ℤ (pos (2 ^ 40)) ≤ℤ base }
+        requires ceiling { base ≤ℤ pos (2 ^ 40) }
+        ensures { (i : ℕ) → i < 64 → (bit_at result i ≡ 1) ↔ IsInSet self.now (base +ℤ pos i) }
+    {
+        if self.rest.is_empty() {
+            return self.head.word_at(base);
+        }
+        word_of(self.rest.as_slice(), base)
+    }
+
+    /// Keeps the numbers that lie a shift above those of another domain, where all that do stand for bits of a word.
+    fn keep_window(&mut self, base: i32, other: &Dom, shift: i32) -> Change
+        requires floor { LEAST ≤ℤ base }
+        requires ceiling { (base +ℤ pos 63) ≤ℤ GREATEST }
+        requires window { (x : ℤ) → IsInSet self.old x → IsInSet other.now (x -ℤ shift)
+            → (base ≤ℤ x) × (x ≤ℤ (base +ℤ pos 63)) }
+        ensures change { IsChange result (λ x. IsInSet other.now (x -ℤ shift)) self.old self.new }
+        ensures domain { IsDomain self.new }
+    {
+        let mine = self.word_at(i64::from(base));
+        let theirs = other.word_at(i64::from(base) - i64::from(shift));
+        self.keep_word(base, common(mine, theirs))
+    }
+
+    /// Keeps the numbers of a word, all of which it has.
+    fn keep_word(&mut self, base: i32, word: u64) -> Change
+        requires floor { LEAST ≤ℤ base }
+        requires ceiling { (base +ℤ pos 63) ≤ℤ GREATEST }
+        requires among { (x : ℤ) → IsBit base word x → IsInSet self.old x }
+        ensures change { IsChange result (λ x. IsBit base word x) self.old self.new }
+        ensures domain { IsDomain self.new }
+    {
+        if word == 0 {
+            return Change::Wiped;
+        }
+        if word.count_ones() == self.head.size {
+            return Change::Same;
+        }
+        self.rest.clear();
+        self.head = Head::from_word(base, word);
+        Change::Changed
+    }
+
+    /// Keeps the numbers that lie a shift above those of another domain, where both are more than 64 wide.
+    fn keep_wide(&mut self, other: &Dom, shift: i32) -> Result<Change, AllocError>
+        requires wide { (least self.old +ℤ pos 63) <ℤ greatest self.old }
+        requires other_wide { (least other.now +ℤ pos 63) <ℤ greatest other.now }
+        requires several { 2 ≤ length other.now }
+        ensures change { IfOk result (λ r. IsChange r (λ x. IsInSet other.now (x -ℤ shift)) self.old self.new) }
+        ensures err { OnErr result (self.new ≡ self.old) }
+        ensures domain { IsDomain self.new }
+    {
+        let ranges = self.shared_with(other.rest.as_slice(), shift)?;
+        Ok(self.keep_ranges(ranges))
+    }
+
+    /// The ranges of its numbers that lie a shift above those of others, where it is more than 64 wide.
+    fn shared_with(
+        &self,
+        theirs: &[(i32, i32)],
+        shift: i32,
+    ) -> Result<SmallVec<(i32, i32), 2>, AllocError>
+        requires wide { (least self.now +ℤ pos 63) <ℤ greatest self.now }
+        requires theirs { AreRanges theirs.now }
+        ensures { IfOk result (λ v. IsPart (λ x. IsInSet theirs.now (x -ℤ shift)) self.now v.items) }
+    {
+        let alloc = *self.rest.allocator();
+        if self.rest.is_empty() {
+            let whole = [(self.head.low, self.head.high)];
+            return shared(alloc, &whole, theirs, shift);
+        }
+        shared(alloc, self.rest.as_slice(), theirs, shift)
+    }
+
+    /// Keeps the numbers of ranges, all of which it has.
+    fn keep_ranges(&mut self, ranges: SmallVec<(i32, i32), 2>) -> Change
+        requires ranges { AreRanges ranges.items }
+        requires within { AreWithinLimits ranges.items }
+        requires among { (x : ℤ) → IsInSet ranges.items x → IsInSet self.old x }
+        ensures change { IsChange result (λ x. IsInSet ranges.items x) self.old self.new }
+        ensures domain { IsDomain self.new }
+    {
+        if ranges.is_empty() {
+            return Change::Wiped;
+        }
+        if size_of(ranges.as_slice()) == self.head.size {
+            return Change::Same;
+        }
+        *self = Dom::from_several(ranges);
+        Change::Changed
     }
 
     fn from_several(ranges: SmallVec<(i32, i32), 2>) -> Dom

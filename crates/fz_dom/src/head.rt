@@ -1,15 +1,15 @@
 //! The part of a domain that is copied as it is.
-ghost use Rattle.std.specs.Prelude.{◌≡◌, ◌<◌, ◌≤ℤ◌, ◌<ℤ◌, ◌+ℤ◌, ◌↔◌, ◌⊎◌, ℕ, ℤ, pos, List, [], ◌∷◌, length, slice_index_or, IsTrue};
+ghost use Rattle.std.specs.Prelude.{◌≡◌, ◌<◌, ◌≤ℤ◌, ◌<ℤ◌, ◌+ℤ◌, ◌^◌, ◌↔◌, ◌⊎◌, ℕ, ℤ, pos, neg_ℤ, List, [], ◌∷◌, length, slice_index_or, IsTrue};
 ghost use Rattle.fz_sets.specs.Sets.{AreRanges, AreWithinLimits, IsWithinLimits, IsInSet, LEAST, GREATEST};
 ghost use Rattle.std.specs.Int.{bit_at};
 
 use crate::change::Change;
 use crate::rising::{size_of, word_of};
-use crate::word::{bits_above, common, first_run, has_bit, run_of, without};
+use crate::word::{bits_above, common, first_run, has_bit, rebased, run_of, window_of, without};
 
 /// The highest number that the lowest bit of a word may stand for, so that each of its bits stands for a number within
 /// the limits.
-const HIGHEST_BASE: i32 = 2147483583;
+pub const HIGHEST_BASE: i32 = 2147483583;
 
 /// The ends and the size of a domain, and a word of bits where it has holes and is at most 64 wide.
 #[derive(Clone, Copy)]
@@ -208,6 +208,22 @@ impl Head {
             return false;
         }
         self.bits == 0 || has_bit(self.bits, self.place(value))
+    }
+
+    /// Its numbers as bits, where bit 0 stands for a base.
+    pub fn word_at(&self, base: i64) -> u64
+        requires whole { IsWhole self.now }
+        requires floor { neg_ℤ (pos (2 ^ 40)) ≤ℤ base }
+        requires ceiling { base ≤ℤ pos (2 ^ 40) }
+        ensures { (i : ℕ) → i < 64 → (bit_at result i ≡ 1) ↔ IsInSet (head_set self.now) (base +ℤ pos i) }
+    {
+        if self.bits != 0 {
+            return rebased(self.bits, self.base, base);
+        }
+        if self.size == 0 {
+            return 0;
+        }
+        window_of(self.low, self.high, base)
     }
 
     /// The least of its numbers at or above a value between its ends.

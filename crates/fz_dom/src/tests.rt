@@ -38,6 +38,8 @@ fn a_gap_is_not_in_the_set(rt: HostRuntime) -> Result<(), Fail> {
     assert_eq!(rt; dom.next_from(8), None);
     assert_eq!(rt; dom.next_above(3), Some(5));
     assert_eq!(rt; dom.next_above(7), None);
+    let ranges: Vec<(i32, i32)> = dom.ranges().collect(rt.alloc())?;
+    assert_eq!(rt; ranges.as_slice(), &[(1, 3), (5, 7)]);
     let copy = dom.copy()?;
     assert!(rt; copy.same(&dom));
     assert!(rt; !copy.same(&Dom::from_ranges(rt.alloc(), &[(1, 7)])?));
@@ -87,6 +89,12 @@ fn what_leaves_nothing_changes_nothing(rt: HostRuntime) -> Result<(), Fail> {
     assert_eq!(rt; dom.keep_from(6), Change::Changed);
     assert_eq!(rt; dom.remove_range(6, 7)?, Change::Wiped);
     assert_eq!(rt; dom.size(), 2);
+    let others = Dom::from_ranges(rt.alloc(), &[(7, 9)])?;
+    assert_eq!(rt; dom.keep(&others)?, Change::Changed);
+    assert!(rt; dom.is_fixed());
+    assert_eq!(rt; dom.keep_shifted(&others, -2)?, Change::Same);
+    assert_eq!(rt; dom.keep_shifted(&others, 2)?, Change::Wiped);
+    assert_eq!(rt; dom.min(), 7);
     Ok(())
 }
 
@@ -230,6 +238,30 @@ fn every_change_of_every_subset(rt: HostRuntime) -> Result<(), Fail> {
     for place in PLACES {
         for bits in 0..64 {
             try_subset(&rt, rt.alloc(), bits, place)?;
+        }
+    }
+    Ok(())
+}
+
+fn try_others(rt: &impl Abort, alloc: Global, bits: u32, place: (i32, i32)) -> Result<(), Fail> {
+    let shift = if place.0 > 0 { 7 } else { -7 };
+    let from = (place.0.saturating_sub(shift), place.1);
+    for other in 0..64 {
+        let mut dom = subset(alloc, bits, place)?;
+        let change = dom.keep(&subset(alloc, other, place)?)?;
+        check_change(rt, change, &dom, bits, other, place);
+        let mut dom = subset(alloc, bits, place)?;
+        let change = dom.keep_shifted(&subset(alloc, other, from)?, shift)?;
+        check_change(rt, change, &dom, bits, other, place);
+    }
+    Ok(())
+}
+
+#[test]
+fn every_subset_with_every_other(rt: HostRuntime) -> Result<(), Fail> {
+    for place in PLACES {
+        for bits in 0..64 {
+            try_others(&rt, rt.alloc(), bits, place)?;
         }
     }
     Ok(())

@@ -1,6 +1,7 @@
 //! Operations on a word of bits, by what they do to each bit.
 ghost use Rattle.std.specs.Prelude.{◌≡◌, ◌<◌, ◌≤◌, ◌+◌, ◌-◌, ◌↔◌, ◌⊎◌, ◌≤ℤ◌, ◌+ℤ◌, ◌^◌, pos, neg_ℤ, IsTrue, ℕ};
 ghost use Rattle.std.specs.Int.{bit_at};
+ghost use Rattle.fz_dom.specs.Places.{IsBit};
 
 /// Whether the bit at a place is set.
 pub fn has_bit(word: u64, k: u32) -> bool
@@ -54,6 +55,23 @@ pub fn lowered(word: u64, by: u32) -> u64
     ensures { (i : ℕ) → i < 64 → (bit_at result i ≡ 1) ↔ (bit_at word (i + by) ≡ 1) }
 {
     word >> by
+}
+
+/// The bits of the same numbers, where bit 0 stood for one base and is to stand for another; those that leave the word are
+/// lost.
+pub fn rebased(word: u64, from: i32, to: i64) -> u64
+    ensures { (i : ℕ) → i < 64 → (bit_at result i ≡ 1) ↔ IsBit from word (to +ℤ pos i) }
+{
+    let base = i64::from(from);
+    let distance = base.abs_diff(to);
+    if distance >= 64 {
+        return 0;
+    }
+    if base <= to {
+        lowered(word, distance as u32)
+    } else {
+        raised(word, distance as u32)
+    }
 }
 
 /// The bits of the numbers from a low to a high, both among them, where bit 0 stands for a base.

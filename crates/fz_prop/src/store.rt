@@ -63,6 +63,18 @@ impl Store {
         }))
     }
 
+    /// A store of no variable. It takes no memory.
+    pub fn empty(alloc: Global) -> Store
+        ensures { result ≡ fresh [] }
+    {
+        Store {
+            doms: Vec::new(alloc),
+            marks: Vec::new(alloc),
+            changed: Vec::new(alloc),
+            head: 0,
+        }
+    }
+
     /// Another store that is the same.
     ///
     /// # Errors

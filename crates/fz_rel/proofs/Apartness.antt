@@ -14,7 +14,7 @@ use Rattle.fz_prop.specs.declared.answer.Answer.TheVariants.{Subsumed, Failed}
 use Rattle.fz_prop.specs.Answers.{IsCorrectOf}
 use Rattle.fz_prop.specs.Stores.{Stored, Shrinks, IsTermOf, IsTermChange}
 use Rattle.fz_rel.specs.Truths.{TruthOf, IsAnswerAs}
-use Rattle.fz_rel.proofs.Terms.{term_within, narrower_term, only_in, within_kept, kept_term, none_kept}
+use Rattle.fz_prop.proofs.TermChanges.{term_within, narrower_term, only_in, within_kept, kept_term, none_kept}
 
 -- the number of x leaves y
 pub correct : (change : Change) (x y : Term) (v : ℤ) (r s : Stored) → IsTermOf (length r.doms) x → IsOnly (term_set r.doms x) v

@@ -1,4 +1,3 @@
-pub mod Terms
 pub mod Apartness
 pub mod Orders
 pub mod Names

@@ -16,7 +16,7 @@ use Rattle.fz_prop.specs.declared.answer.Answer.TheVariants.{Subsumed}
 use Rattle.fz_prop.specs.Answers.{IsCorrectOf}
 use Rattle.fz_prop.specs.Stores.{Stored, Shrinks, IsTermOf, IsTermChange}
 use Rattle.fz_rel.specs.Truths.{TruthOf, IsAnswerAs, order_of, gap_of, IsOrdered}
-use Rattle.fz_rel.proofs.Terms.{term_within, narrower_term, within_kept, kept_term, none_kept}
+use Rattle.fz_prop.proofs.TermChanges.{term_within, narrower_term, within_kept, kept_term, none_kept}
 
 pub to_order : (strict : Bool) (x y : ℤ) → Relates (order_of strict) x y → IsOrdered strict x y
 to_order true x y h = omega (arith, ints, h)

@@ -3,7 +3,10 @@ ghost use Rattle.std.specs.Prelude.{◌≡◌, ◌≢◌, ◌≤◌, ℕ, List, 
 ghost use Rattle.fz_strength.specs.declared.relation.Relation.TheVariants.{Equal};
 ghost use Rattle.fz_strength.specs.Relations.{relation_of};
 ghost use Rattle.fz_spec.specs.Constraints.{One};
-ghost use Rattle.fz_prop.specs.Answers.{IsCorrectOf, IsDecided};
+ghost use Rattle.fz_strength.specs.Events.{AreBelow, AreFixed};
+ghost use Rattle.fz_strength.specs.Lines.{waits};
+ghost use Rattle.fz_strength.specs.Promises.{IsCorrect, Suits};
+ghost use Rattle.fz_prop.specs.Answers.{IsAnswer, IsCorrectOf, IsDecided};
 ghost use Rattle.fz_prop.specs.Stores.{Shrinks, IsTermOf, FitsTerm};
 ghost use Rattle.fz_rel.specs.Truths.{TruthOf, IsAnswerAs, AreSingle};
 ghost use Rattle.fz_rel.specs.Comparisons.{IsComparison, variables_of};
@@ -62,6 +65,23 @@ impl Comparison {
     }
 }
 
+impl Comparison {
+    /// Narrows a store, as `propagate` does: nothing is kept between runs.
+    ///
+    /// # Errors
+    /// `AllocError` where there is no memory for a domain; the store is then narrower, and no assignment is lost.
+    pub fn run(&self, store: &mut Store) -> Result<Answer, AllocError>
+        requires inside { AreBelow (waits self.now) (length store.old.doms) }
+        requires suits { Suits self.now store.old.doms }
+        ensures shrinks { Shrinks store.old store.new }
+        ensures correct { IsCorrect self.now store.old.doms store.new.doms }
+        ensures answer { IfOk result (λ r. IsAnswer r self.now store.old.doms store.new.doms) }
+        ensures checking { IfOk result (λ r. AreFixed (waits self.now) store.old.doms → IsDecided r) }
+    {
+        relate(store, self.relation, self.x, self.y)
+    }
+}
+
 /// The variables of two terms, the first so many.
 fn variables_of(x: Term, y: Term) -> ([u32; 2], usize)
     ensures count { result.1 ≤ 2 }
@@ -116,7 +136,7 @@ impl Propagator for Comparison {
     }
 
     fn propagate(&mut self, store: &mut Store) -> Result<Answer, AllocError> {
-        relate(store, self.relation, self.x, self.y)
+        self.run(store)
     }
 
     fn advise(&mut self, _variable: u32, _store: &Store) {}

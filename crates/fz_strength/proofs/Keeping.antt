@@ -1,31 +1,24 @@
 -- A line lasts while nothing happens that may break it.
-use Rattle.std.proofs.Common.{◌≡◌, List, [], ◌∷◌, ◌++◌, refl, ◌∙◌}
+use Rattle.std.proofs.Common.{◌≡◌, List, [], ◌∷◌, ◌++◌, ◌∙◌}
 use Rattle.std.specs.Prelude.{ℤ, Option, Some, None}
 use Rattle.fz_sets.specs.Sets.{IsInSet}
 use Rattle.fz_spec.specs.declared.builtin.Builtin.{Builtin}
 use Rattle.fz_spec.specs.declared.builtin.Builtin.TheVariants.{SetIn}
 use Rattle.fz_spec.specs.declared.term.Term.{Term}
 use Rattle.fz_spec.specs.declared.term.Term.TheVariants.{Num, Var}
-use Rattle.fz_spec.specs.Constraints.{Argument, One, Set}
+use Rattle.fz_spec.specs.Constraints.{Argument, One, Numbers, Terms, Set}
 use Rattle.fz_strength.specs.declared.relation.Relation.{Relation}
 use Rattle.fz_strength.specs.declared.relation.Relation.TheVariants.{Equal, NotEqual, AtMost, Below}
-use Rattle.fz_strength.specs.declared.event.Event.{Event}
-use Rattle.fz_strength.specs.declared.event.Event.TheVariants.{Any, Bound, Fixed}
+use Rattle.fz_strength.specs.declared.event.Event.TheVariants.{Any}
 use Rattle.fz_strength.specs.Domains.{dom_at, term_set, IsNarrower}
 use Rattle.fz_strength.specs.Events.{IsQuiet, Wait, wait_for, AreQuiet}
 use Rattle.fz_strength.specs.Relations.{relation_of, reified_of, RestsAs, event_of, reified_event}
+use Rattle.fz_strength.specs.Sums.{sum_relation_of}
 use Rattle.fz_strength.specs.Lines.{RestsOfTwo, RestsReified, RestsOfSet, RestsOfSetReified, RestsOf, waits_of_two, waits_of_reified, waits_of}
 use Rattle.fz_strength.specs.Laws.{KeptWhereQuiet}
 use Rattle.fz_strength.proofs.Lists.{all_left, all_right}
-
-quiet_self : (event : Event) (d : List (ℤ × ℤ)) → IsQuiet event d d
-quiet_self Any d = refl
-quiet_self Bound d = (refl, refl)
-quiet_self Fixed d = λ x only. refl
-
-pub term_quiet : (event : Event) (t : Term) (ds es : List (List (ℤ × ℤ))) → AreQuiet (wait_for event t) ds es → IsQuiet event (term_set ds t) (term_set es t)
-term_quiet event (Num n) ds es quiet = quiet_self event ((n, n) ∷ [])
-term_quiet event (Var v) ds es quiet = quiet.0
+use Rattle.fz_strength.proofs.SumLaws.{kept_sum}
+use Rattle.fz_strength.proofs.Terms.{term_quiet}
 
 pub term_narrower : (t : Term) (ds es : List (List (ℤ × ℤ))) → IsNarrower ds es → (x : ℤ) → IsInSet (term_set es t) x → IsInSet (term_set ds t) x
 term_narrower (Num n) ds es narrower x is = is
@@ -89,6 +82,7 @@ arguments_kept name (One x ∷ One y ∷ []) ds es narrower quiet h = kept_two (
 arguments_kept name (One x ∷ One y ∷ One r ∷ []) ds es narrower quiet h = kept_reified (reified_of name) x y r ds es quiet h
 arguments_kept name (One x ∷ Set set ∷ []) ds es narrower quiet h = kept_set name (term_set ds x) (term_set es x) set (term_narrower x ds es narrower) h
 arguments_kept name (One x ∷ Set set ∷ One r ∷ []) ds es narrower quiet h = kept_set_reified name x r set ds es quiet h
+arguments_kept name (Numbers ks ∷ Terms ts ∷ One (Num c) ∷ []) ds es narrower quiet h = kept_sum (sum_relation_of name) ks ts c ds es narrower quiet h
 arguments_kept name arguments ds es narrower quiet h = absurd h
 
 pub kept_where_quiet : KeptWhereQuiet

@@ -1,5 +1,5 @@
 -- Where one number is left of each variable, a line says that the constraint is true.
-use Rattle.std.proofs.Common.{◌≡◌, ◌<◌, List, [], ◌∷◌, ◌++◌, refl, sym, ap, subst, arith, length, inl, inr}
+use Rattle.std.proofs.Common.{◌≡◌, ◌<◌, List, [], ◌∷◌, ◌++◌, refl, sym, ap, subst, arith, length}
 use Rattle.std.specs.Prelude.{ℤ, pos, Some}
 use Rattle.std.proofs.lemmas.Int.{ints}
 use Rattle.fz_sets.specs.Sets.{IsInSet}
@@ -7,12 +7,11 @@ use Rattle.fz_dom.specs.Shape.{least}
 use Rattle.fz_spec.specs.declared.builtin.Builtin.{Builtin}
 use Rattle.fz_spec.specs.declared.builtin.Builtin.TheVariants.{Bool2Int, BoolEq, BoolEqReif, BoolLe, BoolLeReif, BoolLt, BoolLtReif, BoolNot, BoolXor, IntEq, IntEqReif, IntLe, IntLeReif, IntLt, IntLtReif, IntNe, IntNeReif, SetIn, SetInReif}
 use Rattle.fz_spec.specs.declared.term.Term.{Term}
-use Rattle.fz_spec.specs.declared.term.Term.TheVariants.{Num, Var}
-use Rattle.fz_spec.specs.Constraints.{Argument, One, Set, term_value, Holds}
+use Rattle.fz_spec.specs.declared.term.Term.TheVariants.{Num}
+use Rattle.fz_spec.specs.Constraints.{Argument, One, Numbers, Terms, Set, term_value, Holds}
 use Rattle.fz_spec.specs.Truth.{HoldsOfTwo, HoldsOfThree, HoldsOfSet, IsReifiedOf, IsReified, plain_of}
 use Rattle.fz_strength.specs.declared.relation.Relation.{Relation}
 use Rattle.fz_strength.specs.declared.relation.Relation.TheVariants.{Equal, NotEqual, AtMost, Below}
-use Rattle.fz_strength.specs.declared.event.Event.{Event}
 use Rattle.fz_strength.specs.declared.event.Event.TheVariants.{Any, Fixed}
 use Rattle.fz_strength.specs.Domains.{term_set, Alone}
 use Rattle.fz_strength.specs.Events.{Wait, wait_for, AreBelow}
@@ -20,20 +19,8 @@ use Rattle.fz_strength.specs.Relations.{relation_of, reified_of, Relates, RestsA
 use Rattle.fz_strength.specs.Lines.{IsReifiedLine, RestsOfTwo, RestsReified, LiesIn, LiesOutside, RestsOfSet, RestsOfSetReified, RestsOf, waits_of_two, waits_of_reified, waits_of}
 use Rattle.fz_strength.specs.Laws.{TrueWhereAlone}
 use Rattle.fz_strength.proofs.Lists.{all_left, all_right}
-
--- the set of one number
-abbrev pub single : ℤ → List (ℤ × ℤ)
-single x = (x, x) ∷ []
-
-pub in_single : (x y : ℤ) → x ≡ y → IsInSet (single y) x
-in_single x y same = inl (omega (arith, ints, same), omega (arith, ints, same))
-
-pub is_single : (x y : ℤ) → IsInSet (single y) x → x ≡ y
-is_single x y is = elim is [ inl h ↦ omega (arith, ints, h.0, h.1) | inr h ↦ absurd h ]
-
-pub term_alone : (ds : List (List (ℤ × ℤ))) (a : List ℤ) (event : Event) (t : Term) → AreBelow (wait_for event t) (length ds) → Alone ds a → term_set ds t ≡ single (term_value a t)
-term_alone ds a event (Num n) below alone = refl
-term_alone ds a event (Var v) below alone = alone.alone v below.0
+use Rattle.fz_strength.proofs.SumLaws.{true_sum}
+pub use Rattle.fz_strength.proofs.Terms.{single, in_single, is_single, term_alone}
 
 -- ---- relations
 
@@ -134,6 +121,7 @@ arguments_true name (One x ∷ One y ∷ []) ds a below alone h = two name x y d
 arguments_true name (One x ∷ One y ∷ One r ∷ []) ds a below alone h = three name x y r ds a below alone h
 arguments_true name (One x ∷ Set s ∷ []) ds a below alone h = set name x s ds a below alone h
 arguments_true name (One x ∷ Set s ∷ One r ∷ []) ds a below alone h = set_reified name x r s ds a below alone h
+arguments_true name (Numbers ks ∷ Terms ts ∷ One (Num c) ∷ []) ds a below alone h = true_sum name ks ts c ds a below alone h
 arguments_true name arguments ds a below alone h = absurd h
 
 pub true_where_alone : TrueWhereAlone

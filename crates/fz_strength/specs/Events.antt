@@ -1,5 +1,5 @@
 -- Kinds of change of a domain, and what it means that none of a kind happened.
-use Rattle.std.specs.Prelude.{◌≡◌, ℕ, ◌<◌, ℤ, List, [], ◌∷◌}
+use Rattle.std.specs.Prelude.{◌≡◌, ℕ, ◌<◌, ℤ, List, [], ◌∷◌, ◌++◌}
 use Rattle.std.specs.List.{AllByRecursion}
 use Rattle.fz_dom.specs.Shape.{least, greatest}
 use Rattle.fz_spec.specs.declared.term.Term.{Term}
@@ -32,6 +32,11 @@ pub record Wait : Type 0 where
 abbrev pub wait_for : Event → Term → List Wait
 wait_for event (Num n) = []
 wait_for event (Var v) = record { variable = v; event = event } ∷ []
+
+-- a change of each of these terms
+abbrev pub waits_for : Event → List Term → List Wait
+waits_for event [] = []
+waits_for event (t ∷ ts) = wait_for event t ++ waits_for event ts
 
 -- nothing that is waited for happened
 abbrev pub AreQuiet : List Wait → List (List (ℤ × ℤ)) → List (List (ℤ × ℤ)) → Type 0

@@ -4,12 +4,14 @@ use Rattle.fz_sets.specs.Sets.{IsInSet}
 use Rattle.fz_spec.specs.declared.builtin.Builtin.{Builtin}
 use Rattle.fz_spec.specs.declared.builtin.Builtin.TheVariants.{SetIn, SetInReif}
 use Rattle.fz_spec.specs.declared.term.Term.{Term}
-use Rattle.fz_spec.specs.Constraints.{Argument, One, Set, Constraint}
+use Rattle.fz_spec.specs.declared.term.Term.TheVariants.{Num}
+use Rattle.fz_spec.specs.Constraints.{Argument, One, Numbers, Terms, Set, Constraint}
 use Rattle.fz_strength.specs.declared.relation.Relation.{Relation}
 use Rattle.fz_strength.specs.declared.event.Event.TheVariants.{Any, Fixed}
 use Rattle.fz_strength.specs.Domains.{term_set}
-use Rattle.fz_strength.specs.Events.{IsOnly, Wait, wait_for}
+use Rattle.fz_strength.specs.Events.{IsOnly, Wait, wait_for, waits_for}
 use Rattle.fz_strength.specs.Relations.{relation_of, reified_of, RestsAs, RestsAgainst, IsShown, IsRefuted, event_of, reified_event}
+use Rattle.fz_strength.specs.Sums.{sum_relation_of, RestsSum, sum_event_of}
 
 -- Where what is left decides, r is fixed; where r is fixed, the line of that side holds.
 pub record IsReifiedLine (shown refuted line against : Type 0) (r : List (ℤ × ℤ)) : Type 0 where
@@ -45,12 +47,18 @@ abbrev pub RestsOfSetReified : Builtin → List (ℤ × ℤ) → List (ℤ × �
 RestsOfSetReified SetInReif d set r = IsReifiedLine (LiesIn d set) (LiesOutside d set) (LiesIn d set) (LiesOutside d set) r
 RestsOfSetReified name d set r = ⊥
 
+-- of a weighted sum and a number
+abbrev pub RestsOfSum : Option Relation → List (List (ℤ × ℤ)) → List ℤ → List Term → ℤ → Type 0
+RestsOfSum None ds ks ts c = ⊥
+RestsOfSum (Some relation) ds ks ts c = RestsSum relation ds ks ts c
+
 -- The line of a constraint. None holds of a name whose propagator is still to be written.
 abbrev pub RestsOf : Builtin → List Argument → List (List (ℤ × ℤ)) → Type 0
 RestsOf name (One x ∷ One y ∷ []) ds = RestsOfTwo (relation_of name) (term_set ds x) (term_set ds y)
 RestsOf name (One x ∷ One y ∷ One r ∷ []) ds = RestsReified (reified_of name) (term_set ds x) (term_set ds y) (term_set ds r)
 RestsOf name (One x ∷ Set set ∷ []) ds = RestsOfSet name (term_set ds x) set
 RestsOf name (One x ∷ Set set ∷ One r ∷ []) ds = RestsOfSetReified name (term_set ds x) set (term_set ds r)
+RestsOf name (Numbers ks ∷ Terms ts ∷ One (Num c) ∷ []) ds = RestsOfSum (sum_relation_of name) ds ks ts c
 RestsOf name arguments ds = ⊥
 
 abbrev pub Rests : Constraint → List (List (ℤ × ℤ)) → Type 0
@@ -66,12 +74,17 @@ abbrev pub waits_of_reified : Option Relation → Term → Term → Term → Lis
 waits_of_reified None x y r = []
 waits_of_reified (Some relation) x y r = wait_for (reified_event relation) x ++ (wait_for (reified_event relation) y ++ wait_for Any r)
 
+abbrev pub waits_of_sum : Option Relation → List Term → List Wait
+waits_of_sum None ts = []
+waits_of_sum (Some relation) ts = waits_for (sum_event_of relation) ts
+
 -- Each variable of a constraint stands here, with the kind of its changes that may break the line.
 abbrev pub waits_of : Builtin → List Argument → List Wait
 waits_of name (One x ∷ One y ∷ []) = waits_of_two (relation_of name) x y
 waits_of name (One x ∷ One y ∷ One r ∷ []) = waits_of_reified (reified_of name) x y r
 waits_of name (One x ∷ Set set ∷ []) = wait_for Fixed x
 waits_of name (One x ∷ Set set ∷ One r ∷ []) = wait_for Any x ++ wait_for Any r
+waits_of name (Numbers ks ∷ Terms ts ∷ One (Num c) ∷ []) = waits_of_sum (sum_relation_of name) ts
 waits_of name arguments = []
 
 abbrev pub waits : Constraint → List Wait

@@ -1,0 +1,68 @@
+-- Who waits for which change.
+use Rattle.std.specs.Prelude.{◌≡◌, ℕ, ◌<◌, ◌≤◌, List, [], length, slice_get, slice_index_or, Some}
+use Rattle.std.specs.List.{AllByRecursion}
+use Rattle.fz_spec.specs.Constraints.{Constraint}
+use Rattle.fz_strength.specs.declared.event.Event.{Event}
+use Rattle.fz_strength.specs.declared.event.Event.TheVariants.{Any, Bound, Fixed}
+use Rattle.fz_strength.specs.Events.{Wait}
+use Rattle.fz_strength.specs.Lines.{waits}
+use Rattle.fz_prop.specs.Stores.{Stored, IsStore, IsListed, mark_at}
+use Rattle.fz_agenda.specs.Agendas.{IsSettled}
+use Rattle.fz_agenda.specs.Queues.{AreAwake}
+
+-- for each kind of change and each variable the propagators that wait for it
+pub record Waking : Type 0 where
+  pub any : List (List ℕ)
+  pub bound : List (List ℕ)
+  pub fixed : List (List ℕ)
+
+abbrev pub lists_of : Event → Waking → List (List ℕ)
+lists_of Any w = w.any
+lists_of Bound w = w.bound
+lists_of Fixed w = w.fixed
+
+abbrev pub waiting_at : Waking → Event → ℕ → List ℕ
+waiting_at w event v = slice_index_or (lists_of event w) v []
+
+-- the propagator of this number is listed at each of these changes
+abbrev pub IsListedAt : Waking → ℕ → List Wait → Type 0
+IsListedAt w i ws = AllByRecursion (λ (wait : Wait). IsListed (waiting_at w wait.event wait.variable) i) ws
+
+-- the propagator of each constraint is listed at each change that it waits for
+abbrev pub IsIndexOf : List Constraint → Waking → Type 0
+IsIndexOf cs w = (i : ℕ) (c : Constraint) → slice_get cs i ≡ Some c → IsListedAt w i (waits c)
+
+-- lists for so many variables
+pub record HaveSize (w : Waking) (n : ℕ) : Type 0 where
+  pub any : length w.any ≡ n
+  pub bound : length w.bound ≡ n
+  pub fixed : length w.fixed ≡ n
+
+-- lists for this variable
+pub record HasVariable (w : Waking) (v : ℕ) : Type 0 where
+  pub any : v < length w.any
+  pub bound : v < length w.bound
+  pub fixed : v < length w.fixed
+
+-- whoever is listed stays listed
+abbrev pub Extends : Waking → Waking → Type 0
+Extends w u = (event : Event) (v i : ℕ) → IsListed (waiting_at w event v) i → IsListed (waiting_at u event v) i
+
+-- none is idle of those that wait for a change of a variable up to a level
+pub record AllAwake (w : Waking) (v n : ℕ) (states : List ℕ) : Type 0 where
+  pub any : 1 ≤ n → AreAwake states (waiting_at w Any v)
+  pub bound : 2 ≤ n → AreAwake states (waiting_at w Bound v)
+  pub fixed : 3 ≤ n → AreAwake states (waiting_at w Fixed v)
+
+-- From a store and states, by waking those that wait for listed changes and taking these from the list, another store and states.
+pub record IsDraining (w : Waking) (s : Stored) (states : List ℕ) (t : Stored) (after : List ℕ) : Type 0 where
+  pub store : IsStore t
+  pub doms : t.doms ≡ s.doms
+  pub size : length after ≡ length states
+  pub settled : (cs : List Constraint) → IsIndexOf cs w → IsSettled cs states s → IsSettled cs after t
+  pub still : s.changed ≡ [] → (t ≡ s) × (after ≡ states)
+
+-- nothing is listed or marked
+pub record IsDrained (s : Stored) : Type 0 where
+  pub none : s.changed ≡ []
+  pub unmarked : (v : ℕ) → mark_at s v ≡ 0

@@ -1,0 +1,26 @@
+//! Waking those that wait for the changes of a store.
+ghost use Rattle.std.specs.Prelude.{◌≡◌, List, length, OnOk};
+ghost use Rattle.fz_agenda.specs.Wakes.{HaveSize, IsDraining, IsDrained};
+
+use crate::agenda::Agenda;
+use crate::wakes::Wakes;
+use fz_prop::Store;
+use std::alloc::AllocError;
+
+/// Queues those that wait for the changes that a store lists, and takes the changes from the list.
+///
+/// # Errors
+/// `AllocError` where there is no memory; a change is taken only once all that wait for it are queued.
+pub fn drain(wakes: &Wakes, store: &mut Store, agenda: &mut Agenda) -> Result<(), AllocError>
+    requires { HaveSize wakes.now (length store.old.doms) }
+    ensures draining { IsDraining wakes.now store.old agenda.old store.new agenda.new }
+    ensures drained { OnOk result (IsDrained store.new) }
+{
+    let _ = store.doms();
+    'changes: while let Some(variable) = store.first_changed() {
+        wakes.wake(variable, store.mark(variable), agenda)?;
+        store.take_changed();
+        let _ = store.doms();
+    }
+    Ok(())
+}

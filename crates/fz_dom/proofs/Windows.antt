@@ -1,0 +1,240 @@
+-- Words of another base, and the changes that keep the numbers of a word or of ranges.
+use Rattle.std.proofs.Common.{◌≡◌, ℕ, ◌+◌, ◌-◌, ◌^◌, ◌<◌, ◌≤◌, ℤ, pos, ◌+ℤ◌, ◌-ℤ◌, ◌≤ℤ◌, ◌<ℤ◌, ◌⊎◌, inl, inr, List, [], ◌∷◌, length, refl, sym, ap, subst, ◌∙◌, arith}
+use Rattle.std.specs.Prelude.{◌↔◌}
+use Rattle.std.specs.Int.{bit_at}
+use Rattle.std.specs.Int.Count.{ones}
+use Rattle.std.proofs.lemmas.Int.{ints}
+use Rattle.std.proofs.lemmas.Nat.Bits.{bit_at-zero}
+use Rattle.fz_sets.specs.Sets.{AreRanges, IsInSet, set_size}
+use Rattle.fz_dom.specs.Shape.{IsDomain, least, greatest}
+use Rattle.fz_dom.specs.Places.{IsBit, bit_ranges}
+use Rattle.fz_dom.specs.Heads.{head_set, IsHeadOf, IsWhole}
+use Rattle.fz_dom.specs.Kept.{kept_ranges, IsKept}
+use Rattle.fz_dom.specs.Wide.{IsPart}
+use Rattle.fz_dom.specs.Changes.{IsChange, IsFromTo}
+use Rattle.fz_dom.specs.declared.change.Change.{Change}
+use Rattle.fz_dom.specs.declared.change.Change.TheVariants.{Same, Changed, Wiped}
+use Rattle.fz_dom.specs.declared.head.Head.{Head}
+use Rattle.fz_dom.proofs.Ranges.{lower_bound, greatest_is_in}
+use Rattle.fz_dom.proofs.Places.{bits_read, bits_count}
+use Rattle.fz_dom.proofs.Changes.{change_as, above_none, word_some, from_word, in_word, none_of_zero, plain_form, word_narrow, plain_when_wide}
+use Rattle.fz_dom.proofs.Lists.{same_or_less}
+use Rattle.fz_dom.proofs.Runs.{offset_in}
+use Rattle.fz_dom.proofs.Kept.{wide_ranges, filled_of}
+
+-- ---- the same word from another base
+
+pub far_word : (word : ℕ) (from to : ℤ) (i : ℕ) → i < 64 → ((from +ℤ pos 64) ≤ℤ to) ⊎ ((to +ℤ pos 64) ≤ℤ from) → (bit_at 0 i ≡ 1) ↔ IsBit from word (to +ℤ pos i)
+far_word word from to i l far = (
+  λ e. (let z = bit_at-zero i in absurd (omega arith)),
+  λ b. absurd (let a = b.1 in let e = b.2 in elim far [ inl t ↦ omega (arith, ints) | inr t ↦ omega (arith, ints) ]),
+)
+
+pub down_word : (word new k : ℕ) (from to : ℤ) → word < 2 ^ 64 → to ≡ (from +ℤ pos k) → ((i : ℕ) → i < 64 → (bit_at new i ≡ 1) ↔ (bit_at word (i + k) ≡ 1))
+    → (i : ℕ) → i < 64 → (bit_at new i ≡ 1) ↔ IsBit from word (to +ℤ pos i)
+down_word word new k from to q d f i l = (
+  λ e. (let b = (f i l).0 e in (i + k, above_none word (i + k) q b, omega (arith, ints), b)),
+  λ m. (let e = m.2 in let s : m.0 ≡ i + k = omega (arith, ints) in (f i l).1 (subst (λ (n : ℕ). bit_at word n ≡ 1) s m.3)),
+)
+
+pub up_word : (word new k : ℕ) (from to : ℤ) → from ≡ (to +ℤ pos k) → ((i : ℕ) → i < 64 → (bit_at new i ≡ 1) ↔ ((k ≤ i) × (bit_at word (i - k) ≡ 1)))
+    → (i : ℕ) → i < 64 → (bit_at new i ≡ 1) ↔ IsBit from word (to +ℤ pos i)
+up_word word new k from to d f i l = (
+  λ e. (let b = (f i l).0 e in let le = b.0 in (i - k, omega arith, omega (arith, ints), b.1)),
+  λ m. (let e = m.2 in let s : m.0 ≡ i - k = omega (arith, ints) in (f i l).1 (omega (arith, ints), subst (λ (n : ℕ). bit_at word n ≡ 1) s m.3)),
+)
+
+-- ---- the word of a head
+
+pub at_bits : (h : Head) (new : ℕ) (base b' base' : ℤ) → IsWhole h → 0 < h.bits → b' ≡ h.base → base' ≡ base
+    → ((i : ℕ) → i < 64 → (bit_at new i ≡ 1) ↔ IsBit b' h.bits (base' +ℤ pos i))
+    → (i : ℕ) → i < 64 → (bit_at new i ≡ 1) ↔ IsInSet (head_set h) (base +ℤ pos i)
+at_bits h new base b' base' w p e q f i l =
+    let g : (bit_at new i ≡ 1) ↔ IsBit h.base h.bits (base +ℤ pos i) =
+    subst (λ (b : ℤ). (bit_at new i ≡ 1) ↔ IsBit b h.bits (base +ℤ pos i)) e (subst (λ (b : ℤ). (bit_at new i ≡ 1) ↔ IsBit b' h.bits (b +ℤ pos i)) q (f i l)) in
+    (λ o. from_word h (base +ℤ pos i) w p (g.0 o), λ m. g.1 (in_word h (base +ℤ pos i) w p m))
+
+pub at_none : (h : Head) (base : ℤ) → IsWhole h → h.size ≡ 0 → (i : ℕ) → i < 64 → (bit_at 0 i ≡ 1) ↔ IsInSet (head_set h) (base +ℤ pos i)
+at_none h base w z i l = (λ e. (let b = bit_at-zero i in absurd (omega arith)), λ m. absurd (none_of_zero h w z (base +ℤ pos i) m))
+
+pub at_plain : (h : Head) (new : ℕ) (base low high base' : ℤ) → h.bits ≡ 0 → 0 < h.size → low ≡ h.low → high ≡ h.high → base' ≡ base
+    → ((i : ℕ) → i < 64 → (bit_at new i ≡ 1) ↔ ((low ≤ℤ (base' +ℤ pos i)) × ((base' +ℤ pos i) ≤ℤ high)))
+    → (i : ℕ) → i < 64 → (bit_at new i ≡ 1) ↔ IsInSet (head_set h) (base +ℤ pos i)
+at_plain h new base low high base' z p e g q f i l =
+    let k = f i l in
+    rw (plain_form h z p) (
+      λ b. (let m = k.0 b in let m0 = m.0 in let m1 = m.1 in inl (omega (arith, ints), omega (arith, ints))),
+      λ m. elim m [ inl j ↦ (let j0 = j.0 in let j1 = j.1 in k.1 (omega (arith, ints), omega (arith, ints))) | inr j ↦ absurd j ],
+    )
+
+pub word_as : (new : ℕ) (d e : List (ℤ × ℤ)) (b b' : ℤ) → d ≡ e → b' ≡ b → ((i : ℕ) → i < 64 → (bit_at new i ≡ 1) ↔ IsInSet d (b' +ℤ pos i))
+    → (i : ℕ) → i < 64 → (bit_at new i ≡ 1) ↔ IsInSet e (b +ℤ pos i)
+word_as new d e b b' p q f i l =
+    subst (λ (s : List (ℤ × ℤ)). (bit_at new i ≡ 1) ↔ IsInSet s (b +ℤ pos i)) p (subst (λ (c : ℤ). (bit_at new i ≡ 1) ↔ IsInSet d (c +ℤ pos i)) q (f i l))
+
+-- ---- changes that keep the numbers of ranges which all are members
+
+pub none_stays : (d es : List (ℤ × ℤ)) → length es ≡ 0 → IsChange Wiped (λ x. IsInSet es x) d d
+none_stays d [] e = (refl, λ x i m. m)
+none_stays d (r ∷ es) e = absurd (omega (arith, e))
+
+pub all_stay : (h : Head) (d es : List (ℤ × ℤ)) → IsHeadOf h d → AreRanges es → 0 < length es → set_size es ≡ h.size
+    → ((x : ℤ) → IsInSet es x → IsInSet d x) → IsChange Same (λ x. IsInSet es x) d d
+all_stay h d es k r p n f = elim (same_or_less d es k.are_ranges r f) [
+  | inl e ↦ (refl, λ x i. subst (λ (l : List (ℤ × ℤ)). IsInSet l x) (sym e) i, subst (λ (l : List (ℤ × ℤ)). 0 < length l) e p)
+  | inr l ↦ absurd (let s = k.size_is in omega arith)
+]
+
+pub some_leave : (h : Head) (d es : List (ℤ × ℤ)) → IsHeadOf h d → AreRanges es → 0 < length es → (set_size es ≡ h.size → ⊥)
+    → ((x : ℤ) → IsInSet es x → IsInSet d x) → IsChange Changed (λ x. IsInSet es x) d es
+some_leave h d es k r p n f = (
+  λ x. (λ i. (f x i, i), λ m. m.1),
+  elim (same_or_less d es k.are_ranges r f) [ inl e ↦ absurd (n (ap set_size e ∙ sym k.size_is)) | inr l ↦ l ],
+  p,
+)
+
+-- ---- of a word
+
+as_word : (change : Change) (base : ℤ) (word : ℕ) (d e : List (ℤ × ℤ)) → IsChange change (λ x. IsInSet (bit_ranges base word) x) d e → IsChange change (λ x. IsBit base word x) d e
+as_word change base word d e c =
+    let r = bits_read base word in
+    change_as change (λ x. IsInSet (bit_ranges base word) x) (λ x. IsBit base word x) d e (λ x i. (λ m. r.to x m, λ m. r.from x m)) c
+
+pub word_none : (base : ℤ) (word : ℕ) (d : List (ℤ × ℤ)) → word ≡ 0 → IsChange Wiped (λ x. IsBit base word x) d d
+word_none base word d z = (refl, λ x i b. let o = subst (λ (n : ℕ). bit_at n b.0 ≡ 1) z b.3 in let e = bit_at-zero b.0 in omega arith)
+
+pub word_all : (h : Head) (d : List (ℤ × ℤ)) (base : ℤ) (word : ℕ) → IsHeadOf h d → 0 < word → word < 2 ^ 64 → ones word ≡ h.size
+    → ((x : ℤ) → IsBit base word x → IsInSet d x) → IsChange Same (λ x. IsBit base word x) d d
+word_all h d base word k p q n f =
+    let r = bits_read base word in
+    as_word Same base word d d (all_stay h d (bit_ranges base word) k r.ranges (word_some base word p q) (bits_count base word q ∙ n) (λ x i. f x (r.to x i)))
+
+pub word_some_leave : (h : Head) (d e : List (ℤ × ℤ)) (base : ℤ) (word : ℕ) → IsHeadOf h d → 0 < word → word < 2 ^ 64 → (ones word ≡ h.size → ⊥)
+    → ((x : ℤ) → IsBit base word x → IsInSet d x) → e ≡ bit_ranges base word → IsChange Changed (λ x. IsBit base word x) d e
+word_some_leave h d e base word k p q n f is =
+    let r = bits_read base word in
+    rw is (as_word Changed base word d (bit_ranges base word)
+      (some_leave h d (bit_ranges base word) k r.ranges (word_some base word p q) (λ s. n (sym (bits_count base word q) ∙ s)) (λ x i. f x (r.to x i))))
+
+-- ---- a word of both
+
+-- d's numbers from b on, and o's from c on, where c lies the shift below b
+pub record IsBoth (d o : List (ℤ × ℤ)) (b c shift : ℤ) (word : ℕ) : Type 0 where
+  pub bits : (i : ℕ) → i < 64 → (bit_at word i ≡ 1) ↔ (IsInSet d (b +ℤ pos i) × IsInSet o (c +ℤ pos i))
+  pub below : c ≡ (b -ℤ shift)
+
+pub both_word : (d o : List (ℤ × ℤ)) (b c b' c' shift : ℤ) (mine theirs word : ℕ) → b' ≡ b → c' ≡ c → c ≡ (b -ℤ shift)
+    → ((i : ℕ) → i < 64 → (bit_at mine i ≡ 1) ↔ IsInSet d (b' +ℤ pos i)) → ((i : ℕ) → i < 64 → (bit_at theirs i ≡ 1) ↔ IsInSet o (c' +ℤ pos i))
+    → ((i : ℕ) → i < 64 → (bit_at word i ≡ 1) ↔ ((bit_at mine i ≡ 1) × (bit_at theirs i ≡ 1))) → IsBoth d o b c shift word
+both_word d o b c b' c' shift mine theirs word p q s f g h = record {
+  bits = λ i l. (
+    λ e. (let m = (h i l).0 e in (subst (λ (y : ℤ). IsInSet d (y +ℤ pos i)) p ((f i l).0 m.0), subst (λ (y : ℤ). IsInSet o (y +ℤ pos i)) q ((g i l).0 m.1))),
+    λ m. (h i l).1 ((f i l).1 (subst (λ (y : ℤ). IsInSet d (y +ℤ pos i)) (sym p) m.0), (g i l).1 (subst (λ (y : ℤ). IsInSet o (y +ℤ pos i)) (sym q) m.1)),
+  );
+  below = s;
+}
+
+pub both_in : (d o : List (ℤ × ℤ)) (b c shift : ℤ) (word : ℕ) → IsBoth d o b c shift word → (x : ℤ) → IsBit b word x → IsInSet d x × IsInSet o (x -ℤ shift)
+both_in d o b c shift word k x m =
+    let t = (k.bits m.0 m.1).0 m.3 in
+    let e = m.2 in let f = k.below in
+    let s : (c +ℤ pos m.0) ≡ (x -ℤ shift) = omega (arith, ints) in
+    (subst (λ (y : ℤ). IsInSet d y) (sym m.2) t.0, subst (λ (y : ℤ). IsInSet o y) s t.1)
+
+pub in_both : (d o : List (ℤ × ℤ)) (b c shift : ℤ) (word : ℕ) → IsBoth d o b c shift word → (x : ℤ) → b ≤ℤ x → x ≤ℤ (b +ℤ pos 63)
+    → IsInSet d x → IsInSet o (x -ℤ shift) → IsBit b word x
+in_both d o b c shift word k x low high i j =
+    let t = offset_in b x low in
+    let e = t.1 in let f = k.below in
+    let l : t.0 < 64 = omega (arith, ints) in
+    let s : (x -ℤ shift) ≡ (c +ℤ pos t.0) = omega (arith, ints) in
+    (t.0, l, t.1, (k.bits t.0 l).1 (subst (λ (y : ℤ). IsInSet d y) t.1 i, subst (λ (y : ℤ). IsInSet o y) s j))
+
+pub both_change : (change : Change) (d o e : List (ℤ × ℤ)) (b c shift : ℤ) (word : ℕ) → IsBoth d o b c shift word
+    → ((x : ℤ) → IsInSet d x → IsInSet o (x -ℤ shift) → (b ≤ℤ x) × (x ≤ℤ (b +ℤ pos 63)))
+    → IsChange change (λ x. IsBit b word x) d e → IsChange change (λ x. IsInSet o (x -ℤ shift)) d e
+both_change change d o e b c shift word k f h =
+    change_as change (λ x. IsBit b word x) (λ x. IsInSet o (x -ℤ shift)) d e
+    (λ x i. (λ m. (both_in d o b c shift word k x m).1, λ m. let t = f x i m in in_both d o b c shift word k x t.0 t.1 i m)) h
+
+-- ---- which form it is
+
+pub two_of_wide : (h : Head) (rest d : List (ℤ × ℤ)) → IsKept h rest → kept_ranges h rest ≡ d → 0 < length rest → 2 ≤ length d
+two_of_wide h rest d k e n = elim k.wide [
+  | inl z ↦ absurd (let t = ap length z in omega arith)
+  | inr w ↦ subst (λ (l : List (ℤ × ℤ)). 2 ≤ length l) (sym (wide_ranges h rest n) ∙ e) w.0
+]
+
+pub word_is_narrow : (h : Head) (d : List (ℤ × ℤ)) → IsHeadOf h d → head_set h ≡ d → 0 < h.bits → greatest d ≤ℤ (least d +ℤ pos 63)
+word_is_narrow h d k e p =
+    let w : IsWhole h = subst (λ (l : List (ℤ × ℤ)). IsHeadOf h l) (sym e) k in
+    let n = word_narrow h w p in let a = k.low_is in let b = k.high_is in omega (arith, ints)
+
+empty_ends : (d : List (ℤ × ℤ)) → set_size d ≡ 0 → greatest d ≤ℤ (least d +ℤ pos 63)
+empty_ends [] e = omega (arith, ints)
+empty_ends (r ∷ rs) e = absurd (omega (arith, e))
+
+pub none_is_narrow : (h : Head) (d : List (ℤ × ℤ)) → IsHeadOf h d → h.size ≡ 0 → greatest d ≤ℤ (least d +ℤ pos 63)
+none_is_narrow h d k z = empty_ends d (sym k.size_is ∙ z)
+
+pub one_of_plain : (h : Head) (d : List (ℤ × ℤ)) → IsHeadOf h d → head_set h ≡ d → h.bits ≡ 0 → 0 < h.size → d ≡ (least d, greatest d) ∷ []
+one_of_plain h d k e z p =
+    let f : d ≡ (h.low, h.high) ∷ [] = sym e ∙ plain_form h z p in
+    let a = k.low_is in let b = k.high_is in
+    let g : (h.low, h.high) ∷ [] ≡ (least d, greatest d) ∷ [] = ap (λ (x : ℤ). (x, h.high) ∷ []) a ∙ ap (λ (y : ℤ). (least d, y) ∷ []) b in
+    f ∙ g
+
+pub narrow_of : (h : Head) (d : List (ℤ × ℤ)) → IsHeadOf h d → head_set h ≡ d → (0 < h.bits) ⊎ (h.size ≡ 0) → greatest d ≤ℤ (least d +ℤ pos 63)
+narrow_of h d k e o = elim o [ inl p ↦ word_is_narrow h d k e p | inr z ↦ none_is_narrow h d k z ]
+
+pub some_of_one : (d : List (ℤ × ℤ)) (r : ℤ × ℤ) → d ≡ r ∷ [] → 0 < length d
+some_of_one d r e = rw e (omega arith)
+
+pub ends_order : (d : List (ℤ × ℤ)) → AreRanges d → least d ≤ℤ greatest d
+ends_order [] h = omega (arith, ints)
+ends_order (r ∷ rs) h = lower_bound r rs (greatest (r ∷ rs)) h (greatest_is_in r rs h)
+
+-- ---- from a low to a high, both moved
+
+pub moved_interval : (o : List (ℤ × ℤ)) (low high shift a b x a' b' v u s t : ℤ) → o ≡ (low, high) ∷ [] → a ≡ a' → b ≡ b' → v ≡ low → u ≡ high → s ≡ shift → t ≡ shift
+    → (a' ≤ℤ x) ↔ ((v +ℤ s) ≤ℤ x) → (x ≤ℤ b') ↔ (x ≤ℤ (u +ℤ t)) → IsFromTo a b x ↔ IsInSet o (x -ℤ shift)
+moved_interval o low high shift a b x a' b' v u s t e ea eb ev eu es et f g = rw e (
+  λ m. (let m0 = m.0 in let m1 = m.1 in let p = f.0 (omega (arith, ints)) in let q = g.0 (omega (arith, ints)) in inl (omega (arith, ints), omega (arith, ints))),
+  λ i. elim i [
+    | inl j ↦ (let p = j.0 in let q = j.1 in let l = f.1 (omega (arith, ints)) in let h = g.1 (omega (arith, ints)) in (omega (arith, ints), omega (arith, ints)))
+    | inr j ↦ absurd j
+  ],
+)
+
+-- ---- parts of lists that are kept in other forms
+
+pub part_from : (ts' ts ms d es : List (ℤ × ℤ)) (s' s : ℤ) → ts' ≡ ts → ms ≡ d → s' ≡ s → IsPart (λ x. IsInSet ts' (x -ℤ s')) ms es → IsPart (λ x. IsInSet ts (x -ℤ s)) d es
+part_from ts' ts ms d es s' s e f g h =
+    subst (λ (l : List (ℤ × ℤ)). IsPart (λ x. IsInSet l (x -ℤ s)) d es) e
+    (subst (λ (l : List (ℤ × ℤ)). IsPart (λ x. IsInSet ts' (x -ℤ s)) l es) f (subst (λ (z : ℤ). IsPart (λ x. IsInSet ts' (x -ℤ z)) ms es) g h))
+
+pub part_change : (change : Change) (d o e es : List (ℤ × ℤ)) (s : ℤ) → IsPart (λ x. IsInSet o (x -ℤ s)) d es → IsChange change (λ x. IsInSet es x) d e
+    → IsChange change (λ x. IsInSet o (x -ℤ s)) d e
+part_change change d o e es s p h =
+    change_as change (λ x. IsInSet es x) (λ x. IsInSet o (x -ℤ s)) d e (λ x i. (λ m. ((p.members x).0 m).1, λ m. (p.members x).1 (i, m))) h
+
+pub one_range : (h : Head) (d : List (ℤ × ℤ)) → IsHeadOf h d → head_set h ≡ d → (least d +ℤ pos 63) <ℤ greatest d → (h.low, h.high) ∷ [] ≡ d
+one_range h d k e lt =
+    let w : IsWhole h = subst (λ (l : List (ℤ × ℤ)). IsHeadOf h l) (sym e) k in
+    let a = k.low_is in let b = k.high_is in
+    let l : 0 < length (head_set h) = subst (λ (l : List (ℤ × ℤ)). 0 < length l) (sym e) (filled_of d (omega (arith, ints))) in
+    sym (plain_when_wide h w (omega (arith, ints)) l) ∙ e
+
+pub list_is : (h : Head) (rest d : List (ℤ × ℤ)) → IsKept h rest → kept_ranges h rest ≡ d → (least d +ℤ pos 63) <ℤ greatest d → 2 ≤ length d → rest ≡ d
+list_is h [] d k e lt n = absurd (let f : IsHeadOf h d = subst (λ (l : List (ℤ × ℤ)). IsHeadOf h l) e k.head in let t = ap length (one_range h d f e lt) in omega arith)
+list_is h (r ∷ rs) d k e lt n = e
+
+-- a shift of nothing
+pub unmoved : (x : ℤ) → x -ℤ pos 0 ≡ x
+unmoved x = omega (arith, ints)
+
+pub as_unmoved : (change : Change) (o d e : List (ℤ × ℤ)) (c : ℤ) → c ≡ pos 0 → IsChange change (λ x. IsInSet o (x -ℤ c)) d e → IsChange change (λ x. IsInSet o x) d e
+as_unmoved change o d e c z h =
+    change_as change (λ x. IsInSet o (x -ℤ c)) (λ x. IsInSet o x) d e
+    (λ x i. let s : (x -ℤ c) ≡ x = omega (arith, ints) in
+    (λ m. subst (λ (y : ℤ). IsInSet o y) s m, λ m. subst (λ (y : ℤ). IsInSet o y) (sym s) m)) h

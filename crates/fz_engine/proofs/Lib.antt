@@ -1,0 +1,4 @@
+pub mod Lists
+pub mod Running
+pub mod Knowing
+pub mod Planning

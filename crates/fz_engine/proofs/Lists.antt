@@ -1,0 +1,19 @@
+-- What holds of each of a list, by places.
+use Rattle.std.proofs.Common.{◌≡◌, ℕ, zero, suc, List, [], ◌∷◌, refl, subst}
+use Rattle.std.specs.Prelude.{Some, None, Option, slice_get}
+use Rattle.std.specs.List.{AllByRecursion}
+
+pub same_some : {X : Type 0} (x y : X) → Some x ≡ Some y → x ≡ y
+same_some x y e = cc
+
+pub none_some : {X : Type 0} (x : X) → (None : Option X) ≡ Some x → ⊥
+none_some x e = cc
+
+pub each_of : {X : Type 0} (P : X → Type 0) (xs : List X) (i : ℕ) (x : X) → AllByRecursion P xs → slice_get xs i ≡ Some x → P x
+each_of P [] i x all is = absurd (none_some x is)
+each_of P (y ∷ xs) zero x all is = subst P (same_some y x is) all.0
+each_of P (y ∷ xs) (suc i) x all is = each_of P xs i x all.1 is
+
+pub all_of : {X : Type 0} (P : X → Type 0) (xs : List X) → ((i : ℕ) (x : X) → slice_get xs i ≡ Some x → P x) → AllByRecursion P xs
+all_of P [] each = tt
+all_of P (x ∷ xs) each = (each zero x refl, all_of P xs (λ i y is. each (suc i) y is))

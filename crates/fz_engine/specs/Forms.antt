@@ -1,0 +1,7 @@
+-- The constraint of each kind of propagator.
+use Rattle.fz_spec.specs.Constraints.{Constraint}
+use Rattle.fz_engine.specs.declared.kind.Form.{Form}
+use Rattle.fz_engine.specs.declared.kind.Form.TheVariants as forms
+
+abbrev pub constraint_of : Form → Constraint
+constraint_of (forms.Comparison comparison) = comparison

@@ -1,0 +1,48 @@
+-- The constraints whose propagators are there.
+use Rattle.std.specs.Prelude.{◌≡◌, ◌≢◌, ℕ, List, [], ◌∷◌, Some}
+use Rattle.std.specs.List.{AllByRecursion}
+use Rattle.fz_spec.specs.declared.builtin.Builtin.{Builtin}
+use Rattle.fz_spec.specs.Constraints.{Argument, One, Numbers, Terms, Set, Constraint}
+use Rattle.fz_strength.specs.declared.relation.Relation.{Relation}
+use Rattle.fz_strength.specs.declared.relation.Relation.TheVariants.{Equal}
+use Rattle.fz_strength.specs.Relations.{relation_of}
+use Rattle.fz_prop.specs.Stores.{IsTermOf, FitsTerm}
+
+-- a comparison of two terms that isn't an equation
+pub record IsComparing (name : Builtin) : Type 0 where
+  pub relation : Relation
+  pub is : relation_of name ≡ Some relation
+  pub unequal : relation ≢ Equal
+
+abbrev pub IsKnownOf : Builtin → List Argument → Type 0
+IsKnownOf name (One x ∷ One y ∷ []) = IsComparing name
+IsKnownOf name arguments = ⊥
+
+abbrev pub IsKnown : Constraint → Type 0
+IsKnown c = IsKnownOf c.name c.arguments
+
+abbrev pub AreKnown : List Constraint → Type 0
+AreKnown cs = AllByRecursion IsKnown cs
+
+-- the numbers among arguments are within the limits
+abbrev pub IsLimited : Argument → Type 0
+IsLimited (One t) = FitsTerm t
+IsLimited (Numbers ns) = Unit {0}
+IsLimited (Terms ts) = Unit {0}
+IsLimited (Set set) = Unit {0}
+
+abbrev pub HaveLimits : List Argument → Type 0
+HaveLimits arguments = AllByRecursion IsLimited arguments
+
+abbrev pub HasLimits : Constraint → Type 0
+HasLimits c = HaveLimits c.arguments
+
+-- the variables among arguments are among so many
+abbrev pub IsAmong : ℕ → Argument → Type 0
+IsAmong n (One t) = IsTermOf n t
+IsAmong n (Numbers ns) = Unit {0}
+IsAmong n (Terms ts) = Unit {0}
+IsAmong n (Set set) = Unit {0}
+
+abbrev pub AreAmong : ℕ → List Argument → Type 0
+AreAmong n arguments = AllByRecursion (IsAmong n) arguments

@@ -1,0 +1,38 @@
+-- What runs of propagators leave.
+use Rattle.std.specs.Prelude.{◌≡◌, ◌⊎◌, ℕ, ◌+◌, ◌*◌, ◌<◌, ℤ, List, length, slice_get, Some}
+use Rattle.std.specs.List.{AllByRecursion}
+use Rattle.fz_spec.specs.Constraints.{Constraint, IsTrueOf}
+use Rattle.fz_strength.specs.Domains.{Within, IsNarrower, room}
+use Rattle.fz_strength.specs.Events.{AreBelow}
+use Rattle.fz_strength.specs.Lines.{Rests, waits}
+use Rattle.fz_strength.specs.Promises.{Suits}
+use Rattle.fz_prop.specs.Stores.{Stored, IsStore}
+use Rattle.fz_agenda.specs.Agendas.{IsSettled}
+use Rattle.fz_agenda.specs.Queues.{queued}
+
+-- each constraint's variables are among those of the store, and suit it
+abbrev pub AreOf : List Constraint → List (List (ℤ × ℤ)) → Type 0
+AreOf cs ds = (i : ℕ) (c : Constraint) → slice_get cs i ≡ Some c → AreBelow (waits c) (length ds) × Suits c ds
+
+-- The domains are at most as wide, no assignment of the constraints is lost, and the propagators are settled.
+pub record IsRun (cs : List Constraint) (s t : Stored) (after : List ℕ) : Type 0 where
+  pub store : IsStore t
+  pub narrower : IsNarrower s.doms t.doms
+  pub correct : (a : List ℤ) → AllByRecursion (IsTrueOf a) cs → Within s.doms a → Within t.doms a
+  pub settled : IsSettled cs after t
+
+-- no assignment within the domains makes all constraints true
+abbrev pub AreNeverTrue : List Constraint → List (List (ℤ × ℤ)) → Type 0
+AreNeverTrue cs ds = (a : List ℤ) → AllByRecursion (IsTrueOf a) cs → Within ds a → ⊥
+
+-- the line of each constraint holds
+abbrev pub AllRest : List Constraint → List (List (ℤ × ℤ)) → Type 0
+AllRest cs ds = (i : ℕ) (c : Constraint) → slice_get cs i ≡ Some c → Rests c ds
+
+-- a number left a domain, or one propagator less is queued
+abbrev pub HasMoved : Stored → List ℕ → Stored → List ℕ → Type 0
+HasMoved s states t after = (room t.doms < room s.doms) ⊎ ((t ≡ s) × (queued after < queued states))
+
+-- how much may still happen: each number that leaves may queue every propagator
+abbrev pub work : Stored → List ℕ → ℕ
+work s states = room s.doms * (length states + 1) + queued states

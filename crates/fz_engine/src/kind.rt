@@ -1,0 +1,151 @@
+//! Kinds of propagators.
+ghost use Rattle.std.specs.Prelude.{◌≡◌, ◌↔◌, ◌<◌, List, [], ◌∷◌, length, map, IfOk, IsTrue, MatchOption, slice_get, Some};
+ghost use Rattle.fz_spec.specs.Constraints as meaning;
+ghost use Rattle.fz_model.specs.Arguments.{argument_of};
+ghost use Rattle.fz_strength.specs.declared.relation.Relation.TheVariants.{Equal};
+ghost use Rattle.fz_strength.specs.Costs.{cost_of};
+ghost use Rattle.fz_strength.specs.Events.{Wait, AreBelow};
+ghost use Rattle.fz_strength.specs.Lines.{waits};
+ghost use Rattle.fz_strength.specs.Promises.{IsCorrect, Suits};
+ghost use Rattle.fz_prop.specs.Answers.{IsAnswer};
+ghost use Rattle.fz_prop.specs.Stores.{Shrinks, IsStore, FitsTerm};
+ghost use Rattle.fz_engine.specs.Known.{IsKnown, IsKnownOf, IsComparing, HaveLimits, HasLimits};
+
+use fz_model::constraint::{Argument, Constraint};
+use fz_prop::{Answer, Cost, Event, Propagator, Store};
+use fz_rel::Comparison;
+use fz_spec::builtin::Builtin;
+use fz_spec::term::Term;
+use fz_strength::relation::Relation;
+use std::alloc::AllocError;
+use std::marker::Model;
+
+/// The propagator of a constraint, which contracts see as the constraint.
+#[derive(Drop)]
+pub struct Kind {
+    form: Form,
+}
+
+#[derive(Drop)]
+enum Form {
+    Comparison(Comparison),
+}
+
+impl Model for Kind {
+    ghost use Rattle.fz_spec.specs.Constraints as meaning;
+
+    ghost Value = { meaning.Constraint };
+
+    ghost use Rattle.fz_engine.specs.Forms.{constraint_of};
+
+    ghost view = { λ k. constraint_of k.form };
+}
+
+impl Kind {
+    /// The propagator of a constraint; `None` where there is none yet.
+    pub fn of(constraint: &Constraint) -> Option<Kind>
+        requires { HasLimits constraint.now }
+        ensures { MatchOption result (IsKnown constraint.now → ⊥) (λ k. k ≡ constraint.now) }
+    {
+        match constraint.arguments() {
+            [Argument::One(x), rest @ ..] => of_term(constraint.name(), *x, rest),
+            _ => None,
+        }
+    }
+
+    /// Its variables, one for each change that it waits for.
+    pub fn vars(&self) -> &[u32]
+        ensures { result.now ≡ map (λ (w : Wait). w.variable) (waits self.now) }
+    {
+        match &self.form {
+            Form::Comparison(comparison) => comparison.vars(),
+        }
+    }
+
+    /// The kind of change that it waits for, of the variable at this place.
+    pub fn event(&self, place: usize) -> Event
+        requires { place < length (waits self.now) }
+        ensures { (w : Wait) → slice_get (waits self.now) place ≡ Some w → result ≡ w.event }
+    {
+        match &self.form {
+            Form::Comparison(comparison) => comparison.event(place),
+        }
+    }
+
+    /// The class of its cost.
+    pub fn cost(&self) -> Cost
+        ensures { result ≡ cost_of self.now }
+    {
+        match &self.form {
+            Form::Comparison(comparison) => comparison.cost(),
+        }
+    }
+
+    /// Narrows a store.
+    ///
+    /// # Errors
+    /// `AllocError` where there is no memory for a domain; the store is then narrower, and no assignment is lost.
+    pub fn run(&self, store: &mut Store) -> Result<Answer, AllocError>
+        requires inside { AreBelow (waits self.now) (length store.old.doms) }
+        requires suits { Suits self.now store.old.doms }
+        ensures store { IsStore store.new }
+        ensures shrinks { Shrinks store.old store.new }
+        ensures correct { IsCorrect self.now store.old.doms store.new.doms }
+        ensures answer { IfOk result (λ r. IsAnswer r self.now store.old.doms store.new.doms) }
+    {
+        let answer = match &self.form {
+            Form::Comparison(comparison) => comparison.run(store),
+        };
+        let _ = store.doms();
+        answer
+    }
+}
+
+/// The propagator of a constraint whose first argument is a term.
+fn of_term(name: Builtin, x: Term, rest: &[Argument]) -> Option<Kind>
+    requires x { FitsTerm x }
+    requires rest { HaveLimits (map argument_of rest.now) }
+    ensures { MatchOption result (IsKnownOf name (meaning.One x ∷ map argument_of rest.now) → ⊥)
+        (λ k. k ≡ record { name = name; arguments = meaning.One x ∷ map argument_of rest.now }) }
+{
+    match rest {
+        [Argument::One(y), tail @ ..] => of_terms(name, x, *y, tail),
+        _ => None,
+    }
+}
+
+/// The propagator of a constraint whose first two arguments are terms.
+fn of_terms(name: Builtin, x: Term, y: Term, rest: &[Argument]) -> Option<Kind>
+    requires x { FitsTerm x }
+    requires y { FitsTerm y }
+    ensures { MatchOption result (IsKnownOf name (meaning.One x ∷ meaning.One y ∷ map argument_of rest.now) → ⊥)
+        (λ k. k ≡ record { name = name; arguments = meaning.One x ∷ meaning.One y ∷ map argument_of rest.now }) }
+{
+    match rest {
+        [] => comparing(name, x, y),
+        _ => None,
+    }
+}
+
+/// The propagator of a comparison of two terms; `None` where the name is no comparison, or an equation.
+fn comparing(name: Builtin, x: Term, y: Term) -> Option<Kind>
+    requires x { FitsTerm x }
+    requires y { FitsTerm y }
+    ensures { MatchOption result (IsComparing name → ⊥)
+        (λ k. k ≡ record { name = name; arguments = meaning.One x ∷ meaning.One y ∷ [] }) }
+{
+    let relation = Relation::of(name)?;
+    if is_equal(relation) {
+        return None;
+    }
+    let comparison = Comparison::new(name, relation, x, y);
+    Some(Kind {
+        form: Form::Comparison(comparison),
+    })
+}
+
+fn is_equal(relation: Relation) -> bool
+    ensures { IsTrue result ↔ (relation ≡ Equal) }
+{
+    relation == Relation::Equal
+}

@@ -1,0 +1,9 @@
+//! Running the propagators of a model until all rest (Schulte, Stuckey: "Efficient Constraint Propagation Engines").
+#![tactic(auto)]
+
+pub mod engine;
+pub mod kind;
+pub mod plan;
+
+pub use kind::Kind;
+pub use plan::Plan;

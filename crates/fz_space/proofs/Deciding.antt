@@ -1,0 +1,147 @@
+-- Taking a decision leaves exactly the assignments that meet it.
+use Rattle.std.proofs.Common.{◌≡◌, ◌≢◌, inl, inr, ℕ, zero, suc, ◌<◌, List, [], ◌∷◌, ◌++◌, refl, sym, ◌∙◌, ap, subst, arith, ints, length, true, false, Bool, not}
+use Rattle.std.specs.Prelude.{ℤ, pos, ◌≤ℤ◌, ◌<ℤ◌, ◌↔◌, Option, Some, None, slice_get, unwrap_or, IsTrue, int_le}
+use Rattle.std.specs.Ordering.{int_eq}
+use Rattle.std.specs.List.{AllByRecursion}
+use Rattle.std.proofs.lemmas.Bool.{cases_eq}
+use Rattle.std.proofs.lemmas.Bool.Decides.{Decides-int_eq}
+use Rattle.std.proofs.lemmas.Option.{slice_get_past}
+use Rattle.fz_sets.specs.Sets.{IsInSet}
+use Rattle.fz_spec.specs.Instance.{Instance, Satisfies, AreDeclared}
+use Rattle.fz_dom.specs.declared.change.Change.{Change}
+use Rattle.fz_dom.specs.declared.change.Change.TheVariants.{Same, Changed, Wiped}
+use Rattle.fz_tree.specs.declared.decision.Comparison.{Comparison}
+use Rattle.fz_tree.specs.declared.decision.Comparison.TheVariants.{Equal, NotEqual, AtMost, Above}
+use Rattle.fz_tree.specs.declared.decision.Decision.{Decision}
+use Rattle.fz_tree.specs.Choice.{meets, compares, compares_if_there}
+use Rattle.fz_strength.specs.Domains.{Within, IsNarrower, dom_at, number_at}
+use Rattle.fz_strength.proofs.Lists.{all_left, all_right, all_both}
+use Rattle.fz_prop.specs.Stores.{Stored, IsStore, Shrinks, IsChangeAt}
+use Rattle.fz_agenda.proofs.Settled.{settled_lasts}
+use Rattle.fz_agenda.proofs.Places.{by_place}
+use Rattle.fz_path.specs.Spaces as path
+use Rattle.fz_path.specs.Spaces.{Spaced, Covers, MeetsAll}
+use Rattle.fz_space.specs.Alive.{spaced, IsAlive, Compares, IsDecided}
+use Rattle.fz_engine.proofs.Running.{terms_last}
+
+-- ---- comparisons
+
+-- a test that decides
+abbrev Tests : Bool → Type 0 → Type 0
+Tests b P = (IsTrue b → P) × (P → IsTrue b)
+
+by_not : (b : Bool) (P : Type 0) → Tests b P → Tests (not b) (P → ⊥)
+by_not true P t = ((λ h. absurd (cc (h))), (λ k. absurd (k (t.0 refl))))
+by_not false P t = ((λ h p. let e : false ≡ true = t.1 p in cc), (λ k. refl))
+
+test_le : (x v : ℤ) → Tests (int_le x v) (x ≤ℤ v)
+test_le x v = ((λ h. h), (λ h. h))
+
+tests : (comparison : Comparison) (x v : ℤ) → Tests (compares comparison x v) (Compares comparison v x)
+tests Equal x v = Decides-int_eq x v
+tests NotEqual x v = by_not (int_eq x v) (x ≡ v) (Decides-int_eq x v)
+tests AtMost x v = test_le x v
+tests Above x v = let t = by_not (int_le x v) (x ≤ℤ v) (test_le x v) in ((λ h. let k = t.0 h in omega (arith, ints, k)), (λ less. t.1 (λ le. omega (arith, ints, less, le))))
+
+some_at : (a : List ℤ) (v : ℕ) → v < length a → slice_get a v ≡ Some (number_at a v)
+some_at [] v within = absurd (omega (arith, within))
+some_at (x ∷ a) zero within = refl
+some_at (x ∷ a) (suc v) within = some_at a v (omega (arith, within))
+
+meets_is : (a : List ℤ) (d : Decision) → d.variable < length a → Tests (meets a d) (Compares d.comparison d.value (number_at a d.variable))
+meets_is a d within =
+    subst (λ (o : Option ℤ). Tests (compares_if_there o d.comparison d.value) (Compares d.comparison d.value (number_at a d.variable))) (sym (some_at a d.variable within))
+    (tests d.comparison (number_at a d.variable) d.value)
+
+-- ---- what is within a changed store
+
+pub within_wider : (ds es : List (List (ℤ × ℤ))) (a : List ℤ) → IsNarrower ds es → Within es a → Within ds a
+within_wider ds es a narrower within = record {
+  size = within.size ∙ narrower.size;
+  members = λ v h. narrower.members v (number_at a v) (within.members v (omega (arith, h, narrower.size)));
+}
+
+kept_changed : (v : ℕ) (P : ℤ → Type 0) (s t : Stored) (a : List ℤ) → IsChangeAt Changed v P s t → Shrinks s t → Within s.doms a → P (number_at a v) → Within t.doms a
+kept_changed v P s t a change shrinks within holds = record {
+  size = within.size ∙ sym shrinks.narrower.size;
+  members = by_place (λ u. u < length t.doms → IsInSet (dom_at t.doms u) (number_at a u)) v
+      (λ h. (change.kept (number_at a v)).1 (within.members v (omega (arith, h, shrinks.narrower.size)), holds))
+      (λ u ne h. subst (λ (d : List (ℤ × ℤ)). IsInSet d (number_at a u)) (sym (change.others u ne)) (within.members u (omega (arith, h, shrinks.narrower.size))));
+}
+
+pub decided_changed : (d : Decision) (s t : Stored) → d.variable < length s.doms → Shrinks s t → IsChangeAt Changed d.variable (Compares d.comparison d.value) s t → IsDecided true d s.doms t.doms
+decided_changed d s t within shrinks change a = (
+  (λ inside.
+    let before : Within s.doms a = within_wider s.doms t.doms a shrinks.narrower inside in
+    let there : d.variable < length t.doms = omega (arith, within, shrinks.narrower.size) in
+    (before, (meets_is a d (omega (arith, within, before.size))).1 ((change.kept (number_at a d.variable)).0 (inside.members d.variable there)).1)),
+  (λ both. kept_changed d.variable (Compares d.comparison d.value) s t a change shrinks both.0 ((meets_is a d (omega (arith, within, both.0.size))).0 both.1)),
+)
+
+pub decided_same : (d : Decision) (s t : Stored) → d.variable < length s.doms → IsChangeAt Same d.variable (Compares d.comparison d.value) s t → IsDecided true d s.doms t.doms
+decided_same d s t within change = subst (λ (u : Stored). IsDecided true d s.doms u.doms) (sym change.0) (λ a. (
+  (λ inside. (inside, (meets_is a d (omega (arith, within, inside.size))).1 (change.1 (number_at a d.variable) (inside.members d.variable within)))),
+  (λ both. both.0),
+))
+
+pub decided_wiped : (d : Decision) (s t : Stored) → d.variable < length s.doms → IsChangeAt Wiped d.variable (Compares d.comparison d.value) s t → IsDecided false d s.doms t.doms
+decided_wiped d s t within change a inside met =
+    change.1 (number_at a d.variable) (inside.members d.variable within) ((meets_is a d (omega (arith, within, inside.size))).0 met)
+
+-- of a variable that isn't there
+pub decided_beyond : (d : Decision) (ds es : List (List (ℤ × ℤ))) → length ds ≤ d.variable → IsDecided false d ds es
+decided_beyond d ds es beyond a inside met =
+    let none : slice_get a d.variable ≡ None = slice_get_past a d.variable (omega (arith, beyond, inside.size)) in
+    let not_met : IsTrue false = subst (λ (o : Option ℤ). IsTrue (compares_if_there o d.comparison d.value)) none met in
+    cc
+
+-- ---- spaces
+
+pub to_path : (ds : List (List (ℤ × ℤ))) (a : List ℤ) → Within ds a → path.Within ds a
+to_path ds a within = record { size = within.size; members = within.members }
+
+pub from_path : (ds : List (List (ℤ × ℤ))) (a : List ℤ) → path.Within ds a → Within ds a
+from_path ds a within = record { size = within.size; members = within.members }
+
+not_both : (b : Bool) → b ≡ true → b ≡ false → ⊥
+not_both b p q = let e : true ≡ false = sym p ∙ q in cc
+
+pub covers_failed : (m : Instance) (s : Stored) (failed : Bool) (ds : List Decision) (d : Decision) → failed ≡ true → Covers ds (spaced m s failed) → Covers (ds ++ d ∷ []) (spaced m s failed)
+covers_failed m s failed ds d is covers = record {
+  all = λ a satisfies met. absurd (not_both failed is (covers.all a satisfies (all_left (λ (x : Decision). IsTrue (meets a x)) ds (d ∷ []) met)).0);
+  only = λ a alive within. absurd (not_both failed is alive);
+}
+
+pub covers_decided : (m : Instance) (s t : Stored) (ds : List Decision) (d : Decision) → IsDecided true d s.doms t.doms → Covers ds (spaced m s false) → Covers (ds ++ d ∷ []) (spaced m t false)
+covers_decided m s t ds d decided covers = record {
+  all = λ a satisfies met.
+      let is_met : Decision → Type 0 = λ (x : Decision). IsTrue (meets a x) in
+      let before = covers.all a satisfies (all_left is_met ds (d ∷ []) met) in
+      (refl, to_path t.doms a ((decided a).1 (from_path s.doms a before.1, (all_right is_met ds (d ∷ []) met).0)));
+  only = λ a alive within.
+      let is_met : Decision → Type 0 = λ (x : Decision). IsTrue (meets a x) in
+      let before = (decided a).0 (from_path t.doms a within) in
+      let both = covers.only a refl (to_path s.doms a before.0) in
+      (both.0, all_both is_met ds (d ∷ []) both.1 (before.1, tt));
+}
+
+pub covers_none : (m : Instance) (s t : Stored) (ds : List Decision) (d : Decision) → IsDecided false d s.doms t.doms → Covers ds (spaced m s false) → Covers (ds ++ d ∷ []) (spaced m t true)
+covers_none m s t ds d decided covers = record {
+  all = λ a satisfies met.
+      let is_met : Decision → Type 0 = λ (x : Decision). IsTrue (meets a x) in
+      let before = covers.all a satisfies (all_left is_met ds (d ∷ []) met) in
+      absurd (decided a (from_path s.doms a before.1) (all_right is_met ds (d ∷ []) met).0);
+  only = λ a alive within. let e : true ≡ false = alive in absurd (not_both true refl e);
+}
+
+-- as the code says it: whether some are left
+pub covers_left : (m : Instance) (s t : Stored) (ds : List Decision) (d : Decision) (left : Bool) → IsDecided left d s.doms t.doms → Covers ds (spaced m s false) → Covers (ds ++ d ∷ []) (spaced m t (not left))
+covers_left m s t ds d true decided covers = covers_decided m s t ds d decided covers
+covers_left m s t ds d false decided covers = covers_none m s t ds d decided covers
+
+pub alive_lasts : (m : Instance) (states : List ℕ) (s t : Stored) → IsStore t → Shrinks s t → IsAlive m states s → IsAlive m states t
+alive_lasts m states s t store shrinks alive = record {
+  size = shrinks.narrower.size ∙ alive.size;
+  terms = terms_last m.constraints s.doms t.doms shrinks.narrower alive.terms;
+  settled = settled_lasts m.constraints states s t store shrinks alive.settled;
+}

@@ -1,0 +1,135 @@
+-- What is known of a space at its root and at rest.
+use Rattle.std.proofs.Common.{◌≡◌, ◌⊎◌, inl, inr, ℕ, zero, suc, ◌<◌, ◌≤◌, List, [], ◌∷◌, refl, sym, ◌∙◌, ap, subst, arith, ints, length, true, false, Bool, map}
+use Rattle.std.specs.Prelude.{ℤ, pos, Some, slice_get}
+use Rattle.std.specs.List.{AllByRecursion}
+use Rattle.std.proofs.lemmas.Bool.{cases_lt}
+use Rattle.fz_sets.specs.Sets.{IsInSet, set_size, range_size}
+use Rattle.fz_spec.specs.Instance.{Instance, Variable, Satisfies, AreDeclared}
+use Rattle.fz_spec.specs.Constraints.{Constraint, IsTrueOf}
+use Rattle.fz_tree.specs.declared.decision.Decision.{Decision}
+use Rattle.fz_strength.specs.Domains.{Within, Alone, AreDomains, dom_at, number_at}
+use Rattle.fz_strength.proofs.Truths.{single, is_single, true_where_alone}
+use Rattle.fz_prop.specs.Stores.{Stored, IsStore, HasEmpty, declared_sets, fresh}
+use Rattle.fz_agenda.specs.Agendas.{IsSettled}
+use Rattle.fz_path.specs.Spaces as path
+use Rattle.fz_path.specs.Spaces.{Spaced, Covers, IsUndecided, IsStatus}
+use Rattle.fz_path.specs.declared.space.Status.{Status}
+use Rattle.fz_path.specs.declared.space.Status.TheVariants as status
+use Rattle.fz_engine.specs.Runs.{AreOf, IsRun, AreNeverTrue, AllRest}
+use Rattle.fz_space.specs.Alive.{spaced, IsAlive, IsLeft}
+use Rattle.fz_engine.proofs.Lists.{each_of, all_of}
+use Rattle.fz_engine.proofs.Running.{terms_last}
+use Rattle.fz_space.proofs.Deciding.{within_wider, to_path, from_path}
+
+-- ---- the root
+
+first_and_rest : (v : Variable) (vs : List Variable) (x : ℤ) (a : List ℤ) → IsInSet v.set x → ((u : ℕ) → u < length (declared_sets vs) → IsInSet (dom_at (declared_sets vs) u) (number_at a u))
+    → (u : ℕ) → u < length (declared_sets (v ∷ vs)) → IsInSet (dom_at (declared_sets (v ∷ vs)) u) (number_at (x ∷ a) u)
+first_and_rest v vs x a first rest zero h = first
+first_and_rest v vs x a first rest (suc u) h = rest u (omega (arith, h))
+
+declared_within : (vs : List Variable) (a : List ℤ) → AreDeclared vs a → Within (declared_sets vs) a
+declared_within [] [] declared = record { size = refl; members = λ v h. absurd (omega (arith, h)) }
+declared_within [] (x ∷ a) declared = absurd declared
+declared_within (v ∷ vs) [] declared = absurd declared
+declared_within (v ∷ vs) (x ∷ a) declared =
+    let rest : Within (declared_sets vs) a = declared_within vs a declared.1 in
+    record { size = ap suc rest.size; members = first_and_rest v vs x a declared.0 rest.members }
+
+within_declared : (vs : List Variable) (a : List ℤ) → Within (declared_sets vs) a → AreDeclared vs a
+within_declared [] [] within = tt
+within_declared [] (x ∷ a) within = absurd (omega (arith, within.size))
+within_declared (v ∷ vs) [] within = absurd (omega (arith, within.size))
+within_declared (v ∷ vs) (x ∷ a) within = (
+  within.members zero (omega arith),
+  within_declared vs a (record { size = omega (arith, within.size); members = λ u h. within.members (suc u) (omega (arith, h)) }),
+)
+
+pub covers_root : (m : Instance) (s : Stored) → s.doms ≡ declared_sets m.variables → Covers [] (spaced m s false)
+covers_root m s is = record {
+  all = λ a satisfies met. (refl, subst (λ (ds : List (List (ℤ × ℤ))). path.Within ds a) (sym is) (to_path (declared_sets m.variables) a (declared_within m.variables a satisfies.declared)));
+  only = λ a alive within. (within_declared m.variables a (from_path (declared_sets m.variables) a (subst (λ (ds : List (List (ℤ × ℤ))). path.Within ds a) is within)), tt);
+}
+
+true_is_false : (P : Type 0) → true ≡ false → P
+true_is_false P e = absurd (cc (e))
+
+pub covers_empty : (m : Instance) (s : Stored) → HasEmpty (declared_sets m.variables) → Covers [] (spaced m s true)
+covers_empty m s empty = record {
+  all = λ a satisfies met.
+      let within : Within (declared_sets m.variables) a = declared_within m.variables a satisfies.declared in
+      absurd (subst (λ (d : List (ℤ × ℤ)). IsInSet d (number_at a empty.variable)) empty.empty (within.members empty.variable empty.within));
+  only = λ a alive within. true_is_false (AreDeclared m.variables a × path.MeetsAll [] a) alive;
+}
+
+declared_length : (vs : List Variable) → length (declared_sets vs) ≡ length vs
+declared_length [] = refl
+declared_length (v ∷ vs) = ap suc (declared_length vs)
+
+pub alive_root : (m : Instance) (states : List ℕ) (s : Stored) → s.doms ≡ declared_sets m.variables → (length s.doms ≡ length m.variables → AreOf m.constraints s.doms) → IsSettled m.constraints states s → IsAlive m states s
+alive_root m states s is terms settled =
+    let size : length s.doms ≡ length m.variables = ap length is ∙ declared_length m.variables in
+    record { size = size; terms = terms size; settled = settled }
+
+-- ---- at rest
+
+pub alive_run : (m : Instance) (states after : List ℕ) (s t : Stored) → IsAlive m states s → IsRun m.constraints s t after → IsAlive m after t
+alive_run m states after s t alive run = record {
+  size = run.narrower.size ∙ alive.size;
+  terms = terms_last m.constraints s.doms t.doms run.narrower alive.terms;
+  settled = run.settled;
+}
+
+pub covers_run : (m : Instance) (s t : Stored) (after : List ℕ) (ds : List Decision) → IsRun m.constraints s t after → Covers ds (spaced m s false) → Covers ds (spaced m t false)
+covers_run m s t after ds run covers = record {
+  all = λ a satisfies met. (refl, to_path t.doms a (run.correct a satisfies.constraints (from_path s.doms a (covers.all a satisfies met).1)));
+  only = λ a alive within. covers.only a refl (to_path s.doms a (within_wider s.doms t.doms a run.narrower (from_path t.doms a within)));
+}
+
+pub covers_never : (m : Instance) (s t : Stored) (ds : List Decision) → AreNeverTrue m.constraints s.doms → Covers ds (spaced m s false) → Covers ds (spaced m t true)
+covers_never m s t ds never covers = record {
+  all = λ a satisfies met. absurd (never a satisfies.constraints (from_path s.doms a (covers.all a satisfies met).1));
+  only = λ a alive within. true_is_false (AreDeclared m.variables a × path.MeetsAll ds a) alive;
+}
+
+some_size : (d : List (ℤ × ℤ)) → 0 < length d → 0 < set_size d
+some_size [] some = absurd (omega (arith, some))
+some_size (r ∷ d) some = omega arith
+
+more_than_one : (n : ℕ) → 0 < n → (n ≡ 1 → ⊥) → 1 < n
+more_than_one n some ne = elim (cases_lt 1 n) [ inl more ↦ more | inr few ↦ absurd (ne (omega (arith, some, few))) ]
+
+pub undecided_at : (ds : List (List (ℤ × ℤ))) (v : ℕ) → AreDomains ds → v < length ds → (set_size (dom_at ds v) ≡ 1 → ⊥) → IsUndecided ds
+undecided_at ds v domains within other = record {
+  variable = v;
+  within = within;
+  several = more_than_one (set_size (dom_at ds v)) (some_size (dom_at ds v) (domains v within).1) other;
+}
+
+abbrev AllSingle : List (List (ℤ × ℤ)) → Type 0
+AllSingle ds = (v : ℕ) → v < length ds → (x : ℤ) × (dom_at ds v ≡ (x, x) ∷ [])
+
+alone_in : (d : List (ℤ × ℤ)) (y x : ℤ) → d ≡ (x, x) ∷ [] → IsInSet d y → d ≡ (y, y) ∷ []
+alone_in d y x is member =
+    let same : y ≡ x = is_single y x (subst (λ (e : List (ℤ × ℤ)). IsInSet e y) is member) in
+    is ∙ ap single (sym same)
+
+alone_of : (ds : List (List (ℤ × ℤ))) (a : List ℤ) → AllSingle ds → Within ds a → Alone ds a
+alone_of ds a all within = record {
+  size = within.size;
+  alone = λ v h. alone_in (dom_at ds v) (number_at a v) (all v h).0 (all v h).1 (within.members v h);
+}
+
+pub solved : (m : Instance) (after : List ℕ) (t : Stored) → IsAlive m after t → AllRest m.constraints t.doms → AllSingle t.doms → IsStatus status.Solved (spaced m t false)
+solved m after t alive rests all = (refl, λ a inside.
+  let within : Within t.doms a = from_path t.doms a inside in
+  let alone : Alone t.doms a = alone_of t.doms a all within in
+  (
+    record { size = alone.size; members = alone.alone },
+    all_of (IsTrueOf a) m.constraints (λ i c is. true_where_alone c t.doms a (alive.terms i c is).0 alone (rests i c is)),
+  ))
+
+pub left_is : (m : Instance) (after : List ℕ) (t : Stored) (r : Status) → IsAlive m after t → AllRest m.constraints t.doms → IsLeft r t.doms → IsStatus r (spaced m t false)
+left_is m after t status.Failed alive rests left = absurd left
+left_is m after t status.Solved alive rests left = solved m after t alive rests left
+left_is m after t status.Branch alive rests left = (refl, left)

@@ -1,0 +1,41 @@
+-- What holds of a space.
+use Rattle.std.specs.Prelude.{◌≡◌, ◌↔◌, ◌≢◌, ℕ, ◌<◌, ℤ, ◌≤ℤ◌, ◌<ℤ◌, Bool, true, false, IsTrue, List, [], ◌∷◌, ◌++◌, length}
+use Rattle.fz_spec.specs.Instance.{Instance}
+use Rattle.fz_tree.specs.declared.decision.Comparison.{Comparison}
+use Rattle.fz_tree.specs.declared.decision.Comparison.TheVariants.{Equal, NotEqual, AtMost, Above}
+use Rattle.fz_tree.specs.declared.decision.Decision.{Decision}
+use Rattle.fz_tree.specs.Choice.{meets}
+use Rattle.fz_strength.specs.Domains.{Within, dom_at}
+use Rattle.fz_prop.specs.Stores.{Stored}
+use Rattle.fz_agenda.specs.Agendas.{IsSettled}
+use Rattle.fz_path.specs.Spaces.{Spaced, Covers, IsUndecided}
+use Rattle.fz_path.specs.declared.space.Status.{Status}
+use Rattle.fz_path.specs.declared.space.Status.TheVariants as status
+use Rattle.fz_engine.specs.Runs.{AreOf}
+
+abbrev pub spaced : Instance → Stored → Bool → Spaced
+spaced m s failed = record { model = m; doms = s.doms; failed = failed }
+
+-- a space that hasn't failed: a domain for each variable, constraints over these, and propagators that are settled
+pub record IsAlive (m : Instance) (states : List ℕ) (s : Stored) : Type 0 where
+  pub size : length s.doms ≡ length m.variables
+  pub terms : AreOf m.constraints s.doms
+  pub settled : IsSettled m.constraints states s
+
+-- a number compares so with a value
+abbrev pub Compares : Comparison → ℤ → ℤ → Type 0
+Compares Equal value x = x ≡ value
+Compares NotEqual value x = x ≢ value
+Compares AtMost value x = x ≤ℤ value
+Compares Above value x = value <ℤ x
+
+-- exactly the assignments that meet a decision are left; or none of them meets it
+abbrev pub IsDecided : Bool → Decision → List (List (ℤ × ℤ)) → List (List (ℤ × ℤ)) → Type 0
+IsDecided true d ds es = (a : List ℤ) → Within es a ↔ (Within ds a × IsTrue (meets a d))
+IsDecided false d ds es = (a : List ℤ) → Within ds a → IsTrue (meets a d) → ⊥
+
+-- what is left of domains at rest
+abbrev pub IsLeft : Status → List (List (ℤ × ℤ)) → Type 0
+IsLeft status.Failed ds = ⊥
+IsLeft status.Solved ds = (v : ℕ) → v < length ds → (x : ℤ) × (dom_at ds v ≡ (x, x) ∷ [])
+IsLeft status.Branch ds = IsUndecided ds

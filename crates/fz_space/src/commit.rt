@@ -1,0 +1,96 @@
+//! Taking a decision.
+ghost use Rattle.std.specs.Prelude.{◌≡◌, ◌++◌, ◌∷◌, [], ◌<◌, ℕ, ℤ, ◌≤ℤ◌, ◌<ℤ◌, List, length, false, IfOk, OnOk};
+ghost use Rattle.fz_spec.specs.Instance.{Instance};
+ghost use Rattle.fz_tree.specs.declared.decision.Decision as tree;
+ghost use Rattle.fz_sets.specs.Sets.{IsInSet, IsWithinLimits};
+ghost use Rattle.fz_strength.specs.Domains.{dom_at};
+ghost use Rattle.fz_prop.specs.Stores.{IsStore, Shrinks, IsChangeAt};
+ghost use Rattle.fz_path.specs.Spaces.{Covers};
+ghost use Rattle.fz_space.specs.Alive.{spaced, IsAlive, Compares, IsDecided};
+
+use fz_prop::{Change, Store};
+use fz_tree::decision::{Comparison, Decision};
+use std::alloc::AllocError;
+
+/// A store and whether it has failed become those of the assignments that meet a decision.
+///
+/// # Errors
+/// `AllocError` where there is no memory.
+pub fn take(store: &mut Store, failed: &mut bool, decision: Decision) -> Result<(), AllocError>
+    ensures alive { (m : Instance) (states : List ℕ) → (failed.old ≡ false → IsAlive m states store.old)
+        → failed.new ≡ false → IsAlive m states store.new }
+    ensures covers { OnOk result ((m : Instance) (ds : List tree.Decision)
+        → Covers ds (spaced m store.old failed.old) → Covers (ds ++ decision ∷ []) (spaced m store.new failed.new)) }
+{
+    if *failed {
+        return Ok(());
+    }
+    let left = decide(store, decision)?;
+    *failed = !left;
+    Ok(())
+}
+
+/// Keeps the assignments that meet a decision; false where there is none.
+fn decide(store: &mut Store, decision: Decision) -> Result<bool, AllocError>
+    ensures store { IsStore store.new }
+    ensures shrinks { Shrinks store.old store.new }
+    ensures decided { IfOk result (λ b. IsDecided b decision store.old.doms store.new.doms) }
+{
+    if (decision.variable as usize) < store.doms().len() {
+        decide_there(store, decision)
+    } else {
+        Ok(false)
+    }
+}
+
+/// The same of a decision on a variable that is there.
+fn decide_there(store: &mut Store, decision: Decision) -> Result<bool, AllocError>
+    requires { decision.variable < length store.old.doms }
+    ensures store { IsStore store.new }
+    ensures shrinks { Shrinks store.old store.new }
+    ensures decided { IfOk result (λ b. IsDecided b decision store.old.doms store.new.doms) }
+{
+    let change = keep(store, decision);
+    let _ = store.doms();
+    match change? {
+        Change::Wiped => Ok(false),
+        Change::Same => Ok(true),
+        Change::Changed => Ok(true),
+    }
+}
+
+/// Keeps the numbers of a variable that compare as a decision says.
+fn keep(store: &mut Store, decision: Decision) -> Result<Change, AllocError>
+    requires { decision.variable < length store.old.doms }
+    ensures shrinks { Shrinks store.old store.new }
+    ensures change { IfOk result (λ r. IsChangeAt r decision.variable
+        (Compares decision.comparison decision.value) store.old store.new) }
+{
+    match decision.comparison {
+        Comparison::Equal => store.keep_only(decision.variable, decision.value),
+        Comparison::NotEqual => store.remove(decision.variable, decision.value),
+        Comparison::AtMost => store.keep_to(decision.variable, decision.value),
+        Comparison::Above => keep_above(store, decision.variable, decision.value),
+    }
+}
+
+/// Keeps the numbers of a variable above a value.
+fn keep_above(store: &mut Store, variable: u32, value: i32) -> Result<Change, AllocError>
+    requires { variable < length store.old.doms }
+    ensures shrinks { Shrinks store.old store.new }
+    ensures change { IfOk result (λ r. IsChangeAt r variable (λ x. value <ℤ x) store.old store.new) }
+{
+    if greatest_at(store, variable) <= value {
+        return Ok(Change::Wiped);
+    }
+    store.keep_from(variable, value + 1)
+}
+
+/// The greatest number of a variable.
+fn greatest_at(store: &Store, variable: u32) -> i32
+    requires { variable < length store.now.doms }
+    ensures upper_bound { (x : ℤ) → IsInSet (dom_at store.now.doms variable) x → x ≤ℤ result }
+    ensures limits { IsWithinLimits result }
+{
+    store.dom(variable).max()
+}

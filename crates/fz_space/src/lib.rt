@@ -1,0 +1,10 @@
+//! Spaces: the domains that a model's constraints leave below some decisions, narrowed by propagators until all rest (Schulte,
+//! Tack, Lagerkvist: "Modeling and Programming with Gecode").
+#![tactic(auto)]
+
+mod commit;
+mod rest;
+mod root;
+pub mod space;
+
+pub use space::Space;

@@ -1,0 +1,128 @@
+//! Spaces.
+ghost use Rattle.std.specs.Prelude.{◌≡◌, IfOk, OnOk};
+ghost use Rattle.std.specs.Arc.{arc_value};
+ghost use Rattle.fz_path.specs.Spaces.{Spaced};
+ghost use Rattle.fz_engine.specs.Known.{AreKnown};
+
+use crate::commit::take;
+use fz_engine::Plan;
+use crate::rest::rest;
+use crate::root::{Parts, parts_of};
+use fz_agenda::Agenda;
+use fz_dom::Dom;
+use fz_path::Status;
+use fz_prop::Store;
+use fz_region::Choice;
+use std::alloc::{AllocError, Global};
+use std::marker::Model;
+use std::sync::Arc;
+
+/// The domains that a model's constraints leave below some decisions. What never changes is shared with all copies.
+#[derive(Drop)]
+pub struct Space {
+    plan: Arc<Plan>,
+    store: Store,
+    agenda: Agenda,
+    failed: bool,
+}
+
+impl Model for Space {
+    ghost use Rattle.std.specs.Prelude.{◌≡◌, false};
+    ghost use Rattle.std.specs.Arc.{arc_value};
+    ghost use Rattle.fz_path.specs.Spaces.{Spaced};
+    ghost use Rattle.fz_space.specs.Alive.{spaced, IsAlive};
+
+    ghost Value = { Spaced };
+
+    ghost view = { λ s. spaced (arc_value s.plan).model s.store s.failed };
+
+    ghost invariant = { λ s. s.failed ≡ false → IsAlive (arc_value s.plan).model s.agenda s.store };
+}
+
+impl fz_path::Space for Space {
+    ghost accepts = { λ m. AreKnown m.constraints };
+
+    ghost spaced = { λ s. s };
+
+    fn root(alloc: Global, model: Arc<fz_model::Model>) -> Result<Space, AllocError> {
+        let plan = plan_of(alloc, model)?;
+        let Parts {
+            store,
+            agenda,
+            failed,
+        } = parts_of(alloc, &plan)?;
+        Ok(Space {
+            plan,
+            store,
+            agenda,
+            failed,
+        })
+    }
+
+    fn commit(&mut self, choice: &Choice, alternative: u32) -> Result<(), AllocError> {
+        take(&mut self.store, &mut self.failed, choice.decision(alternative))
+    }
+
+    fn status(&mut self) -> Result<Status, AllocError> {
+        rest(&self.plan, &mut self.store, &mut self.agenda, &mut self.failed)
+    }
+
+    fn doms(&self) -> &[Dom] {
+        self.store.doms()
+    }
+
+    fn copy(&self) -> Result<Space, AllocError> {
+        let plan = self.plan.clone()?;
+        let store = self.store.copy()?;
+        let agenda = self.agenda.copy()?;
+        Ok(Space {
+            plan,
+            store,
+            agenda,
+            failed: self.failed,
+        })
+    }
+
+    fn copy_from(&mut self, other: &Space) -> Result<(), AllocError> {
+        self.failed = true;
+        self.plan = other.plan.clone()?;
+        write_store(&mut self.store, &other.store)?;
+        write_agenda(&mut self.agenda, &other.agenda)?;
+        self.failed = other.failed;
+        Ok(())
+    }
+}
+
+/// The plan of a model, to be shared.
+fn plan_of(alloc: Global, model: Arc<fz_model::Model>) -> Result<Arc<Plan>, AllocError>
+    requires { AreKnown (arc_value model).constraints }
+    ensures { IfOk result (λ p. (arc_value p).model ≡ arc_value model) }
+{
+    let plan = Plan::new(alloc, model)?;
+    match Arc::new(alloc, plan) {
+        Ok(plan) => Ok(plan),
+        Err(_) => Err(AllocError),
+    }
+}
+
+/// Writes a store over another, in its room where both have as many variables.
+fn write_store(store: &mut Store, other: &Store) -> Result<(), AllocError>
+    ensures { OnOk result (store.new ≡ other.now) }
+{
+    if store.doms().len() == other.doms().len() {
+        return store.copy_from(other);
+    }
+    *store = other.copy()?;
+    Ok(())
+}
+
+/// Writes an agenda over another, in its room where both have as many propagators.
+fn write_agenda(agenda: &mut Agenda, other: &Agenda) -> Result<(), AllocError>
+    ensures { OnOk result (agenda.new ≡ other.now) }
+{
+    if agenda.len() == other.len() {
+        return agenda.copy_from(other);
+    }
+    *agenda = other.copy()?;
+    Ok(())
+}
