@@ -1,6 +1,6 @@
 -- What an item makes fits the variables of the model.
 use Rattle.std.proofs.Common.{◌≡◌, ℕ, zero, suc, ◌*◌, ◌≤◌, ℤ, Bool, true, false, cond, Option, Some, None, option_map, List, [], ◌∷◌, ◌++◌, length, map, refl, sym, ap, ◌∙◌, subst, arith, rules}
-use Rattle.std.specs.Prelude.{Result, Ok, Err, MatchOption, ◌==◌, bytes_eq, slice_get, flat_map}
+use Rattle.std.specs.Prelude.{IsTrue, Result, Ok, Err, MatchOption, ◌==◌, bytes_eq, slice_get, flat_map}
 use Rattle.std.specs.List.{AllByRecursion}
 use Rattle.std.proofs.lemmas.Int.{ints}
 use Rattle.std.proofs.lemmas.Bool.{eqb-true}
@@ -13,8 +13,8 @@ use Rattle.fz_spec.specs.declared.term.Term.TheVariants.{Var}
 use Rattle.fz_spec.specs.declared.asked.Asked.{Asked}
 use Rattle.fz_spec.specs.declared.asked.Element.{Element}
 use Rattle.fz_spec.specs.Constraints as meaning
-use Rattle.fz_spec.specs.Instance.{Variable, Output}
-use Rattle.fz_spec.specs.Signatures.{Row, row_named, row_of, signature_of}
+use Rattle.fz_spec.specs.Instance.{Variable, Output, element_count}
+use Rattle.fz_spec.specs.Signatures.{Row, row_named, row_of, signature_of, have_lengths}
 use Rattle.fz_language.specs.declared.fault.RuleFault.{RuleFault}
 use Rattle.fz_language.specs.declared.fault.RuleFault.TheVariants.{Unsupported, UnknownName, WrongType, WrongLengths}
 use Rattle.fz_language.specs.Trees.{Plain, AnyBool, AnyInt, AnyFloat, Within, ValueType, One, SetOf, Basic, ListLiteral, Annotation, VariableItem, ParameterItem, ArrayItem, ConstraintItem}
@@ -22,18 +22,19 @@ use Rattle.fz_language.specs.Trees as trees
 use Rattle.fz_language.specs.Numerals.{set_in, all_of}
 use Rattle.fz_language.specs.Entries.{Environment, Entry, with_entry, term_in, set_of, each_of, number_of}
 use Rattle.fz_language.specs.Entries as entries
-use Rattle.fz_language.specs.Annotations.{annotation_of, plain_annotation_of, arguments_of, shape_in, bracketed, range_of, place_of, seventh}
-use Rattle.fz_language.specs.Rules.{OUTPUT_VAR, OUTPUT_ARRAY, kind_of, term_asked, is_bound, bad_variable_type, type_additions, element_count, at_places, named_unsupported, floats_of, unknown_of, wrong_arguments, arguments_in, have_lengths, lengths_in, signature_faults, row_faults, call_faults, wrong_place, wrong_element, seventh_ranges, wrong_shape, misplaced_output_array}
+use Rattle.fz_language.specs.Annotations.{output_var_of, output_array_of, arguments_of, shape_in, bracketed, range_of, place_of, seventh}
+use Rattle.fz_language.specs.Rules.{number_asked, kind_of, term_asked, is_bound, bad_variable_type, type_additions, at_places, named_unsupported, floats_of, unknown_of, wrong_arguments, arguments_in, signature_faults, row_faults, call_faults, wrong_place, wrong_element, seventh_ranges, wrong_shape, output_array_places}
 use Rattle.fz_language.specs.Models.{type_set, plain_set, terms_of, parameter_entry, array_entry, declare, Scope, equal_to, value_constraints, bound_to, element_constraints, call_constraints, scalar_outputs, array_outputs}
 use Rattle.fz_language.specs.Within.{SetFits, ValueFits, TypeFits, BasicFits, ExpressionFits}
-use Rattle.fz_model.specs.Kept.{IsNumberOf, IsSet, IsVariable, HasSetOf, IsTermOf, FitsElement, IsConstraint, FitsRow, AllFit, IsIndexRange, kind_at, list_lengths}
-use Rattle.fz_model.specs.Kept as kept
+use Rattle.fz_model.specs.Kept.{IsNumberOf, IsSet, IsVariable, HasSetOf, IsTermOf, FitsElement, IsConstraint, FitsRow, AllFit, IsIndexRange, kind_at}
+use Rattle.fz_check.proofs.Mapped.{mapped}
 use Rattle.fz_check.specs.Fits.{EntryFits, Sound}
 use Rattle.fz_check.proofs.TermFits.{term_fits, terms_fit, are_terms, is_number, are_numbers}
 use Rattle.fz_check.proofs.SetFits.{literal_fits, set_fits, members_among}
 use Rattle.fz_check.proofs.Counting.{nil_parts, elements_in, members_counted, FewIn}
 use Rattle.fz_check.proofs.ArgumentFits.{all_fit, same_lengths, lengths_fit}
 use Rattle.fz_check.proofs.RowLaws.{row_is_of, signature_length}
+use Rattle.fz_spec.specs.Constraints.{list_lengths}
 
 pub no_places : (rule : RuleFault) (places : List ℕ) → at_places rule places ≡ [] → places ≡ []
 no_places rule [] e = refl
@@ -69,14 +70,14 @@ entered vs env name entry s h other found e = go (bytes_eq name other) e
     go false k = s other found k
 
 pub parameter_fits : (vs : List Variable) (env : Environment) (name : List ℕ) (t : ValueType) (b : Basic) → Sound vs env → BasicFits b → members_among b ≤ ELEMENT_LIMIT → Sound vs (declare name (parameter_entry env t b) env)
-parameter_fits vs env name (One plain) b s h few = go (term_in env (record { kind = kind_of (One plain); may_vary = false }) b) refl
+parameter_fits vs env name (One plain) b s h few = go (term_in env (number_asked (One plain)) b) refl
   where
-    go : (o : Option Term) → term_in env (record { kind = kind_of (One plain); may_vary = false }) b ≡ o
+    go : (o : Option Term) → term_in env (number_asked (One plain)) b ≡ o
         → Sound vs (declare name (elim o [ Some t ↦ Some (entries.Value (kind_of (One plain)) (number_of t)) | None ↦ None ]) env)
     go None k = s
     go (Some t) k =
         entered vs env name (entries.Value (kind_of (One plain)) (number_of t)) s
-        (is_number vs (kind_of (One plain)) t (term_fits vs env (record { kind = kind_of (One plain); may_vary = false }) b t s h k))
+        (is_number vs (kind_of (One plain)) t (term_fits vs env (number_asked (One plain)) b t s h k))
 parameter_fits vs env name (SetOf at plain) b s h few = go (set_of env b) refl
   where
     go : (o : Option (List (ℤ × ℤ))) → set_of env b ≡ o → Sound vs (declare name (elim o [ Some set ↦ Some (entries.Set set) | None ↦ None ]) env)
@@ -104,7 +105,7 @@ array_fits vs env a true t s h few =
     let l = listing vs env (kind_of t) true a.list s h in
     (omega (arith, few, l.count), are_terms vs (kind_of t) true (terms_of env (term_asked t) a.list) l.all)
 array_fits vs env a false (One plain) s h few =
-    let ts = terms_of env (record { kind = kind_of (One plain); may_vary = false }) a.list in
+    let ts = terms_of env (number_asked (One plain)) a.list in
     let l = listing vs env (kind_of (One plain)) false a.list s h in
     (omega (arith, few, l.count, length_numbers ts), are_numbers vs (kind_of (One plain)) ts l.all)
 array_fits vs env a false (SetOf at plain) s h few = tt
@@ -163,7 +164,7 @@ constraint_of_row : (vs : List Variable) (env : Environment) (c : ConstraintItem
 constraint_of_row vs env c row signature s h few r k e =
     let unknown = at_places UnknownName (flat_map (unknown_of env) c.arguments) in
     let wrong = at_places WrongType (wrong_arguments env signature c.arguments) in
-    let right = have_lengths row.lengths (lengths_in (arguments_in env signature c.arguments)) in
+    let right = have_lengths row.lengths (list_lengths (arguments_in env signature c.arguments)) in
     let lengths = at_places WrongLengths (cond right [] (c.name.at ∷ [])) in
     let p = nil_parts (unknown ++ wrong) lengths e in
     let q = nil_parts unknown wrong p.0 in
@@ -174,7 +175,7 @@ constraint_of_row vs env c row signature s h few r k e =
     subst (λ (o : Option Row). MatchOption o ⊥ (λ (found : Row). FitsRow vs found arguments)) (sym r)
     (record {
       fit = subst (λ (o : Option (List Asked)). MatchOption o ⊥ (λ asked. AllFit vs asked arguments)) (sym (ap (signature_of row) f.count ∙ k)) f.fit;
-      lengths = lengths_fit row.lengths (list_lengths arguments) (ap (have_lengths row.lengths) (sym (same_lengths arguments)) ∙ long);
+      lengths = subst IsTrue (sym long) tt;
     })
 
 pub call_fits : (vs : List Variable) (s : Scope) (c : ConstraintItem) → Sound vs s.entries → AllByRecursion ExpressionFits c.arguments → AllByRecursion FewIn c.arguments → call_faults s.entries c ≡ [] → AllByRecursion (IsConstraint vs) (call_constraints s c)
@@ -199,7 +200,7 @@ call_fits vs s c sound h few e = named (row_named c.name.bytes) refl (nil_parts 
 -- all that is asked of an output item, but for what its text has
 abbrev pub HasForm : Bool → List (ℤ × ℤ) → ℕ → Type 0
 HasForm false shape count = (shape ≡ []) × (count ≡ 1)
-HasForm true shape count = (1 ≤ length shape) × (length shape ≤ 6) × (kept.element_count shape ≡ count)
+HasForm true shape count = (1 ≤ length shape) × (length shape ≤ 6) × (element_count shape ≡ count)
 
 pub record Shown (vs : List Variable) (o : Output) : Type 0 where
   pub few : length o.terms ≤ ELEMENT_LIMIT
@@ -207,30 +208,17 @@ pub record Shown (vs : List Variable) (o : Output) : Type 0 where
   pub form : HasForm o.array o.shape (length o.terms)
 
 pub scalar_shown : (vs : List Variable) (s : Scope) (v : VariableItem) → kind_at vs s.variables ≡ Some (kind_of v.value_type) → AllByRecursion (Shown vs) (scalar_outputs s v)
-scalar_shown vs s v k = go (plain_annotation_of OUTPUT_VAR v.annotations)
+scalar_shown vs s v k = go (output_var_of v.annotations)
   where
     go : (o : Option Annotation) → AllByRecursion (Shown vs) (elim o [ Some a ↦ record { name = v.name.bytes; kind = kind_of v.value_type; array = false; shape = []; terms = Var s.variables ∷ [] } ∷ [] | None ↦ [] ])
     go None = tt
     go (Some a) = (record { few = omega arith; terms = (k, tt); form = (refl, refl) }, tt)
-
-same_count : (shape : List (ℤ × ℤ)) → element_count shape ≡ kept.element_count shape
-same_count [] = refl
-same_count (r ∷ shape) = ap (λ n. set_size (interval r.0 r.1) * n) (same_count shape)
 
 -- ---- index ranges
 
 record Ranged (list : List trees.Argument) (shape : List (ℤ × ℤ)) : Type 0 where
   count : length shape ≡ length list
   each : (k : ℕ) (a : trees.Argument) → slice_get list k ≡ Some a → (r : ℤ × ℤ) × (range_of a ≡ Some r)
-
-record Mapped {X Y : Type 0} (f : X → Y) (o : Option X) (y : Y) : Type 0 where
-  x : X
-  o_is : o ≡ Some x
-  is : f x ≡ y
-
-mapped : {X Y : Type 0} (f : X → Y) (o : Option X) (y : Y) → option_map f o ≡ Some y → Mapped f o y
-mapped f (Some x) y e = record { x = x; o_is = refl; is = cc }
-mapped f None y e = cc
 
 each_behind : (a : trees.Argument) (list : List trees.Argument) (r : ℤ × ℤ) → range_of a ≡ Some r → ((k : ℕ) (b : trees.Argument) → slice_get list k ≡ Some b → (q : ℤ × ℤ) × (range_of b ≡ Some q)) → (k : ℕ) (b : trees.Argument)
     → slice_get (a ∷ list) k ≡ Some b → (q : ℤ × ℤ) × (range_of b ≡ Some q)
@@ -303,12 +291,12 @@ array_shown_of vs s a shape sound h few f count typed =
     record {
       few = omega (arith, few, t.count, ap length is);
       terms = subst (λ (ts : List Term). AllByRecursion (IsTermOf vs (kind_of a.value_type)) ts) (sym is) (are_terms vs (kind_of a.value_type) true r.0 t.all);
-      form = (f.some, f.few, sym (same_count shape) ∙ count ∙ sym t.count ∙ sym (ap length is));
+      form = (f.some, f.few, count ∙ sym t.count ∙ sym (ap length is));
     }
 
 pub array_shown : (vs : List Variable) (s : Scope) (a : ArrayItem) → Sound vs s.entries → AllByRecursion BasicFits a.list.elements → length a.list.elements ≤ ELEMENT_LIMIT → seventh_ranges a.annotations ≡ []
-    → wrong_element s.entries a.variable a.value_type a.list ≡ [] → (a.variable ≡ false → misplaced_output_array a.annotations ≡ []) → wrong_shape a ≡ [] → AllByRecursion (Shown vs) (array_outputs s a)
-array_shown vs s a sound h few seven typed placed whole = go (annotation_of OUTPUT_ARRAY a.annotations) refl seven placed whole
+    → wrong_element s.entries a.variable a.value_type a.list ≡ [] → (a.variable ≡ false → output_array_places a.annotations ≡ []) → wrong_shape a ≡ [] → AllByRecursion (Shown vs) (array_outputs s a)
+array_shown vs s a sound h few seven typed placed whole = go (output_array_of a.annotations) seven placed whole
   where
     is_variable : (b : Bool) → a.variable ≡ b → (at : ℕ) → (a.variable ≡ false → at ∷ [] ≡ []) → wrong_element s.entries a.variable a.value_type a.list ≡ []
         → wrong_place (each_of (term_in s.entries (term_asked a.value_type)) a.list.elements) ≡ []
@@ -325,12 +313,11 @@ array_shown vs s a sound h few seven typed placed whole = go (annotation_of OUTP
       tt,
     )
 
-    go : (o : Option Annotation) → annotation_of OUTPUT_ARRAY a.annotations ≡ o → ◌≡◌ {A = List ℕ} (elim o [ Some ann ↦ seventh ann | None ↦ [] ]) []
-        → (a.variable ≡ false → ◌≡◌ {A = List ℕ} (elim o [ Some ann ↦ ann.name.at ∷ [] | None ↦ [] ]) [])
-        → ◌≡◌ {A = List ℕ} (elim o [
-          | Some ann ↦ elim (shape_in ann) [ Some shape ↦ cond (element_count shape == length a.list.elements) [] (ann.name.at ∷ []) | None ↦ [] ]
+    go : (o : Option Annotation) → ◌≡◌ {A = List ℕ} (elim o [ Some ann ↦ seventh ann | None ↦ [] ]) [] → (a.variable ≡ false → ◌≡◌ {A = List ℕ} (elim o [ Some ann ↦ ann.name.at ∷ [] | None ↦ [] ]) [])
+        → ◌≡◌ {A = List ℕ} (elim (elim o [ Some ann ↦ shape_in ann | None ↦ None ]) [
+          | Some shape ↦ cond (element_count shape == length a.list.elements) [] (elim o [ Some ann ↦ ann.name.at ∷ [] | None ↦ [] ])
           | None ↦ []
         ]) []
-        → AllByRecursion (Shown vs) (elim o [ Some ann ↦ elim (shape_in ann) [ Some shape ↦ shown_as s a shape ∷ [] | None ↦ [] ] | None ↦ [] ])
-    go None k n p w = tt
-    go (Some ann) k n p w = shown ann (shape_in ann) refl n p w
+        → AllByRecursion (Shown vs) (elim (elim o [ Some ann ↦ shape_in ann | None ↦ None ]) [ Some shape ↦ shown_as s a shape ∷ [] | None ↦ [] ])
+    go None n p w = tt
+    go (Some ann) n p w = shown ann (shape_in ann) refl n p w

@@ -17,7 +17,7 @@ use Rattle.fz_language.specs.Trees.{Basic, VariableItem, ParameterItem, ArrayIte
 use Rattle.fz_language.specs.Numerals.{floats_in}
 use Rattle.fz_language.specs.Entries.{Environment, nothing_declared, term_in, resolve}
 use Rattle.fz_language.specs.Entries as entries
-use Rattle.fz_language.specs.Rules.{Fault, AVariable, Counts, none_yet, all_counted, additions, over, at_places, faults_of, item_faults, solve_faults, kind_of, term_asked, is_bound, bad_variable_type, bad_element_type, seventh_ranges, floats_of_value, unknown_of_value, unknown_in, misplaced_output_array, misplaced_output_var, malformed_output_array, in_order, arguments_in, wrong_value, wrong_element, wrong_index_set, wrong_shape, declared_already, type_additions, value_additions, array_element_additions, members_in}
+use Rattle.fz_language.specs.Rules.{Fault, AVariable, Counts, none_yet, all_counted, additions, over, at_places, faults_of, item_faults, solve_faults, kind_of, term_asked, is_bound, bad_variable_type, bad_element_type, seventh_ranges, floats_of_value, unknown_of_value, unknown_in, output_array_places, output_var_places, malformed_output_array, in_order, arguments_in, wrong_value, wrong_element, wrong_index_set, wrong_shape, declared_already, type_additions, value_additions, array_element_additions, members_in}
 use Rattle.fz_language.specs.Models.{equal_to, goal_term, Scope, empty_scope, behind, scope_behind, made, goal_of, type_set, variables_of, constraints_of, outputs_of, value_constraints, call_constraints, terms_of, bound_to}
 use Rattle.fz_language.specs.Reads.{faults_from}
 use Rattle.fz_language.specs.Search.{search_of}
@@ -55,7 +55,7 @@ variable_made vs s n v sound h k e w =
     let kind = k (record { kind = kind_of v.value_type; set = type_set v.value_type }) refl in
     let unsupported = at_places Unsupported (bad_variable_type v.value_type ++ seventh_ranges v.annotations ++ floats_of_value v.value) in
     let unknown = at_places UnknownName (unknown_of_value s.entries v.value) in
-    let wrong = at_places WrongType (misplaced_output_array v.annotations ++ wrong_value s.entries v.value_type v.value) in
+    let wrong = at_places WrongType (output_array_places v.annotations ++ wrong_value s.entries v.value_type v.value) in
     let p = nil_parts (unsupported ++ unknown ++ wrong) (at_places DeclaredTwice (declared_already s.entries v.name)) e in
     let q = nil_parts (unsupported ++ unknown) wrong p.0 in
     let r = nil_parts unsupported unknown q.0 in
@@ -108,7 +108,7 @@ array_made : (vs : List instance.Variable) (s : Scope) (n : Counts) (a : ArrayIt
 array_made vs s n a sound h e w =
     let bad = bad_element_type a.variable a.value_type in
     let seven = seventh_ranges a.annotations in
-    let places = in_order (misplaced_output_var a.annotations) (cond a.variable (malformed_output_array a.annotations) (misplaced_output_array a.annotations)) in
+    let places = in_order (output_var_places a.annotations) (cond a.variable (malformed_output_array a.annotations) (output_array_places a.annotations)) in
     let typed = wrong_element s.entries a.variable a.value_type a.list in
     let unsupported = at_places Unsupported (bad ++ seven ++ flat_map floats_in a.list.elements) in
     let unknown = at_places UnknownName (flat_map (unknown_in s.entries) a.list.elements) in
@@ -129,7 +129,7 @@ array_made vs s n a sound h e w =
       sets = tt;
       constrained = elements_fit vs s a sound h.2 few_members h.3;
       shown = array_shown vs s a sound h.3 few (nil_parts bad seven u.0).1 types.1
-          (lists_placed (misplaced_output_var a.annotations) (malformed_output_array a.annotations) (misplaced_output_array a.annotations) a.variable types.0) lengths.1;
+          (lists_placed (output_var_places a.annotations) (malformed_output_array a.annotations) (output_array_places a.annotations) a.variable types.0) lengths.1;
       sound = array_entered vs s.entries a sound h.3 few;
       count = omega arith;
       few_variables = omega arith;

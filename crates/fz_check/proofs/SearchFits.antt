@@ -13,6 +13,7 @@ use Rattle.fz_language.specs.Entries.{Environment, Entry}
 use Rattle.fz_language.specs.Entries as entries
 use Rattle.fz_language.specs.Search.{variables_of_terms, member, joined, variables_in, part_of, part_in, is_basic_search, parts_in, parts_of_list, parts_of_all, as_argument, firsts, search_of, pick_of, value_of}
 use Rattle.fz_model.specs.Kept.{IsTermOf, kind_at}
+use Rattle.fz_check.proofs.Mapped.{mapped}
 use Rattle.fz_check.specs.Fits.{EntryFits, Sound}
 
 pub both_all : {X : Type 0} (P : X → Type 0) (xs ys : List X) → AllByRecursion P xs → AllByRecursion P ys → AllByRecursion P (xs ++ ys)
@@ -86,15 +87,6 @@ member_fits vs env (Simple (Literal set)) numbers s e = cc
 member_fits vs env (Text at) numbers s e = cc
 member_fits vs env (Call name arguments) numbers s e = cc
 member_fits vs env (Brackets at arguments) numbers s e = cc
-
-record Mapped {X Y : Type 0} (f : X → Y) (o : Option X) (y : Y) : Type 0 where
-  x : X
-  o_is : o ≡ Some x
-  is : f x ≡ y
-
-mapped : {X Y : Type 0} (f : X → Y) (o : Option X) (y : Y) → option_map f o ≡ Some y → Mapped f o y
-mapped f (Some x) y e = record { x = x; o_is = refl; is = cc }
-mapped f None y e = cc
 
 members_fit : (vs : List Variable) (env : Environment) (args : List Argument) (lists : List (List ℕ)) → Sound vs env → all_of (map (member env) args) ≡ Some lists → Variables vs (joined lists)
 members_fit vs env [] lists s e = let is : [] ≡ lists = cc in subst (λ (ls : List (List ℕ)). Variables vs (joined ls)) is tt

@@ -1,6 +1,7 @@
 //! Laws that the definitions keep: each is the clause of a function that does nothing, so that the clause is proved.
 ghost use Rattle.fz_language.specs.Laws.{EachIsJudged, OneFirstRule, ReadingIsOne, SomeReading};
 ghost use Rattle.fz_language.specs.SyntaxLaws.{SpellingIsOne, FaultIsOne, DepthIsOne, VerdictIsOne, SomeVerdict};
+ghost use Rattle.fz_language.specs.SetLaws.{RangesAreOfNumbers};
 ghost use Rattle.fz_language.specs.WithinLaws.{ProgramsFit};
 ghost use Rattle.fz_language.specs.TokenLaws.{TokensAreOne, TokenFaultIsOne, TokensOrFault, SomeTokens};
 
@@ -47,6 +48,11 @@ pub fn verdict_is_one()
 /// Each list of tokens spells a program, or has its fault of syntax, or its first bracket over the limit.
 pub fn some_verdict()
     ensures { SomeVerdict }
+{}
+
+/// The ranges of numbers rise, and hold those numbers and no other.
+pub fn ranges_are_of_numbers()
+    ensures { RangesAreOfNumbers }
 {}
 
 /// The integers of a program lie within the limits.
