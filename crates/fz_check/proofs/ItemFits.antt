@@ -1,6 +1,6 @@
 -- What an item makes fits the variables of the model.
 use Rattle.std.proofs.Common.{◌≡◌, ℕ, zero, suc, ◌*◌, ◌≤◌, ℤ, Bool, true, false, cond, Option, Some, None, option_map, List, [], ◌∷◌, ◌++◌, length, map, refl, sym, ap, ◌∙◌, subst, arith, rules}
-use Rattle.std.specs.Prelude.{IsTrue, Result, Ok, Err, MatchOption, ◌==◌, bytes_eq, slice_get, flat_map}
+use Rattle.std.specs.Prelude.{Result, Ok, Err, MatchOption, ◌==◌, bytes_eq, slice_get, flat_map}
 use Rattle.std.specs.List.{AllByRecursion}
 use Rattle.std.proofs.lemmas.Int.{ints}
 use Rattle.std.proofs.lemmas.Bool.{eqb-true}
@@ -175,7 +175,7 @@ constraint_of_row vs env c row signature s h few r k e =
     subst (λ (o : Option Row). MatchOption o ⊥ (λ (found : Row). FitsRow vs found arguments)) (sym r)
     (record {
       fit = subst (λ (o : Option (List Asked)). MatchOption o ⊥ (λ asked. AllFit vs asked arguments)) (sym (ap (signature_of row) f.count ∙ k)) f.fit;
-      lengths = subst IsTrue (sym long) tt;
+      lengths = long;
     })
 
 pub call_fits : (vs : List Variable) (s : Scope) (c : ConstraintItem) → Sound vs s.entries → AllByRecursion ExpressionFits c.arguments → AllByRecursion FewIn c.arguments → call_faults s.entries c ≡ [] → AllByRecursion (IsConstraint vs) (call_constraints s c)

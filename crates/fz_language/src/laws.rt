@@ -55,7 +55,7 @@ pub fn ranges_are_of_numbers()
     ensures { RangesAreOfNumbers }
 {}
 
-/// The integers of a program lie within the limits.
+/// A program of a text within its limit is no larger than the text, and its integers lie within the limits.
 pub fn programs_fit()
     ensures { ProgramsFit }
 {}
