@@ -1,7 +1,7 @@
 -- What a search by halves finds among rows that rise by their names.
-use Rattle.std.proofs.Common.{◌≡◌, ℕ, zero, suc, ◌<◌, ◌≤◌, ◌⊎◌, Bool, true, false, cond, Option, Some, None, List, [], ◌∷◌, map, length, get_or, refl, sym, ap, ◌∙◌, subst, inl, inr, arith}
+use Rattle.std.proofs.Common.{◌≡◌, ℕ, zero, suc, ◌<◌, ◌≤◌, ◌⊎◌, Bool, true, false, cond, Option, Some, None, List, [], ◌∷◌, map, length, get_or, refl, sym, ap, ◌∙◌, subst, inl, inr, arith, Ordering, Less, Equal, Greater}
 use Rattle.std.specs.Prelude.{find, bytes_eq, ◌&&◌}
-use Rattle.std.specs.Ordering.{Ordering, Less, Equal, Greater, is_lt, is_eq, nat_cmp, ordering_index, ordering_reverse}
+use Rattle.std.specs.Ordering.{is_lt, is_eq, nat_cmp, ordering_index, ordering_reverse}
 use Rattle.std.specs.Cmp.Lexicographic.{slice_cmp}
 use Rattle.std.specs.List.Sorted.{IsNonDecreasingBy, IsPartitionPoint}
 use Rattle.std.proofs.lemmas.Bool.{and_parts, cases_lt}
@@ -84,11 +84,11 @@ none_here f (x ∷ xs) name h = none_here f xs name (λ i d l. h (suc i) d (omeg
 
 -- ---- the rows of the table
 
-pub found_row : {X : Type 0} (f : X → Row) (xs : List X) (name : List ℕ) (i : ℕ) (x : X) → are_rising (map f xs) ≡ true → i < length xs → x ≡ get_or xs i x → compare (f (get_or xs i x)).name name ≡ Equal
-    → Some (f x) ≡ find (λ (row : Row). bytes_eq name row.name) (map f xs)
-found_row f xs name i x h l is e =
-    let there = get_or-map f xs i x (f x) l in
-    ap (λ y. Some (f y)) is ∙ ap Some (sym there) ∙ found_here (map f xs) name i (f x) h (omega (arith, l, length-map xs f)) (ap (λ (r : Row). compare r.name name) there ∙ e)
+pub found_row : {X : Type 0} (f : X → Row) (xs : List X) (name : List ℕ) (i : ℕ) (d : X) → are_rising (map f xs) ≡ true → i < length xs → ((x : X) → compare (f (get_or xs i x)).name name ≡ Equal)
+    → Some (f (get_or xs i d)) ≡ find (λ (row : Row). bytes_eq name row.name) (map f xs)
+found_row f xs name i d h l e =
+    let there = get_or-map f xs i d (f d) l in
+    ap Some (sym there) ∙ found_here (map f xs) name i (f d) h (omega (arith, l, length-map xs f)) (ap (λ (r : Row). compare r.name name) there ∙ e d)
 
 pub no_row : {X : Type 0} (f : X → Row) (xs : List X) (name : List ℕ) (i : ℕ) → are_rising (map f xs) ≡ true
     → (IsNonDecreasingBy (λ y. ordering_index (compare (f y).name name)) xs → IsPartitionPoint (λ y. compare (f y).name name ≡ Less) (λ y. compare (f y).name name ≡ Greater) xs i)

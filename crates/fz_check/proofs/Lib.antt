@@ -9,7 +9,6 @@ pub mod FaultLaws
 pub mod Finds
 pub mod Halves
 pub mod ItemFits
-pub mod Kept
 pub mod Mapped
 pub mod ModelFits
 pub mod PlaceLaws
