@@ -1,5 +1,5 @@
 -- Arguments that are what is asked.
-use Rattle.std.proofs.Common.{◌≡◌, ℕ, suc, true, Option, Some, None, option_map, List, [], ◌∷◌, length, refl, ap, subst, arith}
+use Rattle.std.proofs.Common.{◌≡◌, ℕ, suc, Option, Some, None, option_map, List, [], ◌∷◌, length, refl, ap, subst, arith}
 use Rattle.std.specs.Prelude.{Result, Ok, Err}
 use Rattle.std.specs.List.{AllByRecursion}
 use Rattle.fz_spec.specs.declared.asked.Asked.{Asked}

@@ -1,10 +1,9 @@
 -- What an item makes fits the variables of the model.
-use Rattle.std.proofs.Common.{◌≡◌, ℕ, zero, suc, ◌*◌, ◌≤◌, ℤ, Bool, true, false, cond, Option, Some, None, option_map, List, [], ◌∷◌, ◌++◌, length, map, refl, sym, ap, ◌∙◌, subst, arith, rules}
+use Rattle.std.proofs.Common.{◌≡◌, ℕ, zero, suc, ◌≤◌, ℤ, Bool, true, false, cond, Option, Some, None, List, [], ◌∷◌, ◌++◌, length, map, refl, sym, ap, ◌∙◌, subst, arith, rules}
 use Rattle.std.specs.Prelude.{Result, Ok, Err, MatchOption, ◌==◌, bytes_eq, slice_get, flat_map}
 use Rattle.std.specs.List.{AllByRecursion}
 use Rattle.std.proofs.lemmas.Int.{ints}
 use Rattle.std.proofs.lemmas.Bool.{eqb-true}
-use Rattle.fz_sets.specs.Sets.{interval, set_size}
 use Rattle.fz_spec.specs.declared.limits.TheConstants.{ELEMENT_LIMIT}
 use Rattle.fz_spec.specs.declared.kind.Kind.{Kind}
 use Rattle.fz_spec.specs.declared.kind.Kind.TheVariants as kinds
@@ -26,7 +25,7 @@ use Rattle.fz_language.specs.Annotations.{OUTPUT_ARRAY, output_var_of, output_ar
 use Rattle.fz_language.specs.Rules.{number_asked, kind_of, term_asked, is_bound, bad_variable_type, type_additions, at_places, named_unsupported, floats_of, unknown_of, wrong_arguments, arguments_in, signature_faults, row_faults, call_faults, wrong_place, wrong_element, seventh_ranges, wrong_shape, output_array_places}
 use Rattle.fz_language.specs.Models.{type_set, plain_set, terms_of, parameter_entry, array_entry, declare, Scope, equal_to, value_constraints, bound_to, element_constraints, call_constraints, scalar_outputs, array_outputs}
 use Rattle.fz_language.specs.Within.{SetFits, ValueFits, TypeFits, BasicFits, ExpressionFits, NameFits, ArgumentFits, ArgumentsFit, CalledFits, AnnotationFits, ArrayFits}
-use Rattle.fz_model.specs.Kept.{IsNumberOf, IsSet, IsVariable, HasSetOf, IsTermOf, FitsElement, IsConstraint, FitsRow, AllFit, IsIndexRange, IsOutput, kind_at}
+use Rattle.fz_model.specs.Kept.{IsSet, IsVariable, IsTermOf, FitsElement, IsConstraint, FitsRow, AllFit, IsIndexRange, IsOutput, kind_at}
 use Rattle.fz_check.proofs.Mapped.{mapped}
 use Rattle.fz_check.specs.Fits.{EntryFits, Sound}
 use Rattle.fz_check.proofs.TermFits.{term_fits, terms_fit, are_terms, is_number, are_numbers}

@@ -21,8 +21,7 @@ use Rattle.fz_language.specs.Rules.{Fault, AVariable, Counts, none_yet, all_coun
 use Rattle.fz_language.specs.Models.{equal_to, goal_term, Scope, empty_scope, behind, scope_behind, made, goal_of, type_set, variables_of, constraints_of, outputs_of, value_constraints, call_constraints, terms_of, bound_to}
 use Rattle.fz_language.specs.Annotations.{output_var_of, shape_among}
 use Rattle.fz_language.specs.Reads.{faults_from}
-use Rattle.fz_language.specs.Search.{search_of}
-use Rattle.fz_language.specs.Within.{BasicFits, ItemFits, program_size}
+use Rattle.fz_language.specs.Within.{BasicFits, ItemFits}
 use Rattle.fz_model.specs.Kept.{IsVariable, IsConstraint, IsOutput, IsGoal, kind_at}
 use Rattle.fz_check.specs.Fits.{Sound, ModelsFit}
 use Rattle.fz_check.proofs.Counting.{nil_parts, variables_in, constraints_in, elements_in, Few, few, elements_both, constraints_both, variables_both, among_counted, array_counted, bound_counted, arguments_few}

@@ -1,8 +1,8 @@
 -- The parts of the search are no more than the annotations, and each is over variables of the model.
-use Rattle.std.proofs.Common.{◌≡◌, ℕ, ◌+◌, zero, suc, ◌<◌, ◌≤◌, Bool, true, false, cond, Option, Some, None, option_map, List, [], ◌∷◌, ◌++◌, length, map, refl, subst, arith, length-append}
+use Rattle.std.proofs.Common.{◌≡◌, ℕ, ◌+◌, zero, suc, ◌<◌, ◌≤◌, Bool, true, false, cond, Option, Some, None, List, [], ◌∷◌, ◌++◌, length, map, refl, subst, arith, length-append}
 use Rattle.std.specs.Prelude.{bytes_eq, codes, find, flat_map}
 use Rattle.std.specs.List.{AllByRecursion}
-use Rattle.fz_spec.specs.declared.limits.TheConstants.{TEXT_LIMIT, ELEMENT_LIMIT}
+use Rattle.fz_spec.specs.declared.limits.TheConstants.{TEXT_LIMIT}
 use Rattle.fz_spec.specs.declared.kind.Kind.{Kind}
 use Rattle.fz_spec.specs.declared.term.Term.{Term}
 use Rattle.fz_spec.specs.declared.term.Term.TheVariants.{Num, Var}

@@ -1,13 +1,11 @@
 -- The ranges of numbers within the limits are a set.
-use Rattle.std.proofs.Common.{◌≡◌, ℕ, ◌+◌, suc, ◌≤◌, ℤ, pos, negsuc, Bool, true, false, cond, Option, Some, None, option_map, List, [], ◌∷◌, length, map, refl, ap, subst, arith, rules}
-use Rattle.std.specs.Prelude.{◌≤ℤ◌, ◌<ℤ◌, ◌+ℤ◌, int_lt, int_le}
+use Rattle.std.proofs.Common.{◌≡◌, ℕ, ◌+◌, suc, ◌≤◌, ℤ, pos, Bool, true, false, cond, Option, Some, None, option_map, List, [], ◌∷◌, length, map, refl, ap, subst, arith}
+use Rattle.std.specs.Prelude.{◌≤ℤ◌, ◌+ℤ◌, int_lt, int_le}
 use Rattle.std.specs.Bool.{Decides}
 use Rattle.std.specs.Ordering.{int_eq}
 use Rattle.std.specs.List.{AllByRecursion}
-use Rattle.std.proofs.lemmas.Int.{ints}
-use Rattle.std.proofs.lemmas.Bool.Decides.{Decides-int_eq, not_from_Decides}
 use Rattle.fz_spec.specs.declared.limits.TheConstants.{ELEMENT_LIMIT}
-use Rattle.fz_sets.specs.Sets.{IsWithinLimits, AreRanges, AreWithinLimits, interval}
+use Rattle.fz_sets.specs.Sets.{IsWithinLimits, AreWithinLimits, interval}
 use Rattle.fz_language.specs.Trees.{Number, Whole, Float, SetLiteral, Range, Braces, Basic, Truth, Numeral, Literal, Named}
 use Rattle.fz_language.specs.Numerals.{value_of, all_of, behind, with_number, ranges_of, set_in}
 use Rattle.fz_language.specs.Within.{NumberFits, SetFits, BasicFits}
