@@ -1,6 +1,6 @@
 -- A constraint that waits: its variables, and what its looks answer.
 use Rattle.std.proofs.Common.{◌≡◌, ◌<◌, ◌≤◌, ℕ, List, [], ◌∷◌, ◌++◌, refl, sym, ◌∙◌, ap, subst, length}
-use Rattle.std.specs.Prelude.{ℤ, map, flat_map}
+use Rattle.std.specs.Prelude.{ℤ, zero, suc, map, flat_map, slice_get, Some}
 use Rattle.std.specs.List.{AllByRecursion}
 use Rattle.fz_spec.specs.declared.term.Term.{Term}
 use Rattle.fz_spec.specs.declared.term.Term.TheVariants.{Num, Var}
@@ -66,9 +66,9 @@ variables_fixed c variables ds is fixed =
 
 -- where some variable isn't fixed
 pub still_waits : (c : Constraint) (variables : List ℕ) (ds : List (List (ℤ × ℤ))) → IsAwaiting c variables → (AllByRecursion (IsFixedAt ds) variables → ⊥) → Rests c ds
-still_waits c variables ds is open =
+still_waits c variables ds is unfixed =
     general_line c.name c.arguments ds is.general
-    (λ fixed a within. absurd (open (subst (AllByRecursion (IsFixedAt ds)) (sym is.listed) (each_fixed (terms_among c.arguments) ds fixed))))
+    (λ fixed a within. absurd (unfixed (subst (AllByRecursion (IsFixedAt ds)) (sym is.listed) (each_fixed (terms_among c.arguments) ds fixed))))
 
 -- where all are, one assignment within the domains speaks for all
 one_for_all : (c : Constraint) (variables : List ℕ) (ds : List (List (ℤ × ℤ))) (a b : List ℤ) → IsAwaiting c variables → AreBelow (waits c) (length ds)
@@ -89,3 +89,13 @@ always_true c variables ds a is below fixed in_a h = (
 pub never_true : (c : Constraint) (variables : List ℕ) (ds : List (List (ℤ × ℤ))) (a : List ℤ) → IsAwaiting c variables → AreBelow (waits c) (length ds)
     → AllByRecursion (IsFixedAt ds) variables → Within ds a → (IsTrueOf a c → ⊥) → IsNeverTrue c ds
 never_true c variables ds a is below fixed in_a false = λ b in_b h. false (one_for_all c variables ds b a is below fixed in_b in_a h)
+
+-- each of what is waited for is that a variable gets fixed
+all_for_fixed : (ts : List Term) (w : Wait) (i : ℕ) → slice_get (waits_for Fixed ts) i ≡ Some w → Fixed ≡ w.event
+all_for_fixed [] w i at = absurd (cc (at))
+all_for_fixed (Num n ∷ ts) w i at = all_for_fixed ts w i at
+all_for_fixed (Var v ∷ ts) w zero at = cc (at)
+all_for_fixed (Var v ∷ ts) w (suc i) at = all_for_fixed ts w i at
+
+pub event_is : (c : Constraint) (variables : List ℕ) (w : Wait) (i : ℕ) → IsAwaiting c variables → slice_get (waits c) i ≡ Some w → Fixed ≡ w.event
+event_is c variables w i is at = all_for_fixed (terms_among c.arguments) w i (subst (λ (ws : List Wait). slice_get ws i ≡ Some w) (general_waits c.name c.arguments is.general) at)

@@ -139,6 +139,7 @@ impl Propagator for Awaiting {
     }
 
     fn event(&self, place: usize) -> Event {
+        let _ = &self.variables;
         let _ = place;
         Event::Fixed
     }
