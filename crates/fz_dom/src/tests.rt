@@ -39,7 +39,7 @@ fn a_gap_is_not_in_the_set(rt: HostRuntime) -> Result<(), Fail> {
     assert_eq!(rt; dom.next_above(3), Some(5));
     assert_eq!(rt; dom.next_above(7), None);
     let ranges: Vec<(i32, i32)> = dom.ranges().collect(rt.alloc())?;
-    assert_eq!(rt; ranges.as_slice(), &[(1, 3), (5, 7)]);
+    assert_eq!(rt; ranges.as_slice(), [(1, 3), (5, 7)].as_slice());
     let copy = dom.copy()?;
     assert!(rt; copy.same(&dom));
     assert!(rt; !copy.same(&Dom::from_ranges(rt.alloc(), &[(1, 7)])?));
