@@ -1,4 +1,4 @@
-use Rattle.std.proofs.Common.{◌≡◌, ◌<◌, ◌≤ℤ◌, ◌<ℤ◌, pos, get_or, length, inl, inr, refl, subst, to_z, of_z, w32, arith, rules}
+use Rattle.std.proofs.Common.{◌≡◌, ◌<◌, pos, get_or, length, inl, inr, refl, subst, to_z, of_z, w32, arith, rules}
 use Rattle.std.specs.Prelude.{ℤ, ◌-ℤ◌}
 use Rattle.std.proofs.lemmas.Int.{ints}
 use Rattle.std.proofs.Math.Facts.{to_z-of_z}
@@ -63,11 +63,11 @@ returns-then-j-theirs c =
     let fits = c.ranges.shift in
     subst (λ (s : ℤ). IsPart (λ x. IsInSet c.args.theirs.now (x -ℤ s)) c.args.mine.now c.merge.kept.items) (to_z-of_z fits)
     (sharing_done _ c.merge.kept.items c.args.mine.now c.args.theirs.now c.merge.i c.merge.j c.merge.invariant c.requires.within
-      (inr (let t = c.if-j-theirs.true in omega arith)))
+    (inr (let t = c.if-j-theirs.true in omega arith)))
 
 pub returns : goal.returns
 returns c =
     let fits = c.ranges.shift in
     subst (λ (s : ℤ). IsPart (λ x. IsInSet c.args.theirs.now (x -ℤ s)) c.args.mine.now c.merge.kept.items) (to_z-of_z fits)
     (sharing_done _ c.merge.kept.items c.args.mine.now c.args.theirs.now c.merge.i c.merge.j c.merge.invariant c.requires.within
-      (inl (let t = c.merge-test.false in omega arith)))
+    (inl (let t = c.merge-test.false in omega arith)))
