@@ -1,3 +1,4 @@
 pub mod Fronts
 pub mod Readings
 pub mod Outcomes
+pub mod Searches

@@ -8,8 +8,9 @@ use Rattle.fz_spec.specs.Instance.{Instance}
 use Rattle.fz_language.specs.Reads.{Reads, Reading}
 use Rattle.fz_spec.specs.declared.limits.TheConstants.{TEXT_LIMIT}
 use Rattle.fz_language.specs.Reads as reads
-use Rattle.fz_spec.specs.Run.{refusal_text, blocks, closing}
-use Rattle.fzn.specs.Words.{Options}
+use Rattle.fz_spec.specs.Run.{refusal_text}
+use Rattle.fz_cmd.specs.Meaning.{Options}
+use Rattle.fzn.specs.Runs.{PrintsWanted, wanted}
 use Rattle.fz_language.proofs.ReadProofs.{reading_is_one}
 use Rattle.fz_io.specs.Outside.{with_more}
 use Rattle.fz_print.specs.declared.refusal.Refusal.{Refusal}
@@ -17,7 +18,7 @@ use Rattle.fz_print.specs.Refusal.{text_of, code_digits}
 use Rattle.fzn.specs.declared.status.Status.{Status}
 use Rattle.fzn.specs.declared.status.Status.TheVariants.{Done, Refused, Usage, SourceFault, SinkFault, NoMemory}
 use Rattle.fzn.specs.Promises.{AnswersAccepted, AnswersRefused, HasItsCause, HasReadAll, IsDoneOrShort, IsFront, IsRefusedOrShort, IsRefusedRun, IsRun, IsStrictFront, IsWholeRun, Prints, Runs}
-use Rattle.fzn.specs.Steps.{Answers, AnswersAll, IsReadOf, IsRefusal, LeavesNothing, PrintsOf, TakesFront, all_of}
+use Rattle.fzn.specs.Steps.{Answers, AnswersWanted, IsReadOf, IsRefusal, LeavesNothing, PrintsOf, TakesFront}
 use Rattle.fzn.proofs.Readings.{read_of_front}
 
 pub no_more : (taken : Option (List ℕ)) → taken ≡ with_more taken []
@@ -45,48 +46,50 @@ text_is r c e =
     ap (λ n. front ++ code_digits n ++ codes "\n=====ERROR=====\n") e ∙ ap (λ u. front ++ u ++ codes "\n=====ERROR=====\n") (code_digits_is c)
     ∙ ap (λ u. u ++ codes "\n=====ERROR=====\n") (sym (append_assoc front (codes ": ") (code_text c)))
 
-at_status : (s t : Status) (text : List ℕ) (before after : Option (List ℕ)) → s ≡ t → PrintsOf t text before after → PrintsOf s text before after
-at_status s t text before after e p = subst (λ (u : Status). PrintsOf u text before after) (sym e) p
+at_status : (s t : Status) (text : List ℕ) (o : Options) (before after : Option (List ℕ)) → s ≡ t → PrintsOf t text o before after → PrintsOf s text o before after
+at_status s t text o before after e p = subst (λ (u : Status). PrintsOf u text o before after) (sym e) p
 
 -- a front of a whole text, where a fault or want of memory is answered
-stopped : (s : Status) (text whole : List ℕ) (before after : Option (List ℕ)) → (s ≡ SinkFault) ⊎ (s ≡ NoMemory) → TakesFront whole before after
-    → ((file printed : List ℕ) → whole ≡ printed → IsWholeRun text (all_of file) printed) → PrintsOf s text before after
-stopped s text whole before after e f w = elim e [
-  | inl fault ↦ at_status s SinkFault text before after fault (f.printed, f.taken, λ file. inr (f.more, w file (f.printed ++ f.more) f.front))
-  | inr short ↦ at_status s NoMemory text before after short (f.printed, f.taken, λ file. inr (f.more, f.some, w file (f.printed ++ f.more) f.front))
+stopped : (s : Status) (text whole : List ℕ) (o : Options) (before after : Option (List ℕ)) → (s ≡ SinkFault) ⊎ (s ≡ NoMemory) → TakesFront whole before after
+    → ((printed : List ℕ) → whole ≡ printed → IsWholeRun text o printed) → PrintsOf s text o before after
+stopped s text whole o before after e f w = elim e [
+  | inl fault ↦ at_status s SinkFault text o before after fault (f.printed, f.taken, inr (f.more, w (f.printed ++ f.more) f.front))
+  | inr short ↦ at_status s NoMemory text o before after short (f.printed, f.taken, inr (f.more, f.some, w (f.printed ++ f.more) f.front))
 ]
 
 -- all of it was taken, and the flush failed
-unflushed : (s : Status) (text whole : List ℕ) (before after : Option (List ℕ)) → s ≡ SinkFault → after ≡ with_more before whole
-    → ((file printed : List ℕ) → whole ≡ printed → IsWholeRun text (all_of file) printed) → PrintsOf s text before after
-unflushed s text whole before after e t w = at_status s SinkFault text before after e (whole, t, λ file. inr ([], w file (whole ++ []) (sym (append-nil whole))))
+unflushed : (s : Status) (text whole : List ℕ) (o : Options) (before after : Option (List ℕ)) → s ≡ SinkFault → after ≡ with_more before whole
+    → ((printed : List ℕ) → whole ≡ printed → IsWholeRun text o printed) → PrintsOf s text o before after
+unflushed s text whole o before after e t w = at_status s SinkFault text o before after e (whole, t, inr ([], w (whole ++ []) (sym (append-nil whole))))
 
-pub prints_all : (s : Status) (text : List ℕ) (m : Instance) (before after : Option (List ℕ)) → Reads text (reads.Accepted m) → AnswersAll s m before after → PrintsOf s text before after
-prints_all s text m before after r a = elim a [
-  | inl short ↦ at_status s NoMemory text before after short.0 ([], short.1 ∙ no_more before, λ file. inl refl)
+pub prints_wanted : (s : Status) (text : List ℕ) (m : Instance) (o : Options) (before after : Option (List ℕ)) → Reads text (reads.Accepted m) → AnswersWanted s m (wanted o) before after
+    → PrintsOf s text o before after
+prints_wanted s text m o before after r a = elim a [
+  | inl short ↦ at_status s NoMemory text o before after short.0 ([], short.1 ∙ no_more before, inl refl)
   | inr found ↦
       let l = found.0 in
-      let whole = blocks m l ++ closing l in
-      let run : (file u : List ℕ) → whole ≡ u → IsRun text (all_of file) u =
-      λ file u e. record { model = m; listed = l; accepted = r; run = record { lists = found.1; text = sym e } } in
-      elim found.2 [
+      let whole = found.1 in
+      let run : (u : List ℕ) → whole ≡ u → IsRun text o u =
+      λ u e. record { model = m; listed = l; accepted = r; run = subst (λ (v : List ℕ). PrintsWanted (wanted o) m l v) e found.2 } in
+      elim found.3 [
         | inl all ↦ elim all.0 [
-          | inl done ↦ at_status s Done text before after done (whole, all.1, λ file. run file whole refl)
-          | inr fault ↦ unflushed s text whole before after fault all.1 (λ file u e. inl (run file u e))
+          | inl done ↦ at_status s Done text o before after done (whole, all.1, run whole refl)
+          | inr fault ↦ unflushed s text whole o before after fault all.1 (λ u e. inl (run u e))
         ]
-        | inr part ↦ stopped s text whole before after part.0 part.1 (λ file u e. inl (run file u e))
+        | inr part ↦ stopped s text whole o before after part.0 part.1 (λ u e. inl (run u e))
       ]
 ]
 
-pub prints_refusal : (s : Status) (text : List ℕ) (r : Refusal) (before after : Option (List ℕ)) → IsRefusal text r → Answers s (Refused r) (text_of r) before after → PrintsOf s text before after
-prints_refusal s text r before after h a =
+pub prints_refusal : (s : Status) (text : List ℕ) (r : Refusal) (o : Options) (before after : Option (List ℕ)) → IsRefusal text r → Answers s (Refused r) (text_of r) before after
+    → PrintsOf s text o before after
+prints_refusal s text r o before after h a =
     let refused : (u : List ℕ) → text_of r ≡ u → IsRefusedRun text r u = λ u e. record { code = h.code; number = h.number; reads = h.reads; is = sym e ∙ text_is r h.code h.number } in
     elim a [
       | inl all ↦ elim all.0 [
-        | inl done ↦ at_status s (Refused r) text before after done (text_of r, all.1, λ file. refused (text_of r) refl)
-        | inr fault ↦ unflushed s text (text_of r) before after fault all.1 (λ file u e. inr (r, refused u e))
+        | inl done ↦ at_status s (Refused r) text o before after done (text_of r, all.1, refused (text_of r) refl)
+        | inr fault ↦ unflushed s text (text_of r) o before after fault all.1 (λ u e. inr (r, refused u e))
       ]
-      | inr part ↦ stopped s text (text_of r) before after part.0 part.1 (λ file u e. inr (r, refused u e))
+      | inr part ↦ stopped s text (text_of r) o before after part.0 part.1 (λ u e. inr (r, refused u e))
     ]
 
 -- from what was read of a text to the text
@@ -113,25 +116,25 @@ prints_of_front SourceFault text printed o p = p
 prints_of_front SinkFault text printed o p = front_of_front text printed o p
 prints_of_front NoMemory text printed o p = strict_of_strict text printed o p
 
-pub runs : (s : Status) (name : List ℕ) (file before after : Option (List ℕ)) (read : List ℕ) → IsReadOf file read → PrintsOf s read before after → Runs s (all_of name) file before after
-runs s name None before after read r p = record { text = read; printed = p.0; read = tt; taken = p.1; prints = p.2 name }
-runs s name (Some t) before after read r p =
-    record { text = t; printed = p.0; read = refl; taken = p.1; prints = prints_of_front s t p.0 (all_of name) (subst (λ (u : List ℕ). Prints s u (all_of name) p.0) r (p.2 name)) }
+pub runs : (s : Status) (o : Options) (file before after : Option (List ℕ)) (read : List ℕ) → IsReadOf file read → PrintsOf s read o before after → Runs s o file before after
+runs s o None before after read r p = record { text = read; printed = p.0; read = tt; taken = p.1; prints = p.2 }
+runs s o (Some t) before after read r p =
+    record { text = t; printed = p.0; read = refl; taken = p.1; prints = prints_of_front s t p.0 o (subst (λ (u : List ℕ). Prints s u o p.0) r p.2) }
 
 -- a run that is done read a text within the limit
-pub reads_all : (s : Status) (read : List ℕ) (before after left : Option (List ℕ)) → PrintsOf s read before after → LeavesNothing (length read) left → HasReadAll s left
-reads_all s read before after left p h done =
-    let run : Prints Done read (all_of []) p.0 = subst (λ (u : Status). Prints u read (all_of []) p.0) done (p.2 []) in h run.accepted.spelt.short
+pub reads_all : (s : Status) (read : List ℕ) (o : Options) (before after left : Option (List ℕ)) → PrintsOf s read o before after → LeavesNothing (length read) left → HasReadAll s left
+reads_all s read o before after left p h done =
+    let run : Prints Done read o p.0 = subst (λ (u : Status). Prints u read o p.0) done p.2 in h run.accepted.spelt.short
 
 told : (file : Option (List ℕ)) → IfSome file (λ t. t ≡ unwrap_or file [])
 told None = tt
 told (Some t) = refl
 
-pub runs_source_fault : (name : List ℕ) (file before : Option (List ℕ)) → Runs SourceFault (all_of name) file before before
-runs_source_fault name file before = record { text = unwrap_or file []; printed = []; read = told file; taken = no_more before; prints = refl }
+pub runs_source_fault : (o : Options) (file before : Option (List ℕ)) → Runs SourceFault o file before before
+runs_source_fault o file before = record { text = unwrap_or file []; printed = []; read = told file; taken = no_more before; prints = refl }
 
-pub runs_short : (name : List ℕ) (file before : Option (List ℕ)) → Runs NoMemory (all_of name) file before before
-runs_short name file before = record { text = unwrap_or file []; printed = []; read = told file; taken = no_more before; prints = inl refl }
+pub runs_short : (o : Options) (file before : Option (List ℕ)) → Runs NoMemory o file before before
+runs_short o file before = record { text = unwrap_or file []; printed = []; read = told file; taken = no_more before; prints = inl refl }
 
 -- an accepted text is done, where nothing failed and memory was there
 not_both : (t : List ℕ) (m : Instance) (code : Code) (line column : ℕ) → Reads t (reads.Accepted m) → Reads t (reads.Refused code line column) → ⊥
@@ -177,6 +180,11 @@ pub answers_refused : (s : Status) (o : Options) (file before after : Option (Li
 answers_refused s o file before after a b c d r h u e f text code line column is k =
     refused_or_short s o text before after a b c d code line column (subst (λ (x : Option (List ℕ)). Runs s o x before after) is r) h u e f k
 
--- what holds at the options of a file holds at those of words that mean them
-pub at_options : (o : Option Options) (P : Options → Type 0) (file : List ℕ) → ◌≡◌ {A = Option Options} (Some (all_of file)) o → P (all_of file) → IfSome o P
-at_options o P file e p = subst (λ (q : Option Options). IfSome q P) e p
+-- what holds at the options that the words mean
+pub at_options : (o : Option Options) (P : Options → Type 0) (p : Options) → ◌≡◌ {A = Option Options} (Some p) o → P p → IfSome o P
+at_options o P p e h = subst (λ (q : Option Options). IfSome q P) e h
+
+-- where there was no memory for the words
+pub whatever : (o : Option Options) (P : Options → Type 0) → ((p : Options) → P p) → IfSome o P
+whatever None P h = tt
+whatever (Some p) P h = h p

@@ -1,4 +1,4 @@
-pub mod Words
+pub mod Runs
 pub mod Promises
 pub mod Steps
 pub mod Complaints

@@ -4,10 +4,11 @@ use Rattle.fz_spec.specs.declared.code.Code.{Code}
 use Rattle.fz_spec.specs.Codes.{code_number}
 use Rattle.fz_spec.specs.Instance.{Instance}
 use Rattle.fz_spec.specs.Run.{refusal_text}
-use Rattle.fzn.specs.Words.{IsRunText, Options}
+use Rattle.fz_cmd.specs.Meaning.{Options}
+use Rattle.fzn.specs.Runs.{IsRunText}
 use Rattle.fz_language.specs.Reads.{Reads, Accepted}
 use Rattle.fz_language.specs.Reads as reads
-use Rattle.fz_io.specs.Outside.{with_more, AllFlushed}
+use Rattle.fz_io.specs.Outside.{one_more, with_more, AllFlushed}
 use Rattle.fz_print.specs.declared.refusal.Refusal.{Refusal}
 use Rattle.fzn.specs.declared.status.Status.{Status}
 use Rattle.fzn.specs.declared.status.Status.TheVariants.{Done, Refused, Usage, SourceFault, SinkFault, NoMemory}
@@ -82,14 +83,23 @@ IsFlushed SourceFault before after flushed = after ≡ before
 IsFlushed SinkFault before after flushed = Unit {0}
 IsFlushed NoMemory before after flushed = AllFlushed after flushed ⊎ (after ≡ before)
 
--- the file is the one that is selected, unless nothing was read or the source failed
-abbrev pub HasSelected : Status → Bool → Type 0
-HasSelected Done selected = IsTrue selected
-HasSelected (Refused r) selected = IsTrue selected
-HasSelected Usage selected = Unit {0}
-HasSelected SourceFault selected = Unit {0}
-HasSelected SinkFault selected = IsTrue selected
-HasSelected NoMemory selected = IsTrue selected
+-- One text is selected, once: none at Usage, and none where there was no memory for the words.
+abbrev pub SelectsOnce : Status → ℕ → ℕ → Type 0
+SelectsOnce Done before after = after ≡ one_more before
+SelectsOnce (Refused r) before after = after ≡ one_more before
+SelectsOnce Usage before after = after ≡ before
+SelectsOnce SourceFault before after = after ≡ one_more before
+SelectsOnce SinkFault before after = after ≡ one_more before
+SelectsOnce NoMemory before after = (after ≡ one_more before) ⊎ (after ≡ before)
+
+-- the file is the one that is selected, unless nothing was selected or the source failed
+abbrev pub HasSelected : Status → ℕ → ℕ → Bool → Type 0
+HasSelected Done before after selected = IsTrue selected
+HasSelected (Refused r) before after selected = IsTrue selected
+HasSelected Usage before after selected = Unit {0}
+HasSelected SourceFault before after selected = Unit {0}
+HasSelected SinkFault before after selected = IsTrue selected
+HasSelected NoMemory before after selected = IsTrue selected ⊎ (after ≡ before)
 
 -- at Done nothing is left of the text
 abbrev pub HasReadAll : Status → Option (List ℕ) → Type 0

@@ -1,11 +1,14 @@
 -- What the steps of a run say, within this crate.
-use Rattle.std.specs.Prelude.{◌≡◌, ℕ, ℤ, ◌+◌, ◌<◌, ◌≤◌, ◌⊎◌, Bool, IsTrue, take, length, Option, IfSome, Result, MatchResult, List, [], ◌++◌}
+use Rattle.std.specs.Prelude.{◌≡◌, ℕ, ℤ, ◌+◌, ◌<◌, ◌≤◌, ◌⊎◌, Bool, true, false, IsTrue, if◌then◌else◌, take, length, Option, Some, None, IfSome, Result, MatchResult, List, [], ◌++◌}
 use Rattle.fz_spec.specs.declared.code.Code.{Code}
 use Rattle.fz_spec.specs.declared.limits.TheConstants.{TEXT_LIMIT}
 use Rattle.fz_spec.specs.Codes.{code_number}
 use Rattle.fz_spec.specs.Instance.{Instance, Lists}
-use Rattle.fz_spec.specs.Run.{blocks, closing}
-use Rattle.fzn.specs.Words.{Options, All}
+use Rattle.fz_spec.specs.Run.{closing}
+use Rattle.fz_tree.specs.declared.mode.Mode.TheVariants as modes
+use Rattle.fz_tree.specs.Book.{Book, BookLaw}
+use Rattle.fz_cmd.specs.Meaning.{Options}
+use Rattle.fzn.specs.Runs.{AreSome, PrintsWanted, wanted}
 use Rattle.fz_language.specs.Grammar.{Spells}
 use Rattle.fz_language.specs.Reads.{Reads, IsRefusedAt}
 use Rattle.fz_language.specs.Reads as reads
@@ -20,10 +23,6 @@ use Rattle.fzn.specs.declared.status.Status.TheVariants.{Done, Refused, Usage, S
 use Rattle.fzn.specs.declared.printer.Stop.{Stop}
 use Rattle.fzn.specs.declared.printer.Stop.TheVariants.{Memory, Fault}
 use Rattle.fzn.specs.Promises.{Prints}
-
--- all solutions of this file
-abbrev pub all_of : List ℕ → Options
-all_of file = record { asked = All; file = file }
 
 -- the text is refused for this cause
 abbrev pub IsCause : List ℕ → Cause → Type 0
@@ -72,9 +71,9 @@ LeavesNothing count left = count ≤ TEXT_LIMIT → IfSome left (λ rest. rest �
 abbrev pub IsReadOf : Option (List ℕ) → List ℕ → Type 0
 IsReadOf file read = IfSome file (λ text. read ≡ take (TEXT_LIMIT + 1) text)
 
--- what the sink took is what is printed of this text at this answer, whatever the file's name is
-abbrev pub PrintsOf : Status → List ℕ → Option (List ℕ) → Option (List ℕ) → Type 0
-PrintsOf status text before after = (printed : List ℕ) × (after ≡ with_more before printed) × ((file : List ℕ) → Prints status text (all_of file) printed)
+-- what the sink took is what is printed of this text at this answer
+abbrev pub PrintsOf : Status → List ℕ → Options → Option (List ℕ) → Option (List ℕ) → Type 0
+PrintsOf status text o before after = (printed : List ℕ) × (after ≡ with_more before printed) × Prints status text o printed
 
 -- the answers of a run that read its text, by the counts of the sink
 abbrev pub HasSinkCause : Status → ℕ → ℕ → Type 0
@@ -91,10 +90,34 @@ abbrev pub Answers : Status → Status → List ℕ → Option (List ℕ) → Op
 Answers status whole_status whole before after =
     (((status ≡ whole_status) ⊎ (status ≡ SinkFault)) × (after ≡ with_more before whole)) ⊎ (((status ≡ SinkFault) ⊎ (status ≡ NoMemory)) × TakesFront whole before after)
 
--- the same of all solutions of a model
-abbrev pub AnswersAll : Status → Instance → Option (List ℕ) → Option (List ℕ) → Type 0
-AnswersAll status m before after =
-    ((status ≡ NoMemory) × (after ≡ before)) ⊎ ((l : List (List ℤ)) × Lists m l × Answers status Done (blocks m l ++ closing l) before after)
+-- the same of what is printed of a model, by how many solutions are asked for
+abbrev pub AnswersWanted : Status → Instance → Option ℕ → Option (List ℕ) → Option (List ℕ) → Type 0
+AnswersWanted status m w before after =
+    ((status ≡ NoMemory) × (after ≡ before)) ⊎ ((l : List (List ℤ)) × (printed : List ℕ) × PrintsWanted w m l printed × Answers status Done printed before after)
+
+-- ---- the search
+
+-- the book of a search that has ended: it is closed, or has as many as are asked for
+abbrev pub HasEnded : Option ℕ → Book → Type 0
+HasEnded None b = b.parts ≡ []
+HasEnded (Some n) b = (n ≤ length b.recorded) ⊎ (b.parts ≡ [])
+
+pub record IsSearched (m : Instance) (w : Option ℕ) (b : Book) : Type 0 where
+  pub model : b.model ≡ m
+  pub mode : b.mode ≡ modes.All
+  pub law : BookLaw b
+  pub ended : HasEnded w b
+
+-- what is shown of a book: all solutions and a closing line, or as many as are asked for and none
+abbrev pub IsListing : Instance → Option ℕ → List (List ℤ) → Bool → Type 0
+IsListing m None l true = Lists m l
+IsListing m None l false = ⊥
+IsListing m (Some n) l true = (length l < n) × Lists m l
+IsListing m (Some n) l false = AreSome m n l
+
+-- the closing line, where there is one
+abbrev pub ending : Bool → List (List ℤ) → List ℕ
+ending complete l = if complete then closing l else []
 
 -- all is flushed and the answer is as it was to be, or the sink failed
 abbrev pub Flushes : Status → Status → Option (List ℕ) → ℕ → ℕ → ℕ → Type 0

@@ -1,10 +1,10 @@
 //! What the program says on standard error.
-ghost use Rattle.std.specs.Prelude.{◌≡◌, IfOk, map, option_map, string_bytes};
-ghost use Rattle.fzn.specs.Words.{options_of};
+ghost use Rattle.std.specs.Prelude.{◌≡◌, IfOk, map, option_map, option_copied, string_bytes};
+ghost use Rattle.fz_cmd.specs.Meaning.{options_of};
 ghost use Rattle.fzn.specs.Complaints as complaints;
 
 use crate::status::Status;
-use crate::words::file_of;
+use fz_cmd::{Options, options};
 use fz_print::refusal::Refusal;
 use itoa::Buffer;
 use std::alloc::{AllocError, Global};
@@ -26,7 +26,7 @@ pub const FAULTS: [&str; 12] = [
 ];
 
 /// How the program is called.
-pub const USAGE: &str = "usage: fzn [options] [FILE], where the option -a asks for all solutions";
+pub const USAGE: &str = "usage: fzn [options] [FILE], with -a, -n N, --commit-distance N";
 
 /// The line for standard error behind a run of these words, none where it is done.
 pub fn complaint_of(
@@ -37,7 +37,8 @@ pub fn complaint_of(
     ensures { IfOk result (λ line. option_map string_bytes line
         ≡ complaints.complaint_of (map string_bytes words.now) status.now) }
 {
-    let name = shown_name(words);
+    let options = options(alloc, words)?;
+    let name = shown_name(options.as_ref());
     let line = match status {
         Status::Done => return Ok(None),
         Status::Refused(refusal) => refusal_line(alloc, name, refusal)?,
@@ -49,13 +50,15 @@ pub fn complaint_of(
     Ok(Some(line))
 }
 
-/// The name of the text that the words name.
-fn shown_name(words: &[String]) -> &str
-    ensures { result.now ≡ complaints.name_of (options_of (map string_bytes words.now)) }
+/// The name of the text that the options name.
+fn shown_name(options: Option<&Options>) -> &str
+    ensures { result.now ≡ complaints.name_of (option_copied options) }
 {
-    match file_of(words) {
-        Some("-") => "standard input",
-        Some(file) => file,
+    match options {
+        Some(options) => match options.file().as_str() {
+            "-" => "standard input",
+            file => file,
+        },
         None => "",
     }
 }

@@ -9,10 +9,10 @@ pub mod complaint;
 mod printer;
 mod reader;
 pub mod run;
+mod search;
 pub mod status;
 #[cfg(test)]
 mod tests;
-mod words;
 
 pub use command::program;
 pub use complaint::complaint_of;

@@ -5,8 +5,9 @@ ghost use Rattle.fz_spec.specs.Instance.{AreDeclared};
 ghost use Rattle.fz_spec.specs.Run.{block, blocks, closing};
 ghost use Rattle.fz_io.specs.Outside.{with_more};
 ghost use Rattle.fz_print.specs.Refusal.{text_of};
-ghost use Rattle.fzn.specs.Steps.{TakesFront, HasStopCause};
+ghost use Rattle.fzn.specs.Steps.{TakesFront, HasStopCause, ending};
 
+use crate::search::Listing;
 use fz_io::outside::Sink;
 use fz_io::whole::put_all;
 use fz_model::assignment::Assignment;
@@ -24,21 +25,28 @@ pub(crate) enum Stop {
     Fault,
 }
 
-/// Prints a block for each assignment, and the closing line.
-pub(crate) fn print_solutions<S: Sink>(
+/// Prints a block for each solution, and the closing line where they are all.
+pub(crate) fn print_listing<S: Sink>(
     alloc: Global,
     sink: &mut S,
     model: &Model,
-    found: &[Assignment],
+    listing: Listing<'_>,
 ) -> Result<(), Stop>
     requires faults { S.faults sink.old < 2 ^ 64 - 1 }
-    requires declared { AllByRecursion (AreDeclared model.now.variables) found.now }
-    ensures taken { OnOk result (S.taken sink.new ≡ with_more (S.taken sink.old) (blocks model.now found.now ++ closing found.now)) }
-    ensures front { OnErr result (TakesFront (blocks model.now found.now ++ closing found.now) (S.taken sink.old) (S.taken sink.new)) }
+    requires declared { AllByRecursion (AreDeclared model.now.variables) listing.found.now }
+    ensures taken { OnOk result (S.taken sink.new ≡ with_more (S.taken sink.old)
+        (blocks model.now listing.found.now ++ ending listing.complete listing.found.now)) }
+    ensures front { OnErr result (TakesFront
+        (blocks model.now listing.found.now ++ ending listing.complete listing.found.now)
+        (S.taken sink.old) (S.taken sink.new)) }
     ensures cause { HasStopCause (S.faults sink.old) (S.faults sink.new) result }
 {
-    put_blocks(alloc, sink, model, found)?;
-    put_closing(alloc, sink, found)
+    put_blocks(alloc, sink, model, listing.found)?;
+    if listing.complete {
+        put_closing(alloc, sink, listing.found)
+    } else {
+        Ok(())
+    }
 }
 
 fn put_blocks<S: Sink>(

@@ -1,31 +1,37 @@
 //! The top call.
-ghost use Rattle.std.specs.Prelude.{◌≡◌, ◌≢◌, ◌↔◌, ℕ, ◌-◌, ◌^◌, ◌<◌, None, IfSome, IfOk, length, map, string_bytes};
+ghost use Rattle.std.specs.Prelude.{◌≡◌, ◌≢◌, ◌⊎◌, ℕ, ◌-◌, ◌^◌, ◌<◌, None, IfSome, IfOk, length, map, string_bytes};
 ghost use Rattle.fz_io.specs.Outside.{one_more};
 ghost use Rattle.fz_print.specs.Refusal.{text_of};
-ghost use Rattle.fzn.specs.Words.{options_of};
-ghost use Rattle.fzn.specs.Promises.{AnswersAccepted, AnswersRefused, HasItsCause, HasReadAll, HasSelected, IsFlushed, Runs};
-ghost use Rattle.fzn.specs.Steps.{Answers, AnswersAll, Flushes, HasSinkCause, HasStopCause, IsReadOf, LeavesNothing, PrintsOf, SelectsAt, all_of};
+ghost use Rattle.fz_spec.specs.declared.goal.Goal.TheVariants as goals;
+ghost use Rattle.fz_cmd.specs.Meaning.{options_of};
+ghost use Rattle.fzn.specs.Runs as runs;
+ghost use Rattle.fzn.specs.Promises.{AnswersAccepted, AnswersRefused, HasItsCause, HasReadAll, HasSelected, IsFlushed, Runs, SelectsOnce};
+ghost use Rattle.fzn.specs.Steps.{Answers, AnswersWanted, Flushes, HasSinkCause, HasStopCause, IsReadOf, IsSearched, LeavesNothing, PrintsOf, SelectsAt};
 
-use crate::printer::{Stop, print_refusal, print_solutions};
+use crate::printer::{Stop, print_listing, print_refusal};
 use crate::reader::model_of;
+use crate::search::{listing_of, search, wanted};
 use crate::status::Status;
-use crate::words::file_of;
-use fz_enumerate::all_solutions;
+use fz_book::Book;
+use fz_cmd::{Options, options};
 use fz_io::gate::Gate;
 use fz_io::outside::{Sink, Source};
 use fz_io::whole::{Whole, read_all};
 use fz_model::model::Model;
 use fz_print::refusal::Refusal;
+use fz_space::Space;
 use fz_spec::limits::TEXT_LIMIT;
-use std::alloc::Global;
+use std::alloc::{AllocError, Global};
+use std::sync::Arc;
 
 /// Reads a FlatZinc text, searches for its solutions, and prints them.
 ///
-/// `words` are the arguments of the program: one `-a`, for all solutions, and at most one FILE. The text is that of FILE; no
-/// FILE is `-`, standard input. A text may have 67,108,864 bytes. Printed is a block for each satisfying assignment, in any
-/// order, and `==========`; where there is none, `=====UNSATISFIABLE=====` alone; of a text that is refused, the place, the code
-/// and `=====ERROR=====`. Each block, each last line and each refusal is one piece for the sink, and one flush comes last,
-/// whenever something was written.
+/// `words` are the arguments of the program: `-a` for all solutions, `-n N` for N of them (0 for all), one where neither is given;
+/// `--commit-distance N` for how often a copy of a node is kept; and FILE. The text is that of FILE; no FILE is `-`, standard
+/// input. A text may have 67,108,864 bytes. Printed is a block for each satisfying assignment, in any order, and `==========`;
+/// of `-n N` N different blocks alone, where so many satisfy; where none does, `=====UNSATISFIABLE=====` alone; of a text that is
+/// refused, the place, the code and `=====ERROR=====`. Each block, each last line and each refusal is one piece for the sink, and
+/// one flush comes last, whenever something was written.
 ///
 /// `rt` and `gate` are for the threads to come: a run takes no thread yet, and waits for nobody.
 pub fn fzn<T, R: Source, S: Sink, G: Gate>(
@@ -39,15 +45,17 @@ pub fn fzn<T, R: Source, S: Sink, G: Gate>(
     requires source { R.faults source.old < 2 ^ 64 - 1 }
     requires sink { S.faults sink.old < 2 ^ 64 - 1 }
 
-    // Usage comes exactly where the words are refused, and then the source and the sink are not called.
-    ensures usage { (result ≡ Status.Usage) ↔ (options_of (map string_bytes words.now) ≡ None) }
-    ensures untouched { result ≡ Status.Usage → (source.new ≡ source.old) × (sink.new ≡ sink.old) }
+    // Usage comes exactly where the words are refused, unless there was no memory to read them; then no call is made.
+    ensures usage { result ≡ Status.Usage → options_of (map string_bytes words.now) ≡ None }
+    ensures words { options_of (map string_bytes words.now) ≡ None
+        → (result ≡ Status.Usage) ⊎ (result ≡ Status.NoMemory) }
+    ensures untouched { options_of (map string_bytes words.now) ≡ None
+        → (source.new ≡ source.old) × (sink.new ≡ sink.old) }
 
     // Every other run selects one text, once: that of FILE. No call changes the source's texts.
-    ensures once { result ≢ Status.Usage
-        → R.selections source.new ≡ one_more (R.selections source.old) }
-    ensures selected { IfSome (options_of (map string_bytes words.now)) (λ o.
-        HasSelected result (R.is_selected source.new o.file)) }
+    ensures once { SelectsOnce result (R.selections source.old) (R.selections source.new) }
+    ensures selected { IfSome (options_of (map string_bytes words.now)) (λ o. HasSelected result
+        (R.selections source.old) (R.selections source.new) (R.is_selected source.new o.file)) }
     ensures texts { R.texts source.new ≡ R.texts source.old }
     ensures whole { HasReadAll result (R.left source.new) }
 
@@ -68,29 +76,36 @@ pub fn fzn<T, R: Source, S: Sink, G: Gate>(
         → IfSome (options_of (map string_bytes words.now)) (λ o.
         AnswersRefused result (R.texts source.old o.file)) }
 {
-    match file_of(words) {
-        Some(file) => run_file(alloc, file, source, sink),
-        None => Status::Usage,
+    match options(alloc, words) {
+        Ok(Some(options)) => run_file(alloc, &options, source, sink),
+        Ok(None) => Status::Usage,
+        Err(_) => Status::NoMemory,
     }
 }
 
 /// The run of one file.
-fn run_file<R: Source, S: Sink>(alloc: Global, file: &str, source: &mut R, sink: &mut S) -> Status
+fn run_file<R: Source, S: Sink>(
+    alloc: Global,
+    options: &Options,
+    source: &mut R,
+    sink: &mut S,
+) -> Status
     requires source { R.faults source.old < 2 ^ 64 - 1 }
     requires sink { S.faults sink.old < 2 ^ 64 - 1 }
     ensures once { R.selections source.new ≡ one_more (R.selections source.old) }
-    ensures selected { HasSelected result (R.is_selected source.new file.now) }
+    ensures selected { HasSelected result (R.selections source.old) (R.selections source.new)
+        (R.is_selected source.new options.now.file) }
     ensures texts { R.texts source.new ≡ R.texts source.old }
     ensures whole { HasReadAll result (R.left source.new) }
-    ensures printed { Runs result (all_of file.now) (R.texts source.old file.now)
+    ensures printed { Runs result options.now (R.texts source.old options.now.file)
         (S.taken sink.old) (S.taken sink.new) }
     ensures flushed { IsFlushed result (S.taken sink.old) (S.taken sink.new) (S.flushed sink.new) }
     ensures cause { HasItsCause result (R.faults source.old) (R.faults source.new)
         (S.faults sink.old) (S.faults sink.new) }
     ensures used { result ≢ Status.Usage }
 {
-    match read_text(alloc, file, source) {
-        Ok(text) => run_text(alloc, &text, sink),
+    match read_text(alloc, options.file().as_str(), source) {
+        Ok(text) => run_text(alloc, &text, options, sink),
         Err(Stop::Fault) => Status::SourceFault,
         Err(Stop::Memory) => Status::NoMemory,
     }
@@ -131,30 +146,55 @@ fn read_selected<R: Source>(alloc: Global, source: &mut R) -> Result<Vec<u8>, St
 }
 
 /// The run of a text.
-fn run_text<S: Sink>(alloc: Global, text: &[u8], sink: &mut S) -> Status
+fn run_text<S: Sink>(alloc: Global, text: &[u8], options: &Options, sink: &mut S) -> Status
     requires { S.faults sink.old < 2 ^ 64 - 1 }
-    ensures printed { PrintsOf result text.now (S.taken sink.old) (S.taken sink.new) }
+    ensures printed { PrintsOf result text.now options.now (S.taken sink.old) (S.taken sink.new) }
     ensures flushed { IsFlushed result (S.taken sink.old) (S.taken sink.new) (S.flushed sink.new) }
     ensures cause { HasSinkCause result (S.faults sink.old) (S.faults sink.new) }
 {
     match model_of(alloc, text) {
-        Ok(Ok(model)) => run_model(alloc, &model, sink),
+        Ok(Ok(model)) => run_model(alloc, model, options, sink),
         Ok(Err(refused)) => refuse(alloc, refused, sink),
         Err(_) => Status::NoMemory,
     }
 }
 
-/// Prints all solutions of a model.
-fn run_model<S: Sink>(alloc: Global, model: &Model, sink: &mut S) -> Status
-    requires { S.faults sink.old < 2 ^ 64 - 1 }
-    ensures printed { AnswersAll result model.now (S.taken sink.old) (S.taken sink.new) }
+/// Searches a model, and prints what is asked for.
+fn run_model<S: Sink>(alloc: Global, model: Model, options: &Options, sink: &mut S) -> Status
+    requires goal { model.goal ≡ goals.Satisfy }
+    requires faults { S.faults sink.old < 2 ^ 64 - 1 }
+    ensures printed { AnswersWanted result model (runs.wanted options.now)
+        (S.taken sink.old) (S.taken sink.new) }
     ensures flushed { IsFlushed result (S.taken sink.old) (S.taken sink.new) (S.flushed sink.new) }
     ensures cause { HasSinkCause result (S.faults sink.old) (S.faults sink.new) }
 {
-    let Ok(found) = all_solutions(alloc, model) else {
-        return Status::NoMemory;
-    };
-    match print_solutions(alloc, sink, model, &found) {
+    match searched(alloc, model, options) {
+        Ok(book) => show(alloc, &book, wanted(options), sink),
+        Err(_) => Status::NoMemory,
+    }
+}
+
+/// The book of a model's search.
+fn searched(alloc: Global, model: Model, options: &Options) -> Result<Book, AllocError>
+    requires { model.goal ≡ goals.Satisfy }
+    ensures { IfOk result (λ b. IsSearched model (runs.wanted options.now) b.book) }
+{
+    match Arc::new(alloc, model) {
+        Ok(model) => search::<Space>(alloc, &model, options),
+        Err(_) => Err(AllocError),
+    }
+}
+
+/// Prints what is asked for of a search.
+fn show<S: Sink>(alloc: Global, book: &Book, wanted: Option<u32>, sink: &mut S) -> Status
+    requires searched { IsSearched book.now.book.model wanted book.now.book }
+    requires faults { S.faults sink.old < 2 ^ 64 - 1 }
+    ensures printed { AnswersWanted result book.now.book.model wanted (S.taken sink.old) (S.taken sink.new) }
+    ensures flushed { IsFlushed result (S.taken sink.old) (S.taken sink.new) (S.flushed sink.new) }
+    ensures cause { HasSinkCause result (S.faults sink.old) (S.faults sink.new) }
+{
+    let listing = listing_of(book, wanted);
+    match print_listing(alloc, sink, book.model(), listing) {
         Ok(()) => flush(sink, Status::Done),
         Err(Stop::Memory) => flush(sink, Status::NoMemory),
         Err(Stop::Fault) => Status::SinkFault,

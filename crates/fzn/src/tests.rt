@@ -144,21 +144,33 @@ fn a_failing_source_prints_nothing(rt: HostRuntime) -> Result<(), Fail> {
 }
 
 #[test]
-fn the_words_are_one_flag_and_at_most_one_file(rt: HostRuntime) -> Result<(), Fail> {
+fn the_words_are_options_and_at_most_one_file(rt: HostRuntime) -> Result<(), Fail> {
     let alloc = rt.alloc();
-    let accepted: [&[&str]; 4] = [&["-a"], &["-a", "-"], &["m.fzn", "-a"], &["-a", "m.fzn"]];
+    let accepted: [&[&str]; 8] = [
+        &[],
+        &["-a"],
+        &["-a", "-"],
+        &["m.fzn", "-a"],
+        &["-n", "4294967295", "m.fzn"],
+        &["-a", "-n", "2"],
+        &["--commit-distance", "1"],
+        &["--commit-distance=1000000", "m.fzn"],
+    ];
     for words in accepted {
         let outcome = run(alloc, "solve satisfy;", words)?;
         assert_eq!(rt; outcome.status, Status::Done);
     }
     // The first call of the source or the sink would fail, and none is made.
-    let refused: [&[&str]; 7] = [
-        &[],
+    let refused: [&[&str]; 10] = [
         &["-a", "-a"],
         &["-z"],
-        &["m.fzn"],
-        &["-a", "-z"],
-        &["-a", "m.fzn", "m.fzn"],
+        &["-n"],
+        &["-n", "-1"],
+        &["-n", "4294967296"],
+        &["--commit-distance", "0"],
+        &["--commit-distance", "1000001"],
+        &["-p", "2"],
+        &["m.fzn", "m.fzn"],
         &["--a"],
     ];
     for words in refused {
@@ -166,6 +178,29 @@ fn the_words_are_one_flag_and_at_most_one_file(rt: HostRuntime) -> Result<(), Fa
         assert_eq!(rt; outcome.status, Status::Usage);
         assert_eq!(rt; outcome.source_faults, 0);
         assert_eq!(rt; outcome.printed.len(), 0);
+    }
+    Ok(())
+}
+
+#[test]
+fn as_many_blocks_are_printed_as_are_asked_for(rt: HostRuntime) -> Result<(), Fail> {
+    let alloc = rt.alloc();
+    // The words, how many blocks there are, and whether `==========` stands behind them.
+    let rows: [(&[&str], usize, bool); 7] = [
+        (&[], 1, false),
+        (&["-n", "1"], 1, false),
+        (&["-n", "2"], 2, false),
+        (&["-a", "-n", "3"], 3, false),
+        (&["-n", "4"], 3, true),
+        (&["-n", "0"], 3, true),
+        (&["-a"], 3, true),
+    ];
+    for (words, blocks, complete) in rows {
+        let outcome = run(alloc, THREE_VALUES, words)?;
+        let closing = if complete { "==========\n".len() } else { 0 };
+        assert_eq!(rt; outcome.status, Status::Done);
+        assert_eq!(rt; outcome.printed.len(), blocks * "x = 1;\n----------\n".len() + closing);
+        assert_eq!(rt; outcome.printed.ends_with(b"==========\n"), complete);
     }
     Ok(())
 }
@@ -188,7 +223,7 @@ fn each_answer_but_done_has_a_line_for_standard_error(rt: HostRuntime) -> Result
         (
             &["-z"],
             Status::Usage,
-            "usage: fzn [options] [FILE], where the option -a asks for all solutions",
+            "usage: fzn [options] [FILE], with -a, -n N, --commit-distance N",
         ),
         (
             &["-a", "m.fzn"],

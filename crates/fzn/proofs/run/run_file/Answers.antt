@@ -7,8 +7,8 @@ pub returns-in-Ok-clause-printed : goal.returns-in-Ok-clause-printed
 returns-in-Ok-clause-printed g c =
     let before = g.S.Sink.taken c.args.sink.now in
     let after = g.S.Sink.taken c.run_text.new.sink in
-    runs c.run_text.result c.args.file.now _ before after c.in-Ok.text.items c.in-Ok.ensures.read
-    (subst (λ (u : List ℕ). PrintsOf c.run_text.result u before after) c.deref.ensures.value c.run_text.ensures.printed)
+    runs c.run_text.result c.args.options.now _ before after c.in-Ok.text.items c.in-Ok.ensures.read
+    (subst (λ (u : List ℕ). PrintsOf c.run_text.result u c.args.options.now before after) c.deref.ensures.value c.run_text.ensures.printed)
 
 pub returns-in-Err-Fault-clause-printed : goal.returns-in-Err-Fault-clause-printed
 returns-in-Err-Fault-clause-printed g c = runs_source_fault _ _ _
@@ -20,4 +20,4 @@ pub returns-in-Ok-clause-whole : goal.returns-in-Ok-clause-whole
 returns-in-Ok-clause-whole g c =
     let before = g.S.Sink.taken c.args.sink.now in
     let after = g.S.Sink.taken c.run_text.new.sink in
-    reads_all c.run_text.result c.in-Ok.text.items before after _ (subst (λ (u : List ℕ). PrintsOf c.run_text.result u before after) c.deref.ensures.value c.run_text.ensures.printed) c.in-Ok.ensures.whole
+    reads_all c.run_text.result c.in-Ok.text.items c.args.options.now before after _ (subst (λ (u : List ℕ). PrintsOf c.run_text.result u c.args.options.now before after) c.deref.ensures.value c.run_text.ensures.printed) c.in-Ok.ensures.whole

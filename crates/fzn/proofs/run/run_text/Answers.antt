@@ -1,10 +1,14 @@
-use Rattle.fzn.proofs.Outcomes.{prints_all, prints_refusal}
+use Rattle.fzn.proofs.Outcomes.{prints_refusal, prints_wanted}
+use Rattle.fzn.proofs.Searches.{accepted_satisfies}
 use Rattle.fzn.proofs.run.run_text.Goals as goal
+
+pub run_model-requires : goal.run_model-requires
+run_model-requires g c = record { goal = accepted_satisfies _ _ (rw c.in-Ok-Ok.field-0-is at c.in-Ok-Ok.ensures); faults = c.requires }
 
 pub returns-in-Ok-Ok-clause-printed : goal.returns-in-Ok-Ok-clause-printed
 returns-in-Ok-Ok-clause-printed g c =
-    prints_all c.run_model.result c.args.text.now c.in-Ok-Ok.model _ _ (rw c.in-Ok-Ok.field-0-is at c.in-Ok-Ok.ensures) c.run_model.ensures.printed
+    prints_wanted c.run_model.result c.args.text.now c.in-Ok-Ok.model c.args.options.now _ _ (rw c.in-Ok-Ok.field-0-is at c.in-Ok-Ok.ensures) c.run_model.ensures.printed
 
 pub returns-in-Ok-Err-clause-printed : goal.returns-in-Ok-Err-clause-printed
 returns-in-Ok-Err-clause-printed g c =
-    prints_refusal c.refuse.result c.args.text.now c.in-Ok-Err.refused _ _ (rw c.in-Ok-Err.field-0-is at c.in-Ok-Err.ensures) c.refuse.ensures.printed
+    prints_refusal c.refuse.result c.args.text.now c.in-Ok-Err.refused c.args.options.now _ _ (rw c.in-Ok-Err.field-0-is at c.in-Ok-Err.ensures) c.refuse.ensures.printed
