@@ -1,3 +1,7 @@
 pub mod Levels
 pub mod Steps
 pub mod TermChanges
+pub mod Twice
+pub mod Settling
+pub mod Answering
+pub mod Filled
