@@ -30,7 +30,7 @@ impl<'a> Model for RangeIter<'a> {
 
 impl<'a> RangeIter<'a> {
     /// The ranges of a list.
-    pub(crate) fn of_list(rest: &'a [(i32, i32)]) -> RangeIter<'a>
+    pub fn of_list(rest: &'a [(i32, i32)]) -> RangeIter<'a>
         ensures { result ≡ rest.now }
     {
         RangeIter {
@@ -42,7 +42,7 @@ impl<'a> RangeIter<'a> {
     }
 
     /// The ranges of a domain of which nothing but its head is kept.
-    pub(crate) fn of_head(head: &Head) -> RangeIter<'a>
+    pub fn of_head(head: &Head) -> RangeIter<'a>
         requires { IsWhole head.now }
         ensures { result ≡ head_set head.now }
     {
