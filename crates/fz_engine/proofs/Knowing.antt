@@ -1,8 +1,8 @@
 -- What a model's constraints say of their arguments.
-use Rattle.std.proofs.Common.{◌≡◌, ◌≢◌, inl, inr, ℕ, zero, suc, ◌<◌, ◌≤◌, List, [], ◌∷◌, ◌++◌, refl, sym, ◌∙◌, ap, subst, arith, ints, length, true, false, Bool}
-use Rattle.std.specs.Prelude.{ℤ, pos, Option, Some, None, slice_get, option_map, MatchOption, IsTrue}
+use Rattle.std.proofs.Common.{◌≡◌, ℕ, zero, suc, ◌<◌, List, [], ◌∷◌, sym, ◌∙◌, subst, arith, length, true, false, Bool}
+use Rattle.std.proofs.lemmas.Int.{ints}
+use Rattle.std.specs.Prelude.{ℤ, Option, Some, None, slice_get, MatchOption}
 use Rattle.std.specs.List.{AllByRecursion}
-use Rattle.std.proofs.lemmas.Option.{slice_get_within}
 use Rattle.fz_sets.specs.Sets.{IsWithinLimits}
 use Rattle.fz_spec.specs.declared.kind.Kind.{Kind}
 use Rattle.fz_spec.specs.declared.kind.Kind.TheVariants as kinds
@@ -22,7 +22,7 @@ use Rattle.fz_strength.specs.declared.relation.Relation.TheVariants.{Equal}
 use Rattle.fz_strength.specs.Events.{Wait, wait_for, AreBelow}
 use Rattle.fz_strength.specs.Relations.{relation_of, event_of}
 use Rattle.fz_strength.specs.Lines.{waits, waits_of, waits_of_two}
-use Rattle.fz_strength.specs.Promises.{Suits, truths_of, IsTruth}
+use Rattle.fz_strength.specs.Promises.{truths_of, IsTruth}
 use Rattle.fz_strength.proofs.Lists.{all_both}
 use Rattle.fz_prop.specs.Stores.{IsTermOf, FitsTerm}
 use Rattle.fz_engine.specs.Known.{IsComparing, IsKnownOf, IsKnown, AreKnown, IsLimited, HaveLimits, HasLimits, IsAmong, AreAmong}
@@ -90,7 +90,7 @@ pub fits_of : (vs : List Variable) (c : Constraint) → IsConstraint vs c → Ha
 fits_of vs c is = in_row vs (row_of c.name) c.arguments is
 
 pub no_relation : (name : Builtin) → relation_of name ≡ None → IsComparing name → ⊥
-no_relation name none known = none_some known.relation (sym none ∙ known.is)
+no_relation name none known = none_some (relation_of name) known.relation none known.is
 
 pub equation : (name : Builtin) (relation : Relation) → relation_of name ≡ Some relation → relation ≡ Equal → IsComparing name → ⊥
 equation name relation is equal known = known.unequal (same_some known.relation relation (sym known.is ∙ is) ∙ equal)

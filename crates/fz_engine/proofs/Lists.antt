@@ -6,11 +6,11 @@ use Rattle.std.specs.List.{AllByRecursion}
 pub same_some : {X : Type 0} (x y : X) → Some x ≡ Some y → x ≡ y
 same_some x y e = cc
 
-pub none_some : {X : Type 0} (x : X) → (None : Option X) ≡ Some x → ⊥
-none_some x e = cc
+pub none_some : {X : Type 0} (o : Option X) (x : X) → o ≡ None → o ≡ Some x → ⊥
+none_some o x none is = cc
 
 pub each_of : {X : Type 0} (P : X → Type 0) (xs : List X) (i : ℕ) (x : X) → AllByRecursion P xs → slice_get xs i ≡ Some x → P x
-each_of P [] i x all is = absurd (none_some x is)
+each_of P [] i x all is = absurd (cc (is))
 each_of P (y ∷ xs) zero x all is = subst P (same_some y x is) all.0
 each_of P (y ∷ xs) (suc i) x all is = each_of P xs i x all.1 is
 

@@ -1,7 +1,6 @@
 -- Lists of those that wait, one propagator after another.
-use Rattle.std.proofs.Common.{◌≡◌, ◌⊎◌, inl, inr, ℕ, zero, suc, ◌+◌, ◌<◌, ◌≤◌, List, [], ◌∷◌, refl, sym, ◌∙◌, ap, subst, arith, length, replicate}
+use Rattle.std.proofs.Common.{◌≡◌, ◌⊎◌, inl, inr, ℕ, zero, suc, ◌+◌, ◌<◌, List, [], ◌∷◌, refl, sym, ◌∙◌, subst, arith, length, replicate}
 use Rattle.std.specs.Prelude.{Some, slice_get, slice_index}
-use Rattle.std.specs.List.{AllByRecursion}
 use Rattle.std.proofs.lemmas.Bool.{cases_eq}
 use Rattle.std.proofs.lemmas.Option.{slice_get_within}
 use Rattle.fz_spec.specs.Constraints.{Constraint}
@@ -13,6 +12,9 @@ use Rattle.fz_agenda.specs.Queues.{IsWoken}
 use Rattle.fz_agenda.specs.Wakes.{Waking, waiting_at, IsListedAt, IsIndexOf, Extends}
 use Rattle.fz_agenda.proofs.Places.{below_or_same}
 use Rattle.fz_engine.proofs.Lists.{all_of, same_some}
+
+pub extends_twice : (u v w : Waking) → Extends u v → Extends v w → Extends u w
+extends_twice u v w p q event variable place listed = q event variable place (p event variable place listed)
 
 -- ---- the changes of one propagator
 
@@ -52,9 +54,9 @@ pub index_more : (cs : List Constraint) (w u : Waking) (n : ℕ) (c : Constraint
 index_more cs w u n c extends below at listed = record {
   each = λ i x more is. elim (cases_eq i n) [
     | inl e ↦
-      let here : slice_get cs n ≡ Some x = subst (λ (j : ℕ). slice_get cs j ≡ Some x) e is in
-      let same : c ≡ x = same_some c x (sym at ∙ here) in
-      subst (λ (j : ℕ). IsListedAt u j (waits x)) (sym e) (subst (λ (y : Constraint). IsListedAt u n (waits y)) same listed)
+        let here : slice_get cs n ≡ Some x = subst (λ (j : ℕ). slice_get cs j ≡ Some x) e is in
+        let same : c ≡ x = same_some c x (sym at ∙ here) in
+        subst (λ (j : ℕ). IsListedAt u j (waits x)) (sym e) (subst (λ (y : Constraint). IsListedAt u n (waits y)) same listed)
     | inr ne ↦ still_listed w u i (waits x) extends (below.each i x (below_or_same i n more ne) is)
   ];
 }

@@ -1,22 +1,20 @@
 -- Runs of propagators, one after another.
-use Rattle.std.proofs.Common.{◌≡◌, ◌⊎◌, inl, inr, ℕ, ◌+◌, ◌*◌, ◌<◌, ◌≤◌, List, [], ◌∷◌, refl, sym, ◌∙◌, ap, subst, arith, length, true, false, nat_eq, cond, get_or}
+use Rattle.std.proofs.Common.{◌≡◌, inl, inr, ℕ, ◌+◌, ◌*◌, ◌<◌, ◌≤◌, List, [], ◌∷◌, refl, sym, ◌∙◌, ap, subst, arith, length, true, false, nat_eq, cond, get_or}
 use Rattle.std.specs.Prelude.{ℤ, slice_get, slice_index, slice_set, Some}
 use Rattle.std.specs.List.{AllByRecursion}
 use Rattle.std.proofs.Math.Nat.{mul-le-mul_left}
-use Rattle.std.proofs.lemmas.List.{length-set}
-use Rattle.std.proofs.lemmas.List.Sums.{sum_by-set}
-use Rattle.std.proofs.lemmas.Option.{slice_get_within}
+use Rattle.std.proofs.lemmas.List.Sums.{sum_by-cons, sum_by-set}
 use Rattle.fz_spec.specs.declared.term.Term.{Term}
 use Rattle.fz_spec.specs.Constraints.{Constraint, IsTrueOf}
 use Rattle.fz_strength.specs.Domains.{Within, IsNarrower, room}
 use Rattle.fz_strength.specs.Events.{AreBelow}
 use Rattle.fz_strength.specs.Lines.{Rests, waits}
-use Rattle.fz_strength.specs.Promises.{IsCorrect, IsNeverTrue, IsTruth, RestsForGood, Suits, truths_of}
+use Rattle.fz_strength.specs.Promises.{IsCorrect, IsNeverTrue, IsTruth, RestsForGood, truths_of}
 use Rattle.fz_strength.proofs.Keeping.{term_narrower}
 use Rattle.fz_prop.specs.Stores.{Stored, IsStore, Shrinks}
 use Rattle.fz_agenda.specs.Agendas.{IsSettled}
 use Rattle.fz_agenda.specs.Queues.{IsAtRest, counts_queued, queued}
-use Rattle.fz_agenda.specs.Wakes.{Waking, IsIndexOf, IsDraining, IsDrained}
+use Rattle.fz_agenda.specs.Wakes.{Waking, HaveSize, IsIndexOf, IsDraining, IsDrained}
 use Rattle.fz_agenda.proofs.Settled.{settled_lasts, all_rest_at_rest, may_be_idle, may_be_gone}
 use Rattle.fz_agenda.proofs.Places.{within_of}
 use Rattle.fz_engine.specs.Runs.{AreOf, IsRun, AreNeverTrue, AllRest, HasMoved, work}
@@ -32,6 +30,9 @@ pub terms_last : (cs : List Constraint) (ds es : List (List (ℤ × ℤ))) → I
 terms_last cs ds es narrower terms i c is =
     let both = terms i c is in
     (subst (λ (n : ℕ). AreBelow (waits c) n) (sym narrower.size) both.0, suits_lasts (truths_of c.name c.arguments) ds es narrower both.1)
+
+pub size_lasts : (w : Waking) (ds es : List (List (ℤ × ℤ))) → IsNarrower ds es → HaveSize w (length ds) → HaveSize w (length es)
+size_lasts w ds es narrower size = record { any = size.any ∙ sym narrower.size; bound = size.bound ∙ sym narrower.size; fixed = size.fixed ∙ sym narrower.size }
 
 -- ---- runs
 
@@ -99,7 +100,11 @@ one_at_most x = elim (nat_eq x 1) as (λ b. cond b 1 0 ≤ 1) [ true ↦ omega a
 
 pub queued_few : (states : List ℕ) → queued states ≤ length states
 queued_few [] = omega arith
-queued_few (x ∷ states) = omega (arith, one_at_most x, queued_few states)
+queued_few (x ∷ states) =
+    let one : counts_queued x ≤ 1 = one_at_most x in
+    let few : queued states ≤ length states = queued_few states in
+    let whole : queued (x ∷ states) ≡ counts_queued x + queued states = sum_by-cons counts_queued x states in
+    omega (arith, one, few, whole)
 
 queued_falls : (states : List ℕ) (i k : ℕ) → slice_index states i ≡ 1 → i < length states → counts_queued k ≡ 0 → queued (slice_set states i k) < queued states
 queued_falls states i k is within none =

@@ -87,10 +87,10 @@ fn step(
         (λ p. IsProgress p kinds.now store.old agenda.old store.new agenda.new) }
 {
     let _ = store.doms();
-    let Some(place) = agenda.next() else {
-        return Ok(Progress::Rested);
-    };
-    run_next(kinds, wakes, place, store, agenda)
+    match agenda.next() {
+        None => Ok(Progress::Rested),
+        Some(place) => run_next(kinds, wakes, place, store, agenda),
+    }
 }
 
 /// Runs a propagator that is queued, and wakes those that wait for its changes.

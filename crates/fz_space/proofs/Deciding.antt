@@ -1,6 +1,6 @@
 -- Taking a decision leaves exactly the assignments that meet it.
 use Rattle.std.proofs.Common.{◌≡◌, ◌≢◌, inl, inr, ℕ, zero, suc, ◌<◌, List, [], ◌∷◌, ◌++◌, refl, sym, ◌∙◌, ap, subst, arith, ints, length, true, false, Bool, not}
-use Rattle.std.specs.Prelude.{ℤ, pos, ◌≤ℤ◌, ◌<ℤ◌, ◌↔◌, Option, Some, None, slice_get, unwrap_or, IsTrue, int_le}
+use Rattle.std.specs.Prelude.{ℤ, pos, ◌+ℤ◌, ◌≤ℤ◌, ◌<ℤ◌, ◌↔◌, Option, Some, None, slice_get, unwrap_or, IsTrue, int_le}
 use Rattle.std.specs.Ordering.{int_eq}
 use Rattle.std.specs.List.{AllByRecursion}
 use Rattle.std.proofs.lemmas.Bool.{cases_eq}
@@ -88,6 +88,22 @@ pub decided_wiped : (d : Decision) (s t : Stored) → d.variable < length s.doms
 decided_wiped d s t within change a inside met =
     change.1 (number_at a d.variable) (inside.members d.variable within) ((meets_is a d (omega (arith, within, inside.size))).0 met)
 
+-- above a value is from the next one on
+pub above_at : (change : Change) (v : ℕ) (low value : ℤ) (s t : Stored) → IsChangeAt change v (λ x. low ≤ℤ x) s t → low ≡ (value +ℤ pos 1) → IsChangeAt change v (λ x. value <ℤ x) s t
+above_at Same v low value s t change next = (change.0, λ x member. let from : low ≤ℤ x = change.1 x member in omega (arith, ints, from, next))
+above_at Wiped v low value s t change next = (change.0, λ x member above. change.1 x member (omega (arith, ints, above, next)))
+above_at Changed v low value s t change next = record {
+  kept = λ x. (
+    (λ member. let both = (change.kept x).0 member in let from : low ≤ℤ x = both.1 in (both.0, omega (arith, ints, from, next))),
+    (λ both. let above : value <ℤ x = both.1 in (change.kept x).1 (both.0, omega (arith, ints, above, next))),
+  );
+  others = change.others;
+  whole = change.whole;
+  smaller = change.smaller;
+  filled = change.filled;
+  falls = change.falls;
+}
+
 -- of a variable that isn't there
 pub decided_beyond : (d : Decision) (ds es : List (List (ℤ × ℤ))) → length ds ≤ d.variable → IsDecided false d ds es
 decided_beyond d ds es beyond a inside met =
@@ -138,6 +154,11 @@ covers_none m s t ds d decided covers = record {
 pub covers_left : (m : Instance) (s t : Stored) (ds : List Decision) (d : Decision) (left : Bool) → IsDecided left d s.doms t.doms → Covers ds (spaced m s false) → Covers (ds ++ d ∷ []) (spaced m t (not left))
 covers_left m s t ds d true decided covers = covers_decided m s t ds d decided covers
 covers_left m s t ds d false decided covers = covers_none m s t ds d decided covers
+
+-- as the code says it, where nothing failed before
+pub covers_taken : (m : Instance) (s t : Stored) (failed : Bool) (ds : List Decision) (d : Decision) (left : Bool) → failed ≡ false → IsDecided left d s.doms t.doms → Covers ds (spaced m s failed)
+    → Covers (ds ++ d ∷ []) (spaced m t (not left))
+covers_taken m s t failed ds d left is decided covers = covers_left m s t ds d left decided (subst (λ (b : Bool). Covers ds (spaced m s b)) is covers)
 
 pub alive_lasts : (m : Instance) (states : List ℕ) (s t : Stored) → IsStore t → Shrinks s t → IsAlive m states s → IsAlive m states t
 alive_lasts m states s t store shrinks alive = record {

@@ -2,7 +2,7 @@
 use Rattle.std.proofs.Common.{◌≡◌, ◌⊎◌, inl, inr, ℕ, zero, suc, ◌<◌, ◌≤◌, List, [], ◌∷◌, refl, sym, ◌∙◌, ap, subst, arith, ints, length, true, false, Bool, map}
 use Rattle.std.specs.Prelude.{ℤ, pos, Some, slice_get}
 use Rattle.std.specs.List.{AllByRecursion}
-use Rattle.std.proofs.lemmas.Bool.{cases_lt}
+use Rattle.std.proofs.lemmas.Bool.{cases_eq, cases_lt}
 use Rattle.fz_sets.specs.Sets.{IsInSet, set_size, range_size}
 use Rattle.fz_spec.specs.Instance.{Instance, Variable, Satisfies, AreDeclared}
 use Rattle.fz_spec.specs.Constraints.{Constraint, IsTrueOf}
@@ -11,6 +11,7 @@ use Rattle.fz_strength.specs.Domains.{Within, Alone, AreDomains, dom_at, number_
 use Rattle.fz_strength.proofs.Truths.{single, is_single, true_where_alone}
 use Rattle.fz_prop.specs.Stores.{Stored, IsStore, HasEmpty, declared_sets, fresh}
 use Rattle.fz_agenda.specs.Agendas.{IsSettled}
+use Rattle.fz_agenda.proofs.Places.{below_or_same}
 use Rattle.fz_path.specs.Spaces as path
 use Rattle.fz_path.specs.Spaces.{Spaced, Covers, IsUndecided, IsStatus}
 use Rattle.fz_path.specs.declared.space.Status.{Status}
@@ -133,3 +134,11 @@ pub left_is : (m : Instance) (after : List ℕ) (t : Stored) (r : Status) → Is
 left_is m after t status.Failed alive rests left = absurd left
 left_is m after t status.Solved alive rests left = solved m after t alive rests left
 left_is m after t status.Branch alive rests left = (refl, left)
+
+-- domains of which those before a place have one number each
+pub single_more : (ds : List (List (ℤ × ℤ))) (n : ℕ) (d : List (ℤ × ℤ)) (x : ℤ) → d ≡ dom_at ds n → d ≡ (x, x) ∷ [] → ((v : ℕ) → v < n → (y : ℤ) × (dom_at ds v ≡ (y, y) ∷ [])) → (v : ℕ) → v < n + 1
+    → (y : ℤ) × (dom_at ds v ≡ (y, y) ∷ [])
+single_more ds n d x at is before v more = elim (cases_eq v n) [
+  | inl e ↦ (x, subst (λ (u : ℕ). dom_at ds u ≡ (x, x) ∷ []) (sym e) (sym at ∙ is))
+  | inr ne ↦ before v (below_or_same v n more ne)
+]

@@ -11,7 +11,8 @@ use Rattle.fz_agenda.specs.Agendas.{IsSettled}
 use Rattle.fz_path.specs.Spaces.{Spaced, Covers, IsUndecided}
 use Rattle.fz_path.specs.declared.space.Status.{Status}
 use Rattle.fz_path.specs.declared.space.Status.TheVariants as status
-use Rattle.fz_engine.specs.Runs.{AreOf}
+use Rattle.fz_spec.specs.Constraints.{Constraint}
+use Rattle.fz_engine.specs.Runs.{AreOf, AllRest}
 
 abbrev pub spaced : Instance → Stored → Bool → Spaced
 spaced m s failed = record { model = m; doms = s.doms; failed = failed }
@@ -39,3 +40,8 @@ abbrev pub IsLeft : Status → List (List (ℤ × ℤ)) → Type 0
 IsLeft status.Failed ds = ⊥
 IsLeft status.Solved ds = (v : ℕ) → v < length ds → (x : ℤ) × (dom_at ds v ≡ (x, x) ∷ [])
 IsLeft status.Branch ds = IsUndecided ds
+
+-- where some variable has more than one number left, the line of each constraint holds
+abbrev pub HaveLines : Status → List Constraint → List (List (ℤ × ℤ)) → Type 0
+HaveLines status.Branch cs ds = AllRest cs ds
+HaveLines other cs ds = Unit {0}

@@ -1,5 +1,5 @@
 //! Taking a decision.
-ghost use Rattle.std.specs.Prelude.{◌≡◌, ◌++◌, ◌∷◌, [], ◌<◌, ℕ, ℤ, ◌≤ℤ◌, ◌<ℤ◌, List, length, false, IfOk, OnOk};
+ghost use Rattle.std.specs.Prelude.{◌≡◌, ◌++◌, ◌∷◌, [], ◌<◌, ℕ, ℤ, ◌≤ℤ◌, ◌<ℤ◌, ◌≤◌, List, length, true, false, IfOk, OnOk, OnErr};
 ghost use Rattle.fz_spec.specs.Instance.{Instance};
 ghost use Rattle.fz_tree.specs.declared.decision.Decision as tree;
 ghost use Rattle.fz_sets.specs.Sets.{IsInSet, IsWithinLimits};
@@ -12,15 +12,21 @@ use fz_prop::{Change, Store};
 use fz_tree::decision::{Comparison, Decision};
 use std::alloc::AllocError;
 
-/// A store and whether it has failed become those of the assignments that meet a decision.
+/// A store and whether it has failed become those of the assignments that meet a decision. What has failed stays so, and a
+/// decision on a variable that isn't there fails.
 ///
 /// # Errors
-/// `AllocError` where there is no memory.
+/// `AllocError` where there is no memory; all is left as it was.
 pub fn take(store: &mut Store, failed: &mut bool, decision: Decision) -> Result<(), AllocError>
     ensures alive { (m : Instance) (states : List ℕ) → (failed.old ≡ false → IsAlive m states store.old)
         → failed.new ≡ false → IsAlive m states store.new }
     ensures covers { OnOk result ((m : Instance) (ds : List tree.Decision)
-        → Covers ds (spaced m store.old failed.old) → Covers (ds ++ decision ∷ []) (spaced m store.new failed.new)) }
+        → Covers ds (spaced m store.old failed.old)
+        → Covers (ds ++ decision ∷ []) (spaced m store.new failed.new)) }
+    ensures stays { failed.old ≡ true → failed.new ≡ true }
+    ensures lacking { OnOk result (length store.old.doms ≤ decision.variable → failed.new ≡ true) }
+    ensures store_on_err { OnErr result (store.new ≡ store.old) }
+    ensures failed_on_err { OnErr result (failed.new ≡ failed.old) }
 {
     if *failed {
         return Ok(());
@@ -35,6 +41,8 @@ fn decide(store: &mut Store, decision: Decision) -> Result<bool, AllocError>
     ensures store { IsStore store.new }
     ensures shrinks { Shrinks store.old store.new }
     ensures decided { IfOk result (λ b. IsDecided b decision store.old.doms store.new.doms) }
+    ensures lacking { length store.old.doms ≤ decision.variable → IfOk result (λ b. b ≡ false) }
+    ensures err { OnErr result (store.new ≡ store.old) }
 {
     if (decision.variable as usize) < store.doms().len() {
         decide_there(store, decision)
@@ -49,6 +57,7 @@ fn decide_there(store: &mut Store, decision: Decision) -> Result<bool, AllocErro
     ensures store { IsStore store.new }
     ensures shrinks { Shrinks store.old store.new }
     ensures decided { IfOk result (λ b. IsDecided b decision store.old.doms store.new.doms) }
+    ensures err { OnErr result (store.new ≡ store.old) }
 {
     let change = keep(store, decision);
     let _ = store.doms();
@@ -63,6 +72,7 @@ fn decide_there(store: &mut Store, decision: Decision) -> Result<bool, AllocErro
 fn keep(store: &mut Store, decision: Decision) -> Result<Change, AllocError>
     requires { decision.variable < length store.old.doms }
     ensures shrinks { Shrinks store.old store.new }
+    ensures err { OnErr result (store.new ≡ store.old) }
     ensures change { IfOk result (λ r. IsChangeAt r decision.variable
         (Compares decision.comparison decision.value) store.old store.new) }
 {
@@ -78,6 +88,7 @@ fn keep(store: &mut Store, decision: Decision) -> Result<Change, AllocError>
 fn keep_above(store: &mut Store, variable: u32, value: i32) -> Result<Change, AllocError>
     requires { variable < length store.old.doms }
     ensures shrinks { Shrinks store.old store.new }
+    ensures err { OnErr result (store.new ≡ store.old) }
     ensures change { IfOk result (λ r. IsChangeAt r variable (λ x. value <ℤ x) store.old store.new) }
 {
     if greatest_at(store, variable) <= value {

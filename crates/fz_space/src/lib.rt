@@ -8,3 +8,6 @@ mod root;
 pub mod space;
 
 pub use space::Space;
+
+#[cfg(test)]
+mod tests;

@@ -1,9 +1,9 @@
 //! What is known of a space at rest.
-ghost use Rattle.std.specs.Prelude.{◌≡◌, List, length, false, IfOk, OnOk};
+ghost use Rattle.std.specs.Prelude.{◌≡◌, List, length, true, false, IfOk};
 ghost use Rattle.fz_strength.specs.Domains.{AreDomains};
 ghost use Rattle.fz_tree.specs.declared.decision.Decision.{Decision};
 ghost use Rattle.fz_path.specs.Spaces.{Covers, IsStatus};
-ghost use Rattle.fz_space.specs.Alive.{spaced, IsAlive, IsLeft};
+ghost use Rattle.fz_space.specs.Alive.{spaced, IsAlive, IsLeft, HaveLines};
 
 use fz_engine::engine::settle;
 use fz_engine::Plan;
@@ -13,10 +13,10 @@ use fz_path::Status;
 use fz_prop::Store;
 use std::alloc::AllocError;
 
-/// Brings the parts of a space to rest, and says what is known then.
+/// Brings the parts of a space to rest, and says what is known then. What has failed stays so.
 ///
 /// # Errors
-/// `AllocError` where there is no memory.
+/// `AllocError` where there is no memory; the space covers what it covered.
 pub fn rest(
     plan: &Plan,
     store: &mut Store,
@@ -25,10 +25,11 @@ pub fn rest(
 ) -> Result<Status, AllocError>
     requires alive { failed.old ≡ false → IsAlive plan.now.model agenda.old store.old }
     ensures alive { failed.new ≡ false → IsAlive plan.now.model agenda.new store.new }
-    ensures covers { OnOk result ((ds : List Decision)
-        → Covers ds (spaced plan.now.model store.old failed.old)
-        → Covers ds (spaced plan.now.model store.new failed.new)) }
+    ensures covers { (ds : List Decision) → Covers ds (spaced plan.now.model store.old failed.old)
+        → Covers ds (spaced plan.now.model store.new failed.new) }
     ensures answer { IfOk result (λ r. IsStatus r (spaced plan.now.model store.new failed.new)) }
+    ensures lines { IfOk result (λ r. HaveLines r plan.now.model.constraints store.new.doms) }
+    ensures stays { failed.old ≡ true → failed.new ≡ true }
 {
     if *failed {
         return Ok(Status::Failed);

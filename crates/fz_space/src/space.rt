@@ -1,8 +1,11 @@
 //! Spaces.
-ghost use Rattle.std.specs.Prelude.{◌≡◌, IfOk, OnOk};
+ghost use Rattle.std.specs.Prelude.{◌≡◌, ◌≤◌, ◌++◌, ◌∷◌, [], List, Some, length, true, IfOk, OnOk, OnErr};
+ghost use Rattle.std.specs.List.{slice_get};
 ghost use Rattle.std.specs.Arc.{arc_value};
-ghost use Rattle.fz_path.specs.Spaces.{Spaced};
+ghost use Rattle.fz_tree.specs.declared.decision.Decision.{Decision};
+ghost use Rattle.fz_path.specs.Spaces.{Spaced, Covers, IsStatus};
 ghost use Rattle.fz_engine.specs.Known.{AreKnown};
+ghost use Rattle.fz_space.specs.Alive.{HaveLines};
 
 use crate::commit::take;
 use fz_engine::Plan;
@@ -59,11 +62,34 @@ impl fz_path::Space for Space {
         })
     }
 
-    fn commit(&mut self, choice: &Choice, alternative: u32) -> Result<(), AllocError> {
+    /// What has failed stays so; a decision on a variable that the model lacks makes the space failed.
+    ///
+    /// # Errors
+    /// `AllocError` where there is no memory; the space is left as it was.
+    fn commit(&mut self, choice: &Choice, alternative: u32) -> Result<(), AllocError>
+        ensures model { self.new.model ≡ self.old.model }
+        ensures covers { OnOk result ((ds : List Decision) (d : Decision)
+            → slice_get choice.now alternative ≡ Some d
+            → Covers ds self.old → Covers (ds ++ d ∷ []) self.new) }
+        ensures stays { self.old.failed ≡ true → self.new.failed ≡ true }
+        ensures lacking { OnOk result ((d : Decision) → slice_get choice.now alternative ≡ Some d
+            → length self.old.model.variables ≤ d.variable → self.new.failed ≡ true) }
+        ensures err { OnErr result (self.new ≡ self.old) }
+    {
         take(&mut self.store, &mut self.failed, choice.decision(alternative))
     }
 
-    fn status(&mut self) -> Result<Status, AllocError> {
+    /// At a branch the line of each constraint holds. What has failed stays so.
+    ///
+    /// # Errors
+    /// `AllocError` where there is no memory; the space covers what it covered, and can be asked again.
+    fn status(&mut self) -> Result<Status, AllocError>
+        ensures model { self.new.model ≡ self.old.model }
+        ensures covers { (ds : List Decision) → Covers ds self.old → Covers ds self.new }
+        ensures answer { IfOk result (λ status. IsStatus status self.new) }
+        ensures lines { IfOk result (λ status. HaveLines status self.new.model.constraints self.new.doms) }
+        ensures stays { self.old.failed ≡ true → self.new.failed ≡ true }
+    {
         rest(&self.plan, &mut self.store, &mut self.agenda, &mut self.failed)
     }
 
