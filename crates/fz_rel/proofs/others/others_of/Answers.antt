@@ -1,9 +1,9 @@
-use Rattle.std.proofs.Common.{◌≡◌, ◌<◌, length, arith, rules}
+use Rattle.std.proofs.Common.{◌<◌, length, arith, rules}
 use Rattle.std.proofs.lemmas.Result.{IfOk-weaker}
 use Rattle.std.proofs.Math.Facts.{to_z-of_z}
 use mir.Val.{SFits}
 use mir.Syntax.{w32}
-use Rattle.std.specs.Prelude.{ℤ, List, [], ◌∷◌}
+use Rattle.std.specs.Prelude.{ℤ, List, []}
 use Rattle.fz_sets.specs.Sets.{AreOneSet}
 use Rattle.fz_rel.specs.Reified.{AreOthers}
 use Rattle.fz_rel.proofs.Outside.{others_more, others_none, others_all}
