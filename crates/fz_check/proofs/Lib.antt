@@ -6,7 +6,6 @@ pub mod Counting
 pub mod DraftLaws
 pub mod EntryLaws
 pub mod FaultLaws
-pub mod Finds
 pub mod Halves
 pub mod ItemFits
 pub mod Mapped

@@ -1,6 +1,6 @@
 -- Terms of an environment whose entries fit.
 use Rattle.std.proofs.Common.{◌≡◌, ℕ, suc, ◌≤◌, ℤ, Bool, true, false, cond, Option, Some, None, List, [], ◌∷◌, length, map, refl, sym, ap, ◌∙◌, subst, arith, rules}
-use Rattle.std.specs.Prelude.{Result, Ok, Err}
+use Rattle.std.specs.Prelude.{Ok}
 use Rattle.std.specs.List.{AllByRecursion}
 use Rattle.std.proofs.lemmas.Int.{ints}
 use Rattle.fz_spec.specs.declared.limits.TheConstants.{ELEMENT_LIMIT}
@@ -16,18 +16,16 @@ use Rattle.fz_language.specs.Entries.{Environment, Entry, of_kind, named, entry_
 use Rattle.fz_language.specs.Entries as entries
 use Rattle.fz_language.specs.Within.{BasicFits}
 use Rattle.fz_model.specs.Kept.{IsNumberOf, IsTermOf, FitsElement, FitsList, kind_at}
+use Rattle.fz_resolve.proofs.Each.{ok_is, part}
 use Rattle.fz_check.specs.Fits.{EntryFits, Sound}
 
 record OfKind {X : Type 0} (wanted kind : Kind) (x y : X) : Type 0 where
   kind_is : wanted ≡ kind
   is : x ≡ y
 
-some_is : {X : Type 0} (x y : X) → Some x ≡ Some y → x ≡ y
-some_is x y e = cc
-
 of_kind_is : {X : Type 0} (wanted kind : Kind) (x y : X) → of_kind wanted kind x ≡ Some y → OfKind wanted kind x y
-of_kind_is kinds.Bool kinds.Bool x y e = record { kind_is = refl; is = some_is x y e }
-of_kind_is kinds.Int kinds.Int x y e = record { kind_is = refl; is = some_is x y e }
+of_kind_is kinds.Bool kinds.Bool x y e = record { kind_is = refl; is = cc }
+of_kind_is kinds.Int kinds.Int x y e = record { kind_is = refl; is = cc }
 of_kind_is kinds.Bool kinds.Int x y e = cc
 of_kind_is kinds.Int kinds.Bool x y e = cc
 
@@ -77,21 +75,6 @@ term_fits vs env e (Named name) t s h o =
     entry_term_fits vs e f.entry t (s name.bytes f.entry f.is) f.gives
 
 -- ---- lists of terms
-
-ok_is : {X : Type 0} (xs ys : List X) → (let r : Result (List X) ℕ = Ok xs in r) ≡ Ok ys → xs ≡ ys
-ok_is xs ys e = cc
-
-record Parted {X : Type 0} (o : Option X) (r : Result (List X) ℕ) (ts : List X) : Type 0 where
-  first : X
-  others : List X
-  first_is : o ≡ Some first
-  others_are : r ≡ Ok others
-  whole : ts ≡ first ∷ others
-
-part : {X : Type 0} (o : Option X) (r : Result (List X) ℕ) (at : ℕ) (ts : List X) → before o r at ≡ Ok ts → Parted o r ts
-part (Some x) (Ok xs) at ts e = record { first = x; others = xs; first_is = refl; others_are = refl; whole = sym (ok_is (x ∷ xs) ts e) }
-part (Some x) (Err place) at ts e = cc
-part None r at ts e = cc
 
 pub record TermsFit (vs : List Variable) (e : Element) (bs : List Basic) (ts : List Term) : Type 0 where
   pub all : AllByRecursion (FitsElement vs e) ts
