@@ -8,6 +8,7 @@ pub mod EntryLaws
 pub mod FaultLaws
 pub mod Halves
 pub mod ItemFits
+pub mod Keeps
 pub mod Mapped
 pub mod ModelFits
 pub mod PlaceLaws
