@@ -1,10 +1,9 @@
 -- What an item that keeps all rules makes of a draft.
-use Rattle.std.proofs.Common.{◌≡◌, ℕ, Bool, true, false, cond, ◌&&◌, Option, Some, None, List, [], ◌∷◌, ◌++◌, length, refl, sym, ap, ap₂, ◌∙◌, subst, append_assoc, length-append, arith}
+use Rattle.std.proofs.Common.{◌≡◌, ℕ, Bool, true, false, ◌&&◌, Option, Some, None, List, [], ◌∷◌, ◌++◌, length, refl, sym, ap, ap₂, ◌∙◌, subst, append_assoc, length-append, arith}
 use Rattle.std.specs.Prelude.{ℤ, flat_map}
-use Rattle.fz_language.specs.declared.fault.RuleFault.TheVariants.{Unsupported, UnknownName, WrongType, WrongLengths, DeclaredTwice, OverLimit}
+use Rattle.fz_language.specs.declared.fault.RuleFault.TheVariants.{OverLimit}
 use Rattle.fz_language.specs.Trees.{Number, SetLiteral, Range, Braces, Basic, Truth, Numeral, Literal, Named, AnyBool, AnyInt, AnyFloat, Within, ValueType, One, SetOf, Expression, Scalar, Listed, Annotation, VariableItem, ArrayItem, Item, Predicate, Variable, Parameter, Array, Constraint, Program, number_at}
-use Rattle.fz_language.specs.Rules.{AVariable, AnElement, Counts, all_counted, additions, over, at_places, item_faults, kind_of, term_asked, is_bound, members_of, members_in, element_additions, expression_additions, type_additions, value_additions, array_element_additions, bad_variable_type, bad_element_type, seventh_ranges, floats_of_value, unknown_of_value, unknown_in, output_array_places, output_var_places, malformed_output_array, in_order, wrong_value, wrong_element, wrong_index_set, wrong_shape, declared_already}
-use Rattle.fz_language.specs.Numerals.{floats_in}
+use Rattle.fz_language.specs.Rules.{AVariable, AnElement, Counts, all_counted, additions, over, at_places, item_faults, kind_of, term_asked, is_bound, members_of, members_in, element_additions, expression_additions, type_additions, value_additions, array_element_additions}
 use Rattle.fz_language.specs.Within.{VariableFits}
 use Rattle.fz_model.specs.Kept.{IsVariable}
 use Rattle.fz_language.specs.Annotations.{output_array_of, shape_in, shape_among}
@@ -16,7 +15,7 @@ use Rattle.fz_resolve.specs.Rooms.{IsRoom}
 use Rattle.fz_check.specs.Drafts.{scope_of, IsCounted, Adds, IsGrown, IsAhead}
 use Rattle.fz_check.specs.Parts.{equal_to_value}
 use Rattle.fz_check.specs.declared.draft.Draft.{Draft}
-use Rattle.fz_check.proofs.Counting.{nil_parts, variables_in, variables_both, elements_both, few}
+use Rattle.fz_check.proofs.Counting.{variables_in, variables_both, elements_both, few}
 use Rattle.fz_check.proofs.ItemFits.{variable_fits}
 use Rattle.fz_check.proofs.Keeps.{variable_typed, array_keeps, array_placed}
 

@@ -14,7 +14,6 @@ use Rattle.fz_spec.specs.declared.asked.Element.{Element}
 use Rattle.fz_spec.specs.Constraints as meaning
 use Rattle.fz_spec.specs.Instance.{Variable, Output, element_count}
 use Rattle.fz_spec.specs.Signatures.{Row, row_named, row_of, signature_of, have_lengths}
-use Rattle.fz_language.specs.declared.fault.RuleFault.{RuleFault}
 use Rattle.fz_language.specs.declared.fault.RuleFault.TheVariants.{Unsupported, UnknownName, WrongType, WrongLengths}
 use Rattle.fz_language.specs.Trees.{Plain, AnyBool, AnyInt, AnyFloat, Within, ValueType, One, SetOf, Basic, ListLiteral, Annotation, VariableItem, ParameterItem, ArrayItem, ConstraintItem}
 use Rattle.fz_language.specs.Trees as trees
@@ -35,6 +34,7 @@ use Rattle.fz_check.proofs.Keeps.{no_places}
 use Rattle.fz_check.proofs.ArgumentFits.{all_fit}
 use Rattle.fz_check.proofs.RowLaws.{found, row_is_of, signature_length}
 use Rattle.fz_spec.specs.Constraints.{list_lengths}
+use Rattle.std.proofs.lemmas.List.{length-map}
 
 -- ---- types
 
@@ -92,10 +92,6 @@ listing vs env kind may_vary list s h = go (each_of (term_in env (record { kind 
     go (Ok ts) k = let t = terms_fit vs env (record { kind = kind; may_vary = may_vary }) list.elements ts s h k in record { all = t.all; count = omega (arith, t.count) }
     go (Err at) k = record { all = tt; count = omega arith }
 
-length_numbers : (ts : List Term) → length (map number_of ts) ≡ length ts
-length_numbers [] = refl
-length_numbers (t ∷ ts) = ap (λ n. suc n) (length_numbers ts)
-
 array_fits : (vs : List Variable) (env : Environment) (a : ArrayItem) (variable : Bool) (t : ValueType) → Sound vs env → AllByRecursion BasicFits a.list.elements → length a.list.elements ≤ ELEMENT_LIMIT → EntryFits vs (array_entry env a variable t)
 array_fits vs env a true t s h few =
     let l = listing vs env (kind_of t) true a.list s h in
@@ -103,7 +99,7 @@ array_fits vs env a true t s h few =
 array_fits vs env a false (One plain) s h few =
     let ts = terms_of env (number_asked (One plain)) a.list in
     let l = listing vs env (kind_of (One plain)) false a.list s h in
-    (omega (arith, few, l.count, length_numbers ts), are_numbers vs (kind_of (One plain)) ts l.all)
+    (omega (arith, few, l.count, length-map ts number_of), are_numbers vs (kind_of (One plain)) ts l.all)
 array_fits vs env a false (SetOf at plain) s h few = tt
 
 pub array_entered : (vs : List Variable) (env : Environment) (a : ArrayItem) → Sound vs env → AllByRecursion BasicFits a.list.elements → length a.list.elements ≤ ELEMENT_LIMIT → Sound vs (with_entry a.name.bytes (array_entry env a a.variable a.value_type) env)

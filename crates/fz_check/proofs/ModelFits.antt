@@ -1,6 +1,6 @@
 -- The model of a program that keeps all rules is one.
 use Rattle.std.proofs.Common.{◌≡◌, ℕ, zero, suc, ◌+◌, ◌-◌, ◌≤◌, Bool, true, false, ◌&&◌, cond, Option, Some, None, List, [], ◌∷◌, ◌++◌, length, map, refl, sym, ap, ◌∙◌, append_assoc, length-append, arith}
-use Rattle.std.specs.Prelude.{ℤ, flat_map, nat_lt}
+use Rattle.std.specs.Prelude.{ℤ, flat_map}
 use Rattle.std.specs.List.{AllByRecursion}
 use Rattle.std.proofs.lemmas.List.{length-map}
 use Rattle.fz_spec.specs.declared.limits.TheConstants.{VARIABLE_LIMIT, CONSTRAINT_LIMIT, ELEMENT_LIMIT}
@@ -12,12 +12,11 @@ use Rattle.fz_spec.specs.Constraints as meaning
 use Rattle.fz_spec.specs.Instance.{Output}
 use Rattle.fz_spec.specs.Instance as instance
 use Rattle.fz_spec.specs.Signatures.{Row, row_named, signature_of}
-use Rattle.fz_language.specs.declared.fault.RuleFault.TheVariants.{Unsupported, UnknownName, WrongType, WrongLengths, DeclaredTwice, OverLimit}
+use Rattle.fz_language.specs.declared.fault.RuleFault.TheVariants.{Unsupported, OverLimit}
 use Rattle.fz_language.specs.Trees.{Basic, Annotation, VariableItem, ParameterItem, ArrayItem, ConstraintItem, Item, Predicate, Variable, Parameter, Array, Constraint, SolveItem, Method, Satisfy, Minimize, Maximize}
-use Rattle.fz_language.specs.Numerals.{floats_in}
 use Rattle.fz_language.specs.Entries.{Environment, nothing_declared, term_in, resolve}
 use Rattle.fz_language.specs.Entries as entries
-use Rattle.fz_language.specs.Rules.{Fault, AVariable, Counts, none_yet, all_counted, additions, over, at_places, faults_of, item_faults, solve_faults, kind_of, term_asked, is_bound, bad_variable_type, bad_element_type, seventh_ranges, floats_of_value, unknown_of_value, unknown_in, output_array_places, output_var_places, malformed_output_array, in_order, arguments_in, wrong_value, wrong_element, wrong_index_set, wrong_shape, declared_already, type_additions, value_additions, array_element_additions, members_in}
+use Rattle.fz_language.specs.Rules.{Fault, AVariable, Counts, none_yet, all_counted, additions, over, at_places, faults_of, item_faults, solve_faults, kind_of, term_asked, is_bound, arguments_in, type_additions, value_additions, array_element_additions, members_in}
 use Rattle.fz_language.specs.Models.{equal_to, goal_term, Scope, empty_scope, behind, scope_behind, made, goal_of, type_set, variables_of, constraints_of, outputs_of, value_constraints, call_constraints, terms_of, bound_to}
 use Rattle.fz_language.specs.Annotations.{output_var_of, shape_among}
 use Rattle.fz_language.specs.Reads.{faults_from}

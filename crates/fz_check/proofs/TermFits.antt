@@ -18,6 +18,7 @@ use Rattle.fz_language.specs.Within.{BasicFits}
 use Rattle.fz_model.specs.Kept.{IsNumberOf, IsTermOf, FitsElement, FitsList, kind_at}
 use Rattle.fz_resolve.proofs.Each.{ok_is, part}
 use Rattle.fz_check.specs.Fits.{EntryFits, Sound}
+use Rattle.std.proofs.lemmas.List.{length-map}
 
 record OfKind {X : Type 0} (wanted kind : Kind) (x y : X) : Type 0 where
   kind_is : wanted ≡ kind
@@ -110,14 +111,10 @@ pub are_numbers : (vs : List Variable) (kind : Kind) (ts : List Term) → AllByR
 are_numbers vs kind [] h = tt
 are_numbers vs kind (t ∷ ts) h = (is_number vs kind t h.0, are_numbers vs kind ts h.1)
 
-length_numbers : (ts : List Term) → length (map number_of ts) ≡ length ts
-length_numbers [] = refl
-length_numbers (t ∷ ts) = ap (λ n. suc n) (length_numbers ts)
-
 pub list_fits : (vs : List Variable) (kind : Kind) (may_vary : Bool) (ts : List Term) → length ts ≤ ELEMENT_LIMIT → AllByRecursion (FitsElement vs (element kind may_vary)) ts
     → FitsList vs kind may_vary (list_argument (element kind may_vary) ts)
 list_fits vs kind true ts few h = (few, are_terms vs kind true ts h)
-list_fits vs kind false ts few h = (omega (arith, few, length_numbers ts), are_numbers vs kind ts h)
+list_fits vs kind false ts few h = (omega (arith, few, length-map ts number_of), are_numbers vs kind ts h)
 
 nums_fit : (vs : List Variable) (kind : Kind) (ns : List ℤ) → AllByRecursion (IsNumberOf kind) ns → AllByRecursion (IsTermOf vs kind) (map Num ns)
 nums_fit vs kind [] h = tt

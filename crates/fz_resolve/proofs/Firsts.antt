@@ -29,7 +29,7 @@ step places f (x ∷ xs) (suc i) d h e n =
 pub none_more : {X Y : Type 0} (places : Y → List ℕ) (f : X → Y) (xs : List X) (i : ℕ) (d : X) → i < length xs → None ≡ slice_get (places (f (get_or xs i d))) 0 → IsNoneSoFar places f xs i → IsNoneSoFar places f xs (i + 1)
 none_more places f xs i d h e n = rw add-one (step places f xs i d h (empty (places (f (get_or xs i d))) e) n)
 
-front_of : (ps qs : List ℕ) (at : ℕ) → slice_get ps 0 ≡ Some at → slice_get (ps ++ qs) 0 ≡ Some at
+pub front_of : (ps qs : List ℕ) (at : ℕ) → slice_get ps 0 ≡ Some at → slice_get (ps ++ qs) 0 ≡ Some at
 front_of [] qs at e = cc
 front_of (p ∷ ps) qs at e = e
 
