@@ -73,14 +73,15 @@ impl Comparison {
         ensures shrinks { Shrinks store.old store.new }
         ensures correct { IsCorrect self.now store.old.doms store.new.doms }
         ensures answer { IfOk result (λ r. IsAnswer r self.now store.old.doms store.new.doms) }
-        ensures checking { IfOk result (λ r. AreFixed (waits self.now) store.old.doms → IsDecided r) }
+        ensures checking { IfOk result
+            (λ r. AreFixed (waits self.now) store.old.doms → IsDecided r) }
     {
         relate(store, self.relation, self.x, self.y)
     }
 }
 
 /// The variables of two terms, the first so many.
-fn variables_of(x: Term, y: Term) -> ([u32; 2], usize)
+pub fn variables_of(x: Term, y: Term) -> ([u32; 2], usize)
     ensures count { result.1 ≤ 2 }
     ensures variables { take result.1 result.0 ≡ variables_of x y }
 {
