@@ -114,7 +114,7 @@ pub word_some_leave : (h : Head) (d e : List (ℤ × ℤ)) (base : ℤ) (word : 
 word_some_leave h d e base word k p q n f is =
     let r = bits_read base word in
     rw is (as_word Changed base word d (bit_ranges base word)
-      (some_leave h d (bit_ranges base word) k r.ranges (word_some base word p q) (λ s. n (sym (bits_count base word q) ∙ s)) (λ x i. f x (r.to x i))))
+    (some_leave h d (bit_ranges base word) k r.ranges (word_some base word p q) (λ s. n (sym (bits_count base word q) ∙ s)) (λ x i. f x (r.to x i))))
 
 -- ---- a word of both
 

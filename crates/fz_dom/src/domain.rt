@@ -10,9 +10,9 @@ ghost use Rattle.fz_dom.specs.Places.{IsBit};
 
 use crate::change::Change;
 use crate::head::Head;
+use crate::meet::{base_of, moved, shared};
 use crate::range_iter::RangeIter;
 use crate::rising::{cut, has_between, keep_between, next_in, size_of, word_of};
-use crate::meet::{base_of, moved, shared};
 use crate::union::union_of;
 use crate::word::common;
 use smallvec::SmallVec;
@@ -518,7 +518,10 @@ impl Dom {
             → (2 ≤ length self.now) ⊎ (greatest self.now ≤ℤ (least self.now +ℤ pos 63)) }
         ensures domain { IsDomain self.now }
     {
-        self.rest.is_empty() && self.head.bits == 0 && self.head.size != 0
+        if !self.rest.is_empty() {
+            return false;
+        }
+        self.head.bits == 0 && self.head.size != 0
     }
 
     /// Whether it is at most 64 wide.
@@ -575,10 +578,11 @@ impl Dom {
         ensures change { IsChange result (λ x. IsBit base word x) self.old self.new }
         ensures domain { IsDomain self.new }
     {
+        let size = self.head.size;
         if word == 0 {
             return Change::Wiped;
         }
-        if word.count_ones() == self.head.size {
+        if word.count_ones() == size {
             return Change::Same;
         }
         self.rest.clear();
@@ -607,7 +611,8 @@ impl Dom {
     ) -> Result<SmallVec<(i32, i32), 2>, AllocError>
         requires wide { (least self.now +ℤ pos 63) <ℤ greatest self.now }
         requires theirs { AreRanges theirs.now }
-        ensures { IfOk result (λ v. IsPart (λ x. IsInSet theirs.now (x -ℤ shift)) self.now v.items) }
+        ensures part { IfOk result (λ v. IsPart (λ x. IsInSet theirs.now (x -ℤ shift)) self.now v.items) }
+        ensures domain { IsDomain self.now }
     {
         let alloc = *self.rest.allocator();
         if self.rest.is_empty() {
@@ -625,10 +630,11 @@ impl Dom {
         ensures change { IsChange result (λ x. IsInSet ranges.items x) self.old self.new }
         ensures domain { IsDomain self.new }
     {
+        let size = self.head.size;
         if ranges.is_empty() {
             return Change::Wiped;
         }
-        if size_of(ranges.as_slice()) == self.head.size {
+        if size_of(ranges.as_slice()) == size {
             return Change::Same;
         }
         *self = Dom::from_several(ranges);

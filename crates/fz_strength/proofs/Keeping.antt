@@ -3,22 +3,22 @@ use Rattle.std.proofs.Common.{◌≡◌, List, [], ◌∷◌, ◌++◌, ◌∙�
 use Rattle.std.specs.Prelude.{ℤ, Option, Some, None}
 use Rattle.fz_sets.specs.Sets.{IsInSet}
 use Rattle.fz_spec.specs.declared.builtin.Builtin.{Builtin}
-use Rattle.fz_spec.specs.declared.builtin.Builtin.TheVariants.{SetIn}
+use Rattle.fz_spec.specs.declared.builtin.Builtin.TheVariants.{SetIn, SetInReif}
 use Rattle.fz_spec.specs.declared.term.Term.{Term}
 use Rattle.fz_spec.specs.declared.term.Term.TheVariants.{Num, Var}
 use Rattle.fz_spec.specs.Constraints.{Argument, One, Numbers, Terms, Set}
 use Rattle.fz_strength.specs.declared.relation.Relation.{Relation}
 use Rattle.fz_strength.specs.declared.relation.Relation.TheVariants.{Equal, NotEqual, AtMost, Below}
-use Rattle.fz_strength.specs.declared.event.Event.TheVariants.{Any}
+use Rattle.fz_strength.specs.declared.event.Event.TheVariants.{Any, Fixed}
 use Rattle.fz_strength.specs.Domains.{dom_at, term_set, IsNarrower}
-use Rattle.fz_strength.specs.Events.{IsQuiet, Wait, wait_for, AreQuiet}
+use Rattle.fz_strength.specs.Events.{IsQuiet, Wait, wait_for, waits_for, AreQuiet}
 use Rattle.fz_strength.specs.Relations.{relation_of, reified_of, RestsAs, event_of, reified_event}
 use Rattle.fz_strength.specs.Sums.{sum_relation_of}
-use Rattle.fz_strength.specs.Lines.{RestsOfTwo, RestsReified, RestsOfSet, RestsOfSetReified, RestsOf, waits_of_two, waits_of_reified, waits_of}
+use Rattle.fz_strength.specs.Lines.{terms_among, RestsOnceFixed, RestsOfTwo, RestsReified, RestsOfSet, RestsOfSetReified, RestsOf, waits_of_two, waits_of_reified, waits_of_set, waits_of_set_reified, waits_of}
 use Rattle.fz_strength.specs.Laws.{KeptWhereQuiet}
 use Rattle.fz_strength.proofs.Lists.{all_left, all_right}
 use Rattle.fz_strength.proofs.SumLaws.{kept_sum}
-use Rattle.fz_strength.proofs.Terms.{term_quiet}
+use Rattle.fz_strength.proofs.Terms.{term_quiet, terms_quiet, all_fixed_before, within_before}
 
 pub term_narrower : (t : Term) (ds es : List (List (ℤ × ℤ))) → IsNarrower ds es → (x : ℤ) → IsInSet (term_set es t) x → IsInSet (term_set ds t) x
 term_narrower (Num n) ds es narrower x is = is
@@ -34,10 +34,10 @@ kept_as NotEqual d e f g to_d to_e at_d at_e h = (
 kept_as AtMost d e f g to_d to_e at_d at_e h = rw (← at_d.0, ← at_d.1, ← at_e.0, ← at_e.1) h
 kept_as Below d e f g to_d to_e at_d at_e h = rw (← at_d.0, ← at_d.1, ← at_e.0, ← at_e.1) h
 
-kept_two : (o : Option Relation) (x y : Term) (ds es : List (List (ℤ × ℤ))) → IsNarrower ds es → AreQuiet (waits_of_two o x y) ds es
-    → RestsOfTwo o (term_set ds x) (term_set ds y) → RestsOfTwo o (term_set es x) (term_set es y)
-kept_two None x y ds es narrower quiet h = absurd h
-kept_two (Some relation) x y ds es narrower quiet h =
+kept_two : (G H : Type 0) (W : List Wait) (o : Option Relation) (x y : Term) (ds es : List (List (ℤ × ℤ))) → IsNarrower ds es → (AreQuiet W ds es → G → H)
+    → AreQuiet (waits_of_two W o x y) ds es → RestsOfTwo G o (term_set ds x) (term_set ds y) → RestsOfTwo H o (term_set es x) (term_set es y)
+kept_two G H W None x y ds es narrower general quiet h = general quiet h
+kept_two G H W (Some relation) x y ds es narrower general quiet h =
     let is_quiet : Wait → Type 0 = λ (w : Wait). IsQuiet w.event (dom_at ds w.variable) (dom_at es w.variable) in
     let wx = wait_for (event_of relation) x in
     let wy = wait_for (event_of relation) y in
@@ -45,16 +45,17 @@ kept_two (Some relation) x y ds es narrower quiet h =
     (term_quiet (event_of relation) x ds es (all_left is_quiet wx wy quiet)) (term_quiet (event_of relation) y ds es (all_right is_quiet wx wy quiet)) h
 
 kept_line : (relation : Relation) (d e r f g s : List (ℤ × ℤ)) → IsQuiet (reified_event relation) d f → IsQuiet (reified_event relation) e g → r ≡ s
-    → RestsReified (Some relation) d e r → RestsReified (Some relation) f g s
+    → RestsReified ⊥ (Some relation) d e r → RestsReified ⊥ (Some relation) f g s
 kept_line Equal d e r f g s at_d at_e at_r h = rw (← at_d, ← at_e, ← at_r) h
 kept_line NotEqual d e r f g s at_d at_e at_r h = rw (← at_d, ← at_e, ← at_r) h
 kept_line AtMost d e r f g s at_d at_e at_r h = rw (← at_d.0, ← at_d.1, ← at_e.0, ← at_e.1, ← at_r) h
 kept_line Below d e r f g s at_d at_e at_r h = rw (← at_d.0, ← at_d.1, ← at_e.0, ← at_e.1, ← at_r) h
 
-kept_reified : (o : Option Relation) (x y r : Term) (ds es : List (List (ℤ × ℤ))) → AreQuiet (waits_of_reified o x y r) ds es
-    → RestsReified o (term_set ds x) (term_set ds y) (term_set ds r) → RestsReified o (term_set es x) (term_set es y) (term_set es r)
-kept_reified None x y r ds es quiet h = absurd h
-kept_reified (Some relation) x y r ds es quiet h =
+kept_reified : (G H : Type 0) (W : List Wait) (o : Option Relation) (x y r : Term) (ds es : List (List (ℤ × ℤ))) → (AreQuiet W ds es → G → H)
+    → AreQuiet (waits_of_reified W o x y r) ds es → RestsReified G o (term_set ds x) (term_set ds y) (term_set ds r)
+    → RestsReified H o (term_set es x) (term_set es y) (term_set es r)
+kept_reified G H W None x y r ds es general quiet h = general quiet h
+kept_reified G H W (Some relation) x y r ds es general quiet h =
     let is_quiet : Wait → Type 0 = λ (w : Wait). IsQuiet w.event (dom_at ds w.variable) (dom_at es w.variable) in
     let wx = wait_for (reified_event relation) x in
     let wy = wait_for (reified_event relation) y in
@@ -64,26 +65,45 @@ kept_reified (Some relation) x y r ds es quiet h =
     (term_quiet (reified_event relation) x ds es (all_left is_quiet wx (wy ++ wr) quiet)) (term_quiet (reified_event relation) y ds es (all_left is_quiet wy wr behind))
     (term_quiet Any r ds es (all_right is_quiet wy wr behind)) h
 
-kept_set : (name : Builtin) (d e set : List (ℤ × ℤ)) → ((x : ℤ) → IsInSet e x → IsInSet d x) → RestsOfSet name d set → RestsOfSet name e set
-kept_set SetIn d e set to_d h = λ x is. h x (to_d x is)
-kept_set name d e set to_d h = absurd h
+kept_set : (G H : Type 0) (W : List Wait) (name : Builtin) (x : Term) (set : List (ℤ × ℤ)) (ds es : List (List (ℤ × ℤ))) → IsNarrower ds es → (AreQuiet W ds es → G → H)
+    → AreQuiet (waits_of_set W name x) ds es → RestsOfSet G name (term_set ds x) set → RestsOfSet H name (term_set es x) set
+kept_set G H W SetIn x set ds es narrower general quiet h = λ y is. h y (term_narrower x ds es narrower y is)
+kept_set G H W name x set ds es narrower general quiet h = general quiet h
 
-kept_set_reified : (name : Builtin) (x r : Term) (set : List (ℤ × ℤ)) (ds es : List (List (ℤ × ℤ))) → AreQuiet (wait_for Any x ++ wait_for Any r) ds es
-    → RestsOfSetReified name (term_set ds x) set (term_set ds r) → RestsOfSetReified name (term_set es x) set (term_set es r)
-kept_set_reified name x r set ds es quiet h =
+kept_set_reified : (G H : Type 0) (W : List Wait) (name : Builtin) (x r : Term) (set : List (ℤ × ℤ)) (ds es : List (List (ℤ × ℤ))) → (AreQuiet W ds es → G → H)
+    → AreQuiet (waits_of_set_reified W name x r) ds es → RestsOfSetReified G name (term_set ds x) set (term_set ds r)
+    → RestsOfSetReified H name (term_set es x) set (term_set es r)
+kept_set_reified G H W SetInReif x r set ds es general quiet h =
     let is_quiet : Wait → Type 0 = λ (w : Wait). IsQuiet w.event (dom_at ds w.variable) (dom_at es w.variable) in
     let of_x = term_quiet Any x ds es (all_left is_quiet (wait_for Any x) (wait_for Any r) quiet) in
     let of_r = term_quiet Any r ds es (all_right is_quiet (wait_for Any x) (wait_for Any r) quiet) in
     rw (← of_x, ← of_r) h
+kept_set_reified G H W name x r set ds es general quiet h = general quiet h
+
+-- the general line
+kept_once_fixed : (name : Builtin) (arguments : List Argument) (ds es : List (List (ℤ × ℤ))) → IsNarrower ds es → AreQuiet (waits_for Fixed (terms_among arguments)) ds es
+    → RestsOnceFixed name arguments ds → RestsOnceFixed name arguments es
+kept_once_fixed name arguments ds es narrower quiet h = λ fixed a within.
+    h (all_fixed_before (terms_among arguments) ds es (terms_quiet Fixed (terms_among arguments) ds es quiet) fixed) a (within_before ds es a narrower within)
 
 arguments_kept : (name : Builtin) (arguments : List Argument) (ds es : List (List (ℤ × ℤ))) → IsNarrower ds es → AreQuiet (waits_of name arguments) ds es
     → RestsOf name arguments ds → RestsOf name arguments es
-arguments_kept name (One x ∷ One y ∷ []) ds es narrower quiet h = kept_two (relation_of name) x y ds es narrower quiet h
-arguments_kept name (One x ∷ One y ∷ One r ∷ []) ds es narrower quiet h = kept_reified (reified_of name) x y r ds es quiet h
-arguments_kept name (One x ∷ Set set ∷ []) ds es narrower quiet h = kept_set name (term_set ds x) (term_set es x) set (term_narrower x ds es narrower) h
-arguments_kept name (One x ∷ Set set ∷ One r ∷ []) ds es narrower quiet h = kept_set_reified name x r set ds es quiet h
-arguments_kept name (Numbers ks ∷ Terms ts ∷ One (Num c) ∷ []) ds es narrower quiet h = kept_sum (sum_relation_of name) ks ts c ds es narrower quiet h
-arguments_kept name arguments ds es narrower quiet h = absurd h
+arguments_kept name (One x ∷ One y ∷ []) ds es narrower quiet h =
+    let at = One x ∷ One y ∷ [] in
+    kept_two (RestsOnceFixed name at ds) (RestsOnceFixed name at es) (waits_for Fixed (terms_among at)) (relation_of name) x y ds es narrower (kept_once_fixed name at ds es narrower) quiet h
+arguments_kept name (One x ∷ One y ∷ One r ∷ []) ds es narrower quiet h =
+    let at = One x ∷ One y ∷ One r ∷ [] in
+    kept_reified (RestsOnceFixed name at ds) (RestsOnceFixed name at es) (waits_for Fixed (terms_among at)) (reified_of name) x y r ds es (kept_once_fixed name at ds es narrower) quiet h
+arguments_kept name (One x ∷ Set set ∷ []) ds es narrower quiet h =
+    let at = One x ∷ Set set ∷ [] in
+    kept_set (RestsOnceFixed name at ds) (RestsOnceFixed name at es) (waits_for Fixed (terms_among at)) name x set ds es narrower (kept_once_fixed name at ds es narrower) quiet h
+arguments_kept name (One x ∷ Set set ∷ One r ∷ []) ds es narrower quiet h =
+    let at = One x ∷ Set set ∷ One r ∷ [] in
+    kept_set_reified (RestsOnceFixed name at ds) (RestsOnceFixed name at es) (waits_for Fixed (terms_among at)) name x r set ds es (kept_once_fixed name at ds es narrower) quiet h
+arguments_kept name (Numbers ks ∷ Terms ts ∷ One (Num c) ∷ []) ds es narrower quiet h =
+    let at = Numbers ks ∷ Terms ts ∷ One (Num c) ∷ [] in
+    kept_sum (RestsOnceFixed name at ds) (RestsOnceFixed name at es) (waits_for Fixed (terms_among at)) (sum_relation_of name) ks ts c ds es narrower (kept_once_fixed name at ds es narrower) quiet h
+arguments_kept name arguments ds es narrower quiet h = kept_once_fixed name arguments ds es narrower quiet h
 
 pub kept_where_quiet : KeptWhereQuiet
 kept_where_quiet c ds es domains narrower quiet h = arguments_kept c.name c.arguments ds es narrower quiet h

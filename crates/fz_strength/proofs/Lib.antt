@@ -3,3 +3,4 @@ pub mod Terms
 pub mod SumLaws
 pub mod Truths
 pub mod Keeping
+pub mod General

@@ -14,25 +14,11 @@ use Rattle.fz_strength.specs.declared.relation.Relation.TheVariants.{Equal, NotE
 use Rattle.fz_strength.specs.declared.event.Event.{Event}
 use Rattle.fz_strength.specs.declared.event.Event.TheVariants.{Bound, Fixed}
 use Rattle.fz_strength.specs.Domains.{dom_at, term_set, Within, Alone, IsNarrower, number_at}
-use Rattle.fz_strength.specs.Events.{IsQuiet, IsOnly, Wait, wait_for, waits_for, AreQuiet, AreBelow}
+use Rattle.fz_strength.specs.Events.{IsQuiet, AllFixed, Wait, waits_for, AreQuiet, AreBelow}
 use Rattle.fz_strength.specs.Relations.{Relates}
-use Rattle.fz_strength.specs.Sums.{sum_relation_of, least_product, greatest_product, least_sum, greatest_sum, AreNear, RestsAtMost, negated, IsFixedIn, AllFixed, AllButOneFixed, RestsApart, RestsSum, sum_event_of}
+use Rattle.fz_strength.specs.Sums.{sum_relation_of, least_product, greatest_product, least_sum, greatest_sum, AreNear, RestsAtMost, negated, AllButOneFixed, RestsApart, RestsSum, sum_event_of}
 use Rattle.fz_strength.specs.Lines.{RestsOfSum, waits_of_sum}
-use Rattle.fz_strength.proofs.Lists.{all_left, all_right}
-use Rattle.fz_strength.proofs.Terms.{term_quiet, single, in_single, term_alone}
-
--- ---- what is waited for, term by term
-
-abbrev AreQuietAt : Event → List (List (ℤ × ℤ)) → List (List (ℤ × ℤ)) → List Term → Type 0
-AreQuietAt event ds es ts = AllByRecursion (λ (t : Term). IsQuiet event (term_set ds t) (term_set es t)) ts
-
-terms_quiet : (event : Event) (ts : List Term) (ds es : List (List (ℤ × ℤ))) → AreQuiet (waits_for event ts) ds es → AreQuietAt event ds es ts
-terms_quiet event [] ds es quiet = tt
-terms_quiet event (t ∷ ts) ds es quiet =
-    let is_quiet : Wait → Type 0 = λ (w : Wait). IsQuiet w.event (dom_at ds w.variable) (dom_at es w.variable) in (
-      term_quiet event t ds es (all_left is_quiet (wait_for event t) (waits_for event ts) quiet),
-      terms_quiet event ts ds es (all_right is_quiet (wait_for event t) (waits_for event ts) quiet),
-    )
+use Rattle.fz_strength.proofs.Terms.{AreQuietAt, terms_quiet, fixed_before, all_fixed_before, AreSingle, terms_alone, all_fixed_alone, within_alone, within_before, single}
 
 -- ---- the same ends give the same sums
 
@@ -63,27 +49,12 @@ at_most_kept ks ts ds es c h rests =
     let same = least_sums_same ks ts ds es h in
     record { reached = rw (← same) rests.reached; near = rw (← same) (near_same ks ts ds es (c -ℤ least_sum ds ks ts) h rests.near) }
 
--- ---- what is fixed was fixed before, where nothing got fixed
-
-fixed_before : (t : Term) (ds es : List (List (ℤ × ℤ))) → IsQuiet Fixed (term_set ds t) (term_set es t) → IsFixedIn es t → IsFixedIn ds t
-fixed_before t ds es quiet fixed = (fixed.0, quiet fixed.0 fixed.1 ∙ fixed.1)
-
-all_fixed_before : (ts : List Term) (ds es : List (List (ℤ × ℤ))) → AreQuietAt Fixed ds es ts → AllFixed es ts → AllFixed ds ts
-all_fixed_before [] ds es quiet fixed = tt
-all_fixed_before (t ∷ ts) ds es quiet fixed = (fixed_before t ds es quiet.0 fixed.0, all_fixed_before ts ds es quiet.1 fixed.1)
-
 all_but_one_before : (ts : List Term) (ds es : List (List (ℤ × ℤ))) → AreQuietAt Fixed ds es ts → AllButOneFixed es ts → AllButOneFixed ds ts
 all_but_one_before [] ds es quiet fixed = tt
 all_but_one_before (t ∷ ts) ds es quiet fixed = elim fixed [
   | inl h ↦ inl (all_fixed_before ts ds es quiet.1 h)
   | inr h ↦ inr (fixed_before t ds es quiet.0 h.0, all_but_one_before ts ds es quiet.1 h.1)
 ]
-
-pub within_before : (ds es : List (List (ℤ × ℤ))) (a : List ℤ) → IsNarrower ds es → Within es a → Within ds a
-within_before ds es a narrower within = record {
-  size = within.size ∙ narrower.size;
-  members = λ v inside. narrower.members v (number_at a v) (within.members v (omega (arith, inside, narrower.size)));
-}
 
 pub apart_narrower : (ks : List ℤ) (ts : List Term) (ds es : List (List (ℤ × ℤ))) (c : ℤ) → IsNarrower ds es → (AllButOneFixed es ts → AllButOneFixed ds ts)
     → RestsApart ds ks ts c → RestsApart es ks ts c
@@ -97,23 +68,12 @@ sum_kept NotEqual ks ts c ds es narrower quiet h = apart_narrower ks ts ds es c 
 sum_kept AtMost ks ts c ds es narrower quiet h = at_most_kept ks ts ds es c (terms_quiet Bound ts ds es quiet) h
 sum_kept Below ks ts c ds es narrower quiet h = absurd h
 
-pub kept_sum : (o : Option Relation) (ks : List ℤ) (ts : List Term) (c : ℤ) (ds es : List (List (ℤ × ℤ))) → IsNarrower ds es → AreQuiet (waits_of_sum o ts) ds es
-    → RestsOfSum o ds ks ts c → RestsOfSum o es ks ts c
-kept_sum None ks ts c ds es narrower quiet h = absurd h
-kept_sum (Some relation) ks ts c ds es narrower quiet h = sum_kept relation ks ts c ds es narrower quiet h
+pub kept_sum : (G H : Type 0) (W : List Wait) (o : Option Relation) (ks : List ℤ) (ts : List Term) (c : ℤ) (ds es : List (List (ℤ × ℤ))) → IsNarrower ds es
+    → (AreQuiet W ds es → G → H) → AreQuiet (waits_of_sum W o ts) ds es → RestsOfSum G o ds ks ts c → RestsOfSum H o es ks ts c
+kept_sum G H W None ks ts c ds es narrower general quiet h = general quiet h
+kept_sum G H W (Some relation) ks ts c ds es narrower general quiet h = sum_kept relation ks ts c ds es narrower quiet h
 
 -- ---- products and sums of single numbers
-
-abbrev pub AreSingle : List (List (ℤ × ℤ)) → List ℤ → List Term → Type 0
-AreSingle ds a ts = AllByRecursion (λ (t : Term). IsOnly (term_set ds t) (term_value a t)) ts
-
-terms_alone : (event : Event) (ts : List Term) (ds : List (List (ℤ × ℤ))) (a : List ℤ) → AreBelow (waits_for event ts) (length ds) → Alone ds a → AreSingle ds a ts
-terms_alone event [] ds a below alone = tt
-terms_alone event (t ∷ ts) ds a below alone =
-    let is_below : Wait → Type 0 = λ (w : Wait). w.variable < length ds in (
-      term_alone ds a event t (all_left is_below (wait_for event t) (waits_for event ts) below) alone,
-      terms_alone event ts ds a (all_right is_below (wait_for event t) (waits_for event ts) below) alone,
-    )
 
 least_single : (k x : ℤ) → least_product k (single x) ≡ (k *ℤ x)
 least_single (pos n) x = refl
@@ -152,19 +112,9 @@ neg_sum (k ∷ ks) (x ∷ xs) = let p = neg_product k x in let q = neg_sum ks xs
 
 -- ---- the truth
 
-all_fixed_alone : (ts : List Term) (ds : List (List (ℤ × ℤ))) (a : List ℤ) → AreSingle ds a ts → AllFixed ds ts
-all_fixed_alone [] ds a h = tt
-all_fixed_alone (t ∷ ts) ds a h = ((term_value a t, h.0), all_fixed_alone ts ds a h.1)
-
 pub all_but_one : (ts : List Term) (ds : List (List (ℤ × ℤ))) → AllFixed ds ts → AllButOneFixed ds ts
 all_but_one [] ds h = tt
 all_but_one (t ∷ ts) ds h = inl h.1
-
-within_alone : (ds : List (List (ℤ × ℤ))) (a : List ℤ) → Alone ds a → Within ds a
-within_alone ds a alone = record {
-  size = alone.size;
-  members = λ v inside. rw (alone.alone v inside) (in_single (number_at a v) (number_at a v) refl);
-}
 
 at_most_true : (ks : List ℤ) (ts : List Term) (c : ℤ) (ds : List (List (ℤ × ℤ))) (a : List ℤ) → AreSingle ds a ts → RestsAtMost ds ks ts c → weighted_sum ks (term_values a ts) ≤ℤ c
 at_most_true ks ts c ds a single h = rw (← least_alone ks ts ds a single) h.reached
@@ -182,9 +132,11 @@ sum_true NotEqual ks ts c ds a below alone h =
 sum_true AtMost ks ts c ds a below alone h = at_most_true ks ts c ds a (terms_alone Bound ts ds a below alone) h
 sum_true Below ks ts c ds a below alone h = absurd h
 
-pub true_sum : (name : Builtin) (ks : List ℤ) (ts : List Term) (c : ℤ) (ds : List (List (ℤ × ℤ))) (a : List ℤ) → AreBelow (waits_of_sum (sum_relation_of name) ts) (length ds) → Alone ds a
-    → RestsOfSum (sum_relation_of name) ds ks ts c → HoldsOfSum name (weighted_sum ks (term_values a ts)) c
-true_sum IntLinEq ks ts c ds a below alone h = sum_true Equal ks ts c ds a below alone h
-true_sum IntLinNe ks ts c ds a below alone h = sum_true NotEqual ks ts c ds a below alone h
-true_sum IntLinLe ks ts c ds a below alone h = sum_true AtMost ks ts c ds a below alone h
-true_sum name ks ts c ds a below alone h = absurd h
+pub true_sum : (G : Type 0) (W : List Wait) (name : Builtin) (ks : List ℤ) (ts : List Term) (c : ℤ) (ds : List (List (ℤ × ℤ))) (a : List ℤ)
+    → (AreBelow W (length ds) → G → HoldsOfSum name (weighted_sum ks (term_values a ts)) c)
+    → AreBelow (waits_of_sum W (sum_relation_of name) ts) (length ds) → Alone ds a → RestsOfSum G (sum_relation_of name) ds ks ts c
+    → HoldsOfSum name (weighted_sum ks (term_values a ts)) c
+true_sum G W IntLinEq ks ts c ds a general below alone h = sum_true Equal ks ts c ds a below alone h
+true_sum G W IntLinNe ks ts c ds a general below alone h = sum_true NotEqual ks ts c ds a below alone h
+true_sum G W IntLinLe ks ts c ds a general below alone h = sum_true AtMost ks ts c ds a below alone h
+true_sum G W name ks ts c ds a general below alone h = general below h

@@ -14,12 +14,13 @@ use Rattle.fz_strength.specs.declared.relation.Relation.{Relation}
 use Rattle.fz_strength.specs.declared.relation.Relation.TheVariants.{Equal, NotEqual, AtMost, Below}
 use Rattle.fz_strength.specs.declared.event.Event.TheVariants.{Any, Fixed}
 use Rattle.fz_strength.specs.Domains.{term_set, Alone}
-use Rattle.fz_strength.specs.Events.{Wait, wait_for, AreBelow}
+use Rattle.fz_strength.specs.Events.{Wait, wait_for, waits_for, AreBelow}
 use Rattle.fz_strength.specs.Relations.{relation_of, reified_of, Relates, RestsAs, RestsAgainst, IsShown, IsRefuted, event_of, reified_event}
-use Rattle.fz_strength.specs.Lines.{IsReifiedLine, RestsOfTwo, RestsReified, LiesIn, LiesOutside, RestsOfSet, RestsOfSetReified, RestsOf, waits_of_two, waits_of_reified, waits_of}
+use Rattle.fz_strength.specs.Lines.{IsReifiedLine, terms_among, RestsOnceFixed, RestsOfTwo, RestsReified, LiesIn, LiesOutside, RestsOfSet, RestsOfSetReified, RestsOf, waits_of_two, waits_of_reified, waits_of_set, waits_of_set_reified, waits_of}
 use Rattle.fz_strength.specs.Laws.{TrueWhereAlone}
 use Rattle.fz_strength.proofs.Lists.{all_left, all_right}
 use Rattle.fz_strength.proofs.SumLaws.{true_sum}
+use Rattle.fz_strength.proofs.Terms.{terms_alone, all_fixed_alone, within_alone}
 pub use Rattle.fz_strength.proofs.Terms.{single, in_single, is_single, term_alone}
 
 -- ---- relations
@@ -36,7 +37,7 @@ shown_as NotEqual x y h = grind (arith, ints)
 shown_as AtMost x y h = h
 shown_as Below x y h = h
 
-relates : (relation : Relation) (x y : Term) (ds : List (List (ℤ × ℤ))) (a : List ℤ) → AreBelow (waits_of_two (Some relation) x y) (length ds) → Alone ds a
+relates : (relation : Relation) (x y : Term) (ds : List (List (ℤ × ℤ))) (a : List ℤ) → AreBelow (waits_of_two [] (Some relation) x y) (length ds) → Alone ds a
     → RestsAs relation (term_set ds x) (term_set ds y) → Relates relation (term_value a x) (term_value a y)
 relates relation x y ds a below alone h =
     let is_below : Wait → Type 0 = λ (w : Wait). w.variable < length ds in
@@ -52,8 +53,8 @@ reified_line relation x y r h = (
   (λ holds. let e : single r ≡ single (pos 1) = h.one_if_shown (shown_as relation x y holds) in ap least e),
 )
 
-relates_reified : (relation : Relation) (x y r : Term) (ds : List (List (ℤ × ℤ))) (a : List ℤ) → AreBelow (waits_of_reified (Some relation) x y r) (length ds) → Alone ds a
-    → RestsReified (Some relation) (term_set ds x) (term_set ds y) (term_set ds r) → IsReified (Relates relation (term_value a x) (term_value a y)) (term_value a r)
+relates_reified : (relation : Relation) (x y r : Term) (ds : List (List (ℤ × ℤ))) (a : List ℤ) → AreBelow (waits_of_reified [] (Some relation) x y r) (length ds) → Alone ds a
+    → RestsReified ⊥ (Some relation) (term_set ds x) (term_set ds y) (term_set ds r) → IsReified (Relates relation (term_value a x) (term_value a y)) (term_value a r)
 relates_reified relation x y r ds a below alone h =
     let is_below : Wait → Type 0 = λ (w : Wait). w.variable < length ds in
     let wx = wait_for (reified_event relation) x in
@@ -67,38 +68,44 @@ relates_reified relation x y r ds a below alone h =
 
 -- ---- names
 
-two : (name : Builtin) (x y : Term) (ds : List (List (ℤ × ℤ))) (a : List ℤ) → AreBelow (waits_of_two (relation_of name) x y) (length ds) → Alone ds a
-    → RestsOfTwo (relation_of name) (term_set ds x) (term_set ds y) → HoldsOfTwo name (term_value a x) (term_value a y)
-two IntEq x y ds a below alone h = relates Equal x y ds a below alone h
-two BoolEq x y ds a below alone h = relates Equal x y ds a below alone h
-two Bool2Int x y ds a below alone h = relates Equal x y ds a below alone h
-two IntNe x y ds a below alone h = relates NotEqual x y ds a below alone h
-two BoolNot x y ds a below alone h = relates NotEqual x y ds a below alone h
-two BoolXor x y ds a below alone h = relates NotEqual x y ds a below alone h
-two IntLe x y ds a below alone h = relates AtMost x y ds a below alone h
-two BoolLe x y ds a below alone h = relates AtMost x y ds a below alone h
-two IntLt x y ds a below alone h = relates Below x y ds a below alone h
-two BoolLt x y ds a below alone h = relates Below x y ds a below alone h
-two name x y ds a below alone h = absurd h
+two : (G : Type 0) (W : List Wait) (name : Builtin) (x y : Term) (ds : List (List (ℤ × ℤ))) (a : List ℤ)
+    → (AreBelow W (length ds) → G → HoldsOfTwo name (term_value a x) (term_value a y))
+    → AreBelow (waits_of_two W (relation_of name) x y) (length ds) → Alone ds a
+    → RestsOfTwo G (relation_of name) (term_set ds x) (term_set ds y) → HoldsOfTwo name (term_value a x) (term_value a y)
+two G W IntEq x y ds a general below alone h = relates Equal x y ds a below alone h
+two G W BoolEq x y ds a general below alone h = relates Equal x y ds a below alone h
+two G W Bool2Int x y ds a general below alone h = relates Equal x y ds a below alone h
+two G W IntNe x y ds a general below alone h = relates NotEqual x y ds a below alone h
+two G W BoolNot x y ds a general below alone h = relates NotEqual x y ds a below alone h
+two G W BoolXor x y ds a general below alone h = relates NotEqual x y ds a below alone h
+two G W IntLe x y ds a general below alone h = relates AtMost x y ds a below alone h
+two G W BoolLe x y ds a general below alone h = relates AtMost x y ds a below alone h
+two G W IntLt x y ds a general below alone h = relates Below x y ds a below alone h
+two G W BoolLt x y ds a general below alone h = relates Below x y ds a below alone h
+two G W name x y ds a general below alone h = general below h
 
-three : (name : Builtin) (x y r : Term) (ds : List (List (ℤ × ℤ))) (a : List ℤ) → AreBelow (waits_of_reified (reified_of name) x y r) (length ds) → Alone ds a
-    → RestsReified (reified_of name) (term_set ds x) (term_set ds y) (term_set ds r) → HoldsOfThree name (term_value a x) (term_value a y) (term_value a r)
-three IntEqReif x y r ds a below alone h = relates_reified Equal x y r ds a below alone h
-three BoolEqReif x y r ds a below alone h = relates_reified Equal x y r ds a below alone h
-three IntNeReif x y r ds a below alone h = relates_reified NotEqual x y r ds a below alone h
-three IntLeReif x y r ds a below alone h = relates_reified AtMost x y r ds a below alone h
-three BoolLeReif x y r ds a below alone h = relates_reified AtMost x y r ds a below alone h
-three IntLtReif x y r ds a below alone h = relates_reified Below x y r ds a below alone h
-three BoolLtReif x y r ds a below alone h = relates_reified Below x y r ds a below alone h
-three name x y r ds a below alone h = absurd h
+three : (G : Type 0) (W : List Wait) (name : Builtin) (x y r : Term) (ds : List (List (ℤ × ℤ))) (a : List ℤ)
+    → (AreBelow W (length ds) → G → HoldsOfThree name (term_value a x) (term_value a y) (term_value a r))
+    → AreBelow (waits_of_reified W (reified_of name) x y r) (length ds) → Alone ds a
+    → RestsReified G (reified_of name) (term_set ds x) (term_set ds y) (term_set ds r) → HoldsOfThree name (term_value a x) (term_value a y) (term_value a r)
+three G W IntEqReif x y r ds a general below alone h = relates_reified Equal x y r ds a below alone h
+three G W BoolEqReif x y r ds a general below alone h = relates_reified Equal x y r ds a below alone h
+three G W IntNeReif x y r ds a general below alone h = relates_reified NotEqual x y r ds a below alone h
+three G W IntLeReif x y r ds a general below alone h = relates_reified AtMost x y r ds a below alone h
+three G W BoolLeReif x y r ds a general below alone h = relates_reified AtMost x y r ds a below alone h
+three G W IntLtReif x y r ds a general below alone h = relates_reified Below x y r ds a below alone h
+three G W BoolLtReif x y r ds a general below alone h = relates_reified Below x y r ds a below alone h
+three G W name x y r ds a general below alone h = general below h
 
-set : (name : Builtin) (x : Term) (s : List (ℤ × ℤ)) (ds : List (List (ℤ × ℤ))) (a : List ℤ) → AreBelow (wait_for Fixed x) (length ds) → Alone ds a
-    → RestsOfSet name (term_set ds x) s → HoldsOfSet name (term_value a x) s
-set SetIn x s ds a below alone h =
+set : (G : Type 0) (W : List Wait) (name : Builtin) (x : Term) (s : List (ℤ × ℤ)) (ds : List (List (ℤ × ℤ))) (a : List ℤ)
+    → (AreBelow W (length ds) → G → HoldsOfSet name (term_value a x) s)
+    → AreBelow (waits_of_set W name x) (length ds) → Alone ds a
+    → RestsOfSet G name (term_set ds x) s → HoldsOfSet name (term_value a x) s
+set G W SetIn x s ds a general below alone h =
     let of_x = term_alone ds a Fixed x below alone in
     let at_x : LiesIn (single (term_value a x)) s = rw of_x at h in
     at_x (term_value a x) (in_single (term_value a x) (term_value a x) refl)
-set name x s ds a below alone h = absurd h
+set G W name x s ds a general below alone h = general below h
 
 set_line : (x r : ℤ) (s : List (ℤ × ℤ)) → IsReifiedLine (LiesIn (single x) s) (LiesOutside (single x) s) (LiesIn (single x) s) (LiesOutside (single x) s) (single r) → IsReified (IsInSet s x) r
 set_line x r s h = (
@@ -106,23 +113,37 @@ set_line x r s h = (
   (λ holds. let e : single r ≡ single (pos 1) = h.one_if_shown (λ y i. subst (λ (z : ℤ). IsInSet s z) (sym (is_single y x i)) holds) in ap least e),
 )
 
-set_reified : (name : Builtin) (x r : Term) (s : List (ℤ × ℤ)) (ds : List (List (ℤ × ℤ))) (a : List ℤ) → AreBelow (wait_for Any x ++ wait_for Any r) (length ds) → Alone ds a
-    → RestsOfSetReified name (term_set ds x) s (term_set ds r) → IsReifiedOf (plain_of name) (λ plain. HoldsOfSet plain (term_value a x) s) (term_value a r)
-set_reified SetInReif x r s ds a below alone h =
+set_reified : (G : Type 0) (W : List Wait) (name : Builtin) (x r : Term) (s : List (ℤ × ℤ)) (ds : List (List (ℤ × ℤ))) (a : List ℤ)
+    → (AreBelow W (length ds) → G → IsReifiedOf (plain_of name) (λ plain. HoldsOfSet plain (term_value a x) s) (term_value a r))
+    → AreBelow (waits_of_set_reified W name x r) (length ds) → Alone ds a
+    → RestsOfSetReified G name (term_set ds x) s (term_set ds r) → IsReifiedOf (plain_of name) (λ plain. HoldsOfSet plain (term_value a x) s) (term_value a r)
+set_reified G W SetInReif x r s ds a general below alone h =
     let is_below : Wait → Type 0 = λ (w : Wait). w.variable < length ds in
     let of_x = term_alone ds a Any x (all_left is_below (wait_for Any x) (wait_for Any r) below) alone in
     let of_r = term_alone ds a Any r (all_right is_below (wait_for Any x) (wait_for Any r) below) alone in
     set_line (term_value a x) (term_value a r) s (rw (of_x, of_r) at h)
-set_reified name x r s ds a below alone h = absurd h
+set_reified G W name x r s ds a general below alone h = general below h
+
+-- the general line
+once_fixed : (name : Builtin) (arguments : List Argument) (ds : List (List (ℤ × ℤ))) (a : List ℤ) → Alone ds a → AreBelow (waits_for Fixed (terms_among arguments)) (length ds)
+    → RestsOnceFixed name arguments ds → Holds name arguments a
+once_fixed name arguments ds a alone below h =
+    h (all_fixed_alone (terms_among arguments) ds a (terms_alone Fixed (terms_among arguments) ds a below alone)) a (within_alone ds a alone)
 
 arguments_true : (name : Builtin) (arguments : List Argument) (ds : List (List (ℤ × ℤ))) (a : List ℤ) → AreBelow (waits_of name arguments) (length ds) → Alone ds a
     → RestsOf name arguments ds → Holds name arguments a
-arguments_true name (One x ∷ One y ∷ []) ds a below alone h = two name x y ds a below alone h
-arguments_true name (One x ∷ One y ∷ One r ∷ []) ds a below alone h = three name x y r ds a below alone h
-arguments_true name (One x ∷ Set s ∷ []) ds a below alone h = set name x s ds a below alone h
-arguments_true name (One x ∷ Set s ∷ One r ∷ []) ds a below alone h = set_reified name x r s ds a below alone h
-arguments_true name (Numbers ks ∷ Terms ts ∷ One (Num c) ∷ []) ds a below alone h = true_sum name ks ts c ds a below alone h
-arguments_true name arguments ds a below alone h = absurd h
+arguments_true name (One x ∷ One y ∷ []) ds a below alone h =
+    let at = One x ∷ One y ∷ [] in two (RestsOnceFixed name at ds) (waits_for Fixed (terms_among at)) name x y ds a (once_fixed name at ds a alone) below alone h
+arguments_true name (One x ∷ One y ∷ One r ∷ []) ds a below alone h =
+    let at = One x ∷ One y ∷ One r ∷ [] in three (RestsOnceFixed name at ds) (waits_for Fixed (terms_among at)) name x y r ds a (once_fixed name at ds a alone) below alone h
+arguments_true name (One x ∷ Set s ∷ []) ds a below alone h =
+    let at = One x ∷ Set s ∷ [] in set (RestsOnceFixed name at ds) (waits_for Fixed (terms_among at)) name x s ds a (once_fixed name at ds a alone) below alone h
+arguments_true name (One x ∷ Set s ∷ One r ∷ []) ds a below alone h =
+    let at = One x ∷ Set s ∷ One r ∷ [] in set_reified (RestsOnceFixed name at ds) (waits_for Fixed (terms_among at)) name x r s ds a (once_fixed name at ds a alone) below alone h
+arguments_true name (Numbers ks ∷ Terms ts ∷ One (Num c) ∷ []) ds a below alone h =
+    let at = Numbers ks ∷ Terms ts ∷ One (Num c) ∷ [] in
+    true_sum (RestsOnceFixed name at ds) (waits_for Fixed (terms_among at)) name ks ts c ds a (once_fixed name at ds a alone) below alone h
+arguments_true name arguments ds a below alone h = once_fixed name arguments ds a alone below h
 
 pub true_where_alone : TrueWhereAlone
 true_where_alone c ds a below alone h = arguments_true c.name c.arguments ds a below alone h

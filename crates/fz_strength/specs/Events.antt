@@ -6,7 +6,7 @@ use Rattle.fz_spec.specs.declared.term.Term.{Term}
 use Rattle.fz_spec.specs.declared.term.Term.TheVariants.{Num, Var}
 use Rattle.fz_strength.specs.declared.event.Event.{Event}
 use Rattle.fz_strength.specs.declared.event.Event.TheVariants.{Any, Bound, Fixed}
-use Rattle.fz_strength.specs.Domains.{dom_at}
+use Rattle.fz_strength.specs.Domains.{dom_at, term_set}
 
 abbrev pub level : Event → ℕ
 level Any = 1
@@ -16,6 +16,13 @@ level Fixed = 3
 -- this number alone
 abbrev pub IsOnly : List (ℤ × ℤ) → ℤ → Type 0
 IsOnly d x = d ≡ (x, x) ∷ []
+
+-- one number is left of a term, and of each of these
+abbrev pub IsFixedIn : List (List (ℤ × ℤ)) → Term → Type 0
+IsFixedIn ds t = (x : ℤ) × IsOnly (term_set ds t) x
+
+abbrev pub AllFixed : List (List (ℤ × ℤ)) → List Term → Type 0
+AllFixed ds ts = AllByRecursion (IsFixedIn ds) ts
 
 -- from d to e there was no change of this kind
 abbrev pub IsQuiet : Event → List (ℤ × ℤ) → List (ℤ × ℤ) → Type 0

@@ -1,11 +1,14 @@
 -- What propagators promise.
-use Rattle.std.specs.Prelude.{ℤ, pos, List, [], ◌∷◌}
+use Rattle.std.specs.Prelude.{ℤ, pos, List, [], ◌∷◌, Option, Some, None}
 use Rattle.std.specs.List.{AllByRecursion}
 use Rattle.fz_sets.specs.Sets.{IsInSet, IsInRange}
 use Rattle.fz_spec.specs.declared.builtin.Builtin.{Builtin}
+use Rattle.fz_spec.specs.declared.builtin.Builtin.TheVariants.{SetInReif}
 use Rattle.fz_spec.specs.declared.term.Term.{Term}
 use Rattle.fz_spec.specs.Constraints.{Argument, One, Set, Constraint, IsTrueOf}
 use Rattle.fz_strength.specs.Domains.{term_set, AreDomains, Within, IsNarrower}
+use Rattle.fz_strength.specs.declared.relation.Relation.{Relation}
+use Rattle.fz_strength.specs.Relations.{reified_of}
 use Rattle.fz_strength.specs.Lines.{Rests}
 
 -- no assignment that makes it true is lost
@@ -23,10 +26,15 @@ IsNeverTrue c ds = (a : List ℤ) → Within ds a → IsTrueOf a c → ⊥
 abbrev pub RestsForGood : Constraint → List (List (ℤ × ℤ)) → Type 0
 RestsForGood c ds = (es : List (List (ℤ × ℤ))) → AreDomains es → IsNarrower ds es → Rests c es
 
+-- the Boolean of a reified comparison
+abbrev pub truth_of_reified : Option Relation → Term → List Term
+truth_of_reified None r = []
+truth_of_reified (Some relation) r = r ∷ []
+
 -- The terms that a constraint takes for 0 or 1, where that matters to its propagator.
 abbrev pub truths_of : Builtin → List Argument → List Term
-truths_of name (One x ∷ One y ∷ One r ∷ []) = r ∷ []
-truths_of name (One x ∷ Set set ∷ One r ∷ []) = r ∷ []
+truths_of name (One x ∷ One y ∷ One r ∷ []) = truth_of_reified (reified_of name) r
+truths_of SetInReif (One x ∷ Set set ∷ One r ∷ []) = r ∷ []
 truths_of name arguments = []
 
 -- only 0 and 1 are left of a term

@@ -13,7 +13,7 @@ use Rattle.fz_strength.specs.declared.relation.Relation.TheVariants.{Equal, NotE
 use Rattle.fz_strength.specs.declared.event.Event.{Event}
 use Rattle.fz_strength.specs.declared.event.Event.TheVariants.{Bound, Fixed}
 use Rattle.fz_strength.specs.Domains.{term_set, Within}
-use Rattle.fz_strength.specs.Events.{IsOnly}
+use Rattle.fz_strength.specs.Events.{IsFixedIn, AllFixed}
 
 -- how a linear constraint relates its sum to its number
 abbrev pub sum_relation_of : Builtin → Option Relation
@@ -57,14 +57,7 @@ pub record RestsAtMost (ds : List (List (ℤ × ℤ))) (ks : List ℤ) (ts : Lis
 abbrev pub negated : List ℤ → List ℤ
 negated ks = map neg_ℤ ks
 
--- one number is left
-abbrev pub IsFixedIn : List (List (ℤ × ℤ)) → Term → Type 0
-IsFixedIn ds t = (x : ℤ) × IsOnly (term_set ds t) x
-
--- of each term, and of each but at most one
-abbrev pub AllFixed : List (List (ℤ × ℤ)) → List Term → Type 0
-AllFixed ds ts = AllByRecursion (IsFixedIn ds) ts
-
+-- one number is left of each term but at most one
 abbrev pub AllButOneFixed : List (List (ℤ × ℤ)) → List Term → Type 0
 AllButOneFixed ds [] = Unit {0}
 AllButOneFixed ds (t ∷ ts) = AllFixed ds ts ⊎ (IsFixedIn ds t × AllButOneFixed ds ts)

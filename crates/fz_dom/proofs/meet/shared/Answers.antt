@@ -63,11 +63,11 @@ returns-then-j-theirs c =
     let fits = c.ranges.shift in
     subst (λ (s : ℤ). IsPart (λ x. IsInSet c.args.theirs.now (x -ℤ s)) c.args.mine.now c.merge.kept.items) (to_z-of_z fits)
     (sharing_done _ c.merge.kept.items c.args.mine.now c.args.theirs.now c.merge.i c.merge.j c.merge.invariant c.requires.within
-      (inr (let t = c.if-j-theirs.true in omega arith)))
+    (inr (let t = c.if-j-theirs.true in omega arith)))
 
 pub returns : goal.returns
 returns c =
     let fits = c.ranges.shift in
     subst (λ (s : ℤ). IsPart (λ x. IsInSet c.args.theirs.now (x -ℤ s)) c.args.mine.now c.merge.kept.items) (to_z-of_z fits)
     (sharing_done _ c.merge.kept.items c.args.mine.now c.args.theirs.now c.merge.i c.merge.j c.merge.invariant c.requires.within
-      (inl (let t = c.merge-test.false in omega arith)))
+    (inl (let t = c.merge-test.false in omega arith)))

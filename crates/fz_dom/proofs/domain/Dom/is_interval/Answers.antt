@@ -10,7 +10,7 @@ returns-else-self-eq0-clause-several c = λ t. inr (
     let h = c.self.inside.head in
     let rest = c.self.inside.rest.items in
     let d = c.args.self.now in
-    let e : rest ≡ [] = nil_of rest (let t = c.if-is_empty.true in grind (arith, nat_tests)) in
+    let e : rest ≡ [] = nil_of rest (let t = c.if-not-is_empty.false in grind (arith, nat_tests)) in
     let g : head_set h ≡ d = sym (small_ranges h rest e) ∙ c.self.view_is in
     let some : 0 < h.bits = (let t = c.if-self-eq0.false in omega arith) in
     word_is_narrow h d (seen h rest d c.self.invariant c.self.view_is) g some)

@@ -11,8 +11,8 @@ use Rattle.fz_dom.proofs.Kept.{seen, small_ranges, nil_of, low_high, filled_of}
 use Rattle.fz_dom.proofs.Windows.{part_from, one_range}
 use Rattle.fz_dom.proofs.domain.Dom.shared_with.Goals as goal
 
-pub returns-then-is_empty : goal.returns-then-is_empty
-returns-then-is_empty c =
+pub returns-then-is_empty-clause-part : goal.returns-then-is_empty-clause-part
+returns-then-is_empty-clause-part c =
     let h = c.self.inside.head in
     let rest = c.self.inside.rest.items in
     let d = c.args.self.now in
@@ -35,4 +35,4 @@ shared-requires-clause-within c =
     let q = c.requires.wide in
     let l = low_high h d f (filled_of d (omega (arith, ints))) in
     let l0 = l.0 in let l1 = l.1 in let l2 = l.2 in
-    ((omega (arith, ints), omega (arith, ints)), ((omega (arith, ints), omega (arith, ints)), tt))
+    ((omega (arith, ints), omega (arith, ints)), (omega (arith, ints), omega (arith, ints)), tt)
