@@ -5,3 +5,4 @@ use Rattle.fz_engine.specs.declared.kind.Form.TheVariants as forms
 
 abbrev pub constraint_of : Form → Constraint
 constraint_of (forms.Comparison comparison) = comparison
+constraint_of (forms.Awaiting awaiting) = awaiting

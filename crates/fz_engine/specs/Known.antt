@@ -1,10 +1,11 @@
--- The constraints whose propagators are there.
+-- The constraints whose propagators are there, and what a model keeps of the arguments of its constraints.
 use Rattle.std.specs.Prelude.{◌≡◌, ◌≢◌, ℕ, List, [], ◌∷◌, Some}
 use Rattle.std.specs.List.{AllByRecursion}
 use Rattle.fz_spec.specs.declared.builtin.Builtin.{Builtin}
 use Rattle.fz_spec.specs.Constraints.{Argument, One, Numbers, Terms, Set, Constraint}
 use Rattle.fz_strength.specs.declared.relation.Relation.{Relation}
 use Rattle.fz_strength.specs.declared.relation.Relation.TheVariants.{Equal}
+use Rattle.fz_strength.specs.Lines.{HasOwnLine}
 use Rattle.fz_strength.specs.Relations.{relation_of}
 use Rattle.fz_prop.specs.Stores.{IsTermOf, FitsTerm}
 
@@ -14,12 +15,14 @@ pub record IsComparing (name : Builtin) : Type 0 where
   pub is : relation_of name ≡ Some relation
   pub unequal : relation ≢ Equal
 
-abbrev pub IsKnownOf : Builtin → List Argument → Type 0
-IsKnownOf name (One x ∷ One y ∷ []) = IsComparing name
-IsKnownOf name arguments = ⊥
+-- the constraints that have a propagator of their own
+abbrev pub HasPropagator : Builtin → List Argument → Type 0
+HasPropagator name (One x ∷ One y ∷ []) = IsComparing name
+HasPropagator name arguments = ⊥
 
+-- One with a line of its own has a propagator of its own. Any other waits for its terms to get fixed.
 abbrev pub IsKnown : Constraint → Type 0
-IsKnown c = IsKnownOf c.name c.arguments
+IsKnown c = HasOwnLine c.name c.arguments → HasPropagator c.name c.arguments
 
 abbrev pub AreKnown : List Constraint → Type 0
 AreKnown cs = AllByRecursion IsKnown cs
@@ -41,7 +44,7 @@ HasLimits c = HaveLimits c.arguments
 abbrev pub IsAmong : ℕ → Argument → Type 0
 IsAmong n (One t) = IsTermOf n t
 IsAmong n (Numbers ns) = Unit {0}
-IsAmong n (Terms ts) = Unit {0}
+IsAmong n (Terms ts) = AllByRecursion (IsTermOf n) ts
 IsAmong n (Set set) = Unit {0}
 
 abbrev pub AreAmong : ℕ → List Argument → Type 0

@@ -5,19 +5,20 @@ ghost use Rattle.fz_model.specs.Arguments.{argument_of};
 ghost use Rattle.fz_strength.specs.declared.relation.Relation.TheVariants.{Equal};
 ghost use Rattle.fz_strength.specs.Costs.{cost_of};
 ghost use Rattle.fz_strength.specs.Events.{Wait, AreBelow};
-ghost use Rattle.fz_strength.specs.Lines.{waits};
+ghost use Rattle.fz_strength.specs.Lines.{waits, HasOwnLine};
 ghost use Rattle.fz_strength.specs.Promises.{IsCorrect, Suits};
 ghost use Rattle.fz_prop.specs.Answers.{IsAnswer};
 ghost use Rattle.fz_prop.specs.Stores.{Shrinks, IsStore, FitsTerm};
-ghost use Rattle.fz_engine.specs.Known.{IsKnown, IsKnownOf, IsComparing, HaveLimits, HasLimits};
+ghost use Rattle.fz_engine.specs.Known.{IsKnown, HasPropagator, IsComparing, HaveLimits, HasLimits};
 
+use fz_await::Awaiting;
 use fz_model::constraint::{Argument, Constraint};
 use fz_prop::{Answer, Cost, Event, Propagator, Store};
 use fz_rel::Comparison;
 use fz_spec::builtin::Builtin;
 use fz_spec::term::Term;
 use fz_strength::relation::Relation;
-use std::alloc::AllocError;
+use std::alloc::{AllocError, Global};
 use std::marker::Model;
 
 /// The propagator of a constraint, which contracts see as the constraint.
@@ -29,6 +30,7 @@ pub struct Kind {
 #[derive(Drop)]
 enum Form {
     Comparison(Comparison),
+    Awaiting(Awaiting),
 }
 
 impl Model for Kind {
@@ -42,14 +44,18 @@ impl Model for Kind {
 }
 
 impl Kind {
-    /// The propagator of a constraint; `None` where there is none yet.
-    pub fn of(constraint: &Constraint) -> Option<Kind>
-        requires { HasLimits constraint.now }
-        ensures { MatchOption result (IsKnown constraint.now → ⊥) (λ k. k ≡ constraint.now) }
+    /// The propagator of a constraint.
+    ///
+    /// # Errors
+    /// `AllocError` where there is no memory.
+    pub fn of(alloc: Global, constraint: &Constraint) -> Result<Kind, AllocError>
+        requires known { IsKnown constraint.now }
+        requires limits { HasLimits constraint.now }
+        ensures { IfOk result (λ k. k ≡ constraint.now) }
     {
-        match constraint.arguments() {
-            [Argument::One(x), rest @ ..] => of_term(constraint.name(), *x, rest),
-            _ => None,
+        match own(constraint) {
+            Some(kind) => Ok(kind),
+            None => awaiting(alloc, constraint),
         }
     }
 
@@ -59,6 +65,7 @@ impl Kind {
     {
         match &self.form {
             Form::Comparison(comparison) => comparison.vars(),
+            Form::Awaiting(awaiting) => awaiting.vars(),
         }
     }
 
@@ -69,6 +76,7 @@ impl Kind {
     {
         match &self.form {
             Form::Comparison(comparison) => comparison.event(place),
+            Form::Awaiting(awaiting) => awaiting.event(place),
         }
     }
 
@@ -78,6 +86,7 @@ impl Kind {
     {
         match &self.form {
             Form::Comparison(comparison) => comparison.cost(),
+            Form::Awaiting(awaiting) => awaiting.cost(),
         }
     }
 
@@ -95,9 +104,33 @@ impl Kind {
     {
         let answer = match &self.form {
             Form::Comparison(comparison) => comparison.run(store),
+            Form::Awaiting(awaiting) => awaiting.run(store),
         };
         let _ = store.doms();
         answer
+    }
+}
+
+/// The propagator of a constraint that waits for its terms to get fixed.
+fn awaiting(alloc: Global, constraint: &Constraint) -> Result<Kind, AllocError>
+    requires { HasOwnLine constraint.now.name constraint.now.arguments → ⊥ }
+    ensures { IfOk result (λ k. k ≡ constraint.now) }
+{
+    let awaiting = Awaiting::new(alloc, constraint)?;
+    Ok(Kind {
+        form: Form::Awaiting(awaiting),
+    })
+}
+
+/// The propagator of its own that a constraint has; `None` where it has none.
+fn own(constraint: &Constraint) -> Option<Kind>
+    requires { HasLimits constraint.now }
+    ensures { MatchOption result (HasPropagator constraint.now.name constraint.now.arguments → ⊥)
+        (λ k. k ≡ constraint.now) }
+{
+    match constraint.arguments() {
+        [Argument::One(x), rest @ ..] => of_term(constraint.name(), *x, rest),
+        _ => None,
     }
 }
 
@@ -105,7 +138,7 @@ impl Kind {
 fn of_term(name: Builtin, x: Term, rest: &[Argument]) -> Option<Kind>
     requires x { FitsTerm x }
     requires rest { HaveLimits (map argument_of rest.now) }
-    ensures { MatchOption result (IsKnownOf name (meaning.One x ∷ map argument_of rest.now) → ⊥)
+    ensures { MatchOption result (HasPropagator name (meaning.One x ∷ map argument_of rest.now) → ⊥)
         (λ k. k ≡ record { name = name; arguments = meaning.One x ∷ map argument_of rest.now }) }
 {
     match rest {
@@ -118,7 +151,7 @@ fn of_term(name: Builtin, x: Term, rest: &[Argument]) -> Option<Kind>
 fn of_terms(name: Builtin, x: Term, y: Term, rest: &[Argument]) -> Option<Kind>
     requires x { FitsTerm x }
     requires y { FitsTerm y }
-    ensures { MatchOption result (IsKnownOf name (meaning.One x ∷ meaning.One y ∷ map argument_of rest.now) → ⊥)
+    ensures { MatchOption result (HasPropagator name (meaning.One x ∷ meaning.One y ∷ map argument_of rest.now) → ⊥)
         (λ k. k ≡ record { name = name; arguments = meaning.One x ∷ meaning.One y ∷ map argument_of rest.now }) }
 {
     match rest {

@@ -92,21 +92,9 @@ fn kinds_of(alloc: Global, constraints: &[Constraint]) -> Result<Vec<Kind>, Allo
 {
     let mut kinds = Vec::with_capacity(alloc, constraints.len())?;
     for constraint in constraints {
-        kinds.push(kind_of(constraint))?;
+        kinds.push(Kind::of(alloc, constraint)?)?;
     }
     Ok(kinds)
-}
-
-/// The propagator of a constraint.
-fn kind_of(constraint: &Constraint) -> Kind
-    requires known { IsKnown constraint.now }
-    requires limits { HasLimits constraint.now }
-    ensures { result ≡ constraint.now }
-{
-    match Kind::of(constraint) {
-        Some(kind) => kind,
-        None => unreachable!(),
-    }
 }
 
 /// The lists of a model's propagators.
