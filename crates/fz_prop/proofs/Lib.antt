@@ -1,3 +1,5 @@
 pub mod Levels
 pub mod Steps
 pub mod TermChanges
+pub mod Twice
+pub mod Settling

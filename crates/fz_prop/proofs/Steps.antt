@@ -1,6 +1,7 @@
 -- A change of one domain is a step of the store.
 use Rattle.std.proofs.Common.{◌≡◌, ◌≢◌, ℕ, zero, suc, ◌<◌, ◌≤◌, List, [], ◌∷◌, ◌++◌, refl, sym, subst, ◌∙◌, arith, length, true, false, nat_eq, inl, inr, cond, max, get_or, get_or-set_same, get_or-set_other, drop, length-append}
-use Rattle.std.specs.Prelude.{ℤ, slice_set, slice_index}
+use Rattle.std.specs.Prelude.{ℤ, pos, ◌-ℤ◌, ◌↔◌, slice_set, slice_index}
+use Rattle.std.proofs.lemmas.Int.{ints}
 use Rattle.std.specs.List.{AllByRecursion}
 use Rattle.std.proofs.lemmas.Bool.{cases_eq}
 use Rattle.std.proofs.lemmas.List.{length-set, set-get_or, drop-append-le}
@@ -8,13 +9,15 @@ use Rattle.std.proofs.lemmas.List.Sums.{sum_by-set}
 use Rattle.fz_sets.specs.Sets.{IsInSet, set_size}
 use Rattle.fz_dom.specs.Shape.{IsDomain, least, greatest}
 use Rattle.fz_dom.specs.Changes.{IsKeeping}
+use Rattle.fz_dom.specs.declared.change.Change.{Change}
+use Rattle.fz_dom.specs.declared.change.Change.TheVariants.{Same, Changed, Wiped}
 use Rattle.fz_strength.specs.declared.event.Event.{Event}
 use Rattle.fz_strength.specs.declared.event.Event.TheVariants.{Any, Bound, Fixed}
 use Rattle.fz_strength.specs.Domains.{dom_at, room}
 use Rattle.fz_strength.specs.Events.{level, IsQuiet}
 use Rattle.fz_strength.proofs.Lists.{all_both}
 use Rattle.fz_prop.specs.Cuts.{change_level}
-use Rattle.fz_prop.specs.Stores.{Stored, IsStore, Shrinks, Narrows, mark_at, IsListed, with_listed, with_dom}
+use Rattle.fz_prop.specs.Stores.{Stored, IsStore, Shrinks, Narrows, IsChangeAt, mark_at, IsListed, with_listed, with_dom}
 use Rattle.fz_prop.proofs.Levels.{tells}
 
 pub quiet_self : (event : Event) (d : List (ℤ × ℤ)) → IsQuiet event d d
@@ -147,3 +150,25 @@ pub same_at : {X : Type 0} (xs : List X) (v : ℕ) (d e : X) → v < length xs �
 same_at [] v d e within = absurd (omega (arith, within))
 same_at (x ∷ xs) zero d e within = refl
 same_at (x ∷ xs) (suc v) d e within = same_at xs v d e (omega (arith, within))
+
+-- a change by another property that says the same
+pub change_at_as : (change : Change) (v : ℕ) (P Q : ℤ → Type 0) (s t : Stored) → ((x : ℤ) → P x ↔ Q x) → IsChangeAt change v P s t → IsChangeAt change v Q s t
+change_at_as Same v P Q s t f h = (h.0, λ x i. (f x).0 (h.1 x i))
+change_at_as Wiped v P Q s t f h = (h.0, λ x i q. h.1 x i ((f x).1 q))
+change_at_as Changed v P Q s t f h = record {
+  kept = λ x. ((λ i. let k = (h.kept x).0 i in (k.0, (f x).0 k.1)), (λ k. (h.kept x).1 (k.0, (f x).1 k.1)));
+  others = h.others;
+  whole = h.whole;
+  smaller = h.smaller;
+  filled = h.filled;
+  falls = h.falls;
+}
+
+unmoved : (d : List (ℤ × ℤ)) (c x : ℤ) → c ≡ pos 0 → IsInSet d (x -ℤ c) ↔ IsInSet d x
+unmoved d c x z =
+    let s : (x -ℤ c) ≡ x = omega (arith, ints, z) in
+    ((λ m. subst (λ (y : ℤ). IsInSet d y) s m), (λ m. subst (λ (y : ℤ). IsInSet d y) (sym s) m))
+
+pub change_unmoved : (change : Change) (v : ℕ) (d : List (ℤ × ℤ)) (c : ℤ) (s t : Stored) → c ≡ pos 0 → IsChangeAt change v (λ x. IsInSet d (x -ℤ c)) s t
+    → IsChangeAt change v (λ x. IsInSet d x) s t
+change_unmoved change v d c s t z h = change_at_as change v (λ x. IsInSet d (x -ℤ c)) (λ x. IsInSet d x) s t (λ x. unmoved d c x z) h

@@ -1,3 +1,4 @@
 pub mod Cuts
 pub mod Stores
 pub mod Answers
+pub mod Outcomes

@@ -1,5 +1,6 @@
 //! Changes of one domain.
-ghost use Rattle.std.specs.Prelude.{◌≡◌, ◌<◌, List, length, IfOk, OnErr};
+ghost use Rattle.std.specs.Prelude.{◌≡◌, ◌<◌, ◌-ℤ◌, List, length, IfOk, OnErr};
+ghost use Rattle.fz_sets.specs.Sets.{IsInSet};
 ghost use Rattle.fz_dom.specs.Changes.{IsChange};
 ghost use Rattle.fz_dom.specs.Shape.{IsDomain, least, greatest};
 ghost use Rattle.fz_prop.specs.Cuts.{Keeps, change_level};
@@ -61,6 +62,22 @@ pub fn cut_one(dom: &mut Dom, cut: Cut) -> Result<(Change, u8), AllocError>
 {
     let (low, high) = (dom.min(), dom.max());
     match keep(dom, cut)? {
+        Change::Changed => Ok((Change::Changed, level_since(low, high, dom))),
+        change => Ok((change, 0)),
+    }
+}
+
+/// Keeps the numbers of a domain that lie a shift above those of another: what became of it, and how much of a change it was,
+/// 0 where nothing left.
+pub fn cut_to(dom: &mut Dom, other: &Dom, shift: i32) -> Result<(Change, u8), AllocError>
+    requires { 0 < length dom.old }
+    ensures cut { IfOk result (λ r. IsCut r.0 r.1 (λ x. IsInSet other.now (x -ℤ shift)) dom.old dom.new) }
+    ensures err { OnErr result (dom.new ≡ dom.old) }
+    ensures domain { IsDomain dom.new }
+    ensures old_domain { IsDomain dom.old }
+{
+    let (low, high) = (dom.min(), dom.max());
+    match dom.keep_shifted(other, shift)? {
         Change::Changed => Ok((Change::Changed, level_since(low, high, dom))),
         change => Ok((change, 0)),
     }

@@ -1,11 +1,12 @@
 //! Stores.
-ghost use Rattle.std.specs.Prelude.{◌≡◌, ◌≢◌, ◌⊎◌, ℕ, ◌+◌, ◌<◌, ◌≤◌, max, ℤ, ◌≤ℤ◌, List, [], ◌∷◌, ◌++◌, length, slice_index, slice_index_or, slice_set, drop, IfOk, OnOk, OnErr, IfSome, IsNone, MatchOption, replicate, vec_capacity, vec_len};
+ghost use Rattle.std.specs.Prelude.{◌≡◌, ◌≢◌, ◌⊎◌, ℕ, ◌+◌, ◌<◌, ◌≤◌, max, ℤ, ◌≤ℤ◌, ◌-ℤ◌, List, [], ◌∷◌, ◌++◌, length, slice_index, slice_index_or, slice_set, drop, IfOk, OnOk, OnErr, IfSome, IsNone, MatchOption, replicate, vec_capacity, vec_len};
+ghost use Rattle.fz_sets.specs.Sets.{IsInSet};
 ghost use Rattle.fz_dom.specs.Changes.{IsFromTo};
 ghost use Rattle.fz_strength.specs.Domains.{dom_at, AreDomains};
 ghost use Rattle.fz_prop.specs.Cuts.{Keeps, change_level};
 ghost use Rattle.fz_prop.specs.Stores.{Stored, IsStore, Shrinks, IsChangeAt, IsCut, mark_at, with_listed, without_first, declared_sets, IsTaken, HasEmpty, fresh};
 
-use crate::cut::{Cut, cut_one};
+use crate::cut::{Cut, cut_one, cut_to};
 use fz_dom::{Change, Dom};
 use fz_model::Variable;
 use std::alloc::{AllocError, Global};
@@ -195,6 +196,43 @@ impl Store {
             (λ r. IsChangeAt r variable (λ x. IsFromTo low high x → ⊥) self.old self.new) }
     {
         self.cut(variable, Cut::WithoutRange(low, high))
+    }
+
+    /// Keeps the numbers of a variable that are in a domain.
+    pub fn keep(&mut self, variable: u32, other: &Dom) -> Result<Change, AllocError>
+        requires { variable < length self.old.doms }
+        ensures shrinks { Shrinks self.old self.new }
+        ensures err { OnErr result (self.new ≡ self.old) }
+        ensures change { IfOk result
+            (λ r. IsChangeAt r variable (λ x. IsInSet other.now x) self.old self.new) }
+    {
+        self.keep_shifted(variable, other, 0)
+    }
+
+    /// Keeps the numbers of a variable that lie a shift above those of a domain.
+    pub fn keep_shifted(
+        &mut self,
+        variable: u32,
+        other: &Dom,
+        shift: i32,
+    ) -> Result<Change, AllocError>
+        requires { variable < length self.old.doms }
+        ensures shrinks { Shrinks self.old self.new }
+        ensures err { OnErr result (self.new ≡ self.old) }
+        ensures change { IfOk result
+            (λ r. IsChangeAt r variable (λ x. IsInSet other.now (x -ℤ shift)) self.old self.new) }
+    {
+        let place = variable as usize;
+        self.changed.reserve(1)?;
+        let (change, level) = cut_to(&mut self.doms[place], other, shift)?;
+        match change {
+            Change::Same => Ok(Change::Same),
+            Change::Wiped => Ok(Change::Wiped),
+            Change::Changed => {
+                mark(&mut self.marks, &mut self.changed, variable, level);
+                Ok(Change::Changed)
+            }
+        }
     }
 
     /// The first of the changed variables, if one changed.

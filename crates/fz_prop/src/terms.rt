@@ -7,7 +7,7 @@ ghost use Rattle.fz_strength.specs.Events.{IsOnly};
 ghost use Rattle.fz_prop.specs.Stores.{Shrinks, IsTermOf, FitsTerm, IsTermChange};
 
 use crate::store::Store;
-use fz_dom::Change;
+use fz_dom::{Change, Dom};
 use fz_spec::term::Term;
 use std::alloc::AllocError;
 
@@ -115,6 +115,21 @@ pub fn remove(store: &mut Store, term: Term, value: i32) -> Result<Change, Alloc
     match term {
         Term::Var(variable) => store.remove(variable, value),
         Term::Num(number) if number != value => Ok(Change::Same),
+        Term::Num(_) => Ok(Change::Wiped),
+    }
+}
+
+/// Keeps the numbers of a term that are in a set.
+pub fn keep_in(store: &mut Store, term: Term, set: &Dom) -> Result<Change, AllocError>
+    requires { IsTermOf (length store.old.doms) term }
+    ensures shrinks { Shrinks store.old store.new }
+    ensures err { OnErr result (store.new ≡ store.old) }
+    ensures change { IfOk result
+        (λ r. IsTermChange r term (λ x. IsInSet set.now x) store.old store.new) }
+{
+    match term {
+        Term::Var(variable) => store.keep(variable, set),
+        Term::Num(number) if set.contains(number) => Ok(Change::Same),
         Term::Num(_) => Ok(Change::Wiped),
     }
 }

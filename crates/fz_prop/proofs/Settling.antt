@@ -1,0 +1,54 @@
+-- A run that keeps of one term the numbers that its constraint allows, where the other terms no longer matter.
+use Rattle.std.proofs.Common.{◌≡◌, ℕ, List, refl, sym, subst, length, inl, inr}
+use Rattle.std.specs.Prelude.{ℤ}
+use Rattle.fz_sets.specs.Sets.{IsInSet}
+use Rattle.fz_dom.specs.declared.change.Change.{Change}
+use Rattle.fz_dom.specs.declared.change.Change.TheVariants.{Same, Changed, Wiped}
+use Rattle.fz_spec.specs.declared.term.Term.{Term}
+use Rattle.fz_spec.specs.declared.term.Term.TheVariants.{Num, Var}
+use Rattle.fz_spec.specs.Constraints.{term_value}
+use Rattle.fz_strength.specs.Domains.{dom_at, term_set, number_at, AreDomains, Within, IsNarrower}
+use Rattle.fz_prop.specs.declared.answer.Answer.TheVariants.{Subsumed}
+use Rattle.fz_prop.specs.Answers.{IsAnswerOf, IsCorrectOf, IsDecided}
+use Rattle.fz_prop.specs.Outcomes.{settled_by}
+use Rattle.fz_prop.specs.Stores.{Stored, Shrinks, IsTermOf, IsTermChange}
+use Rattle.fz_prop.proofs.TermChanges.{term_within, narrower_term, within_kept, kept_term, none_kept}
+use Rattle.fz_prop.proofs.Twice.{narrower_twice}
+
+-- What makes a constraint with this truth and this line one about the numbers of a term: an assignment makes it true exactly
+-- where the term's number has the property, and the line holds where all numbers of the term have it.
+pub record IsAbout (t : Term) (P : ℤ → Type 0) (T : List ℤ → Type 0) (R : List (List (ℤ × ℤ)) → Type 0) (ds : List (List (ℤ × ℤ))) : Type 0 where
+  pub needs : (a : List ℤ) → Within ds a → T a → P (term_value a t)
+  pub enough : (a : List ℤ) → Within ds a → P (term_value a t) → T a
+  pub line : (es : List (List (ℤ × ℤ))) → AreDomains es → IsNarrower ds es → ((x : ℤ) → IsInSet (term_set es t) x → P x) → R es
+
+pub settled_correct : (change : Change) (t : Term) (P : ℤ → Type 0) (T : List ℤ → Type 0) (R : List (List (ℤ × ℤ)) → Type 0) (r s : Stored)
+    → IsTermChange change t P r s → Shrinks r s → IsAbout t P T R r.doms → IsCorrectOf T r.doms s.doms
+settled_correct change t P T R r s h shrinks about a holds within = within_kept change t P r s a h shrinks within (about.needs a within holds)
+
+within_before : (ds es : List (List (ℤ × ℤ))) (a : List ℤ) → IsNarrower ds es → Within es a → Within ds a
+within_before ds es a narrower within = record {
+  size = subst (λ (n : ℕ). length a ≡ n) narrower.size within.size;
+  members = λ v inside. narrower.members v (number_at a v) (within.members v (rw narrower.size inside));
+}
+
+subsumed : (change : Change) (t : Term) (P : ℤ → Type 0) (T : List ℤ → Type 0) (R : List (List (ℤ × ℤ)) → Type 0) (r s : Stored)
+    → IsTermOf (length r.doms) t → IsTermChange change t P r s → Shrinks r s → IsAbout t P T R r.doms → (change ≡ Wiped → ⊥) → IsAnswerOf Subsumed T R r.doms s.doms
+subsumed change t P T R r s was_t h shrinks about not =
+    let is_t : IsTermOf (length s.doms) t = subst (λ (n : ℕ). IsTermOf n t) (sym shrinks.narrower.size) was_t in
+    let all : (x : ℤ) → IsInSet (term_set s.doms t) x → P x = λ x is. (kept_term change t P r s h not x is).1 in (
+      (λ a within. about.enough a (within_before r.doms s.doms a shrinks.narrower within) (all (term_value a t) (term_within s.doms a t is_t within))),
+      (λ es domains narrower. about.line es domains (narrower_twice r.doms s.doms es shrinks.narrower narrower) (λ x is. all x (narrower_term s.doms es t narrower x is))),
+    )
+
+pub settled_answer : (change : Change) (t : Term) (P : ℤ → Type 0) (T : List ℤ → Type 0) (R : List (List (ℤ × ℤ)) → Type 0) (r s : Stored)
+    → IsTermOf (length r.doms) t → IsTermChange change t P r s → Shrinks r s → IsAbout t P T R r.doms → IsAnswerOf (settled_by change) T R r.doms s.doms
+settled_answer Same t P T R r s is h shrinks about = subsumed Same t P T R r s is h shrinks about (λ e. cc)
+settled_answer Changed t P T R r s is h shrinks about = subsumed Changed t P T R r s is h shrinks about (λ e. cc)
+settled_answer Wiped t P T R r s is h shrinks about = λ a within holds.
+    none_kept t P r s h (term_value a t) (term_within r.doms a t is within) (about.needs a within holds)
+
+pub settled_decided : (change : Change) → IsDecided (settled_by change)
+settled_decided Same = inl refl
+settled_decided Changed = inl refl
+settled_decided Wiped = inr refl
