@@ -6,7 +6,7 @@ use Rattle.std.proofs.lemmas.Int.{ints, clamps, by_lt_z}
 use Rattle.std.proofs.lemmas.List.{drop_more}
 use Rattle.fz_sets.specs.Sets.{AreRanges, AreWithinLimits, IsInRange, IsInSet, IsWithinLimits, interval, LEAST}
 use Rattle.fz_dom.specs.Wide.{IsPart}
-use Rattle.fz_dom.proofs.Ranges.{AreRanges-head, AreRanges-tail, lower_bound, above_gap}
+use Rattle.fz_dom.proofs.Ranges.{AreRanges-head, AreRanges-tail, above_gap}
 use Rattle.fz_dom.proofs.Lists.{prepend, part_within}
 use Rattle.fz_dom.proofs.Merging.{interval_ranges}
 

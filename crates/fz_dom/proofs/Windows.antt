@@ -6,7 +6,7 @@ use Rattle.std.specs.Int.Count.{ones}
 use Rattle.std.proofs.lemmas.Int.{ints}
 use Rattle.std.proofs.lemmas.Nat.Bits.{bit_at-zero}
 use Rattle.fz_sets.specs.Sets.{AreRanges, IsInSet, set_size}
-use Rattle.fz_dom.specs.Shape.{IsDomain, least, greatest}
+use Rattle.fz_dom.specs.Shape.{least, greatest}
 use Rattle.fz_dom.specs.Places.{IsBit, bit_ranges}
 use Rattle.fz_dom.specs.Heads.{head_set, IsHeadOf, IsWhole}
 use Rattle.fz_dom.specs.Kept.{kept_ranges, IsKept}

@@ -1,5 +1,5 @@
 -- The ranges that an iterator has left: one that comes first, those of a word, and then a list.
-use Rattle.std.specs.Prelude.{ℕ, pos, ℤ, ◌+ℤ◌, ◌≤ℤ◌, ◌<◌, ◌^◌, List, [], ◌∷◌, ◌++◌, Option, Some, None}
+use Rattle.std.specs.Prelude.{ℕ, pos, ℤ, ◌+ℤ◌, ◌≤ℤ◌, ◌<◌, ◌^◌, List, ◌∷◌, ◌++◌, Option, Some, None}
 use Rattle.fz_sets.specs.Sets.{LEAST, GREATEST}
 use Rattle.fz_dom.specs.Places.{bit_ranges}
 

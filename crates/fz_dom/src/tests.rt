@@ -39,7 +39,7 @@ fn a_gap_is_not_in_the_set(rt: HostRuntime) -> Result<(), Fail> {
     assert_eq!(rt; dom.next_above(3), Some(5));
     assert_eq!(rt; dom.next_above(7), None);
     let ranges: Vec<(i32, i32)> = dom.ranges().collect(rt.alloc())?;
-    assert_eq!(rt; ranges.as_slice(), &[(1, 3), (5, 7)]);
+    assert_eq!(rt; ranges.as_slice(), [(1, 3), (5, 7)].as_slice());
     let copy = dom.copy()?;
     assert!(rt; copy.same(&dom));
     assert!(rt; !copy.same(&Dom::from_ranges(rt.alloc(), &[(1, 7)])?));
@@ -92,9 +92,23 @@ fn what_leaves_nothing_changes_nothing(rt: HostRuntime) -> Result<(), Fail> {
     let others = Dom::from_ranges(rt.alloc(), &[(7, 9)])?;
     assert_eq!(rt; dom.keep(&others)?, Change::Changed);
     assert!(rt; dom.is_fixed());
+    let copy = dom.copy()?;
+    assert_eq!(rt; (copy.min(), copy.max()), (7, 7));
     assert_eq!(rt; dom.keep_shifted(&others, -2)?, Change::Same);
     assert_eq!(rt; dom.keep_shifted(&others, 2)?, Change::Wiped);
     assert_eq!(rt; dom.min(), 7);
+    Ok(())
+}
+
+#[test]
+fn a_shift_past_the_limits_keeps_what_is_within(rt: HostRuntime) -> Result<(), Fail> {
+    let mut dom = Dom::from_ranges(rt.alloc(), &[(-2147483646, -1), (1, 2147483646)])?;
+    let others = Dom::from_ranges(rt.alloc(), &[(5, 5), (7, 300)])?;
+    assert_eq!(rt; dom.keep_shifted(&others, i32::MAX)?, Change::Wiped);
+    assert_eq!(rt; dom.keep_shifted(&others, i32::MIN)?, Change::Changed);
+    assert_eq!(rt; dom.range_at(0), (-2147483643, -2147483643));
+    assert_eq!(rt; dom.range_at(1), (-2147483641, -2147483348));
+    assert_eq!(rt; dom.range_count(), 2);
     Ok(())
 }
 

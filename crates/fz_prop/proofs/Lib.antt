@@ -3,3 +3,5 @@ pub mod Steps
 pub mod TermChanges
 pub mod Twice
 pub mod Settling
+pub mod Answering
+pub mod Filled

@@ -1,30 +1,31 @@
 -- A comparison by its name is its relation.
 use Rattle.std.proofs.Common.{◌≡◌, ℕ, ◌<◌, List, [], ◌∷◌, ◌++◌, refl, ap, subst, map}
-use Rattle.std.specs.Prelude.{ℤ, Option, Some, ◌↔◌, IfOk}
-use Rattle.std.proofs.Common.{Result, Ok, Err}
+use Rattle.std.specs.Prelude.{ℤ, Option, Some, ◌↔◌}
 use Rattle.fz_strength.specs.declared.cost.Cost.TheVariants.{Binary}
 use Rattle.fz_strength.specs.Costs.{cost_of}
 use Rattle.fz_spec.specs.declared.builtin.Builtin.{Builtin}
 use Rattle.fz_spec.specs.declared.builtin.Builtin.TheVariants.{Bool2Int, BoolEq, BoolLe, BoolLt, BoolNot, BoolXor, IntEq, IntLe, IntLt, IntNe}
 use Rattle.fz_spec.specs.declared.term.Term.{Term}
 use Rattle.fz_spec.specs.declared.term.Term.TheVariants.{Num, Var}
-use Rattle.fz_spec.specs.Constraints.{One, Constraint, term_value}
+use Rattle.fz_spec.specs.Constraints.{One, Constraint, IsTrueOf, term_value}
 use Rattle.fz_spec.specs.Truth.{HoldsOfTwo}
 use Rattle.fz_strength.specs.declared.relation.Relation.{Relation}
 use Rattle.fz_strength.specs.declared.relation.Relation.TheVariants.{Equal, NotEqual, AtMost, Below}
 use Rattle.fz_strength.specs.declared.event.Event.{Event}
 use Rattle.fz_strength.specs.Domains.{term_set, dom_at}
-use Rattle.fz_strength.specs.Events.{IsOnly, Wait, wait_for, AreBelow, AreFixed}
+use Rattle.fz_strength.specs.declared.event.Event.TheVariants.{Fixed}
+use Rattle.fz_strength.specs.Events.{IsOnly, Wait, wait_for, waits_for, AreBelow, AreFixed}
 use Rattle.fz_strength.specs.Relations.{relation_of, Relates, RestsAs, event_of}
-use Rattle.fz_strength.specs.Lines.{RestsOfTwo, waits_of_two, waits}
+use Rattle.fz_strength.specs.Lines.{Rests, RestsOfTwo, RestsOnceFixed, waits_of_two, waits}
 use Rattle.fz_strength.specs.Promises.{IsCorrect}
 use Rattle.fz_strength.proofs.Lists.{all_left, all_right}
 use Rattle.fz_prop.specs.declared.answer.Answer.{Answer}
-use Rattle.fz_prop.specs.declared.answer.Answer.TheVariants.{Fix, NoFix, Subsumed, Failed}
 use Rattle.fz_prop.specs.Answers.{IsAnswer, IsCorrectOf}
 use Rattle.fz_prop.specs.Stores.{IsTermOf}
-use Rattle.fz_rel.specs.Truths.{TruthOf, IsAnswerAs, AreSingle}
+use Rattle.fz_prop.proofs.Answering.{IsSame, answer_of, correct_of}
+use Rattle.fz_rel.specs.Truths.{TruthOf, LineOf, IsAnswerAs, AreSingle}
 use Rattle.fz_rel.specs.Comparisons.{variables_of}
+use Rattle.fz_rel.proofs.Waiting.{term_of, single_of}
 
 -- the constraint of a name over two terms
 abbrev pub comparing : Builtin → Term → Term → Constraint
@@ -46,32 +47,30 @@ truth_is IntLt relation x y e = same Below relation x y e
 truth_is BoolLt relation x y e = same Below relation x y e
 truth_is name relation x y e = absurd (cc (e))
 
-pub line_is : (name : Builtin) (relation : Relation) (d e : List (ℤ × ℤ)) → relation_of name ≡ Some relation → RestsAs relation d e → RestsOfTwo (relation_of name) d e
-line_is name relation d e is h = rw is h
+line_is : (G : Type 0) (o : Option Relation) (relation : Relation) (d e : List (ℤ × ℤ)) → o ≡ Some relation → RestsAs relation d e → RestsOfTwo G o d e
+line_is G o relation d e is h = rw is h
+
+-- the truth and the line of the relation are those of the name
+pub named : (name : Builtin) (relation : Relation) (x y : Term) → relation_of name ≡ Some relation
+    → IsSame (TruthOf relation x y) (λ a. IsTrueOf a (comparing name x y)) (LineOf relation x y) (Rests (comparing name x y))
+named name relation x y is = record {
+  truth = λ a. let t = truth_is name relation (term_value a x) (term_value a y) is in (t.1, t.0);
+  line = λ ds h. line_is (RestsOnceFixed name (One x ∷ One y ∷ []) ds) (relation_of name) relation (term_set ds x) (term_set ds y) is h;
+}
 
 pub answer_is : (name : Builtin) (relation : Relation) (x y : Term) (answer : Answer) (ds es : List (List (ℤ × ℤ))) → relation_of name ≡ Some relation
     → IsAnswerAs relation x y answer ds es → IsAnswer answer (comparing name x y) ds es
-answer_is name relation x y Fix ds es is h = line_is name relation (term_set es x) (term_set es y) is h
-answer_is name relation x y NoFix ds es is h = h
-answer_is name relation x y Subsumed ds es is h = (
-  (λ a within. (truth_is name relation (term_value a x) (term_value a y) is).1 (h.0 a within)),
-  (λ fs domains narrower. line_is name relation (term_set fs x) (term_set fs y) is (h.1 fs domains narrower)),
-)
-answer_is name relation x y Failed ds es is h = λ a within holds. h a within ((truth_is name relation (term_value a x) (term_value a y) is).0 holds)
+answer_is name relation x y answer ds es is h = answer_of answer (comparing name x y) (TruthOf relation x y) (LineOf relation x y) ds es (named name relation x y is) h
 
 pub correct_is : (name : Builtin) (relation : Relation) (x y : Term) (ds es : List (List (ℤ × ℤ))) → relation_of name ≡ Some relation
     → IsCorrectOf (TruthOf relation x y) ds es → IsCorrect (comparing name x y) ds es
-correct_is name relation x y ds es is h = λ a holds within. h a ((truth_is name relation (term_value a x) (term_value a y) is).0 holds) within
+correct_is name relation x y ds es is h = correct_of (comparing name x y) (TruthOf relation x y) (LineOf relation x y) ds es (named name relation x y is) h
 
 -- ---- its variables
 
 waits_are : (name : Builtin) (relation : Relation) (x y : Term) → relation_of name ≡ Some relation
     → waits (comparing name x y) ≡ wait_for (event_of relation) x ++ wait_for (event_of relation) y
-waits_are name relation x y is = ap (λ (o : Option Relation). waits_of_two o x y) is
-
-term_of : (event : Event) (t : Term) (n : ℕ) → AreBelow (wait_for event t) n → IsTermOf n t
-term_of event (Num number) n below = tt
-term_of event (Var v) n below = below.0
+waits_are name relation x y is = ap (λ (o : Option Relation). waits_of_two (waits_for Fixed (x ∷ y ∷ [])) o x y) is
 
 pub terms_of : (name : Builtin) (relation : Relation) (x y : Term) (n : ℕ) → relation_of name ≡ Some relation → AreBelow (waits (comparing name x y)) n → IsTermOf n x × IsTermOf n y
 terms_of name relation x y n is below =
@@ -80,10 +79,6 @@ terms_of name relation x y n is below =
       term_of (event_of relation) x n (all_left is_below (wait_for (event_of relation) x) (wait_for (event_of relation) y) both),
       term_of (event_of relation) y n (all_right is_below (wait_for (event_of relation) x) (wait_for (event_of relation) y) both),
     )
-
-single_of : (event : Event) (t : Term) (ds : List (List (ℤ × ℤ))) → AreFixed (wait_for event t) ds → (u : ℤ) × IsOnly (term_set ds t) u
-single_of event (Num n) ds fixed = (n, refl)
-single_of event (Var v) ds fixed = fixed.0
 
 pub singles_of : (name : Builtin) (relation : Relation) (x y : Term) (ds : List (List (ℤ × ℤ))) → relation_of name ≡ Some relation → AreFixed (waits (comparing name x y)) ds → AreSingle x y ds
 singles_of name relation x y ds is fixed =
@@ -116,7 +111,3 @@ cost_is BoolLe relation x y e = refl
 cost_is IntLt relation x y e = refl
 cost_is BoolLt relation x y e = refl
 cost_is name relation x y e = absurd (cc (e))
-
-pub weaker : {T E : Type 0} (r : Result T E) (P Q : T → Type 0) → ((x : T) → P x → Q x) → IfOk r P → IfOk r Q
-weaker (Ok x) P Q f h = f x h
-weaker (Err e) P Q f h = tt

@@ -16,6 +16,7 @@ use Rattle.fz_prop.specs.declared.answer.Answer.TheVariants.{Subsumed}
 use Rattle.fz_prop.specs.Answers.{IsCorrectOf}
 use Rattle.fz_prop.specs.Stores.{Stored, Shrinks, IsTermOf, IsTermChange}
 use Rattle.fz_rel.specs.Truths.{TruthOf, IsAnswerAs, order_of, gap_of, IsOrdered}
+use Rattle.fz_prop.proofs.Filled.{HasRanges, term_ranges, narrower_ranges}
 use Rattle.fz_prop.proofs.TermChanges.{term_within, narrower_term, within_kept, kept_term, none_kept}
 
 pub to_order : (strict : Bool) (x y : ℤ) → Relates (order_of strict) x y → IsOrdered strict x y
@@ -76,14 +77,6 @@ shown_line strict d e all ranges_d some_d ranges_e some_e =
     line strict d e (all (least d) (least e) (least_member d some_d ranges_d).0 (least_member e some_e ranges_e).0)
     (all (greatest d) (greatest e) (greatest_member d some_d ranges_d).0 (greatest_member e some_e ranges_e).0)
 
-record HasRanges (d : List (ℤ × ℤ)) : Type 0 where
-  ranges : AreRanges d
-  some : 0 < length d
-
-term_ranges : (ds : List (List (ℤ × ℤ))) (t : Term) → IsTermOf (length ds) t → AreDomains ds → HasRanges (term_set ds t)
-term_ranges ds (Num n) is domains = record { ranges = omega (arith, ints); some = omega arith }
-term_ranges ds (Var v) is domains = record { ranges = (domains v is).0.0; some = (domains v is).1 }
-
 pub all_ordered : (strict : Bool) (x y : Term) (ds : List (List (ℤ × ℤ))) (u w : ℤ) → IsTermOf (length ds) x → IsTermOf (length ds) y
     → ((z : ℤ) → IsInSet (term_set ds x) z → z ≤ℤ u) → ((z : ℤ) → IsInSet (term_set ds y) z → w ≤ℤ z) → (u +ℤ gap_of strict) ≤ℤ w
     → IsAnswerAs (order_of strict) x y Subsumed ds ds
@@ -92,8 +85,8 @@ all_ordered strict x y ds u w is_x is_y upper lower apart =
     λ z v in_x in_y. let up = upper z in_x in let low = lower v in_y in omega (arith, ints, apart, up, low) in (
       (λ a within. from_order strict (term_value a x) (term_value a y) (all (term_value a x) (term_value a y) (term_within ds a x is_x within) (term_within ds a y is_y within))),
       (λ es domains narrower.
-          let rx = term_ranges es x (subst (λ (n : ℕ). IsTermOf n x) (sym narrower.size) is_x) domains in
-          let ry = term_ranges es y (subst (λ (n : ℕ). IsTermOf n y) (sym narrower.size) is_y) domains in
+          let rx = narrower_ranges ds es x is_x domains narrower in
+          let ry = narrower_ranges ds es y is_y domains narrower in
           shown_line strict (term_set es x) (term_set es y)
           (λ z v in_x in_y. all z v (narrower_term ds es x narrower z in_x) (narrower_term ds es y narrower v in_y)) rx.ranges rx.some ry.ranges ry.some),
     )

@@ -1,10 +1,9 @@
 -- What the propagator of a comparison keeps.
-use Rattle.std.specs.Prelude.{◌≡◌, ◌≢◌, ◌≤◌, ℕ, List, [], ◌∷◌, ◌++◌, take, Some}
+use Rattle.std.specs.Prelude.{◌≡◌, ◌≤◌, ℕ, List, [], ◌∷◌, ◌++◌, take, Some}
 use Rattle.fz_spec.specs.declared.builtin.Builtin.{Builtin}
 use Rattle.fz_spec.specs.declared.term.Term.{Term}
 use Rattle.fz_spec.specs.declared.term.Term.TheVariants.{Num, Var}
 use Rattle.fz_strength.specs.declared.relation.Relation.{Relation}
-use Rattle.fz_strength.specs.declared.relation.Relation.TheVariants.{Equal}
 use Rattle.fz_strength.specs.Relations.{relation_of}
 use Rattle.fz_prop.specs.Stores.{FitsTerm}
 
@@ -15,10 +14,9 @@ variable_of (Var v) = v ∷ []
 abbrev pub variables_of : Term → Term → List ℕ
 variables_of x y = variable_of x ++ variable_of y
 
--- its relation is that of its name, no equation; its numbers are within the limits; and its variables stand first in a list
+-- its relation is that of its name; its numbers are within the limits; and its variables stand first in a list
 pub record IsComparison (name : Builtin) (relation : Relation) (x y : Term) (variables : List ℕ) (count : ℕ) : Type 0 where
   pub relation_is : relation_of name ≡ Some relation
-  pub unequal : relation ≢ Equal
   pub fits_x : FitsTerm x
   pub fits_y : FitsTerm y
   pub few : count ≤ 2

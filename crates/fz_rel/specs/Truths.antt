@@ -6,7 +6,7 @@ use Rattle.fz_strength.specs.declared.relation.Relation.{Relation}
 use Rattle.fz_strength.specs.declared.relation.Relation.TheVariants.{AtMost, Below}
 use Rattle.fz_strength.specs.Domains.{term_set}
 use Rattle.fz_strength.specs.Events.{IsOnly}
-use Rattle.fz_strength.specs.Relations.{Relates, RestsAs}
+use Rattle.fz_strength.specs.Relations.{Relates, RestsAs, RestsAgainst}
 use Rattle.fz_prop.specs.declared.answer.Answer.{Answer}
 use Rattle.fz_prop.specs.Answers.{IsAnswerOf}
 
@@ -15,6 +15,13 @@ TruthOf relation x y a = Relates relation (term_value a x) (term_value a y)
 
 abbrev pub LineOf : Relation → Term → Term → List (List (ℤ × ℤ)) → Type 0
 LineOf relation x y ds = RestsAs relation (term_set ds x) (term_set ds y)
+
+-- when an assignment makes it false, and the line of that
+abbrev pub FalseOf : Relation → Term → Term → List ℤ → Type 0
+FalseOf relation x y a = TruthOf relation x y a → ⊥
+
+abbrev pub AgainstOf : Relation → Term → Term → List (List (ℤ × ℤ)) → Type 0
+AgainstOf relation x y ds = RestsAgainst relation (term_set ds x) (term_set ds y)
 
 -- the answer of a run of a relation's propagator
 abbrev pub IsAnswerAs : Relation → Term → Term → Answer → List (List (ℤ × ℤ)) → List (List (ℤ × ℤ)) → Type 0

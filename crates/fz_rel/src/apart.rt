@@ -10,7 +10,7 @@ ghost use Rattle.fz_prop.specs.Stores.{Shrinks, IsTermOf};
 ghost use Rattle.fz_rel.specs.Truths.{TruthOf, IsAnswerAs, AreSingle};
 
 use fz_prop::terms::{remove, value_of};
-use fz_prop::{Answer, Change, Store};
+use fz_prop::{Answer, Store};
 use fz_spec::term::Term;
 use std::alloc::AllocError;
 
@@ -42,9 +42,6 @@ fn exclude(store: &mut Store, fixed: Term, other: Term, value: i32) -> Result<An
     ensures answer { IfOk result (λ r. IsAnswerAs NotEqual fixed other r store.old.doms store.new.doms) }
     ensures decided { IfOk result (λ r. IsDecided r) }
 {
-    match remove(store, other, value)? {
-        Change::Wiped => Ok(Answer::Failed),
-        Change::Same => Ok(Answer::Subsumed),
-        Change::Changed => Ok(Answer::Subsumed),
-    }
+    let change = remove(store, other, value)?;
+    Ok(Answer::settled(change))
 }

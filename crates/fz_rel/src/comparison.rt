@@ -1,6 +1,5 @@
 //! Comparisons of two terms.
-ghost use Rattle.std.specs.Prelude.{◌≡◌, ◌≢◌, ◌≤◌, ℕ, List, [], ◌∷◌, length, map, take, IfOk, Some};
-ghost use Rattle.fz_strength.specs.declared.relation.Relation.TheVariants.{Equal};
+ghost use Rattle.std.specs.Prelude.{◌≡◌, ◌≤◌, ℕ, List, [], ◌∷◌, length, map, take, IfOk, Some};
 ghost use Rattle.fz_strength.specs.Relations.{relation_of};
 ghost use Rattle.fz_spec.specs.Constraints.{One};
 ghost use Rattle.fz_strength.specs.Events.{AreBelow, AreFixed};
@@ -11,8 +10,7 @@ ghost use Rattle.fz_prop.specs.Stores.{Shrinks, IsTermOf, FitsTerm};
 ghost use Rattle.fz_rel.specs.Truths.{TruthOf, IsAnswerAs, AreSingle};
 ghost use Rattle.fz_rel.specs.Comparisons.{IsComparison, variables_of};
 
-use crate::apart::keep_apart;
-use crate::order::keep_order;
+use crate::relate::relate;
 use fz_prop::{Answer, Cost, Event, Propagator, Store};
 use fz_spec::builtin::Builtin;
 use fz_spec::term::Term;
@@ -20,7 +18,7 @@ use fz_strength::relation::Relation;
 use std::alloc::AllocError;
 use std::marker::Model;
 
-/// A comparison of two terms that isn't an equation.
+/// A comparison of two terms.
 #[derive(Drop)]
 pub struct Comparison {
     name: Builtin,
@@ -45,10 +43,9 @@ impl Model for Comparison {
 }
 
 impl Comparison {
-    /// The propagator of a comparison of two terms that isn't an equation.
+    /// The propagator of a comparison of two terms.
     pub fn new(name: Builtin, relation: Relation, x: Term, y: Term) -> Comparison
         requires relation { relation_of name ≡ Some relation }
-        requires unequal { relation ≢ Equal }
         requires fits_x { FitsTerm x }
         requires fits_y { FitsTerm y }
         ensures { result ≡ record { name = name; arguments = One x ∷ One y ∷ [] } }
@@ -92,25 +89,6 @@ fn variables_of(x: Term, y: Term) -> ([u32; 2], usize)
         (Term::Var(v), Term::Num(_)) => ([v, 0], 1),
         (Term::Num(_), Term::Var(w)) => ([w, 0], 1),
         (Term::Num(_), Term::Num(_)) => ([0, 0], 0),
-    }
-}
-
-/// Narrows a store by a relation of two terms.
-fn relate(store: &mut Store, relation: Relation, x: Term, y: Term) -> Result<Answer, AllocError>
-    requires unequal { relation ≢ Equal }
-    requires x { IsTermOf (length store.old.doms) x }
-    requires y { IsTermOf (length store.old.doms) y }
-    requires fits_x { FitsTerm x }
-    requires fits_y { FitsTerm y }
-    ensures shrinks { Shrinks store.old store.new }
-    ensures correct { IsCorrectOf (TruthOf relation x y) store.old.doms store.new.doms }
-    ensures answer { IfOk result (λ r. IsAnswerAs relation x y r store.old.doms store.new.doms) }
-    ensures checking { IfOk result (λ r. AreSingle x y store.old.doms → IsDecided r) }
-{
-    match relation {
-        Relation::AtMost => keep_order(store, false, x, y),
-        Relation::Below => keep_order(store, true, x, y),
-        _ => keep_apart(store, x, y),
     }
 }
 

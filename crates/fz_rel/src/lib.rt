@@ -3,7 +3,9 @@
 
 mod apart;
 pub mod comparison;
+mod equal;
 mod order;
+mod relate;
 
 pub use comparison::Comparison;
 

@@ -44,7 +44,7 @@ fn comparison(relation: Relation) -> Option<Comparison>
 {
     let (x, y) = (Term::Var(0), Term::Var(1));
     match relation {
-        Relation::Equal => None,
+        Relation::Equal => Some(Comparison::new(Builtin::IntEq, Relation::Equal, x, y)),
         Relation::NotEqual => Some(Comparison::new(Builtin::IntNe, Relation::NotEqual, x, y)),
         Relation::AtMost => Some(Comparison::new(Builtin::IntLe, Relation::AtMost, x, y)),
         Relation::Below => Some(Comparison::new(Builtin::IntLt, Relation::Below, x, y)),
@@ -84,6 +84,30 @@ fn ends(store: &Store, variable: u32) -> (i32, i32) {
 fn each_relation_narrows(rt: HostRuntime) -> Result<(), Fail> {
     let alloc = rt.alloc();
     let rows = [
+        (
+            Relation::Equal,
+            (1, 5),
+            (3, 9),
+            Answer::Fix,
+            (3, 5),
+            (3, 5),
+        ),
+        (
+            Relation::Equal,
+            (1, 5),
+            (5, 9),
+            Answer::Subsumed,
+            (5, 5),
+            (5, 5),
+        ),
+        (
+            Relation::Equal,
+            (1, 4),
+            (5, 9),
+            Answer::Failed,
+            (1, 4),
+            (5, 9),
+        ),
         (
             Relation::NotEqual,
             (2, 2),

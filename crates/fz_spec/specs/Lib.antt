@@ -3,6 +3,5 @@ pub mod Truth
 pub mod Constraints
 pub mod Instance
 pub mod Codes
-pub mod Words
 pub mod Run
 pub mod Laws

@@ -8,7 +8,6 @@ use Rattle.fz_spec.specs.declared.code.Code.{Code}
 use Rattle.fz_spec.specs.Codes.{code_text}
 use Rattle.fz_spec.specs.Constraints.{term_value}
 use Rattle.fz_spec.specs.Instance.{Instance, Output, Lists}
-use Rattle.fz_spec.specs.Words.{Asked, All, Options}
 
 abbrev pub value_text : Kind → ℤ → List ℕ
 value_text Bool x = if int_eq x (pos 0) then codes "false" else codes "true"
@@ -55,14 +54,6 @@ closing (a ∷ l) = codes "==========\n"
 pub record PrintsAll (m : Instance) (l : List (List ℤ)) (printed : List ℕ) : Type 0 where
   pub lists : Lists m l
   pub text : printed ≡ blocks m l ++ closing l
-
--- the same by what is asked for
-abbrev pub Prints : Asked → Instance → List (List ℤ) → List ℕ → Type 0
-Prints All m l printed = PrintsAll m l printed
-
--- the text of a whole run that lists these assignments, by the options
-abbrev pub IsRunText : Instance → Options → List (List ℤ) → List ℕ → Type 0
-IsRunText m o l printed = Prints o.asked m l printed
 
 -- "% line 1, column 2: E03" and the line "=====ERROR====="
 abbrev pub refusal_text : Code → ℕ → ℕ → List ℕ

@@ -15,4 +15,5 @@ mod terms;
 #[cfg(test)]
 mod tests;
 
+pub use constraint::is_true;
 pub use model::holds;

@@ -9,7 +9,7 @@ use Rattle.fz_language.specs.Reads.{Reads, Reading}
 use Rattle.fz_spec.specs.declared.limits.TheConstants.{TEXT_LIMIT}
 use Rattle.fz_language.specs.Reads as reads
 use Rattle.fz_spec.specs.Run.{refusal_text, blocks, closing}
-use Rattle.fz_spec.specs.Words.{Options}
+use Rattle.fzn.specs.Words.{Options}
 use Rattle.fz_language.proofs.ReadProofs.{reading_is_one}
 use Rattle.fz_io.specs.Outside.{with_more}
 use Rattle.fz_print.specs.declared.refusal.Refusal.{Refusal}

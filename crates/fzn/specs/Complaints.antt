@@ -1,6 +1,6 @@
 -- What the program says on standard error (fzn's own texts): a line for each answer but Done.
 use Rattle.std.specs.Prelude.{ℕ, Option, Some, None, List, [], ◌++◌, codes, decimal, bytes_eq, slice_get, unwrap_or, map, if◌then◌else◌}
-use Rattle.fz_spec.specs.Words.{Options, options_of}
+use Rattle.fzn.specs.Words.{Options, options_of}
 use Rattle.fz_print.specs.declared.refusal.Refusal.{Refusal}
 use Rattle.fzn.specs.declared.complaint.TheConstants.{FAULTS, USAGE}
 use Rattle.fzn.specs.declared.status.Status.{Status}

@@ -1,3 +1,4 @@
+pub mod Words
 pub mod Promises
 pub mod Steps
 pub mod Complaints

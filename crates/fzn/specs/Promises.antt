@@ -3,8 +3,8 @@ use Rattle.std.specs.Prelude.{◌≡◌, ℕ, ℤ, ◌<◌, ◌⊎◌, Bool, IsT
 use Rattle.fz_spec.specs.declared.code.Code.{Code}
 use Rattle.fz_spec.specs.Codes.{code_number}
 use Rattle.fz_spec.specs.Instance.{Instance}
-use Rattle.fz_spec.specs.Run.{IsRunText, refusal_text}
-use Rattle.fz_spec.specs.Words.{Options}
+use Rattle.fz_spec.specs.Run.{refusal_text}
+use Rattle.fzn.specs.Words.{IsRunText, Options}
 use Rattle.fz_language.specs.Reads.{Reads, Accepted}
 use Rattle.fz_language.specs.Reads as reads
 use Rattle.fz_io.specs.Outside.{with_more, AllFlushed}

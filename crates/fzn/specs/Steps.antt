@@ -5,7 +5,7 @@ use Rattle.fz_spec.specs.declared.limits.TheConstants.{TEXT_LIMIT}
 use Rattle.fz_spec.specs.Codes.{code_number}
 use Rattle.fz_spec.specs.Instance.{Instance, Lists}
 use Rattle.fz_spec.specs.Run.{blocks, closing}
-use Rattle.fz_spec.specs.Words.{Options, All}
+use Rattle.fzn.specs.Words.{Options, All}
 use Rattle.fz_language.specs.Grammar.{Spells}
 use Rattle.fz_language.specs.Reads.{Reads, IsRefusedAt}
 use Rattle.fz_language.specs.Reads as reads

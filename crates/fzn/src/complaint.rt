@@ -1,6 +1,6 @@
 //! What the program says on standard error.
 ghost use Rattle.std.specs.Prelude.{◌≡◌, IfOk, map, option_map, string_bytes};
-ghost use Rattle.fz_spec.specs.Words.{options_of};
+ghost use Rattle.fzn.specs.Words.{options_of};
 ghost use Rattle.fzn.specs.Complaints as complaints;
 
 use crate::status::Status;

@@ -2,7 +2,7 @@
 ghost use Rattle.std.specs.Prelude.{◌≡◌, ◌≢◌, ◌↔◌, ℕ, ◌-◌, ◌^◌, ◌<◌, None, IfSome, IfOk, length, map, string_bytes};
 ghost use Rattle.fz_io.specs.Outside.{one_more};
 ghost use Rattle.fz_print.specs.Refusal.{text_of};
-ghost use Rattle.fz_spec.specs.Words.{options_of};
+ghost use Rattle.fzn.specs.Words.{options_of};
 ghost use Rattle.fzn.specs.Promises.{AnswersAccepted, AnswersRefused, HasItsCause, HasReadAll, HasSelected, IsFlushed, Runs};
 ghost use Rattle.fzn.specs.Steps.{Answers, AnswersAll, Flushes, HasSinkCause, HasStopCause, IsReadOf, LeavesNothing, PrintsOf, SelectsAt, all_of};
 

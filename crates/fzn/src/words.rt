@@ -1,7 +1,7 @@
 //! The words of the command line.
 ghost use Rattle.std.specs.Prelude.{◌≡◌, map, string_bytes, option_map};
-ghost use Rattle.fz_spec.specs.Words.{options_of};
-ghost use Rattle.fz_spec.specs.Words as fz_words;
+ghost use Rattle.fzn.specs.Words.{options_of};
+ghost use Rattle.fzn.specs.Words as fz_words;
 ghost use Rattle.fzn.specs.Steps.{all_of};
 
 /// The name of the text to read, where the words are one `-a` and at most one FILE; `-`, standard input, where no FILE stands.

@@ -1,4 +1,4 @@
-use Rattle.std.proofs.Common.{◌≡◌, ℤ, List, ◌++◌, append-nil, sym, ap, ◌∙◌, arith, rules}
+use Rattle.std.proofs.Common.{ℤ, List, ◌++◌, append-nil, sym, ap, ◌∙◌, arith, rules}
 use Rattle.std.proofs.lemmas.Int.{ints, clamps}
 use Rattle.std.specs.Int.{int_max, int_min}
 use Rattle.fz_dom.proofs.Shared.{overlap_some, overlap_none}

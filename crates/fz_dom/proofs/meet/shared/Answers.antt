@@ -1,4 +1,4 @@
-use Rattle.std.proofs.Common.{◌≡◌, ◌<◌, ◌≤ℤ◌, ◌<ℤ◌, pos, get_or, length, inl, inr, refl, subst, to_z, of_z, w32, arith, rules}
+use Rattle.std.proofs.Common.{◌≡◌, ◌<◌, pos, get_or, length, inl, inr, refl, subst, to_z, of_z, w32, arith, rules}
 use Rattle.std.specs.Prelude.{ℤ, ◌-ℤ◌}
 use Rattle.std.proofs.lemmas.Int.{ints}
 use Rattle.std.proofs.Math.Facts.{to_z-of_z}

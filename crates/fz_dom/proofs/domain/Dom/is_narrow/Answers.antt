@@ -1,7 +1,6 @@
-use Rattle.std.proofs.Common.{◌≤ℤ◌, arith}
+use Rattle.std.proofs.Common.{arith}
 use Rattle.std.proofs.lemmas.Int.{ints}
 use Rattle.std.proofs.lemmas.Bool.Decides.{nat_tests}
-use Rattle.fz_dom.specs.Shape.{least, greatest}
 use Rattle.fz_dom.proofs.Kept.{seen}
 use Rattle.fz_dom.proofs.Windows.{ends_order}
 use Rattle.fz_dom.proofs.domain.Dom.is_narrow.Goals as goal

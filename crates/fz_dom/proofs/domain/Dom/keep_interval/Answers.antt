@@ -1,5 +1,5 @@
 use Rattle.std.proofs.Common.{◌≡◌, to_z, of_z, w32, rules}
-use Rattle.std.specs.Prelude.{ℤ, ◌-ℤ◌}
+use Rattle.std.specs.Prelude.{◌-ℤ◌}
 use Rattle.std.proofs.Math.Facts.{to_z-of_z}
 use Rattle.fz_sets.specs.Sets.{IsInSet}
 use Rattle.fz_dom.specs.Changes.{IsFromTo}

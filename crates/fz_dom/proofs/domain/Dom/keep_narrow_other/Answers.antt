@@ -1,8 +1,5 @@
-use Rattle.std.proofs.Common.{◌≡◌, subst, sym, arith, rules}
-use Rattle.std.specs.Prelude.{ℤ, ◌-ℤ◌}
+use Rattle.std.proofs.Common.{arith}
 use Rattle.std.proofs.lemmas.Int.{ints}
-use Rattle.std.proofs.Math.Facts.{to_z-of_z}
-use Rattle.fz_sets.specs.Sets.{IsInSet}
 use Rattle.fz_dom.proofs.Kept.{limits_of}
 use Rattle.fz_dom.proofs.domain.Dom.keep_narrow_other.Goals as goal
 

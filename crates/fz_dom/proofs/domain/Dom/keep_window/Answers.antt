@@ -3,7 +3,7 @@ use Rattle.std.specs.Prelude.{ℤ}
 use Rattle.std.proofs.Math.Facts.{to_z-of_z}
 use Rattle.fz_dom.specs.Places.{IsBit}
 use Rattle.fz_dom.specs.Changes.{IsChange}
-use Rattle.fz_dom.proofs.Windows.{IsBoth, both_word, both_in, both_change}
+use Rattle.fz_dom.proofs.Windows.{both_word, both_in, both_change}
 use Rattle.fz_dom.proofs.domain.Dom.keep_window.Goals as goal
 
 pub keep_word-requires-clause-among : goal.keep_word-requires-clause-among

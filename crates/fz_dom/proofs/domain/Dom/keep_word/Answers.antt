@@ -1,4 +1,4 @@
-use Rattle.std.proofs.Common.{◌≡◌, ◌∙◌, ◌<◌, ◌^◌, ap, subst, arith, rules}
+use Rattle.std.proofs.Common.{◌∙◌, ◌<◌, ◌^◌, ap, subst, arith, rules}
 use Rattle.std.specs.Prelude.{ℤ}
 use Rattle.std.proofs.Math.Facts.{to_z-of_z}
 use Rattle.fz_dom.specs.Shape.{IsDomain}

@@ -1,6 +1,5 @@
-use Rattle.std.proofs.Common.{◌≡◌, ◌∙◌, ◌<◌, [], length, sym, subst, arith, rules}
+use Rattle.std.proofs.Common.{◌≡◌, ◌∙◌, ◌<◌, [], length, sym, arith, rules}
 use Rattle.std.proofs.lemmas.Bool.Decides.{nat_tests}
-use Rattle.fz_sets.specs.Sets.{AreRanges}
 use Rattle.fz_dom.specs.Heads.{head_set}
 use Rattle.fz_dom.proofs.Kept.{small_whole, small_ranges, nil_of, wide_ranges, rest_of}
 use Rattle.fz_dom.proofs.Windows.{word_as}

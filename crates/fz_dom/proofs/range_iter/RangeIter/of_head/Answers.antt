@@ -1,4 +1,4 @@
-use Rattle.std.proofs.Common.{◌≡◌, ◌<◌, sym, ◌∙◌, arith, rules}
+use Rattle.std.proofs.Common.{◌∙◌, arith, rules}
 use Rattle.fz_dom.proofs.Left.{left_word, left_plain, left_none}
 use Rattle.fz_dom.proofs.range_iter.RangeIter.of_head.Goals as goal
 

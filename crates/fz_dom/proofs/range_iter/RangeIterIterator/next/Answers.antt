@@ -1,5 +1,4 @@
-use Rattle.std.proofs.Common.{◌≡◌, ◌∷◌, pos, ◌+ℤ◌, arith, rules}
-use Rattle.fz_dom.specs.Left.{left_of}
+use Rattle.std.proofs.Common.{arith, rules}
 use Rattle.fz_dom.proofs.Left.{step_of_word, step_of_list, no_step, goes_on}
 use Rattle.fz_dom.proofs.range_iter.RangeIterIterator.next.Goals as goal
 

@@ -1,0 +1,38 @@
+-- A relation and the one that is true exactly where it is false; what ends show of the two.
+use Rattle.std.proofs.Common.{◌≡◌, List, [], ◌∷◌, refl, sym, subst, ◌∙◌, inl, inr, ◌⊎◌, arith}
+use Rattle.std.specs.Prelude.{ℤ, ◌≤ℤ◌, ◌<ℤ◌}
+use Rattle.std.proofs.lemmas.Int.{ints, by_lt_z}
+use Rattle.fz_sets.specs.Sets.{IsInSet}
+use Rattle.fz_dom.specs.Shape.{least, greatest}
+use Rattle.fz_dom.proofs.Ranges.{least_member, greatest_member}
+use Rattle.fz_spec.specs.declared.term.Term.{Term}
+use Rattle.fz_spec.specs.Constraints.{term_value}
+use Rattle.fz_strength.specs.declared.relation.Relation.{Relation}
+use Rattle.fz_strength.specs.declared.relation.Relation.TheVariants.{Equal, NotEqual, AtMost, Below}
+use Rattle.fz_strength.specs.Events.{IsOnly}
+use Rattle.fz_strength.specs.Relations.{Relates, RestsAs, RestsAgainst, IsShown, IsRefuted}
+use Rattle.fz_prop.proofs.Answering.{IsSame}
+use Rattle.fz_prop.proofs.Filled.{HasRanges, one_left}
+use Rattle.fz_rel.specs.Truths.{TruthOf, FalseOf, LineOf, AgainstOf}
+
+same_of_not : (x y : ℤ) → ((x ≡ y → ⊥) → ⊥) → x ≡ y
+same_of_not x y not =
+    by_lt_z x y (λ below. absurd (not (λ same. omega (arith, ints, below, same)))) (λ least_x. by_lt_z y x (λ above. absurd (not (λ same. omega (arith, ints, above, same)))) (λ least_y. omega (arith, ints, least_x, least_y)))
+
+below_of_not : (x y : ℤ) → (x ≤ℤ y → ⊥) → y <ℤ x
+below_of_not x y not = by_lt_z y x (λ h. h) (λ h. absurd (not h))
+
+most_of_not : (x y : ℤ) → (x <ℤ y → ⊥) → y ≤ℤ x
+most_of_not x y not = by_lt_z x y (λ h. absurd (not h)) (λ h. h)
+
+pub against_equal : (x y : Term) → IsSame (TruthOf NotEqual x y) (FalseOf Equal x y) (LineOf NotEqual x y) (AgainstOf Equal x y)
+against_equal x y = record { truth = λ a. ((λ h. h), (λ h. h)); line = λ ds h. h }
+
+pub against_apart : (x y : Term) → IsSame (TruthOf Equal x y) (FalseOf NotEqual x y) (LineOf Equal x y) (AgainstOf NotEqual x y)
+against_apart x y = record { truth = λ a. ((λ same apart. apart same), same_of_not (term_value a x) (term_value a y)); line = λ ds h. h }
+
+pub against_most : (x y : Term) → IsSame (TruthOf Below y x) (FalseOf AtMost x y) (LineOf Below y x) (AgainstOf AtMost x y)
+against_most x y = record { truth = λ a. ((λ below most. omega (arith, ints, below, most)), below_of_not (term_value a x) (term_value a y)); line = λ ds h. h }
+
+pub against_below : (x y : Term) → IsSame (TruthOf AtMost y x) (FalseOf Below x y) (LineOf AtMost y x) (AgainstOf Below x y)
+against_below x y = record { truth = λ a. ((λ most below. omega (arith, ints, below, most)), most_of_not (term_value a x) (term_value a y)); line = λ ds h. h }
