@@ -32,7 +32,7 @@ use Rattle.fz_strength.specs.Promises.{truth_of_reified, truths_of, IsTruth}
 use Rattle.fz_strength.proofs.Truths.{is_single}
 use Rattle.fz_strength.proofs.Lists.{all_both}
 use Rattle.fz_prop.specs.Stores.{IsTermOf, FitsTerm, declared_sets}
-use Rattle.fz_engine.specs.Known.{IsComparing, IsLimited, HaveLimits, HasLimits, IsAmong, AreAmong}
+use Rattle.fz_engine.specs.Known.{IsLimited, HaveLimits, HasLimits, IsAmong, AreAmong}
 use Rattle.fz_engine.specs.Runs.{AreOf}
 use Rattle.fz_engine.proofs.Lists.{each_of, same_some, none_some}
 

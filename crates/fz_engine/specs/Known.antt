@@ -1,23 +1,15 @@
 -- The constraints whose propagators are there, and what a model keeps of the arguments of its constraints.
-use Rattle.std.specs.Prelude.{◌≡◌, ◌≢◌, ℕ, List, [], ◌∷◌, Some}
+use Rattle.std.specs.Prelude.{ℕ, List, [], ◌∷◌, IsSome}
 use Rattle.std.specs.List.{AllByRecursion}
 use Rattle.fz_spec.specs.declared.builtin.Builtin.{Builtin}
 use Rattle.fz_spec.specs.Constraints.{Argument, One, Numbers, Terms, Set, Constraint}
-use Rattle.fz_strength.specs.declared.relation.Relation.{Relation}
-use Rattle.fz_strength.specs.declared.relation.Relation.TheVariants.{Equal}
 use Rattle.fz_strength.specs.Lines.{HasOwnLine}
 use Rattle.fz_strength.specs.Relations.{relation_of}
 use Rattle.fz_prop.specs.Stores.{IsTermOf, FitsTerm}
 
--- a comparison of two terms that isn't an equation
-pub record IsComparing (name : Builtin) : Type 0 where
-  pub relation : Relation
-  pub is : relation_of name ≡ Some relation
-  pub unequal : relation ≢ Equal
-
 -- the constraints that have a propagator of their own
 abbrev pub HasPropagator : Builtin → List Argument → Type 0
-HasPropagator name (One x ∷ One y ∷ []) = IsComparing name
+HasPropagator name (One x ∷ One y ∷ []) = IsSome (relation_of name)
 HasPropagator name arguments = ⊥
 
 -- One with a line of its own has a propagator of its own. Any other waits for its terms to get fixed.

@@ -1,15 +1,15 @@
 //! Kinds of propagators.
-ghost use Rattle.std.specs.Prelude.{◌≡◌, ◌↔◌, ◌<◌, List, [], ◌∷◌, length, map, IfOk, IsTrue, MatchOption, slice_get, Some};
+ghost use Rattle.std.specs.Prelude.{◌≡◌, ◌<◌, List, [], ◌∷◌, length, map, IfOk, IsSome, MatchOption, slice_get, Some};
 ghost use Rattle.fz_spec.specs.Constraints as meaning;
 ghost use Rattle.fz_model.specs.Arguments.{argument_of};
-ghost use Rattle.fz_strength.specs.declared.relation.Relation.TheVariants.{Equal};
 ghost use Rattle.fz_strength.specs.Costs.{cost_of};
 ghost use Rattle.fz_strength.specs.Events.{Wait, AreBelow};
+ghost use Rattle.fz_strength.specs.Relations.{relation_of};
 ghost use Rattle.fz_strength.specs.Lines.{waits, HasOwnLine};
 ghost use Rattle.fz_strength.specs.Promises.{IsCorrect, Suits};
 ghost use Rattle.fz_prop.specs.Answers.{IsAnswer};
 ghost use Rattle.fz_prop.specs.Stores.{Shrinks, IsStore, FitsTerm};
-ghost use Rattle.fz_engine.specs.Known.{IsKnown, HasPropagator, IsComparing, HaveLimits, HasLimits};
+ghost use Rattle.fz_engine.specs.Known.{IsKnown, HasPropagator, HaveLimits, HasLimits};
 
 use fz_await::Awaiting;
 use fz_model::constraint::{Argument, Constraint};
@@ -160,25 +160,16 @@ fn of_terms(name: Builtin, x: Term, y: Term, rest: &[Argument]) -> Option<Kind>
     }
 }
 
-/// The propagator of a comparison of two terms; `None` where the name is no comparison, or an equation.
+/// The propagator of a comparison of two terms; `None` where the name is no comparison.
 fn comparing(name: Builtin, x: Term, y: Term) -> Option<Kind>
     requires x { FitsTerm x }
     requires y { FitsTerm y }
-    ensures { MatchOption result (IsComparing name → ⊥)
+    ensures { MatchOption result (IsSome (relation_of name) → ⊥)
         (λ k. k ≡ record { name = name; arguments = meaning.One x ∷ meaning.One y ∷ [] }) }
 {
     let relation = Relation::of(name)?;
-    if is_equal(relation) {
-        return None;
-    }
     let comparison = Comparison::new(name, relation, x, y);
     Some(Kind {
         form: Form::Comparison(comparison),
     })
-}
-
-fn is_equal(relation: Relation) -> bool
-    ensures { IsTrue result ↔ (relation ≡ Equal) }
-{
-    relation == Relation::Equal
 }
