@@ -1,13 +1,12 @@
 -- Taking a decision leaves exactly the assignments that meet it.
-use Rattle.std.proofs.Common.{◌≡◌, ◌≢◌, inl, inr, ℕ, zero, suc, ◌<◌, List, [], ◌∷◌, ◌++◌, refl, sym, ◌∙◌, ap, subst, arith, ints, length, true, false, Bool, not}
-use Rattle.std.specs.Prelude.{ℤ, pos, ◌+ℤ◌, ◌≤ℤ◌, ◌<ℤ◌, ◌↔◌, Option, Some, None, slice_get, unwrap_or, IsTrue, int_le}
+use Rattle.std.proofs.Common.{◌≡◌, ℕ, zero, suc, ◌<◌, ◌≤◌, List, [], ◌∷◌, ◌++◌, refl, sym, ◌∙◌, subst, arith, length, true, false, Bool, not}
+use Rattle.std.proofs.lemmas.Int.{ints}
+use Rattle.std.specs.Prelude.{ℤ, pos, ◌+ℤ◌, ◌≤ℤ◌, ◌<ℤ◌, Option, Some, None, slice_get, IsTrue, int_le}
 use Rattle.std.specs.Ordering.{int_eq}
-use Rattle.std.specs.List.{AllByRecursion}
-use Rattle.std.proofs.lemmas.Bool.{cases_eq}
 use Rattle.std.proofs.lemmas.Bool.Decides.{Decides-int_eq}
 use Rattle.std.proofs.lemmas.Option.{slice_get_past}
 use Rattle.fz_sets.specs.Sets.{IsInSet}
-use Rattle.fz_spec.specs.Instance.{Instance, Satisfies, AreDeclared}
+use Rattle.fz_spec.specs.Instance.{Instance}
 use Rattle.fz_dom.specs.declared.change.Change.{Change}
 use Rattle.fz_dom.specs.declared.change.Change.TheVariants.{Same, Changed, Wiped}
 use Rattle.fz_tree.specs.declared.decision.Comparison.{Comparison}
@@ -34,14 +33,23 @@ by_not : (b : Bool) (P : Type 0) → Tests b P → Tests (not b) (P → ⊥)
 by_not true P t = ((λ h. absurd (cc (h))), (λ k. absurd (k (t.0 refl))))
 by_not false P t = ((λ h p. let e : false ≡ true = t.1 p in cc), (λ k. refl))
 
-test_le : (x v : ℤ) → Tests (int_le x v) (x ≤ℤ v)
-test_le x v = ((λ h. h), (λ h. h))
+le_of : (x v : ℤ) → IsTrue (int_le x v) → x ≤ℤ v
+le_of x v h = grind (arith, ints)
+
+of_le : (x v : ℤ) → x ≤ℤ v → IsTrue (int_le x v)
+of_le x v h = grind (arith, ints)
+
+above_of : (x v : ℤ) → IsTrue (not (int_le x v)) → v <ℤ x
+above_of x v h = grind (arith, ints)
+
+of_above : (x v : ℤ) → v <ℤ x → IsTrue (not (int_le x v))
+of_above x v h = grind (arith, ints)
 
 tests : (comparison : Comparison) (x v : ℤ) → Tests (compares comparison x v) (Compares comparison v x)
 tests Equal x v = Decides-int_eq x v
 tests NotEqual x v = by_not (int_eq x v) (x ≡ v) (Decides-int_eq x v)
-tests AtMost x v = test_le x v
-tests Above x v = let t = by_not (int_le x v) (x ≤ℤ v) (test_le x v) in ((λ h. let k = t.0 h in omega (arith, ints, k)), (λ less. t.1 (λ le. omega (arith, ints, less, le))))
+tests AtMost x v = (le_of x v, of_le x v)
+tests Above x v = (above_of x v, of_above x v)
 
 some_at : (a : List ℤ) (v : ℕ) → v < length a → slice_get a v ≡ Some (number_at a v)
 some_at [] v within = absurd (omega (arith, within))
@@ -72,9 +80,9 @@ kept_changed v P s t a change shrinks within holds = record {
 pub decided_changed : (d : Decision) (s t : Stored) → d.variable < length s.doms → Shrinks s t → IsChangeAt Changed d.variable (Compares d.comparison d.value) s t → IsDecided true d s.doms t.doms
 decided_changed d s t within shrinks change a = (
   (λ inside.
-    let before : Within s.doms a = within_wider s.doms t.doms a shrinks.narrower inside in
-    let there : d.variable < length t.doms = omega (arith, within, shrinks.narrower.size) in
-    (before, (meets_is a d (omega (arith, within, before.size))).1 ((change.kept (number_at a d.variable)).0 (inside.members d.variable there)).1)),
+      let before : Within s.doms a = within_wider s.doms t.doms a shrinks.narrower inside in
+      let there : d.variable < length t.doms = omega (arith, within, shrinks.narrower.size) in
+      (before, (meets_is a d (omega (arith, within, before.size))).1 ((change.kept (number_at a d.variable)).0 (inside.members d.variable there)).1)),
   (λ both. kept_changed d.variable (Compares d.comparison d.value) s t a change shrinks both.0 ((meets_is a d (omega (arith, within, both.0.size))).0 both.1)),
 )
 

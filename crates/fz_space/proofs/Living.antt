@@ -1,15 +1,14 @@
 -- What is known of a space at its root and at rest.
-use Rattle.std.proofs.Common.{◌≡◌, ◌⊎◌, inl, inr, ℕ, zero, suc, ◌<◌, ◌≤◌, List, [], ◌∷◌, refl, sym, ◌∙◌, ap, subst, arith, ints, length, true, false, Bool, map}
-use Rattle.std.specs.Prelude.{ℤ, pos, Some, slice_get}
-use Rattle.std.specs.List.{AllByRecursion}
+use Rattle.std.proofs.Common.{◌≡◌, inl, inr, ℕ, zero, suc, ◌+◌, ◌<◌, List, [], ◌∷◌, refl, sym, ◌∙◌, ap, subst, arith, length, true, false}
+use Rattle.std.specs.Prelude.{ℤ}
 use Rattle.std.proofs.lemmas.Bool.{cases_eq, cases_lt}
-use Rattle.fz_sets.specs.Sets.{IsInSet, set_size, range_size}
-use Rattle.fz_spec.specs.Instance.{Instance, Variable, Satisfies, AreDeclared}
-use Rattle.fz_spec.specs.Constraints.{Constraint, IsTrueOf}
+use Rattle.fz_sets.specs.Sets.{IsInSet, set_size}
+use Rattle.fz_spec.specs.Instance.{Instance, Variable, AreDeclared}
+use Rattle.fz_spec.specs.Constraints.{IsTrueOf}
 use Rattle.fz_tree.specs.declared.decision.Decision.{Decision}
 use Rattle.fz_strength.specs.Domains.{Within, Alone, AreDomains, dom_at, number_at}
 use Rattle.fz_strength.proofs.Truths.{single, is_single, true_where_alone}
-use Rattle.fz_prop.specs.Stores.{Stored, IsStore, HasEmpty, declared_sets, fresh}
+use Rattle.fz_prop.specs.Stores.{Stored, HasEmpty, declared_sets}
 use Rattle.fz_agenda.specs.Agendas.{IsSettled}
 use Rattle.fz_agenda.proofs.Places.{below_or_same}
 use Rattle.fz_path.specs.Spaces as path
@@ -18,7 +17,7 @@ use Rattle.fz_path.specs.declared.space.Status.{Status}
 use Rattle.fz_path.specs.declared.space.Status.TheVariants as status
 use Rattle.fz_engine.specs.Runs.{AreOf, IsRun, AreNeverTrue, AllRest}
 use Rattle.fz_space.specs.Alive.{spaced, IsAlive, IsLeft}
-use Rattle.fz_engine.proofs.Lists.{each_of, all_of}
+use Rattle.fz_engine.proofs.Lists.{all_of}
 use Rattle.fz_engine.proofs.Running.{terms_last}
 use Rattle.fz_space.proofs.Deciding.{within_wider, to_path, from_path}
 
@@ -122,13 +121,15 @@ alone_of ds a all within = record {
 }
 
 pub solved : (m : Instance) (after : List ℕ) (t : Stored) → IsAlive m after t → AllRest m.constraints t.doms → AllSingle t.doms → IsStatus status.Solved (spaced m t false)
-solved m after t alive rests all = (refl, λ a inside.
-  let within : Within t.doms a = from_path t.doms a inside in
-  let alone : Alone t.doms a = alone_of t.doms a all within in
-  (
-    record { size = alone.size; members = alone.alone },
-    all_of (IsTrueOf a) m.constraints (λ i c is. true_where_alone c t.doms a (alive.terms i c is).0 alone (rests i c is)),
-  ))
+solved m after t alive rests all = (
+  refl,
+  λ a inside.
+      let within : Within t.doms a = from_path t.doms a inside in
+      let alone : Alone t.doms a = alone_of t.doms a all within in (
+        record { size = alone.size; members = alone.alone },
+        all_of (IsTrueOf a) m.constraints (λ i c is. true_where_alone c t.doms a (alive.terms i c is).0 alone (rests i c is)),
+      ),
+)
 
 pub left_is : (m : Instance) (after : List ℕ) (t : Stored) (r : Status) → IsAlive m after t → AllRest m.constraints t.doms → IsLeft r t.doms → IsStatus r (spaced m t false)
 left_is m after t status.Failed alive rests left = absurd left

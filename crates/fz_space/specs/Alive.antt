@@ -1,5 +1,5 @@
 -- What holds of a space.
-use Rattle.std.specs.Prelude.{◌≡◌, ◌↔◌, ◌≢◌, ℕ, ◌<◌, ℤ, ◌≤ℤ◌, ◌<ℤ◌, Bool, true, false, IsTrue, List, [], ◌∷◌, ◌++◌, length}
+use Rattle.std.specs.Prelude.{◌≡◌, ◌↔◌, ◌≢◌, ℕ, ◌<◌, ℤ, ◌≤ℤ◌, ◌<ℤ◌, Bool, true, false, IsTrue, List, [], ◌∷◌, length}
 use Rattle.fz_spec.specs.Instance.{Instance}
 use Rattle.fz_tree.specs.declared.decision.Comparison.{Comparison}
 use Rattle.fz_tree.specs.declared.decision.Comparison.TheVariants.{Equal, NotEqual, AtMost, Above}
@@ -8,7 +8,7 @@ use Rattle.fz_tree.specs.Choice.{meets}
 use Rattle.fz_strength.specs.Domains.{Within, dom_at}
 use Rattle.fz_prop.specs.Stores.{Stored}
 use Rattle.fz_agenda.specs.Agendas.{IsSettled}
-use Rattle.fz_path.specs.Spaces.{Spaced, Covers, IsUndecided}
+use Rattle.fz_path.specs.Spaces.{Spaced, IsUndecided}
 use Rattle.fz_path.specs.declared.space.Status.{Status}
 use Rattle.fz_path.specs.declared.space.Status.TheVariants as status
 use Rattle.fz_spec.specs.Constraints.{Constraint}

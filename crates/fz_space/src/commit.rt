@@ -1,5 +1,5 @@
 //! Taking a decision.
-ghost use Rattle.std.specs.Prelude.{◌≡◌, ◌++◌, ◌∷◌, [], ◌<◌, ℕ, ℤ, ◌≤ℤ◌, ◌<ℤ◌, ◌≤◌, List, length, true, false, IfOk, OnOk, OnErr};
+ghost use Rattle.std.specs.Prelude.{◌≡◌, pos, ◌+ℤ◌, ◌++◌, ◌∷◌, [], ◌<◌, ℕ, ℤ, ◌≤ℤ◌, ◌<ℤ◌, ◌≤◌, List, length, true, false, IfOk, OnOk, OnErr};
 ghost use Rattle.fz_spec.specs.Instance.{Instance};
 ghost use Rattle.fz_tree.specs.declared.decision.Decision as tree;
 ghost use Rattle.fz_sets.specs.Sets.{IsInSet, IsWithinLimits};
@@ -91,10 +91,21 @@ fn keep_above(store: &mut Store, variable: u32, value: i32) -> Result<Change, Al
     ensures err { OnErr result (store.new ≡ store.old) }
     ensures change { IfOk result (λ r. IsChangeAt r variable (λ x. value <ℤ x) store.old store.new) }
 {
-    if greatest_at(store, variable) <= value {
+    let greatest = greatest_at(store, variable);
+    if greatest <= value {
         return Ok(Change::Wiped);
     }
-    store.keep_from(variable, value + 1)
+    let change = store.keep_from(variable, next(value, greatest))?;
+    Ok(change)
+}
+
+/// The number after a value.
+fn next(value: i32, greatest: i32) -> i32
+    requires below { value <ℤ greatest }
+    requires limits { IsWithinLimits greatest }
+    ensures { result ≡ (value +ℤ pos 1) }
+{
+    value + 1
 }
 
 /// The greatest number of a variable.

@@ -5,10 +5,10 @@ ghost use Rattle.fz_tree.specs.declared.decision.Decision.{Decision};
 ghost use Rattle.fz_path.specs.Spaces.{Covers, IsStatus};
 ghost use Rattle.fz_space.specs.Alive.{spaced, IsAlive, IsLeft, HaveLines};
 
-use fz_engine::engine::settle;
-use fz_engine::Plan;
 use fz_agenda::Agenda;
 use fz_dom::Dom;
+use fz_engine::Plan;
+use fz_engine::engine::settle;
 use fz_path::Status;
 use fz_prop::Store;
 use std::alloc::AllocError;

@@ -4,9 +4,9 @@ ghost use Rattle.fz_prop.specs.Stores.{HasEmpty, declared_sets, fresh};
 ghost use Rattle.fz_path.specs.Spaces.{Covers};
 ghost use Rattle.fz_space.specs.Alive.{spaced, IsAlive};
 
+use fz_agenda::Agenda;
 use fz_engine::Plan;
 use fz_engine::plan::agenda_of;
-use fz_agenda::Agenda;
 use fz_prop::Store;
 use std::alloc::{AllocError, Global};
 

@@ -1,5 +1,5 @@
 //! Spaces.
-ghost use Rattle.std.specs.Prelude.{◌≡◌, ◌≤◌, ◌++◌, ◌∷◌, [], List, Some, length, true, IfOk, OnOk, OnErr};
+ghost use Rattle.std.specs.Prelude.{◌≡◌, ◌<◌, ◌≤◌, ◌++◌, ◌∷◌, [], List, Some, length, true, IfOk, OnOk, OnErr};
 ghost use Rattle.std.specs.List.{slice_get};
 ghost use Rattle.std.specs.Arc.{arc_value};
 ghost use Rattle.fz_tree.specs.declared.decision.Decision.{Decision};
@@ -8,11 +8,11 @@ ghost use Rattle.fz_engine.specs.Known.{AreKnown};
 ghost use Rattle.fz_space.specs.Alive.{HaveLines};
 
 use crate::commit::take;
-use fz_engine::Plan;
 use crate::rest::rest;
 use crate::root::{Parts, parts_of};
 use fz_agenda::Agenda;
 use fz_dom::Dom;
+use fz_engine::Plan;
 use fz_path::Status;
 use fz_prop::Store;
 use fz_region::Choice;
@@ -67,6 +67,7 @@ impl fz_path::Space for Space {
     /// # Errors
     /// `AllocError` where there is no memory; the space is left as it was.
     fn commit(&mut self, choice: &Choice, alternative: u32) -> Result<(), AllocError>
+        requires { alternative < length choice.now }
         ensures model { self.new.model ≡ self.old.model }
         ensures covers { OnOk result ((ds : List Decision) (d : Decision)
             → slice_get choice.now alternative ≡ Some d
@@ -76,7 +77,11 @@ impl fz_path::Space for Space {
             → length self.old.model.variables ≤ d.variable → self.new.failed ≡ true) }
         ensures err { OnErr result (self.new ≡ self.old) }
     {
-        take(&mut self.store, &mut self.failed, choice.decision(alternative))
+        take(
+            &mut self.store,
+            &mut self.failed,
+            choice.decision(alternative),
+        )
     }
 
     /// At a branch the line of each constraint holds. What has failed stays so.
@@ -90,7 +95,12 @@ impl fz_path::Space for Space {
         ensures lines { IfOk result (λ status. HaveLines status self.new.model.constraints self.new.doms) }
         ensures stays { self.old.failed ≡ true → self.new.failed ≡ true }
     {
-        rest(&self.plan, &mut self.store, &mut self.agenda, &mut self.failed)
+        rest(
+            &self.plan,
+            &mut self.store,
+            &mut self.agenda,
+            &mut self.failed,
+        )
     }
 
     fn doms(&self) -> &[Dom] {

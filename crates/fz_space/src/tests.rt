@@ -51,7 +51,13 @@ fn one_of(alloc: Global, set: Dom) -> Result<Model, AllocError>
     let mut variables = Vec::new(alloc);
     variables.push(Variable::new(Kind::Int, set))?;
     let (constraints, outputs) = (Vec::new(alloc), Vec::new(alloc));
-    Ok(Model::new(variables, constraints, Goal::Satisfy, outputs, Vec::new(alloc)))
+    Ok(Model::new(
+        variables,
+        constraints,
+        Goal::Satisfy,
+        outputs,
+        Vec::new(alloc),
+    ))
 }
 
 /// The space of the root of a model.

@@ -1,4 +1,3 @@
-use Rattle.std.proofs.Common.{◌≡◌, refl, sym, ◌∙◌, false, true}
 use Rattle.fz_space.proofs.Deciding.{alive_lasts, covers_failed, covers_taken}
 use Rattle.fz_space.proofs.commit.take.Goals as goal
 
@@ -6,7 +5,7 @@ pub returns-then-failed-clause-covers : goal.returns-then-failed-clause-covers
 returns-then-failed-clause-covers c = λ m ds covers. covers_failed m c.args.store.now c.args.failed.now ds c.args.decision c.if-failed.true covers
 
 pub returns-clause-alive : goal.returns-clause-alive
-returns-clause-alive c = λ m states alive not_failed. alive_lasts m states c.args.store.now c.decide-left.new.store c.decide-left.ensures.store c.decide-left.ensures.shrinks (alive c.if-failed.false)
+returns-clause-alive c = λ m states alive not_failed. alive_lasts m states c.args.store.now c.decide.new.store c.decide.ensures.store c.decide.ensures.shrinks (alive c.if-failed.false)
 
 pub returns-clause-covers : goal.returns-clause-covers
-returns-clause-covers c = λ m ds covers. covers_taken m c.args.store.now c.decide-left.new.store c.args.failed.now ds c.args.decision c.in_ok-left.left c.if-failed.false c.in_ok-left.ensures.decided covers
+returns-clause-covers c = λ m ds covers. covers_taken m c.args.store.now c.decide.new.store c.args.failed.now ds c.args.decision c.in_ok-left.left c.if-failed.false c.in_ok-left.ensures.decided covers
