@@ -1,9 +1,8 @@
 //! The order of assignments.
-ghost use Rattle.std.specs.Prelude.{◌≡◌, ◌↔◌, IsTrue};
-ghost use Rattle.fz_spec.specs.Constraints.{term_value};
+ghost use Rattle.std.specs.Prelude.{◌↔◌, IsTrue};
 ghost use Rattle.fz_spec.specs.Instance.{IsBetter};
 
-use fz_model::{Assignment, Goal, Model, Term};
+use fz_model::{Assignment, Goal, Model, value_of};
 
 /// Whether the first is better: both have one number for each variable, and the first has the lesser score. Where the goal is to
 /// satisfy, none is.
@@ -20,15 +19,5 @@ pub fn better(model: &Model, this: &Assignment, other: &Assignment) -> bool
         Goal::Satisfy => false,
         Goal::Minimize(term) => value_of(*term, these) < value_of(*term, others),
         Goal::Maximize(term) => value_of(*term, these) > value_of(*term, others),
-    }
-}
-
-/// The value of a term.
-fn value_of(term: Term, values: &[i32]) -> i32
-    ensures { result ≡ term_value values.now term }
-{
-    match term {
-        Term::Num(number) => number,
-        Term::Var(variable) => values.get(variable as usize).copied().unwrap_or(0),
     }
 }

@@ -1,21 +1,18 @@
 -- Arguments that are what is asked.
-use Rattle.std.proofs.Common.{◌≡◌, ℕ, suc, true, Option, Some, None, option_map, List, [], ◌∷◌, length, refl, ap, subst, arith}
-use Rattle.std.specs.Prelude.{Result, Ok, Err, ◌==◌, nat_lt, ◌%◌}
-use Rattle.std.specs.List.{AllByRecursion, list_all}
-use Rattle.std.proofs.lemmas.Bool.{and_parts, eqb-true, ltb-true}
+use Rattle.std.proofs.Common.{◌≡◌, ℕ, suc, Option, Some, None, option_map, List, [], ◌∷◌, length, refl, ap, subst, arith}
+use Rattle.std.specs.Prelude.{Result, Ok, Err}
+use Rattle.std.specs.List.{AllByRecursion}
 use Rattle.fz_spec.specs.declared.asked.Asked.{Asked}
 use Rattle.fz_spec.specs.declared.asked.Asked.TheVariants as asked
-use Rattle.fz_spec.specs.declared.asked.Lengths.{Lengths}
-use Rattle.fz_spec.specs.declared.asked.Lengths.TheVariants as lengths
 use Rattle.fz_spec.specs.Constraints.{Argument}
 use Rattle.fz_spec.specs.Constraints as meaning
 use Rattle.fz_spec.specs.Instance.{Variable}
-use Rattle.fz_spec.specs.Signatures.{HaveLengths}
 use Rattle.fz_language.specs.Trees.{Truth, Numeral, Literal, Named, Expression, Scalar, Listed, basic_at}
 use Rattle.fz_language.specs.Entries.{Environment, or_place, with_value, term_in, set_of, each_of, named, entry_list, list_argument, resolve}
-use Rattle.fz_language.specs.Rules.{wrong_place, wrong_arguments, arguments_in, lengths_in, have_lengths}
+use Rattle.fz_language.specs.Rules.{wrong_place, wrong_arguments, arguments_in}
 use Rattle.fz_language.specs.Within.{ExpressionFits}
-use Rattle.fz_model.specs.Kept.{FitsAsked, AllFit, list_lengths}
+use Rattle.fz_model.specs.Kept.{FitsAsked, AllFit}
+use Rattle.fz_check.proofs.Mapped.{mapped}
 use Rattle.fz_check.specs.Fits.{Sound}
 use Rattle.fz_check.proofs.TermFits.{term_fits, terms_fit, list_fits, entry_list_fits, found_named}
 use Rattle.fz_check.proofs.SetFits.{set_fits}
@@ -24,15 +21,6 @@ use Rattle.fz_check.proofs.Counting.{FewIn, nil_parts}
 placed : {X : Type 0} (o : Option X) (at : ℕ) (x : X) → or_place o at ≡ Ok x → o ≡ Some x
 placed (Some y) at x e = let is : y ≡ x = cc in ap Some is
 placed None at x e = cc
-
-record Mapped {X Y : Type 0} (f : X → Y) (o : Option X) (y : Y) : Type 0 where
-  x : X
-  o_is : o ≡ Some x
-  is : f x ≡ y
-
-mapped : {X Y : Type 0} (f : X → Y) (o : Option X) (y : Y) → option_map f o ≡ Some y → Mapped f o y
-mapped f (Some x) y e = record { x = x; o_is = refl; is = cc }
-mapped f None y e = cc
 
 record Valued {X Y : Type 0} (f : X → Y) (r : Result X ℕ) (y : Y) : Type 0 where
   x : X
@@ -82,29 +70,3 @@ all_fit vs env (wanted ∷ rest) (x ∷ es) s n h few e =
         → Fitting vs (wanted ∷ rest) (x ∷ es) (elim r [ Ok argument ↦ argument ∷ arguments_in env rest es | Err at ↦ arguments_in env rest es ])
     go others (Ok a) k i = record { fit = (resolved vs env wanted x a s h.0 few.0 k, others.fit); count = ap (λ m. suc m) others.count }
     go others (Err at) k i = cc
-
--- ---- lengths
-
-pub same_lengths : (arguments : List Argument) → lengths_in arguments ≡ list_lengths arguments
-same_lengths [] = refl
-same_lengths (meaning.One term ∷ arguments) = same_lengths arguments
-same_lengths (meaning.Numbers ns ∷ arguments) = ap (λ l. length ns ∷ l) (same_lengths arguments)
-same_lengths (meaning.Terms ts ∷ arguments) = ap (λ l. length ts ∷ l) (same_lengths arguments)
-same_lengths (meaning.Set set ∷ arguments) = same_lengths arguments
-
-all_equal : (n : ℕ) (ns : List ℕ) → list_all (λ m. m == n) ns ≡ true → AllByRecursion (λ m. m ≡ n) ns
-all_equal n [] h = tt
-all_equal n (m ∷ ns) h =
-    let p = and_parts (m == n) (list_all (λ k. k == n) ns) h in
-    (eqb-true m n p.0, all_equal n ns p.1)
-
-pub lengths_fit : (wanted : Lengths) (ns : List ℕ) → have_lengths wanted ns ≡ true → HaveLengths wanted ns
-lengths_fit lengths.Any ns h = tt
-lengths_fit lengths.Equal [] h = tt
-lengths_fit lengths.Equal (n ∷ ns) h = all_equal n ns h
-lengths_fit lengths.Rows [] h = tt
-lengths_fit lengths.Rows (n ∷ []) h = tt
-lengths_fit lengths.Rows (n ∷ m ∷ []) h =
-    let p = and_parts (nat_lt 0 n) (m % n == 0) h in
-    (ltb-true 0 n p.0, eqb-true (m % n) 0 p.1)
-lengths_fit lengths.Rows (n ∷ m ∷ k ∷ ns) h = tt

@@ -4,12 +4,12 @@ use Rattle.std.specs.Prelude.{Result, Ok, Err, Some, None, MatchResult, slice_ge
 use Rattle.std.proofs.lemmas.List.{drop_more, drop_all, take_more, map-append}
 use Rattle.fz_spec.specs.declared.asked.Asked.{Asked}
 use Rattle.fz_spec.specs.Constraints as meaning
-use Rattle.fz_spec.specs.Constraints.{Argument}
+use Rattle.fz_spec.specs.Constraints.{Argument, list_lengths}
 use Rattle.fz_language.specs.declared.fault.RuleFault.TheVariants.{Unsupported, UnknownConstraint, UnknownName, WrongType, WrongLengths}
 use Rattle.fz_language.specs.Trees.{Expression, ConstraintItem}
 use Rattle.fz_language.specs.Entries.{Environment, resolve}
-use Rattle.fz_language.specs.Rules.{Fault, wrong_place, wrong_arguments, arguments_in, lengths_in, at_places, have_lengths, unknown_of, signature_faults, row_faults, named_unsupported, named_unknown, is_unsupported, floats_of}
-use Rattle.fz_spec.specs.Signatures.{Row, row_named, signature_of}
+use Rattle.fz_language.specs.Rules.{Fault, wrong_place, wrong_arguments, arguments_in, at_places, unknown_of, signature_faults, row_faults, named_unsupported, named_unknown, is_unsupported, floats_of}
+use Rattle.fz_spec.specs.Signatures.{Row, row_named, signature_of, have_lengths}
 use Rattle.fz_resolve.specs.declared.fault.Fault as found
 use Rattle.fz_check.specs.Calls.{IsCall, IsSigned, IsRowed, AreArguments, wrong_lengths}
 use Rattle.fz_check.specs.Checked.{IsFirstFault}
@@ -17,17 +17,17 @@ use Rattle.fz_check.proofs.FaultLaws.{first_front, first_at, behind_none, no_fir
 
 -- ---- lengths
 
-lengths_both : (xs ys : List Argument) → lengths_in (xs ++ ys) ≡ lengths_in xs ++ lengths_in ys
+lengths_both : (xs ys : List Argument) → list_lengths (xs ++ ys) ≡ list_lengths xs ++ list_lengths ys
 lengths_both [] ys = refl
 lengths_both (meaning.One t ∷ xs) ys = lengths_both xs ys
 lengths_both (meaning.Numbers ns ∷ xs) ys = ap (λ l. length ns ∷ l) (lengths_both xs ys)
 lengths_both (meaning.Terms ts ∷ xs) ys = ap (λ l. length ts ∷ l) (lengths_both xs ys)
 lengths_both (meaning.Set s ∷ xs) ys = lengths_both xs ys
 
-pub lengths_more : {X : Type 0} (f : X → Argument) (xs : List X) (i : ℕ) (x : X) → i < length xs → x ≡ get_or xs i x → lengths_in (map f (take (i + 1) xs)) ≡ lengths_in (map f (take i xs)) ++ lengths_in (f x ∷ [])
+pub lengths_more : {X : Type 0} (f : X → Argument) (xs : List X) (i : ℕ) (x : X) → i < length xs → x ≡ get_or xs i x → list_lengths (map f (take (i + 1) xs)) ≡ list_lengths (map f (take i xs)) ++ list_lengths (f x ∷ [])
 lengths_more {X} f xs i x l is =
-    ap (λ ys. lengths_in (map f ys)) (take_more xs i x l) ∙ ap lengths_in (map-append f (take i xs) (get_or xs i x ∷ []))
-    ∙ lengths_both (map f (take i xs)) (f (get_or xs i x) ∷ []) ∙ ap (λ (y : X). lengths_in (map f (take i xs)) ++ lengths_in (f y ∷ [])) (sym is)
+    ap (λ ys. list_lengths (map f ys)) (take_more xs i x l) ∙ ap list_lengths (map-append f (take i xs) (get_or xs i x ∷ []))
+    ∙ lengths_both (map f (take i xs)) (f (get_or xs i x) ∷ []) ∙ ap (λ (y : X). list_lengths (map f (take i xs)) ++ list_lengths (f y ∷ [])) (sym is)
 
 -- ---- arguments
 
@@ -79,11 +79,11 @@ regrouped u n w l = simp append_assoc
 
 -- ---- a constraint of arguments of the right types
 
-pub right_typed : (others : List Fault) (row : Row) (at : ℕ) (arguments : List Argument) → slice_get others 0 ≡ None → have_lengths row.lengths (lengths_in arguments) ≡ true → others ++ wrong_lengths row at arguments ≡ []
+pub right_typed : (others : List Fault) (row : Row) (at : ℕ) (arguments : List Argument) → slice_get others 0 ≡ None → have_lengths row.lengths (list_lengths arguments) ≡ true → others ++ wrong_lengths row at arguments ≡ []
 right_typed others row at arguments e h =
     ap (λ (u : List Fault). u ++ wrong_lengths row at arguments) (no_first others e) ∙ ap (λ b. at_places WrongLengths (cond b [] (at ∷ []))) h
 
-pub wrong_typed : (others : List Fault) (row : Row) (at : ℕ) (arguments : List Argument) → slice_get others 0 ≡ None → have_lengths row.lengths (lengths_in arguments) ≡ false
+pub wrong_typed : (others : List Fault) (row : Row) (at : ℕ) (arguments : List Argument) → slice_get others 0 ≡ None → have_lengths row.lengths (list_lengths arguments) ≡ false
     → slice_get (others ++ wrong_lengths row at arguments) 0 ≡ Some (record { rule = WrongLengths; at = at })
 wrong_typed others row at arguments e h =
     behind_none others (wrong_lengths row at arguments) e ∙ ap (λ b. slice_get (at_places WrongLengths (cond b [] (at ∷ []))) 0) h

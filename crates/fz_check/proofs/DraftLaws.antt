@@ -3,12 +3,11 @@ use Rattle.std.proofs.Common.{◌≡◌, ℕ, Bool, true, false, cond, ◌&&◌,
 use Rattle.std.specs.Prelude.{ℤ, flat_map}
 use Rattle.fz_language.specs.declared.fault.RuleFault.TheVariants.{Unsupported, UnknownName, WrongType, WrongLengths, DeclaredTwice, OverLimit}
 use Rattle.fz_language.specs.Trees.{Number, SetLiteral, Range, Braces, Basic, Truth, Numeral, Literal, Named, AnyBool, AnyInt, AnyFloat, Within, ValueType, One, SetOf, Expression, Scalar, Listed, Annotation, VariableItem, ArrayItem, Item, Predicate, Variable, Parameter, Array, Constraint, Program, number_at}
-use Rattle.fz_language.specs.Rules.{AVariable, AnElement, Counts, all_counted, additions, over, at_places, item_faults, kind_of, term_asked, is_bound, members_of, members_in, element_additions, expression_additions, type_additions, value_additions, array_element_additions, bad_variable_type, bad_element_type, seventh_ranges, floats_of_value, unknown_of_value, unknown_in, misplaced_output_array, misplaced_output_var, malformed_output_array, in_order, wrong_value, wrong_element, wrong_index_set, wrong_shape, declared_already, OUTPUT_ARRAY}
-use Rattle.fz_language.specs.Annotations.{annotation_of, shape_in}
+use Rattle.fz_language.specs.Rules.{AVariable, AnElement, Counts, all_counted, additions, over, at_places, item_faults, kind_of, term_asked, is_bound, members_of, members_in, element_additions, expression_additions, type_additions, value_additions, array_element_additions, bad_variable_type, bad_element_type, seventh_ranges, floats_of_value, unknown_of_value, unknown_in, output_array_places, output_var_places, malformed_output_array, in_order, wrong_value, wrong_element, wrong_index_set, wrong_shape, declared_already}
 use Rattle.fz_language.specs.Numerals.{floats_in}
 use Rattle.fz_language.specs.Within.{VariableFits}
 use Rattle.fz_model.specs.Kept.{IsVariable}
-use Rattle.fz_resolve.specs.Shapes.{shape_among}
+use Rattle.fz_language.specs.Annotations.{output_array_of, shape_in, shape_among}
 use Rattle.fz_language.specs.Entries.{Environment, term_in}
 use Rattle.fz_language.specs.Models.{Scope, empty_scope, behind, scope_behind, made, variables_of, constraints_of, outputs_of, value_constraints, type_set}
 use Rattle.fz_language.specs.Reads.{faults_from}
@@ -107,7 +106,7 @@ variable_is env n v h e o =
     let places = bad_variable_type v.value_type ++ seventh_ranges v.annotations ++ floats_of_value v.value in
     let unsupported = at_places Unsupported places in
     let unknown = at_places UnknownName (unknown_of_value env v.value) in
-    let wrong = at_places WrongType (misplaced_output_array v.annotations ++ wrong_value env v.value_type v.value) in
+    let wrong = at_places WrongType (output_array_places v.annotations ++ wrong_value env v.value_type v.value) in
     let p = nil_parts (unsupported ++ unknown ++ wrong) (at_places DeclaredTwice (declared_already env v.name)) e in
     let q = nil_parts (unsupported ++ unknown) wrong p.0 in
     let t = nil_parts (bad_variable_type v.value_type ++ seventh_ranges v.annotations) (floats_of_value v.value) (no_places Unsupported places (nil_parts unsupported unknown q.0).0) in
@@ -123,7 +122,7 @@ no_annotation (Some a) e = cc
 pub unplaced : (env : Environment) (a : ArrayItem) → item_faults env (Array a) ≡ [] → a.variable ≡ false → shape_among a.annotations ≡ None
 unplaced env a e f =
     let places = bad_element_type a.variable a.value_type ++ seventh_ranges a.annotations ++ flat_map floats_in a.list.elements in
-    let order = in_order (misplaced_output_var a.annotations) (cond a.variable (malformed_output_array a.annotations) (misplaced_output_array a.annotations)) in
+    let order = in_order (output_var_places a.annotations) (cond a.variable (malformed_output_array a.annotations) (output_array_places a.annotations)) in
     let typed = wrong_element env a.variable a.value_type a.list in
     let unsupported = at_places Unsupported places in
     let unknown = at_places UnknownName (flat_map (unknown_in env) a.list.elements) in
@@ -132,8 +131,8 @@ unplaced env a e f =
     let p = nil_parts (unsupported ++ unknown ++ wrong ++ long) (at_places DeclaredTwice (declared_already env a.name)) e in
     let q = nil_parts (unsupported ++ unknown ++ wrong) long p.0 in
     let r = nil_parts (unsupported ++ unknown) wrong q.0 in
-    no_annotation (annotation_of OUTPUT_ARRAY a.annotations)
-    (lists_placed (misplaced_output_var a.annotations) (malformed_output_array a.annotations) (misplaced_output_array a.annotations) a.variable (nil_parts order typed (no_places WrongType (order ++ typed) r.1)).0 f)
+    no_annotation (output_array_of a.annotations)
+    (lists_placed (output_var_places a.annotations) (malformed_output_array a.annotations) (output_array_places a.annotations) a.variable (nil_parts order typed (no_places WrongType (order ++ typed) r.1)).0 f)
 
 pub value_are : (s : Scope) (v : VariableItem) (value : Option Basic) → equal_to_value (kind_of v.value_type) s.variables (elim value [ Some basic ↦ term_in s.entries (term_asked v.value_type) basic | None ↦ None ]) ≡ value_constraints s v value
 value_are s v None = refl

@@ -1,10 +1,9 @@
 -- What an item makes fits the variables of the model.
-use Rattle.std.proofs.Common.{◌≡◌, ℕ, zero, suc, ◌*◌, ◌≤◌, ℤ, Bool, true, false, cond, Option, Some, None, option_map, List, [], ◌∷◌, ◌++◌, length, map, refl, sym, ap, ◌∙◌, subst, arith, rules}
+use Rattle.std.proofs.Common.{◌≡◌, ℕ, zero, suc, ◌≤◌, ℤ, Bool, true, false, cond, Option, Some, None, List, [], ◌∷◌, ◌++◌, length, map, refl, sym, ap, ◌∙◌, subst, arith, rules}
 use Rattle.std.specs.Prelude.{Result, Ok, Err, MatchOption, ◌==◌, bytes_eq, slice_get, flat_map}
 use Rattle.std.specs.List.{AllByRecursion}
 use Rattle.std.proofs.lemmas.Int.{ints}
 use Rattle.std.proofs.lemmas.Bool.{eqb-true}
-use Rattle.fz_sets.specs.Sets.{interval, set_size}
 use Rattle.fz_spec.specs.declared.limits.TheConstants.{ELEMENT_LIMIT}
 use Rattle.fz_spec.specs.declared.kind.Kind.{Kind}
 use Rattle.fz_spec.specs.declared.kind.Kind.TheVariants as kinds
@@ -13,8 +12,8 @@ use Rattle.fz_spec.specs.declared.term.Term.TheVariants.{Var}
 use Rattle.fz_spec.specs.declared.asked.Asked.{Asked}
 use Rattle.fz_spec.specs.declared.asked.Element.{Element}
 use Rattle.fz_spec.specs.Constraints as meaning
-use Rattle.fz_spec.specs.Instance.{Variable, Output}
-use Rattle.fz_spec.specs.Signatures.{Row, row_named, row_of, signature_of}
+use Rattle.fz_spec.specs.Instance.{Variable, Output, element_count}
+use Rattle.fz_spec.specs.Signatures.{Row, row_named, row_of, signature_of, have_lengths}
 use Rattle.fz_language.specs.declared.fault.RuleFault.{RuleFault}
 use Rattle.fz_language.specs.declared.fault.RuleFault.TheVariants.{Unsupported, UnknownName, WrongType, WrongLengths}
 use Rattle.fz_language.specs.Trees.{Plain, AnyBool, AnyInt, AnyFloat, Within, ValueType, One, SetOf, Basic, ListLiteral, Annotation, VariableItem, ParameterItem, ArrayItem, ConstraintItem}
@@ -22,18 +21,19 @@ use Rattle.fz_language.specs.Trees as trees
 use Rattle.fz_language.specs.Numerals.{set_in, all_of}
 use Rattle.fz_language.specs.Entries.{Environment, Entry, with_entry, term_in, set_of, each_of, number_of}
 use Rattle.fz_language.specs.Entries as entries
-use Rattle.fz_language.specs.Annotations.{annotation_of, plain_annotation_of, arguments_of, shape_in, bracketed, range_of, place_of, seventh}
-use Rattle.fz_language.specs.Rules.{OUTPUT_VAR, OUTPUT_ARRAY, kind_of, term_asked, is_bound, bad_variable_type, type_additions, element_count, at_places, named_unsupported, floats_of, unknown_of, wrong_arguments, arguments_in, have_lengths, lengths_in, signature_faults, row_faults, call_faults, wrong_place, wrong_element, seventh_ranges, wrong_shape, misplaced_output_array}
+use Rattle.fz_language.specs.Annotations.{OUTPUT_ARRAY, output_var_of, output_array_of, list_of, arguments_of, shape_in, bracketed, range_of, place_of, seventh}
+use Rattle.fz_language.specs.Rules.{number_asked, kind_of, term_asked, is_bound, bad_variable_type, type_additions, at_places, named_unsupported, floats_of, unknown_of, wrong_arguments, arguments_in, signature_faults, row_faults, call_faults, wrong_place, wrong_element, seventh_ranges, wrong_shape, output_array_places}
 use Rattle.fz_language.specs.Models.{type_set, plain_set, terms_of, parameter_entry, array_entry, declare, Scope, equal_to, value_constraints, bound_to, element_constraints, call_constraints, scalar_outputs, array_outputs}
-use Rattle.fz_language.specs.Within.{SetFits, ValueFits, TypeFits, BasicFits, ExpressionFits}
-use Rattle.fz_model.specs.Kept.{IsNumberOf, IsSet, IsVariable, HasSetOf, IsTermOf, FitsElement, IsConstraint, FitsRow, AllFit, IsIndexRange, kind_at, list_lengths}
-use Rattle.fz_model.specs.Kept as kept
+use Rattle.fz_language.specs.Within.{SetFits, ValueFits, TypeFits, BasicFits, ExpressionFits, NameFits, ArgumentFits, ArgumentsFit, CalledFits, AnnotationFits, ArrayFits}
+use Rattle.fz_model.specs.Kept.{IsSet, IsVariable, IsTermOf, FitsElement, IsConstraint, FitsRow, AllFit, IsIndexRange, IsOutput, kind_at}
+use Rattle.fz_check.proofs.Mapped.{mapped}
 use Rattle.fz_check.specs.Fits.{EntryFits, Sound}
 use Rattle.fz_check.proofs.TermFits.{term_fits, terms_fit, are_terms, is_number, are_numbers}
 use Rattle.fz_check.proofs.SetFits.{literal_fits, set_fits, members_among}
 use Rattle.fz_check.proofs.Counting.{nil_parts, elements_in, members_counted, FewIn}
-use Rattle.fz_check.proofs.ArgumentFits.{all_fit, same_lengths, lengths_fit}
-use Rattle.fz_check.proofs.RowLaws.{row_is_of, signature_length}
+use Rattle.fz_check.proofs.ArgumentFits.{all_fit}
+use Rattle.fz_check.proofs.RowLaws.{found, row_is_of, signature_length}
+use Rattle.fz_spec.specs.Constraints.{list_lengths}
 
 pub no_places : (rule : RuleFault) (places : List ℕ) → at_places rule places ≡ [] → places ≡ []
 no_places rule [] e = refl
@@ -69,14 +69,14 @@ entered vs env name entry s h other found e = go (bytes_eq name other) e
     go false k = s other found k
 
 pub parameter_fits : (vs : List Variable) (env : Environment) (name : List ℕ) (t : ValueType) (b : Basic) → Sound vs env → BasicFits b → members_among b ≤ ELEMENT_LIMIT → Sound vs (declare name (parameter_entry env t b) env)
-parameter_fits vs env name (One plain) b s h few = go (term_in env (record { kind = kind_of (One plain); may_vary = false }) b) refl
+parameter_fits vs env name (One plain) b s h few = go (term_in env (number_asked (One plain)) b) refl
   where
-    go : (o : Option Term) → term_in env (record { kind = kind_of (One plain); may_vary = false }) b ≡ o
+    go : (o : Option Term) → term_in env (number_asked (One plain)) b ≡ o
         → Sound vs (declare name (elim o [ Some t ↦ Some (entries.Value (kind_of (One plain)) (number_of t)) | None ↦ None ]) env)
     go None k = s
     go (Some t) k =
         entered vs env name (entries.Value (kind_of (One plain)) (number_of t)) s
-        (is_number vs (kind_of (One plain)) t (term_fits vs env (record { kind = kind_of (One plain); may_vary = false }) b t s h k))
+        (is_number vs (kind_of (One plain)) t (term_fits vs env (number_asked (One plain)) b t s h k))
 parameter_fits vs env name (SetOf at plain) b s h few = go (set_of env b) refl
   where
     go : (o : Option (List (ℤ × ℤ))) → set_of env b ≡ o → Sound vs (declare name (elim o [ Some set ↦ Some (entries.Set set) | None ↦ None ]) env)
@@ -104,7 +104,7 @@ array_fits vs env a true t s h few =
     let l = listing vs env (kind_of t) true a.list s h in
     (omega (arith, few, l.count), are_terms vs (kind_of t) true (terms_of env (term_asked t) a.list) l.all)
 array_fits vs env a false (One plain) s h few =
-    let ts = terms_of env (record { kind = kind_of (One plain); may_vary = false }) a.list in
+    let ts = terms_of env (number_asked (One plain)) a.list in
     let l = listing vs env (kind_of (One plain)) false a.list s h in
     (omega (arith, few, l.count, length_numbers ts), are_numbers vs (kind_of (One plain)) ts l.all)
 array_fits vs env a false (SetOf at plain) s h few = tt
@@ -115,8 +115,8 @@ array_entered vs env a s h few = entered vs env a.name.bytes (array_entry env a 
 -- ---- constraints of declarations
 
 equal_fits : (vs : List Variable) (kind : Kind) (n : ℕ) (t : Term) → kind_at vs n ≡ Some kind → FitsElement vs (record { kind = kind; may_vary = true }) t → IsConstraint vs (equal_to kind (Var n) t)
-equal_fits vs kinds.Bool n t k h = record { fit = ((refl, k), (h, tt)); lengths = tt }
-equal_fits vs kinds.Int n t k h = record { fit = ((refl, k), (h, tt)); lengths = tt }
+equal_fits vs kinds.Bool n t k h = record { fit = ((refl, k), (h, tt)); lengths = refl }
+equal_fits vs kinds.Int n t k h = record { fit = ((refl, k), (h, tt)); lengths = refl }
 
 pub value_fits : (vs : List Variable) (s : Scope) (v : VariableItem) (value : Option Basic) → Sound vs s.entries → kind_at vs s.variables ≡ Some (kind_of v.value_type) → ValueFits value → AllByRecursion (IsConstraint vs) (value_constraints s v value)
 value_fits vs s v None sound k h = tt
@@ -127,7 +127,7 @@ value_fits vs s v (Some b) sound k h = go (term_in s.entries (term_asked v.value
     go (Some t) e = (equal_fits vs (kind_of v.value_type) s.variables t k (term_fits vs s.entries (term_asked v.value_type) b t sound h e), tt)
 
 bound_fits : (vs : List Variable) (set : List (ℤ × ℤ)) (t : Term) → IsSet set → FitsElement vs (record { kind = kinds.Int; may_vary = true }) t → IsConstraint vs (bound_to set t)
-bound_fits vs set t s h = record { fit = (h, (s, tt)); lengths = tt }
+bound_fits vs set t s h = record { fit = (h, (s, tt)); lengths = refl }
 
 bounds_fit : (vs : List Variable) (set : List (ℤ × ℤ)) (ts : List Term) → IsSet set → AllByRecursion (FitsElement vs (record { kind = kinds.Int; may_vary = true })) ts → AllByRecursion (IsConstraint vs) (map (bound_to set) ts)
 bounds_fit vs set [] s h = tt
@@ -163,7 +163,7 @@ constraint_of_row : (vs : List Variable) (env : Environment) (c : ConstraintItem
 constraint_of_row vs env c row signature s h few r k e =
     let unknown = at_places UnknownName (flat_map (unknown_of env) c.arguments) in
     let wrong = at_places WrongType (wrong_arguments env signature c.arguments) in
-    let right = have_lengths row.lengths (lengths_in (arguments_in env signature c.arguments)) in
+    let right = have_lengths row.lengths (list_lengths (arguments_in env signature c.arguments)) in
     let lengths = at_places WrongLengths (cond right [] (c.name.at ∷ [])) in
     let p = nil_parts (unknown ++ wrong) lengths e in
     let q = nil_parts unknown wrong p.0 in
@@ -174,7 +174,7 @@ constraint_of_row vs env c row signature s h few r k e =
     subst (λ (o : Option Row). MatchOption o ⊥ (λ (found : Row). FitsRow vs found arguments)) (sym r)
     (record {
       fit = subst (λ (o : Option (List Asked)). MatchOption o ⊥ (λ asked. AllFit vs asked arguments)) (sym (ap (signature_of row) f.count ∙ k)) f.fit;
-      lengths = lengths_fit row.lengths (list_lengths arguments) (ap (have_lengths row.lengths) (sym (same_lengths arguments)) ∙ long);
+      lengths = long;
     })
 
 pub call_fits : (vs : List Variable) (s : Scope) (c : ConstraintItem) → Sound vs s.entries → AllByRecursion ExpressionFits c.arguments → AllByRecursion FewIn c.arguments → call_faults s.entries c ≡ [] → AllByRecursion (IsConstraint vs) (call_constraints s c)
@@ -196,57 +196,51 @@ call_fits vs s c sound h few e = named (row_named c.name.bytes) refl (nil_parts 
 
 -- ---- output items
 
--- all that is asked of an output item, but for what its text has
-abbrev pub HasForm : Bool → List (ℤ × ℤ) → ℕ → Type 0
-HasForm false shape count = (shape ≡ []) × (count ≡ 1)
-HasForm true shape count = (1 ≤ length shape) × (length shape ≤ 6) × (kept.element_count shape ≡ count)
-
-pub record Shown (vs : List Variable) (o : Output) : Type 0 where
-  pub few : length o.terms ≤ ELEMENT_LIMIT
-  pub terms : AllByRecursion (IsTermOf vs o.kind) o.terms
-  pub form : HasForm o.array o.shape (length o.terms)
-
-pub scalar_shown : (vs : List Variable) (s : Scope) (v : VariableItem) → kind_at vs s.variables ≡ Some (kind_of v.value_type) → AllByRecursion (Shown vs) (scalar_outputs s v)
-scalar_shown vs s v k = go (plain_annotation_of OUTPUT_VAR v.annotations)
+pub scalar_shown : (vs : List Variable) (s : Scope) (v : VariableItem) → NameFits v.name → kind_at vs s.variables ≡ Some (kind_of v.value_type) → AllByRecursion (IsOutput vs) (scalar_outputs s v)
+scalar_shown vs s v named k = go (output_var_of v.annotations)
   where
-    go : (o : Option Annotation) → AllByRecursion (Shown vs) (elim o [ Some a ↦ record { name = v.name.bytes; kind = kind_of v.value_type; array = false; shape = []; terms = Var s.variables ∷ [] } ∷ [] | None ↦ [] ])
+    go : (o : Option Annotation) → AllByRecursion (IsOutput vs) (elim o [ Some a ↦ record { name = v.name.bytes; kind = kind_of v.value_type; array = false; shape = []; terms = Var s.variables ∷ [] } ∷ [] | None ↦ [] ])
     go None = tt
-    go (Some a) = (record { few = omega arith; terms = (k, tt); form = (refl, refl) }, tt)
-
-same_count : (shape : List (ℤ × ℤ)) → element_count shape ≡ kept.element_count shape
-same_count [] = refl
-same_count (r ∷ shape) = ap (λ n. set_size (interval r.0 r.1) * n) (same_count shape)
+    go (Some a) = (record { name = named; few = omega arith; terms = (k, tt); shape = (refl, refl) }, tt)
 
 -- ---- index ranges
 
 record Ranged (list : List trees.Argument) (shape : List (ℤ × ℤ)) : Type 0 where
   count : length shape ≡ length list
+  within : AllByRecursion IsIndexRange shape
   each : (k : ℕ) (a : trees.Argument) → slice_get list k ≡ Some a → (r : ℤ × ℤ) × (range_of a ≡ Some r)
-
-record Mapped {X Y : Type 0} (f : X → Y) (o : Option X) (y : Y) : Type 0 where
-  x : X
-  o_is : o ≡ Some x
-  is : f x ≡ y
-
-mapped : {X Y : Type 0} (f : X → Y) (o : Option X) (y : Y) → option_map f o ≡ Some y → Mapped f o y
-mapped f (Some x) y e = record { x = x; o_is = refl; is = cc }
-mapped f None y e = cc
 
 each_behind : (a : trees.Argument) (list : List trees.Argument) (r : ℤ × ℤ) → range_of a ≡ Some r → ((k : ℕ) (b : trees.Argument) → slice_get list k ≡ Some b → (q : ℤ × ℤ) × (range_of b ≡ Some q)) → (k : ℕ) (b : trees.Argument)
     → slice_get (a ∷ list) k ≡ Some b → (q : ℤ × ℤ) × (range_of b ≡ Some q)
 each_behind a list r k f zero b i = let is : a ≡ b = cc in (r, ap range_of (sym is) ∙ k)
 each_behind a list r k f (suc n) b i = f n b i
 
-ranged : (list : List trees.Argument) (shape : List (ℤ × ℤ)) → all_of (map range_of list) ≡ Some shape → Ranged list shape
-ranged [] shape e = let is : [] ≡ shape = cc in record { count = ap length (sym is); each = λ k a h. cc }
-ranged (a ∷ list) shape e = go (λ ys k. ranged list ys k) (range_of a) refl e
+range_fits : (a : trees.Argument) (r : ℤ × ℤ) → ArgumentFits a → range_of a ≡ Some r → IsIndexRange r
+range_fits (trees.Simple (trees.Literal (trees.Range (trees.Whole low) (trees.Whole high)))) r h e = let is : (low.value, high.value) ≡ r = cc in subst IsIndexRange is h
+range_fits (trees.Simple (trees.Literal (trees.Range (trees.Whole low) (trees.Float at)))) r h e = cc
+range_fits (trees.Simple (trees.Literal (trees.Range (trees.Float at) high))) r h e = cc
+range_fits (trees.Simple (trees.Literal (trees.Braces at members))) r h e = cc
+range_fits (trees.Simple (trees.Truth value at)) r h e = cc
+range_fits (trees.Simple (trees.Numeral number)) r h e = cc
+range_fits (trees.Simple (trees.Named name)) r h e = cc
+range_fits (trees.Text at) r h e = cc
+range_fits (trees.Call name arguments) r h e = cc
+range_fits (trees.Brackets at arguments) r h e = cc
+
+ranged : (list : List trees.Argument) (shape : List (ℤ × ℤ)) → AllByRecursion ArgumentFits list → all_of (map range_of list) ≡ Some shape → Ranged list shape
+ranged [] shape fit e = let is : [] ≡ shape = cc in record { count = ap length (sym is); within = subst (λ (rs : List (ℤ × ℤ)). AllByRecursion IsIndexRange rs) is tt; each = λ k a h. cc }
+ranged (a ∷ list) shape fit e = go (λ ys k. ranged list ys fit.1 k) (range_of a) refl e
   where
     go : ((ys : List (ℤ × ℤ)) → all_of (map range_of list) ≡ Some ys → Ranged list ys) → (o : Option (ℤ × ℤ)) → range_of a ≡ o → all_of (o ∷ map range_of list) ≡ Some shape → Ranged (a ∷ list) shape
     go f None k h = cc
     go f (Some r) k h =
         let w = mapped (λ ys. r ∷ ys) (all_of (map range_of list)) shape h in
         let rest = f w.x w.o_is in
-        record { count = ap length (sym w.is) ∙ ap (λ n. suc n) rest.count; each = each_behind a list r k rest.each }
+        record {
+          count = ap length (sym w.is) ∙ ap (λ n. suc n) rest.count;
+          within = subst (λ (rs : List (ℤ × ℤ)). AllByRecursion IsIndexRange rs) w.is (range_fits a r fit.0 k, rest.within);
+          each = each_behind a list r k rest.each;
+        }
 
 past : {X : Type 0} (xs : List X) (n : ℕ) → slice_get xs n ≡ None → length xs ≤ n
 past [] n e = omega arith
@@ -265,17 +259,34 @@ at_most_six list shape r e = go (slice_get list 6) refl e
     go None k h = omega (arith, past list 6 k, r.count)
     go (Some a) k h = let q = r.each 6 a k in absurd (none a (range_of a) q.0 q.1 h)
 
-pub record Shaped (shape : List (ℤ × ℤ)) : Type 0 where
-  pub some : 1 ≤ length shape
-  pub few : length shape ≤ 6
+record Shaped (shape : List (ℤ × ℤ)) : Type 0 where
+  some : 1 ≤ length shape
+  few : length shape ≤ 6
+  within : AllByRecursion IsIndexRange shape
 
-shaped_of : (list : List trees.Argument) (shape : List (ℤ × ℤ)) → ◌≡◌ {A = Option (List (ℤ × ℤ))} (elim list [ [] ↦ None | argument ∷ others ↦ all_of (map range_of (argument ∷ others)) ]) (Some shape)
+shaped_of : (list : List trees.Argument) (shape : List (ℤ × ℤ)) → AllByRecursion ArgumentFits list → ◌≡◌ {A = Option (List (ℤ × ℤ))} (elim list [ [] ↦ None | argument ∷ others ↦ all_of (map range_of (argument ∷ others)) ]) (Some shape)
     → ◌≡◌ {A = List ℕ} (elim (slice_get list 6) [ Some argument ↦ elim (range_of argument) [ Some r ↦ place_of argument ∷ [] | None ↦ [] ] | None ↦ [] ]) [] → Shaped shape
-shaped_of [] shape e h = cc
-shaped_of (a ∷ list) shape e h = let r = ranged (a ∷ list) shape e in record { some = omega (arith, r.count); few = at_most_six (a ∷ list) shape r h }
+shaped_of [] shape fit e h = cc
+shaped_of (a ∷ list) shape fit e h = let r = ranged (a ∷ list) shape fit e in record { some = omega (arith, r.count); few = at_most_six (a ∷ list) shape r h; within = r.within }
 
-pub shaped : (a : Annotation) (shape : List (ℤ × ℤ)) → shape_in a ≡ Some shape → seventh a ≡ [] → Shaped shape
-shaped a shape e h = shaped_of (bracketed (arguments_of a)) shape e h
+all_arguments : (args : trees.Arguments) → ArgumentsFit args → AllByRecursion ArgumentFits (list_of args)
+all_arguments trees.Nil h = tt
+all_arguments (trees.More a others) h = (h.0, all_arguments others h.1)
+
+brackets_fit : (args : List trees.Argument) → AllByRecursion ArgumentFits args → AllByRecursion ArgumentFits (bracketed args)
+brackets_fit (trees.Brackets at arguments ∷ []) h = all_arguments arguments h.0
+brackets_fit [] h = tt
+brackets_fit (trees.Simple basic ∷ args) h = tt
+brackets_fit (trees.Text at ∷ args) h = tt
+brackets_fit (trees.Call name arguments ∷ args) h = tt
+brackets_fit (trees.Brackets at arguments ∷ next ∷ args) h = tt
+
+called_fit : (called : Option trees.Arguments) → CalledFits called → AllByRecursion ArgumentFits (elim called [ Some arguments ↦ list_of arguments | None ↦ [] ])
+called_fit None h = tt
+called_fit (Some arguments) h = all_arguments arguments h
+
+shaped : (a : Annotation) (shape : List (ℤ × ℤ)) → AnnotationFits a → shape_in a ≡ Some shape → seventh a ≡ [] → Shaped shape
+shaped a shape fit e h = shaped_of (bracketed (arguments_of a)) shape (brackets_fit (arguments_of a) (called_fit a.arguments fit)) e h
 
 -- ---- arrays that are printed
 
@@ -294,43 +305,49 @@ whole_shape : (b : Bool) (at : ℕ) → cond b [] (at ∷ []) ≡ [] → b ≡ t
 whole_shape true at e = refl
 whole_shape false at e = cc
 
-array_shown_of : (vs : List Variable) (s : Scope) (a : ArrayItem) (shape : List (ℤ × ℤ)) → Sound vs s.entries → AllByRecursion BasicFits a.list.elements → length a.list.elements ≤ ELEMENT_LIMIT → Shaped shape
-    → element_count shape ≡ length a.list.elements → wrong_place (each_of (term_in s.entries (term_asked a.value_type)) a.list.elements) ≡ [] → Shown vs (shown_as s a shape)
-array_shown_of vs s a shape sound h few f count typed =
+array_shown_of : (vs : List Variable) (s : Scope) (a : ArrayItem) (shape : List (ℤ × ℤ)) → Sound vs s.entries → NameFits a.name → AllByRecursion BasicFits a.list.elements → length a.list.elements ≤ ELEMENT_LIMIT → Shaped shape
+    → element_count shape ≡ length a.list.elements → wrong_place (each_of (term_in s.entries (term_asked a.value_type)) a.list.elements) ≡ [] → IsOutput vs (shown_as s a shape)
+array_shown_of vs s a shape sound named h few f count typed =
     let r = all_resolved s.entries (term_asked a.value_type) a.list.elements typed in
     let t = terms_fit vs s.entries (term_asked a.value_type) a.list.elements r.0 sound h r.1 in
     let is : terms_of s.entries (term_asked a.value_type) a.list ≡ r.0 = ap (λ (x : Result (List Term) ℕ). elim x [ Ok terms ↦ terms | Err at ↦ [] ]) r.1 in
     record {
+      name = named;
       few = omega (arith, few, t.count, ap length is);
       terms = subst (λ (ts : List Term). AllByRecursion (IsTermOf vs (kind_of a.value_type)) ts) (sym is) (are_terms vs (kind_of a.value_type) true r.0 t.all);
-      form = (f.some, f.few, sym (same_count shape) ∙ count ∙ sym t.count ∙ sym (ap length is));
+      shape = record { some = f.some; few = f.few; within = f.within; whole = count ∙ sym t.count ∙ sym (ap length is) };
     }
 
-pub array_shown : (vs : List Variable) (s : Scope) (a : ArrayItem) → Sound vs s.entries → AllByRecursion BasicFits a.list.elements → length a.list.elements ≤ ELEMENT_LIMIT → seventh_ranges a.annotations ≡ []
-    → wrong_element s.entries a.variable a.value_type a.list ≡ [] → (a.variable ≡ false → misplaced_output_array a.annotations ≡ []) → wrong_shape a ≡ [] → AllByRecursion (Shown vs) (array_outputs s a)
-array_shown vs s a sound h few seven typed placed whole = go (annotation_of OUTPUT_ARRAY a.annotations) refl seven placed whole
+abbrev shape_from : Option Annotation → Option (List (ℤ × ℤ))
+shape_from o = elim o [ Some ann ↦ shape_in ann | None ↦ None ]
+
+pub array_shown : (vs : List Variable) (s : Scope) (a : ArrayItem) → Sound vs s.entries → ArrayFits a → length a.list.elements ≤ ELEMENT_LIMIT → seventh_ranges a.annotations ≡ []
+    → wrong_element s.entries a.variable a.value_type a.list ≡ [] → (a.variable ≡ false → output_array_places a.annotations ≡ []) → wrong_shape a ≡ [] → AllByRecursion (IsOutput vs) (array_outputs s a)
+array_shown vs s a sound h few seven typed placed whole = go (output_array_of a.annotations) refl seven placed whole
   where
     is_variable : (b : Bool) → a.variable ≡ b → (at : ℕ) → (a.variable ≡ false → at ∷ [] ≡ []) → wrong_element s.entries a.variable a.value_type a.list ≡ []
         → wrong_place (each_of (term_in s.entries (term_asked a.value_type)) a.list.elements) ≡ []
     is_variable true e at p t = subst (λ (b : Bool). wrong_element s.entries b a.value_type a.list ≡ []) e t
     is_variable false e at p t = let no = p e in cc
 
-    shown : (ann : Annotation) → (o : Option (List (ℤ × ℤ))) → shape_in ann ≡ o → seventh ann ≡ [] → (a.variable ≡ false → ann.name.at ∷ [] ≡ [])
+    fitting : (ann : Annotation) → output_array_of a.annotations ≡ Some ann → AnnotationFits ann
+    fitting ann e = found (λ (b : Annotation). bytes_eq OUTPUT_ARRAY b.name.bytes) AnnotationFits a.annotations ann h.5 e
+
+    shown : (ann : Annotation) → AnnotationFits ann → (o : Option (List (ℤ × ℤ))) → shape_in ann ≡ o → seventh ann ≡ [] → (a.variable ≡ false → ann.name.at ∷ [] ≡ [])
         → ◌≡◌ {A = List ℕ} (elim o [ Some shape ↦ cond (element_count shape == length a.list.elements) [] (ann.name.at ∷ []) | None ↦ [] ]) []
-        → AllByRecursion (Shown vs) (elim o [ Some shape ↦ shown_as s a shape ∷ [] | None ↦ [] ])
-    shown ann None k n p w = tt
-    shown ann (Some shape) k n p w = (
-      array_shown_of vs s a shape sound h few (shaped ann shape k n) (eqb-true (element_count shape) (length a.list.elements) (whole_shape (element_count shape == length a.list.elements) ann.name.at w))
+        → AllByRecursion (IsOutput vs) (elim o [ Some shape ↦ shown_as s a shape ∷ [] | None ↦ [] ])
+    shown ann fit None k n p w = tt
+    shown ann fit (Some shape) k n p w = (
+      array_shown_of vs s a shape sound h.4 h.3 few (shaped ann shape fit k n) (eqb-true (element_count shape) (length a.list.elements) (whole_shape (element_count shape == length a.list.elements) ann.name.at w))
           (is_variable a.variable refl ann.name.at p typed),
       tt,
     )
 
-    go : (o : Option Annotation) → annotation_of OUTPUT_ARRAY a.annotations ≡ o → ◌≡◌ {A = List ℕ} (elim o [ Some ann ↦ seventh ann | None ↦ [] ]) []
-        → (a.variable ≡ false → ◌≡◌ {A = List ℕ} (elim o [ Some ann ↦ ann.name.at ∷ [] | None ↦ [] ]) [])
-        → ◌≡◌ {A = List ℕ} (elim o [
-          | Some ann ↦ elim (shape_in ann) [ Some shape ↦ cond (element_count shape == length a.list.elements) [] (ann.name.at ∷ []) | None ↦ [] ]
+    go : (o : Option Annotation) → output_array_of a.annotations ≡ o → ◌≡◌ {A = List ℕ} (elim o [ Some ann ↦ seventh ann | None ↦ [] ]) [] → (a.variable ≡ false → ◌≡◌ {A = List ℕ} (elim o [ Some ann ↦ ann.name.at ∷ [] | None ↦ [] ]) [])
+        → ◌≡◌ {A = List ℕ} (elim (shape_from o) [
+          | Some shape ↦ cond (element_count shape == length a.list.elements) [] (elim o [ Some ann ↦ ann.name.at ∷ [] | None ↦ [] ])
           | None ↦ []
         ]) []
-        → AllByRecursion (Shown vs) (elim o [ Some ann ↦ elim (shape_in ann) [ Some shape ↦ shown_as s a shape ∷ [] | None ↦ [] ] | None ↦ [] ])
-    go None k n p w = tt
-    go (Some ann) k n p w = shown ann (shape_in ann) refl n p w
+        → AllByRecursion (IsOutput vs) (elim (shape_from o) [ Some shape ↦ shown_as s a shape ∷ [] | None ↦ [] ])
+    go None e n p w = tt
+    go (Some ann) e n p w = shown ann (fitting ann e) (shape_in ann) refl n p w

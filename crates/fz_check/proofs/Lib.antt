@@ -7,8 +7,9 @@ pub mod DraftLaws
 pub mod EntryLaws
 pub mod FaultLaws
 pub mod Finds
+pub mod Halves
 pub mod ItemFits
-pub mod Kept
+pub mod Mapped
 pub mod ModelFits
 pub mod PlaceLaws
 pub mod RowLaws

@@ -9,30 +9,30 @@ use Rattle.fz_spec.specs.declared.term.Term.TheVariants.{Var}
 use Rattle.fz_spec.specs.declared.asked.Asked.{Asked}
 use Rattle.fz_spec.specs.declared.goal.Goal.TheVariants as goals
 use Rattle.fz_spec.specs.Constraints as meaning
-use Rattle.fz_spec.specs.Instance.{Output, SearchPart}
+use Rattle.fz_spec.specs.Instance.{Output}
 use Rattle.fz_spec.specs.Instance as instance
 use Rattle.fz_spec.specs.Signatures.{Row, row_named, signature_of}
 use Rattle.fz_language.specs.declared.fault.RuleFault.TheVariants.{Unsupported, UnknownName, WrongType, WrongLengths, DeclaredTwice, OverLimit}
-use Rattle.fz_language.specs.Trees.{Basic, VariableItem, ParameterItem, ArrayItem, ConstraintItem, Item, Predicate, Variable, Parameter, Array, Constraint, SolveItem, Method, Satisfy, Minimize, Maximize}
+use Rattle.fz_language.specs.Trees.{Basic, Annotation, VariableItem, ParameterItem, ArrayItem, ConstraintItem, Item, Predicate, Variable, Parameter, Array, Constraint, SolveItem, Method, Satisfy, Minimize, Maximize}
 use Rattle.fz_language.specs.Numerals.{floats_in}
 use Rattle.fz_language.specs.Entries.{Environment, nothing_declared, term_in, resolve}
 use Rattle.fz_language.specs.Entries as entries
-use Rattle.fz_language.specs.Rules.{Fault, AVariable, Counts, none_yet, all_counted, additions, over, at_places, faults_of, item_faults, solve_faults, kind_of, term_asked, is_bound, bad_variable_type, bad_element_type, seventh_ranges, floats_of_value, unknown_of_value, unknown_in, misplaced_output_array, misplaced_output_var, malformed_output_array, in_order, arguments_in, wrong_value, wrong_element, wrong_index_set, wrong_shape, declared_already, type_additions, value_additions, array_element_additions, members_in}
+use Rattle.fz_language.specs.Rules.{Fault, AVariable, Counts, none_yet, all_counted, additions, over, at_places, faults_of, item_faults, solve_faults, kind_of, term_asked, is_bound, bad_variable_type, bad_element_type, seventh_ranges, floats_of_value, unknown_of_value, unknown_in, output_array_places, output_var_places, malformed_output_array, in_order, arguments_in, wrong_value, wrong_element, wrong_index_set, wrong_shape, declared_already, type_additions, value_additions, array_element_additions, members_in}
 use Rattle.fz_language.specs.Models.{equal_to, goal_term, Scope, empty_scope, behind, scope_behind, made, goal_of, type_set, variables_of, constraints_of, outputs_of, value_constraints, call_constraints, terms_of, bound_to}
+use Rattle.fz_language.specs.Annotations.{output_var_of, shape_among}
 use Rattle.fz_language.specs.Reads.{faults_from}
-use Rattle.fz_language.specs.Search.{search_of}
 use Rattle.fz_language.specs.Within.{BasicFits, ItemFits}
-use Rattle.fz_model.specs.Kept.{IsVariable, IsConstraint, IsOutput, IsGoal, IsSearchPart, IsIndexRange, HasShape, kind_at}
-use Rattle.fz_check.specs.Fits.{Sound, IsTextual, IsShortPart, ModelsFit}
+use Rattle.fz_model.specs.Kept.{IsVariable, IsConstraint, IsOutput, IsGoal, kind_at}
+use Rattle.fz_check.specs.Fits.{Sound, ModelsFit}
 use Rattle.fz_check.proofs.Counting.{nil_parts, variables_in, constraints_in, elements_in, Few, few, elements_both, constraints_both, variables_both, among_counted, array_counted, bound_counted, arguments_few}
-use Rattle.fz_check.proofs.ItemFits.{no_places, variable_fits, entered, parameter_fits, listing, array_entered, value_fits, elements_fit, call_fits, Shown, scalar_shown, array_shown, HasForm}
-use Rattle.fz_check.proofs.SearchFits.{both_all, search_fits, OfModel}
+use Rattle.fz_check.proofs.ItemFits.{no_places, variable_fits, entered, parameter_fits, listing, array_entered, value_fits, elements_fit, call_fits, scalar_shown, array_shown}
+use Rattle.fz_check.proofs.SearchFits.{both_all, search_fits}
 
 -- what an item makes
 record Making (vs : List instance.Variable) (s : Scope) (item : Item) : Type 0 where
   sets : AllByRecursion IsVariable (variables_of s item)
   constrained : AllByRecursion (IsConstraint vs) (constraints_of s item)
-  shown : AllByRecursion (Shown vs) (outputs_of s item)
+  shown : AllByRecursion (IsOutput vs) (outputs_of s item)
   sound : Sound vs (behind s item).entries
   count : (behind s item).variables ≡ s.variables + length (variables_of s item)
   few_variables : length (variables_of s item) ≤ variables_in (additions item)
@@ -55,7 +55,7 @@ variable_made vs s n v sound h k e w =
     let kind = k (record { kind = kind_of v.value_type; set = type_set v.value_type }) refl in
     let unsupported = at_places Unsupported (bad_variable_type v.value_type ++ seventh_ranges v.annotations ++ floats_of_value v.value) in
     let unknown = at_places UnknownName (unknown_of_value s.entries v.value) in
-    let wrong = at_places WrongType (misplaced_output_array v.annotations ++ wrong_value s.entries v.value_type v.value) in
+    let wrong = at_places WrongType (output_array_places v.annotations ++ wrong_value s.entries v.value_type v.value) in
     let p = nil_parts (unsupported ++ unknown ++ wrong) (at_places DeclaredTwice (declared_already s.entries v.name)) e in
     let q = nil_parts (unsupported ++ unknown) wrong p.0 in
     let r = nil_parts unsupported unknown q.0 in
@@ -66,7 +66,7 @@ variable_made vs s n v sound h k e w =
     record {
       sets = (variable_fits v.value_type h.0 bad (omega (arith, w.elements, elements_both (type_additions v.value_type) rest)), tt);
       constrained = value_fits vs s v v.value sound kind h.1;
-      shown = scalar_shown vs s v kind;
+      shown = scalar_shown vs s v h.2 kind;
       sound = entered vs s.entries v.name.bytes (entries.Variable (kind_of v.value_type) s.variables) sound kind;
       count = refl;
       few_variables = omega (arith, variables_both (type_additions v.value_type) rest);
@@ -108,7 +108,7 @@ array_made : (vs : List instance.Variable) (s : Scope) (n : Counts) (a : ArrayIt
 array_made vs s n a sound h e w =
     let bad = bad_element_type a.variable a.value_type in
     let seven = seventh_ranges a.annotations in
-    let places = in_order (misplaced_output_var a.annotations) (cond a.variable (malformed_output_array a.annotations) (misplaced_output_array a.annotations)) in
+    let places = in_order (output_var_places a.annotations) (cond a.variable (malformed_output_array a.annotations) (output_array_places a.annotations)) in
     let typed = wrong_element s.entries a.variable a.value_type a.list in
     let unsupported = at_places Unsupported (bad ++ seven ++ flat_map floats_in a.list.elements) in
     let unknown = at_places UnknownName (flat_map (unknown_in s.entries) a.list.elements) in
@@ -128,8 +128,8 @@ array_made vs s n a sound h e w =
     record {
       sets = tt;
       constrained = elements_fit vs s a sound h.2 few_members h.3;
-      shown = array_shown vs s a sound h.3 few (nil_parts bad seven u.0).1 types.1
-          (lists_placed (misplaced_output_var a.annotations) (malformed_output_array a.annotations) (misplaced_output_array a.annotations) a.variable types.0) lengths.1;
+      shown = array_shown vs s a sound h few (nil_parts bad seven u.0).1 types.1
+          (lists_placed (output_var_places a.annotations) (malformed_output_array a.annotations) (output_array_places a.annotations) a.variable types.0) lengths.1;
       sound = array_entered vs s.entries a sound h.3 few;
       count = omega arith;
       few_variables = omega arith;
@@ -176,7 +176,7 @@ item_made vs s n (Constraint c) sound h k e w = constraint_made vs s n c sound h
 record All (vs : List instance.Variable) (s : Scope) (n : Counts) (items : List Item) : Type 0 where
   sets : AllByRecursion IsVariable (made variables_of s items)
   constrained : AllByRecursion (IsConstraint vs) (made constraints_of s items)
-  shown : AllByRecursion (Shown vs) (made outputs_of s items)
+  shown : AllByRecursion (IsOutput vs) (made outputs_of s items)
   sound : Sound vs (scope_behind s items).entries
   few_variables : length (made variables_of s items) ≤ VARIABLE_LIMIT - n.variables
   few_constraints : length (made constraints_of s items) ≤ CONSTRAINT_LIMIT - n.constraints
@@ -205,7 +205,7 @@ all_made vs front s n (item ∷ items) solve is count sound h e =
     record {
       sets = both_all IsVariable (variables_of s item) others here.sets rest.sets;
       constrained = both_all (IsConstraint vs) (constraints_of s item) (made constraints_of (behind s item) items) here.constrained rest.constrained;
-      shown = both_all (Shown vs) (outputs_of s item) (made outputs_of (behind s item) items) here.shown rest.shown;
+      shown = both_all (IsOutput vs) (outputs_of s item) (made outputs_of (behind s item) items) here.shown rest.shown;
       sound = rest.sound;
       few_variables = omega (arith, length-append (variables_of s item) others, here.few_variables, rest.few_variables, w.variables_are, w.variables);
       few_constraints = omega (arith, length-append (constraints_of s item) (made constraints_of (behind s item) items), here.few_constraints, rest.few_constraints, w.constraints_are, w.constraints);
@@ -213,17 +213,28 @@ all_made vs front s n (item ∷ items) solve is count sound h e =
 
 -- ---- the model
 
-outputs_fit : (vs : List instance.Variable) (os : List Output) → AllByRecursion (Shown vs) os → AllByRecursion IsTextual os → AllByRecursion (IsOutput vs) os
-outputs_fit vs [] h t = tt
-outputs_fit vs (o ∷ os) h t = (record { name = t.0.0; few = h.0.few; terms = h.0.terms; shape = go o.array o.shape (length o.terms) h.0.form t.0.1 }, outputs_fit vs os h.1 t.1)
+-- at most one output item for an item
+outputs_count : (s : Scope) (item : Item) → length (outputs_of s item) ≤ 1
+outputs_count s (Predicate p) = omega arith
+outputs_count s (Parameter p) = omega arith
+outputs_count s (Constraint c) = omega arith
+outputs_count s (Variable v) = go (output_var_of v.annotations)
   where
-    go : (b : Bool) (shape : List (ℤ × ℤ)) (count : ℕ) → HasForm b shape count → AllByRecursion IsIndexRange shape → HasShape b shape count
-    go false shape count f w = f
-    go true shape count f w = record { some = f.0; few = f.1; within = w; whole = f.2 }
+    go : (o : Option Annotation) → length {A = Output} (elim o [ Some a ↦ record { name = v.name.bytes; kind = kind_of v.value_type; array = false; shape = []; terms = Var s.variables ∷ [] } ∷ [] | None ↦ [] ]) ≤ 1
+    go None = omega arith
+    go (Some a) = omega arith
+outputs_count s (Array a) = go (shape_among a.annotations)
+  where
+    go : (o : Option (List (ℤ × ℤ))) → length {A = Output} (elim o [
+      | Some shape ↦ record { name = a.name.bytes; kind = kind_of a.value_type; array = true; shape = shape; terms = terms_of s.entries (term_asked a.value_type) a.list } ∷ []
+      | None ↦ []
+    ]) ≤ 1
+    go None = omega arith
+    go (Some shape) = omega arith
 
-searched : (vs : List instance.Variable) (parts : List SearchPart) → AllByRecursion (OfModel vs) parts → AllByRecursion IsShortPart parts → AllByRecursion (IsSearchPart vs) parts
-searched vs [] h t = tt
-searched vs (part ∷ parts) h t = ((t.0, h.0), searched vs parts h.1 t.1)
+all_outputs_count : (s : Scope) (items : List Item) → length (made outputs_of s items) ≤ length items
+all_outputs_count s [] = omega arith
+all_outputs_count s (item ∷ items) = omega (arith, length-append (outputs_of s item) (made outputs_of (behind s item) items), outputs_count s item, all_outputs_count (behind s item) items)
 
 -- the faults of the solve item come behind those of items
 solved : (s : Scope) (n : Counts) (items : List Item) (solve : SolveItem) → faults_from s n items solve ≡ [] → solve_faults (scope_behind s items).entries solve ≡ []
@@ -243,18 +254,20 @@ empty_sound : (vs : List instance.Variable) → Sound vs nothing_declared
 empty_sound vs name entry e = cc
 
 pub models_fit : ModelsFit
-models_fit p h e t =
+models_fit p h e =
     let vs = made variables_of empty_scope p.items in
     let a = all_made vs [] empty_scope none_yet p.items p.solve refl refl (empty_sound vs) h.0 e in
     let env = (scope_behind empty_scope p.items).entries in
+    let size = h.2 in
+    let parts = search_fits vs env p.solve.annotations a.sound (omega (arith, size)) in
     record {
       few = a.few_variables;
       sets = a.sets;
       few_constraints = a.few_constraints;
       constrained = a.constrained;
       goal = goal_fits vs env p.solve (solved empty_scope none_yet p.items p.solve e);
-      few_outputs = t.few_outputs;
-      shown = outputs_fit vs (made outputs_of empty_scope p.items) a.shown t.textual;
-      few_parts = t.few_parts;
-      searched = searched vs (search_of env p.solve.annotations) (search_fits vs env p.solve.annotations a.sound) t.short;
+      few_outputs = omega (arith, size, all_outputs_count empty_scope p.items);
+      shown = a.shown;
+      few_parts = (let l = parts.0 in omega (arith, size, l));
+      searched = parts.1;
     }

@@ -1,13 +1,11 @@
 -- The ranges of numbers within the limits are a set.
-use Rattle.std.proofs.Common.{◌≡◌, ℕ, ◌+◌, suc, ◌≤◌, ℤ, pos, negsuc, Bool, true, false, cond, Option, Some, None, option_map, List, [], ◌∷◌, length, map, refl, ap, subst, arith, rules}
-use Rattle.std.specs.Prelude.{◌≤ℤ◌, ◌<ℤ◌, ◌+ℤ◌, int_lt, int_le}
+use Rattle.std.proofs.Common.{◌≡◌, ℕ, ◌+◌, suc, ◌≤◌, ℤ, pos, Bool, true, false, cond, Option, Some, None, option_map, List, [], ◌∷◌, length, map, refl, ap, subst, arith}
+use Rattle.std.specs.Prelude.{◌≤ℤ◌, ◌+ℤ◌, int_lt, int_le}
 use Rattle.std.specs.Bool.{Decides}
 use Rattle.std.specs.Ordering.{int_eq}
 use Rattle.std.specs.List.{AllByRecursion}
-use Rattle.std.proofs.lemmas.Int.{ints}
-use Rattle.std.proofs.lemmas.Bool.Decides.{Decides-int_eq, not_from_Decides}
 use Rattle.fz_spec.specs.declared.limits.TheConstants.{ELEMENT_LIMIT}
-use Rattle.fz_sets.specs.Sets.{IsWithinLimits, AreRanges, AreWithinLimits, interval}
+use Rattle.fz_sets.specs.Sets.{IsWithinLimits, AreWithinLimits, interval}
 use Rattle.fz_language.specs.Trees.{Number, Whole, Float, SetLiteral, Range, Braces, Basic, Truth, Numeral, Literal, Named}
 use Rattle.fz_language.specs.Numerals.{value_of, all_of, behind, with_number, ranges_of, set_in}
 use Rattle.fz_language.specs.Within.{NumberFits, SetFits, BasicFits}
@@ -15,51 +13,10 @@ use Rattle.fz_language.specs.Entries.{Environment, Entry, set_of, entry_set}
 use Rattle.fz_language.specs.Entries as entries
 use Rattle.fz_model.specs.Kept.{AreNumbers, IsSet}
 use Rattle.fz_spec.specs.Instance.{Variable}
+use Rattle.fz_language.proofs.SetProofs.{ranges_rise, Decides-int_le}
 use Rattle.fz_check.specs.Fits.{EntryFits, Sound}
+use Rattle.fz_check.proofs.Mapped.{mapped}
 use Rattle.fz_check.proofs.TermFits.{found_named}
-
--- rising ranges within the limits, all above a number
-abbrev Above : ℤ → List (ℤ × ℤ) → Type 0
-Above b [] = Unit {0}
-Above b (r ∷ rs) = (b <ℤ r.0) × (r.0 ≤ℤ r.1) × Above (r.1 +ℤ pos 1) rs
-
-lower : (b c : ℤ) (rs : List (ℤ × ℤ)) → c ≤ℤ b → Above b rs → Above c rs
-lower b c [] h a = tt
-lower b c (r ∷ rs) h a = (let l = a.0 in omega (arith, ints, h, l), a.1, a.2)
-
-rising : (b : ℤ) (rs : List (ℤ × ℤ)) → Above b rs → AreRanges rs
-rising b [] a = tt
-rising b (r ∷ []) a = a.1
-rising b (r ∷ s ∷ rs) a = (a.1, a.2.0, rising (r.1 +ℤ pos 1) (s ∷ rs) a.2)
-
-apart : (x y : ℤ) → x <ℤ y → (y ≡ x +ℤ pos 1 → ⊥) → (x +ℤ pos 1) <ℤ y
-apart x y h n = grind (arith, ints)
-
-joined_above : (b : ℤ) (r : ℤ × ℤ) (rs : List (ℤ × ℤ)) → b <ℤ r.0 → r.0 ≤ℤ r.1 → Above r.1 rs → Above b (behind r rs)
-joined_above b r [] h k a = (h, k, tt)
-joined_above b r (s ∷ rs) h k a = go (int_eq s.0 (r.1 +ℤ pos 1)) (Decides-int_eq s.0 (r.1 +ℤ pos 1))
-  where
-    go : (t : Bool) → Decides t (s.0 ≡ r.1 +ℤ pos 1) → Above b (cond t ((r.0, s.1) ∷ rs) (r ∷ s ∷ rs))
-    go true d = (h, let l = a.0 in let m = a.1 in omega (arith, ints, k, l, m), a.2)
-    go false d = (h, k, (apart r.1 s.0 a.0 (not_from_Decides false d refl), a.1, a.2))
-
-Decides-int_lt : (x y : ℤ) → Decides (int_lt x y) (x <ℤ y)
-Decides-int_lt x y = search (rules, ints)
-
-Decides-int_le : (x y : ℤ) → Decides (int_le x y) (x ≤ℤ y)
-Decides-int_le x y = search (rules, ints)
-
-beyond : (x y : ℤ) → (x ≤ℤ y → ⊥) → y <ℤ x
-beyond x y n = grind (arith, ints)
-
-more_above : (b x : ℤ) (rs : List (ℤ × ℤ)) → b <ℤ x → Above b rs → Above b (with_number x rs)
-more_above b x [] h a = (h, omega (arith, ints), tt)
-more_above b x (r ∷ rs) h a = go (λ l. more_above r.1 x rs l (lower (r.1 +ℤ pos 1) r.1 rs (omega (arith, ints)) a.2)) (int_lt x r.0) (Decides-int_lt x r.0) (int_le x r.1) (Decides-int_le x r.1)
-  where
-    go : (r.1 <ℤ x → Above r.1 (with_number x rs)) → (t : Bool) → Decides t (x <ℤ r.0) → (u : Bool) → Decides u (x ≤ℤ r.1) → Above b (cond t (behind (x, x) (r ∷ rs)) (cond u (r ∷ rs) (behind r (with_number x rs))))
-    go m true d u k = joined_above b (x, x) (r ∷ rs) h (omega (arith, ints)) (d.0 refl, a.1, a.2)
-    go m false d true k = a
-    go m false d false k = joined_above b r (with_number x rs) a.0 a.1 (m (beyond x r.1 (not_from_Decides false k refl)))
 
 -- ---- within the limits
 
@@ -99,16 +56,6 @@ more_few x (r ∷ rs) = go (more_few x rs) (int_lt x r.0) (int_le x r.1)
     go m false true = omega arith
     go m false false = omega (arith, joined_few r (with_number x rs), m)
 
-abbrev floor : ℤ
-floor = negsuc 2147483646
-
-over_floor : (x : ℤ) → IsWithinLimits x → floor <ℤ x
-over_floor x h = let l = h.0 in omega (arith, ints, l)
-
-ranges_above : (ns : List ℤ) → AreNumbers ns → Above floor (ranges_of ns)
-ranges_above [] h = tt
-ranges_above (n ∷ ns) h = more_above floor n (ranges_of ns) (over_floor n h.0) (ranges_above ns h.1)
-
 ranges_within : (ns : List ℤ) → AreNumbers ns → AreWithinLimits (ranges_of ns)
 ranges_within [] h = tt
 ranges_within (n ∷ ns) h = more_within n (ranges_of ns) h.0 (ranges_within ns h.1)
@@ -118,7 +65,7 @@ ranges_few [] = omega arith
 ranges_few (n ∷ ns) = omega (arith, more_few n (ranges_of ns), ranges_few ns)
 
 ranges_fit : (ns : List ℤ) → AreNumbers ns → length ns ≤ ELEMENT_LIMIT → IsSet (ranges_of ns)
-ranges_fit ns h few = record { ranges = rising floor (ranges_of ns) (ranges_above ns h); within = ranges_within ns h; few = omega (arith, few, ranges_few ns) }
+ranges_fit ns h few = record { ranges = ranges_rise ns; within = ranges_within ns h; few = omega (arith, few, ranges_few ns) }
 
 interval_fits : (l u : ℤ) → IsWithinLimits l → IsWithinLimits u → IsSet (interval l u)
 interval_fits l u h k = go (int_le l u) (Decides-int_le l u)
@@ -128,15 +75,6 @@ interval_fits l u h k = go (int_le l u) (Decides-int_le l u)
     go false d = record { ranges = tt; within = tt; few = omega arith }
 
 -- ---- sets that are written
-
-record Mapped {X Y : Type 0} (f : X → Y) (o : Option X) (y : Y) : Type 0 where
-  x : X
-  o_is : o ≡ Some x
-  is : f x ≡ y
-
-mapped : {X Y : Type 0} (f : X → Y) (o : Option X) (y : Y) → option_map f o ≡ Some y → Mapped f o y
-mapped f (Some x) y e = record { x = x; o_is = refl; is = cc }
-mapped f None y e = cc
 
 value_fits : (n : Number) (x : ℤ) → NumberFits n → value_of n ≡ Some x → IsWithinLimits x
 value_fits (Whole integer) x h e = let is : integer.value ≡ x = cc in subst IsWithinLimits is h

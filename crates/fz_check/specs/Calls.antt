@@ -5,7 +5,7 @@ use Rattle.fz_spec.specs.Constraints as meaning
 use Rattle.fz_spec.specs.Signatures as signatures
 use Rattle.fz_language.specs.Trees.{ConstraintItem, Expression}
 use Rattle.fz_language.specs.Entries.{Environment}
-use Rattle.fz_language.specs.Rules.{Fault, call_faults, signature_faults, row_faults, wrong_arguments, arguments_in, at_places, have_lengths, lengths_in}
+use Rattle.fz_language.specs.Rules.{Fault, call_faults, signature_faults, row_faults, wrong_arguments, arguments_in, at_places}
 use Rattle.fz_language.specs.declared.fault.RuleFault.TheVariants.{WrongLengths}
 use Rattle.fz_language.specs.Models.{call_constraints}
 use Rattle.fz_resolve.specs.declared.fault.Fault as found
@@ -35,7 +35,7 @@ AreArguments env signature es made =
 
 -- the fault of lists of other lengths than are asked
 abbrev pub wrong_lengths : signatures.Row → ℕ → List meaning.Argument → List Fault
-wrong_lengths row at arguments = at_places WrongLengths (cond (have_lengths row.lengths (lengths_in arguments)) [] (at ∷ []))
+wrong_lengths row at arguments = at_places WrongLengths (cond (signatures.have_lengths row.lengths (meaning.list_lengths arguments)) [] (at ∷ []))
 
 -- the constraint where the lists have the lengths that are asked, or else the fault that comes before, or that of the lengths
 abbrev pub IsTyped : Option found.Fault → signatures.Row → ℕ → List meaning.Argument → Result meaning.Constraint found.Fault → Type 0

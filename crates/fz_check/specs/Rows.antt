@@ -1,7 +1,8 @@
 -- Rows of the table of constraints, as values and as definitions.
-use Rattle.std.specs.Prelude.{ℕ, Bool, List, map, codes, ◌||◌}
+use Rattle.std.specs.Prelude.{ℕ, Bool, true, List, [], ◌∷◌, map, ◌&&◌}
+use Rattle.std.specs.Ordering.{is_lt, nat_cmp}
+use Rattle.std.specs.Cmp.Lexicographic.{slice_cmp}
 use denote.Ref.{Bor}
-use Rattle.fz_language.specs.Rules.{begins, ends_with}
 use Rattle.fz_spec.specs.declared.asked.Asked.{Asked}
 use Rattle.fz_spec.specs.declared.asked.Lengths.{Lengths}
 use Rattle.fz_spec.specs.declared.builtin.Builtin.{Builtin}
@@ -10,8 +11,8 @@ use Rattle.fz_spec.specs.Signatures as signatures
 abbrev pub row_of : Bor (List ℕ) × Builtin × Bor (List (Bor (List Asked))) × Lengths → signatures.Row
 row_of r = record { name = r.0.now; builtin = r.1; signatures = map (λ s. s.now) r.2.now; lengths = r.3 }
 
--- the part of the test that looks at beginnings and at the end
-abbrev pub is_of_floats_or_sets : List ℕ → Bool
-is_of_floats_or_sets name =
-    begins name (codes "float_") || begins name (codes "set_") || begins name (codes "array_float_") || begins name (codes "array_var_float_") || begins name (codes "array_set_") || begins name (codes "array_var_set_")
-    || ends_with name (codes "_imp")
+-- each name is below the next
+abbrev pub are_rising : List signatures.Row → Bool
+are_rising [] = true
+are_rising (row ∷ []) = true
+are_rising (row ∷ next ∷ rows) = is_lt (slice_cmp nat_cmp row.name next.name) && are_rising (next ∷ rows)

@@ -1,6 +1,7 @@
 //! Constraint items.
 ghost use Rattle.std.specs.Prelude.{◌≡◌, ◌++◌, ◌∷◌, [], ◌==◌, List, IfOk, OnOk, Some, None, map, find, flat_map, option_map, length, slice_get};
 ghost use Rattle.std.specs.List.{AllByRecursion, list_all};
+ghost use Rattle.fz_spec.specs.Constraints as meaning;
 ghost use Rattle.fz_spec.specs.Signatures as signatures;
 ghost use Rattle.fz_language.specs.declared.fault.RuleFault.TheVariants as rule;
 ghost use Rattle.fz_language.specs.Entries.{with_value};
@@ -192,7 +193,7 @@ fn arguments_of(
 /// The lengths of the lists among arguments.
 fn lengths_of(alloc: Global, arguments: &[Argument]) -> Result<Vec<usize>, AllocError>
     ensures { IfOk result (λ lengths. lengths.items
-        ≡ rules.lengths_in (map argument_of arguments.now)) }
+        ≡ meaning.list_lengths (map argument_of arguments.now)) }
 {
     let mut lengths = Vec::new(alloc);
     for argument in arguments {
@@ -203,7 +204,7 @@ fn lengths_of(alloc: Global, arguments: &[Argument]) -> Result<Vec<usize>, Alloc
 
 fn push_length(lengths: &mut Vec<usize>, argument: &Argument) -> Result<(), AllocError>
     ensures { OnOk result (lengths.new.items ≡ lengths.old.items
-        ++ rules.lengths_in (argument_of argument.now ∷ [])) }
+        ++ meaning.list_lengths (argument_of argument.now ∷ [])) }
 {
     match argument {
         Argument::Numbers(numbers) => lengths.push(numbers.len())?,
@@ -215,7 +216,7 @@ fn push_length(lengths: &mut Vec<usize>, argument: &Argument) -> Result<(), Allo
 
 /// Whether the lists of a constraint have the lengths that are asked.
 fn have_lengths(asked: Lengths, lengths: &[usize]) -> bool
-    ensures { result ≡ rules.have_lengths asked lengths.now }
+    ensures { result ≡ signatures.have_lengths asked lengths.now }
 {
     match (asked, lengths) {
         (Lengths::Equal, [first, rest @ ..]) => are_all(*first, rest),

@@ -12,7 +12,6 @@ ghost use Rattle.fz_resolve.specs.Meant.{environment_of};
 
 use crate::draft::Draft;
 use crate::search::search;
-use crate::textual::are_textual;
 use fz_language::fault::RuleFault;
 use fz_model::{Goal, Model};
 use fz_resolve::Fault;
@@ -22,7 +21,7 @@ use std::alloc::{AllocError, Global};
 /// The model of a program, or the first rule that its first item breaks.
 ///
 /// # Errors
-/// `AllocError` where there is no memory, and for a program that is larger than a text within its limit spells.
+/// `AllocError` where there is no memory.
 pub fn check(alloc: Global, program: &Program<'_>) -> Result<Result<Model, Fault>, AllocError>
     requires { ProgramFits (trees.program_of program.now) }
     ensures { IfOk result (IsCheckOf (trees.program_of program.now)) }
@@ -61,9 +60,6 @@ fn model_of(alloc: Global, draft: Draft<'_>, program: &Program<'_>) -> Result<Mo
     ensures { IfOk result (λ m. m ≡ models.model_of (trees.program_of program.now)) }
 {
     let parts = search(alloc, &draft.names, &program.solve.annotations)?;
-    if !are_textual(&draft.outputs, &parts) {
-        return Err(AllocError);
-    }
     let Draft {
         names: _names,
         variables,

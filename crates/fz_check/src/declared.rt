@@ -8,7 +8,7 @@ ghost use Rattle.fz_language.specs.Trees as lang;
 ghost use Rattle.fz_language.specs.Within.{BasicFits};
 ghost use Rattle.fz_syntax.specs.Trees as trees;
 ghost use Rattle.fz_resolve.specs.Meant.{environment_of, meant};
-ghost use Rattle.fz_resolve.specs.Shapes.{shape_among};
+ghost use Rattle.fz_language.specs.Annotations.{shape_among};
 ghost use Rattle.fz_check.specs.Checked.{IsFirstOf};
 
 use crate::faults::{first_place, or_else};
@@ -48,7 +48,7 @@ fn unknown_in_value(names: &Names<'_>, value: &Option<Basic<'_>>) -> Option<u32>
 
 fn wrong_at_variable(names: &Names<'_>, item: &VariableItem<'_>) -> Option<u32>
     ensures { let v = trees.variable_item_of item.now in
-        result ≡ slice_get (rules.misplaced_output_array v.annotations
+        result ≡ slice_get (rules.output_array_places v.annotations
         ++ rules.wrong_value (environment_of names.now) v.value_type v.value) 0 }
 {
     let misplaced = output_array_at(&item.annotations);

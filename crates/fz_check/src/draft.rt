@@ -11,7 +11,7 @@ ghost use Rattle.fz_language.specs.Within.{ItemFits, VariableFits, ParameterFits
 ghost use Rattle.fz_model.specs.Kept.{IsVariable};
 ghost use Rattle.fz_syntax.specs.Trees as trees;
 ghost use Rattle.fz_resolve.specs.Meant.{environment_of, meant};
-ghost use Rattle.fz_resolve.specs.Shapes.{shape_among};
+ghost use Rattle.fz_language.specs.Annotations.{shape_among};
 ghost use Rattle.fz_check.specs.Drafts.{scope_of, IsCounted, IsAdded, Adds};
 ghost use Rattle.fz_check.specs.Entered.{IsArrayEntry};
 ghost use Rattle.fz_check.specs.Parts.{scope};

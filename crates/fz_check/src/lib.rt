@@ -15,7 +15,6 @@ mod rows;
 mod search;
 #[cfg(test)]
 mod tests;
-mod textual;
 
 pub use checker::check;
 pub use fz_resolve::Fault;

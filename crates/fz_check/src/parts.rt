@@ -10,7 +10,7 @@ ghost use Rattle.fz_language.specs.Within.{TypeFits, PlainFits};
 ghost use Rattle.fz_model.specs.Kept.{IsVariable};
 ghost use Rattle.fz_syntax.specs.Trees as trees;
 ghost use Rattle.fz_resolve.specs.Meant.{environment_of, meant};
-ghost use Rattle.fz_resolve.specs.Shapes.{shape_among};
+ghost use Rattle.fz_language.specs.Annotations.{shape_among};
 ghost use Rattle.fz_check.specs.Parts.{scope, value_term, equal_to_value};
 
 use fz_dom::Dom;

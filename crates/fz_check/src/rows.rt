@@ -1,8 +1,8 @@
 //! Names of constraints.
-ghost use Rattle.std.specs.Prelude.{◌≡◌, option_map, option_copied, bytes_eq, codes, ◌||◌, find, map};
+ghost use Rattle.std.specs.Prelude.{◌≡◌, true, option_map, option_copied, bytes_eq, codes, ◌||◌, find, map};
 ghost use Rattle.fz_spec.specs.Signatures as signatures;
 ghost use Rattle.fz_language.specs.Rules as rules;
-ghost use Rattle.fz_check.specs.Rows.{row_of, is_of_floats_or_sets};
+ghost use Rattle.fz_check.specs.Rows.{row_of, are_rising};
 
 use fz_spec::row::{ROWS, Row};
 
@@ -13,23 +13,16 @@ pub(crate) fn row_named(name: &[u8]) -> Option<&'static Row>
     row_among(&ROWS, name)
 }
 
-/// The first row of a name.
+/// The row of a name among rows that rise by their names, found by halves.
 fn row_among<'r>(rows: &'r [Row], name: &[u8]) -> Option<&'r Row>
+    requires { are_rising (map row_of rows.now) ≡ true }
     ensures { option_map row_of (option_copied result)
         ≡ find (λ (row : signatures.Row). bytes_eq name.now row.name) (map row_of rows.now) }
 {
-    for row in rows {
-        if is_named(row, name) {
-            return Some(row);
-        }
+    match rows.binary_search_by(|row| row.0.cmp(name)) {
+        Ok(place) => Some(&rows[place]),
+        Err(_) => None,
     }
-    None
-}
-
-fn is_named(row: &Row, name: &[u8]) -> bool
-    ensures { result ≡ bytes_eq name.now (row_of row.now).name }
-{
-    name == row.0
 }
 
 /// Whether a name that isn't in the table is one of a constraint that FlatZinc has and fzn has not: over floats, over sets that
@@ -53,7 +46,7 @@ fn ends_with(name: &[u8], suffix: &[u8]) -> bool
 }
 
 fn is_of_floats_or_sets(name: &[u8]) -> bool
-    ensures { result ≡ is_of_floats_or_sets name.now }
+    ensures { result ≡ rules.is_of_floats_or_sets name.now }
 {
     begins(name, b"float_")
         || begins(name, b"set_")

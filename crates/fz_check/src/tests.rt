@@ -12,25 +12,24 @@ use fz_syntax::{
 use std::alloc::{AllocError, Global};
 use std::test::Fail;
 
-fn name<'a>(text: &'a str, at: u32) -> Name<'a> {
-    Name {
-        bytes: text.as_bytes(),
-        at,
-    }
-}
-
 /// `var bool: b :: output_var;` and a goal.
 fn program(alloc: Global, method: Method<'static>) -> Result<Program<'static>, AllocError>
     requires { MethodFits (method_of method) }
     ensures { IfOk result (λ p. ProgramFits (program_of p)) }
 {
     let annotation = Annotation {
-        name: name("output_var", 15),
+        name: Name {
+            bytes: b"output_var",
+            at: 15,
+        },
         arguments: None,
     };
     let variable = VariableItem {
         value_type: ValueType::One(Plain::AnyBool { at: 4 }),
-        name: name("b", 10),
+        name: Name {
+            bytes: b"b",
+            at: 10,
+        },
         annotations: Vec::from_array(alloc, [annotation])?,
         value: None,
     };

@@ -5,4 +5,5 @@ pub mod Steps
 pub mod Levels
 pub mod One
 pub mod Carrying
+pub mod Weighing
 pub mod Some

@@ -3,4 +3,5 @@ pub mod Reading
 pub mod Tables
 pub mod Verdict
 pub mod Carried
+pub mod Weighed
 pub mod Lefts

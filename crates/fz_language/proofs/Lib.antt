@@ -12,3 +12,4 @@ pub mod Decisions
 pub mod SomeTokens
 pub mod SomeReading
 pub mod TextExamples
+pub mod SetProofs

@@ -6,12 +6,12 @@ use Rattle.fz_spec.specs.declared.limits.TheConstants.{TEXT_LIMIT}
 use Rattle.fz_spec.specs.Instance.{Instance}
 use Rattle.fz_language.specs.declared.fault.SyntaxFault.TheVariants.{Unexpected, TooDeep}
 use Rattle.fz_language.specs.Places.{line_of, column_of}
-use Rattle.fz_language.specs.Tokens.{Token}
+use Rattle.fz_language.specs.Tokens.{Token, place_in}
 use Rattle.fz_language.specs.Grammar.{Spells, Breaks, IsTooDeep}
 use Rattle.fz_language.specs.Trees.{Program}
 use Rattle.fz_language.specs.Rules.{Fault}
 use Rattle.fz_language.specs.Models.{model_of}
-use Rattle.fz_language.specs.Reads.{IsShort, token_code, syntax_code, place_of, IsUnlexed, IsUnspelt, IsProgramText, IsWrong, IsFirst, IsRefusedAt, IsAccepted, program_faults, Accepted, Refused}
+use Rattle.fz_language.specs.Reads.{IsShort, token_code, syntax_code, IsUnlexed, IsUnspelt, IsProgramText, IsWrong, IsFirst, IsRefusedAt, IsAccepted, program_faults, Accepted, Refused}
 use Rattle.fz_language.specs.Laws.{ReadingIsOne}
 use Rattle.fz_language.proofs.RuleLaws.{one_first}
 use Rattle.fz_language.proofs.SyntaxProofs.{spelling_is_one, fault_is_one, depth_is_one, verdict_is_one}
@@ -31,9 +31,9 @@ one_program text p q h k =
 
 -- where the syntax breaks at one place each
 one_syntax : (text : List ℕ) (ts bs ds : List Token) (c d : Code) → ((c ≡ syntax_code Unexpected) × Breaks ts bs) ⊎ ((c ≡ syntax_code TooDeep) × IsTooDeep ts bs)
-    → ((d ≡ syntax_code Unexpected) × Breaks ts ds) ⊎ ((d ≡ syntax_code TooDeep) × IsTooDeep ts ds) → Alike c d (place_of text bs) (place_of text ds)
-one_syntax text ts bs ds c d (inl h) (inl k) = record { code = h.0 ∙ sym k.0; place = ap (place_of text) (fault_is_one ts bs ds h.1 k.1) }
-one_syntax text ts bs ds c d (inr h) (inr k) = record { code = h.0 ∙ sym k.0; place = ap (place_of text) (depth_is_one ts bs ds h.1 k.1) }
+    → ((d ≡ syntax_code Unexpected) × Breaks ts ds) ⊎ ((d ≡ syntax_code TooDeep) × IsTooDeep ts ds) → Alike c d (place_in text bs) (place_in text ds)
+one_syntax text ts bs ds c d (inl h) (inl k) = record { code = h.0 ∙ sym k.0; place = ap (place_in text) (fault_is_one ts bs ds h.1 k.1) }
+one_syntax text ts bs ds c d (inr h) (inr k) = record { code = h.0 ∙ sym k.0; place = ap (place_in text) (depth_is_one ts bs ds h.1 k.1) }
 one_syntax text ts bs ds c d (inl h) (inr k) = absurd (verdict_is_one.0 ts bs ds h.1 k.1)
 one_syntax text ts bs ds c d (inr h) (inl k) = absurd (verdict_is_one.0 ts ds bs k.1 h.1)
 

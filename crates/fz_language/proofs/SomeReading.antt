@@ -6,11 +6,11 @@ use Rattle.fz_spec.specs.declared.code.Code.{Code}
 use Rattle.fz_spec.specs.declared.code.Code.TheVariants as code
 use Rattle.fz_language.specs.declared.fault.SyntaxFault.TheVariants.{Unexpected, TooDeep}
 use Rattle.fz_language.specs.Places.{line_of, column_of}
-use Rattle.fz_language.specs.Tokens.{Token, AreTokensOf}
+use Rattle.fz_language.specs.Tokens.{Token, AreTokensOf, place_in}
 use Rattle.fz_language.specs.Trees.{Program}
 use Rattle.fz_language.specs.Grammar.{Spells, Breaks, IsTooDeep}
 use Rattle.fz_language.specs.Models.{model_of}
-use Rattle.fz_language.specs.Reads.{token_code, syntax_code, program_faults, IsShort, place_of, IsProgramText, IsFirst, IsRefusedAt, Reading, Accepted, Refused, Reads}
+use Rattle.fz_language.specs.Reads.{token_code, syntax_code, program_faults, IsShort, IsProgramText, IsFirst, IsRefusedAt, Reading, Accepted, Refused, Reads}
 use Rattle.fz_language.specs.Laws.{SomeReading}
 use Rattle.fz_language.proofs.RuleLaws.{judged}
 use Rattle.fz_language.proofs.SyntaxProofs.{some_verdict_is}
@@ -29,9 +29,9 @@ of_program text p s (inr f) = refused text f.0 f.1 (inr (inr (inr (record { prog
 of_tokens : (text : List ℕ) (ts : List Token) → IsShort text → AreTokensOf text ts → ((p : Program) × Spells ts p) ⊎ (((b : List Token) × Breaks ts b) ⊎ ((b : List Token) × IsTooDeep ts b)) → HasReading text
 of_tokens text ts s l (inl p) = of_program text p.0 (record { short = s; tokens = ts; lexed = l; spelt = p.1 }) (judged (program_faults p.0))
 of_tokens text ts s l (inr (inl b)) =
-    refused text (syntax_code Unexpected) (place_of text b.0) (inr (inr (inl (record { short = s; tokens = ts; lexed = l; tokens_behind = b.0; fault = inl (refl, b.1); place = refl }))))
+    refused text (syntax_code Unexpected) (place_in text b.0) (inr (inr (inl (record { short = s; tokens = ts; lexed = l; tokens_behind = b.0; fault = inl (refl, b.1); place = refl }))))
 of_tokens text ts s l (inr (inr b)) =
-    refused text (syntax_code TooDeep) (place_of text b.0) (inr (inr (inl (record { short = s; tokens = ts; lexed = l; tokens_behind = b.0; fault = inr (refl, b.1); place = refl }))))
+    refused text (syntax_code TooDeep) (place_in text b.0) (inr (inr (inl (record { short = s; tokens = ts; lexed = l; tokens_behind = b.0; fault = inr (refl, b.1); place = refl }))))
 
 pub some_reading : SomeReading
 some_reading text = elim (cases_lt TEXT_LIMIT (length text)) [

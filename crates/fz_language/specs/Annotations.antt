@@ -1,5 +1,5 @@
 -- Annotations that say something: those of output and of search.
-use Rattle.std.specs.Prelude.{ℕ, ℤ, Option, Some, None, List, [], ◌∷◌, map, find, bytes_eq, slice_get, length, ◌&&◌, ◌==◌}
+use Rattle.std.specs.Prelude.{ℕ, ℤ, Option, Some, None, List, [], ◌∷◌, map, find, bytes_eq, codes, slice_get, length, ◌&&◌, ◌==◌}
 use Rattle.fz_language.specs.Trees.{Annotation, Argument, Arguments, Simple, Text, Call, Brackets, Nil, More, Literal, Range, Whole, basic_at}
 use Rattle.fz_language.specs.Numerals.{all_of}
 
@@ -41,6 +41,25 @@ shape_in a = elim (bracketed (arguments_of a)) [
   | [] ↦ None
   | argument ∷ others ↦ all_of (map range_of (argument ∷ others))
 ]
+
+-- ---- `output_var`, `output_array`
+
+abbrev pub OUTPUT_VAR : List ℕ
+OUTPUT_VAR = codes "output_var"
+
+abbrev pub OUTPUT_ARRAY : List ℕ
+OUTPUT_ARRAY = codes "output_array"
+
+-- the annotation `output_var` without arguments
+abbrev pub output_var_of : List Annotation → Option Annotation
+output_var_of annotations = plain_annotation_of OUTPUT_VAR annotations
+
+abbrev pub output_array_of : List Annotation → Option Annotation
+output_array_of annotations = annotation_of OUTPUT_ARRAY annotations
+
+-- the index ranges of the annotation `output_array`, if it has its form
+abbrev pub shape_among : List Annotation → Option (List (ℤ × ℤ))
+shape_among annotations = elim (output_array_of annotations) [ Some a ↦ shape_in a | None ↦ None ]
 
 -- the place of a seventh index range
 abbrev pub seventh : Annotation → List ℕ

@@ -16,3 +16,4 @@ pub mod Models
 pub mod Reads
 pub mod Examples
 pub mod Laws
+pub mod SetLaws

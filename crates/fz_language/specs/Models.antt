@@ -18,8 +18,8 @@ use Rattle.fz_language.specs.Trees.{Plain, AnyBool, AnyInt, AnyFloat, Within, Va
 use Rattle.fz_language.specs.Numerals.{set_in}
 use Rattle.fz_language.specs.Entries.{Environment, Entry, nothing_declared, with_entry, term_in, set_of, each_of, number_of}
 use Rattle.fz_language.specs.Entries as entries
-use Rattle.fz_language.specs.Annotations.{annotation_of, plain_annotation_of, shape_in}
-use Rattle.fz_language.specs.Rules.{OUTPUT_VAR, OUTPUT_ARRAY, kind_of, term_asked, arguments_in, is_bound}
+use Rattle.fz_language.specs.Annotations.{output_var_of, shape_among}
+use Rattle.fz_language.specs.Rules.{kind_of, term_asked, number_asked, arguments_in, is_bound}
 use Rattle.fz_language.specs.Search.{search_of}
 
 -- ---- sets
@@ -41,12 +41,12 @@ abbrev pub terms_of : Environment → Element → ListLiteral → List Term
 terms_of env e list = elim (each_of (term_in env e) list.elements) [ Ok terms ↦ terms | Err at ↦ [] ]
 
 abbrev pub parameter_entry : Environment → ValueType → Basic → Option Entry
-parameter_entry env (One plain) basic = elim (term_in env (record { kind = kind_of (One plain); may_vary = false }) basic) [ Some t ↦ Some (entries.Value (kind_of (One plain)) (number_of t)) | None ↦ None ]
+parameter_entry env (One plain) basic = elim (term_in env (number_asked (One plain)) basic) [ Some t ↦ Some (entries.Value (kind_of (One plain)) (number_of t)) | None ↦ None ]
 parameter_entry env (SetOf at plain) basic = elim (set_of env basic) [ Some set ↦ Some (entries.Set set) | None ↦ None ]
 
 abbrev pub array_entry : Environment → ArrayItem → Bool → ValueType → Entry
 array_entry env a true t = entries.Terms (kind_of t) (terms_of env (term_asked t) a.list)
-array_entry env a false (One plain) = entries.Numbers (kind_of (One plain)) (map number_of (terms_of env (record { kind = kind_of (One plain); may_vary = false }) a.list))
+array_entry env a false (One plain) = entries.Numbers (kind_of (One plain)) (map number_of (terms_of env (number_asked (One plain)) a.list))
 array_entry env a false (SetOf at plain) = entries.Sets
 
 -- what stands before an item: what names stand for, and how many variables there are
@@ -120,18 +120,15 @@ constraints_of s (Parameter p) = []
 
 -- a variable with the annotation `output_var` without arguments
 abbrev pub scalar_outputs : Scope → VariableItem → List Output
-scalar_outputs s v = elim (plain_annotation_of OUTPUT_VAR v.annotations) [
+scalar_outputs s v = elim (output_var_of v.annotations) [
   | Some a ↦ record { name = v.name.bytes; kind = kind_of v.value_type; array = false; shape = []; terms = Var s.variables ∷ [] } ∷ []
   | None ↦ []
 ]
 
 -- an array with the annotation `output_array`
 abbrev pub array_outputs : Scope → ArrayItem → List Output
-array_outputs s a = elim (annotation_of OUTPUT_ARRAY a.annotations) [
-  | Some annotation ↦ elim (shape_in annotation) [
-    | Some shape ↦ record { name = a.name.bytes; kind = kind_of a.value_type; array = true; shape = shape; terms = terms_of s.entries (term_asked a.value_type) a.list } ∷ []
-    | None ↦ []
-  ]
+array_outputs s a = elim (shape_among a.annotations) [
+  | Some shape ↦ record { name = a.name.bytes; kind = kind_of a.value_type; array = true; shape = shape; terms = terms_of s.entries (term_asked a.value_type) a.list } ∷ []
   | None ↦ []
 ]
 

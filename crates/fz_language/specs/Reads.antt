@@ -12,7 +12,7 @@ use Rattle.fz_language.specs.declared.fault.SyntaxFault.TheVariants.{Unexpected,
 use Rattle.fz_language.specs.declared.fault.RuleFault.{RuleFault}
 use Rattle.fz_language.specs.declared.fault.RuleFault.TheVariants as rule
 use Rattle.fz_language.specs.Places.{line_of, column_of}
-use Rattle.fz_language.specs.Tokens.{Token, AreTokensOf, HasFault}
+use Rattle.fz_language.specs.Tokens.{Token, place_in, AreTokensOf, HasFault}
 use Rattle.fz_language.specs.Grammar.{Spells, Breaks, IsTooDeep}
 use Rattle.fz_language.specs.Trees.{Item, Program, SolveItem}
 use Rattle.fz_language.specs.Rules.{Fault, Counts, none_yet, all_counted, additions, faults_of, solve_faults}
@@ -53,11 +53,6 @@ program_faults p = faults_from empty_scope none_yet p.items p.solve
 abbrev pub IsShort : List ℕ → Type 0
 IsShort text = length text ≤ TEXT_LIMIT
 
--- the place of the first of these tokens, or the end of the text
-abbrev pub place_of : List ℕ → List Token → ℕ
-place_of text [] = length text
-place_of text (t ∷ ts) = t.at
-
 -- a text that is too long, at the first byte over the limit
 pub record IsTooLong (text : List ℕ) (c : Code) (at : ℕ) : Type 0 where
   pub long : TEXT_LIMIT < length text
@@ -78,7 +73,7 @@ pub record IsUnspelt (text : List ℕ) (c : Code) (at : ℕ) : Type 0 where
   pub lexed : AreTokensOf text tokens
   pub tokens_behind : List Token
   pub fault : ((c ≡ syntax_code Unexpected) × Breaks tokens tokens_behind) ⊎ ((c ≡ syntax_code TooDeep) × IsTooDeep tokens tokens_behind)
-  pub place : at ≡ place_of text tokens_behind
+  pub place : at ≡ place_in text tokens_behind
 
 -- a text whose tokens spell a program
 pub record IsProgramText (text : List ℕ) (p : Program) : Type 0 where

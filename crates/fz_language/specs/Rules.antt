@@ -1,33 +1,23 @@
 -- Rules that an item may break, and where: each a list of places in the order of the text (fzn's own rules; the types are those of
 -- the MiniZinc Handbook, "FlatZinc").
-use Rattle.std.specs.Prelude.{ℕ, ℤ, pos, ◌+◌, ◌*◌, Bool, true, false, cond, ◌==◌, nat_lt, Option, Some, None, List, [], ◌∷◌, ◌++◌, map, flat_map, length, codes, bytes_eq, reverse, ◌&&◌, ◌||◌, ◌%◌}
-use Rattle.std.specs.List.{list_all}
+use Rattle.std.specs.Prelude.{ℕ, ℤ, pos, ◌+◌, ◌*◌, Bool, true, false, cond, ◌==◌, nat_lt, Option, Some, None, List, [], ◌∷◌, ◌++◌, map, flat_map, length, codes, bytes_eq, reverse, ◌&&◌, ◌||◌}
 use Rattle.std.specs.Ordering.{int_eq}
 use Rattle.std.specs.Prelude.{Result, Ok, Err}
-use Rattle.fz_sets.specs.Sets.{interval, set_size}
 use Rattle.fz_spec.specs.declared.kind.Kind.{Kind}
 use Rattle.fz_spec.specs.declared.kind.Kind.TheVariants as kinds
 use Rattle.fz_spec.specs.declared.asked.Element.{Element}
 use Rattle.fz_spec.specs.declared.asked.Asked.{Asked}
 use Rattle.fz_spec.specs.declared.asked.Asked.TheVariants as asked
-use Rattle.fz_spec.specs.declared.asked.Lengths.{Lengths}
-use Rattle.fz_spec.specs.declared.asked.Lengths.TheVariants as lengths
 use Rattle.fz_spec.specs.declared.limits.TheConstants.{VARIABLE_LIMIT, CONSTRAINT_LIMIT, ELEMENT_LIMIT}
-use Rattle.fz_spec.specs.Constraints.{Argument}
-use Rattle.fz_spec.specs.Constraints as meaning
-use Rattle.fz_spec.specs.Signatures.{Row, row_named, signature_of}
+use Rattle.fz_spec.specs.Constraints.{Argument, list_lengths}
+use Rattle.fz_spec.specs.Instance.{element_count}
+use Rattle.fz_spec.specs.Signatures.{Row, row_named, signature_of, have_lengths}
 use Rattle.fz_language.specs.declared.fault.RuleFault.{RuleFault}
 use Rattle.fz_language.specs.declared.fault.RuleFault.TheVariants.{Unsupported, UnknownConstraint, WrongArity, UnknownName, WrongType, WrongLengths, DeclaredTwice, OverLimit}
 use Rattle.fz_language.specs.Trees.{Name, SetLiteral, Range, Braces, Plain, AnyBool, AnyInt, AnyFloat, Within, ValueType, One, SetOf, Basic, Truth, Numeral, Literal, Named, Expression, Scalar, Listed, ListLiteral, Annotation, ArrayItem, ConstraintItem, Item, Predicate, Variable, Parameter, Array, Constraint, SolveItem, Satisfy, Minimize, Maximize, number_at, type_at, basic_at}
 use Rattle.fz_language.specs.Numerals.{floats_in, floats_of_set}
 use Rattle.fz_language.specs.Entries.{Environment, term_in, set_of, resolve, each_of}
-use Rattle.fz_language.specs.Annotations.{annotation_of, plain_annotation_of, shape_in, seventh}
-
-abbrev pub OUTPUT_VAR : List ℕ
-OUTPUT_VAR = codes "output_var"
-
-abbrev pub OUTPUT_ARRAY : List ℕ
-OUTPUT_ARRAY = codes "output_array"
+use Rattle.fz_language.specs.Annotations.{output_var_of, output_array_of, shape_among, seventh}
 
 -- ---- what is asked of values
 
@@ -43,9 +33,12 @@ kind_of (SetOf at plain) = kinds.Int
 abbrev pub term_asked : ValueType → Element
 term_asked t = record { kind = kind_of t; may_vary = true }
 
--- and of a parameter of this type
+-- the same of a parameter, or of an array of parameters
+abbrev pub number_asked : ValueType → Element
+number_asked t = record { kind = kind_of t; may_vary = false }
+
 abbrev pub value_asked : ValueType → Asked
-value_asked (One plain) = asked.One (record { kind = kind_of (One plain); may_vary = false })
+value_asked (One plain) = asked.One (number_asked (One plain))
 value_asked (SetOf at plain) = asked.Set
 
 -- ---- unsupported
@@ -81,11 +74,15 @@ begins (a ∷ name) (b ∷ prefix) = (a == b) && begins name prefix
 abbrev pub ends_with : List ℕ → List ℕ → Bool
 ends_with name suffix = begins (reverse name) (reverse suffix)
 
--- of the names that the table has not: a constraint over floats, over sets that vary, a half reified one, a power, a conversion to floats
+-- of the names that the table has not: a constraint over floats, over sets that vary, or a half reified one
+abbrev pub is_of_floats_or_sets : List ℕ → Bool
+is_of_floats_or_sets name =
+    begins name (codes "float_") || begins name (codes "set_") || begins name (codes "array_float_") || begins name (codes "array_var_float_") || begins name (codes "array_set_") || begins name (codes "array_var_set_")
+    || ends_with name (codes "_imp")
+
+-- or a power, or a conversion to floats
 abbrev pub is_unsupported : List ℕ → Bool
-is_unsupported name =
-    bytes_eq name (codes "int_pow") || bytes_eq name (codes "int2float") || begins name (codes "float_") || begins name (codes "set_") || begins name (codes "array_float_") || begins name (codes "array_var_float_")
-    || begins name (codes "array_set_") || begins name (codes "array_var_set_") || ends_with name (codes "_imp")
+is_unsupported name = bytes_eq name (codes "int_pow") || bytes_eq name (codes "int2float") || is_of_floats_or_sets name
 
 abbrev pub named_unsupported : Name → List ℕ
 named_unsupported name = elim (row_named name.bytes) [ Some row ↦ [] | None ↦ cond (is_unsupported name.bytes) (name.at ∷ []) [] ]
@@ -95,7 +92,7 @@ named_unknown name = elim (row_named name.bytes) [ Some row ↦ [] | None ↦ co
 
 -- the place of the seventh index range of the annotation `output_array`
 abbrev pub seventh_ranges : List Annotation → List ℕ
-seventh_ranges annotations = elim (annotation_of OUTPUT_ARRAY annotations) [ Some a ↦ seventh a | None ↦ [] ]
+seventh_ranges annotations = elim (output_array_of annotations) [ Some a ↦ seventh a | None ↦ [] ]
 
 abbrev pub floats_of_value : Option Basic → List ℕ
 floats_of_value (Some basic) = floats_in basic
@@ -135,7 +132,7 @@ wrong_value env t None = []
 
 abbrev pub wrong_element : Environment → Bool → ValueType → ListLiteral → List ℕ
 wrong_element env true t list = wrong_place (each_of (term_in env (term_asked t)) list.elements)
-wrong_element env false (One plain) list = wrong_place (each_of (term_in env (record { kind = kind_of (One plain); may_vary = false })) list.elements)
+wrong_element env false (One plain) list = wrong_place (each_of (term_in env (number_asked (One plain))) list.elements)
 wrong_element env false (SetOf at plain) list = wrong_place (each_of (set_of env) list.elements)
 
 abbrev pub wrong_arguments : Environment → List Asked → List Expression → List ℕ
@@ -143,17 +140,16 @@ wrong_arguments env (wanted ∷ rest) (e ∷ es) = wrong_place (resolve env want
 wrong_arguments env [] es = []
 wrong_arguments env (wanted ∷ rest) [] = []
 
--- an annotation `output_var` without arguments where it has no place
-abbrev pub misplaced_output_var : List Annotation → List ℕ
-misplaced_output_var annotations = elim (plain_annotation_of OUTPUT_VAR annotations) [ Some a ↦ a.name.at ∷ [] | None ↦ [] ]
+-- where an annotation `output_var` without arguments stands, and where an annotation `output_array`
+abbrev pub output_var_places : List Annotation → List ℕ
+output_var_places annotations = elim (output_var_of annotations) [ Some a ↦ a.name.at ∷ [] | None ↦ [] ]
 
--- an annotation `output_array` where it has no place
-abbrev pub misplaced_output_array : List Annotation → List ℕ
-misplaced_output_array annotations = elim (annotation_of OUTPUT_ARRAY annotations) [ Some a ↦ a.name.at ∷ [] | None ↦ [] ]
+abbrev pub output_array_places : List Annotation → List ℕ
+output_array_places annotations = elim (output_array_of annotations) [ Some a ↦ a.name.at ∷ [] | None ↦ [] ]
 
 -- an annotation `output_array` that isn't one list of integer ranges
 abbrev pub malformed_output_array : List Annotation → List ℕ
-malformed_output_array annotations = elim (annotation_of OUTPUT_ARRAY annotations) [ Some a ↦ elim (shape_in a) [ Some shape ↦ [] | None ↦ a.name.at ∷ [] ] | None ↦ [] ]
+malformed_output_array annotations = elim (shape_among annotations) [ Some shape ↦ [] | None ↦ output_array_places annotations ]
 
 -- the two in the order of their places
 abbrev pub in_order : List ℕ → List ℕ → List ℕ
@@ -163,36 +159,20 @@ in_order more [] = more
 
 -- ---- lengths
 
-abbrev pub lengths_in : List Argument → List ℕ
-lengths_in [] = []
-lengths_in (meaning.One term ∷ arguments) = lengths_in arguments
-lengths_in (meaning.Numbers ns ∷ arguments) = length ns ∷ lengths_in arguments
-lengths_in (meaning.Terms ts ∷ arguments) = length ts ∷ lengths_in arguments
-lengths_in (meaning.Set set ∷ arguments) = lengths_in arguments
-
--- whether the lengths of a constraint's lists are those that its row asks
-abbrev pub have_lengths : Lengths → List ℕ → Bool
-have_lengths lengths.Equal (n ∷ ns) = list_all (λ m. m == n) ns
-have_lengths lengths.Rows (n ∷ m ∷ []) = nat_lt 0 n && (m % n == 0)
-have_lengths wanted ns = true
-
 -- the arguments that are of the types that are asked
 abbrev pub arguments_in : Environment → List Asked → List Expression → List Argument
 arguments_in env (wanted ∷ rest) (e ∷ es) = elim (resolve env wanted e) [ Ok argument ↦ argument ∷ arguments_in env rest es | Err at ↦ arguments_in env rest es ]
 arguments_in env [] es = []
 arguments_in env (wanted ∷ rest) [] = []
 
-abbrev pub element_count : List (ℤ × ℤ) → ℕ
-element_count [] = 1
-element_count (r ∷ shape) = set_size (interval r.0 r.1) * element_count shape
-
 -- index sets are 1..n, n the number of elements
 abbrev pub wrong_index_set : ArrayItem → List ℕ
 wrong_index_set a = cond (int_eq a.low.value (pos 1) && int_eq a.high.value (pos (length a.list.elements))) [] (a.name.at ∷ [])
 
+-- the index ranges for output have as many elements as the array
 abbrev pub wrong_shape : ArrayItem → List ℕ
-wrong_shape a = elim (annotation_of OUTPUT_ARRAY a.annotations) [
-  | Some annotation ↦ elim (shape_in annotation) [ Some shape ↦ cond (element_count shape == length a.list.elements) [] (annotation.name.at ∷ []) | None ↦ [] ]
+wrong_shape a = elim (shape_among a.annotations) [
+  | Some shape ↦ cond (element_count shape == length a.list.elements) [] (output_array_places a.annotations)
   | None ↦ []
 ]
 
@@ -296,7 +276,7 @@ abbrev pub signature_faults : Environment → ConstraintItem → Row → Option 
 signature_faults env c row None = at_places WrongArity (c.name.at ∷ []) ++ at_places UnknownName (flat_map (unknown_of env) c.arguments)
 signature_faults env c row (Some signature) =
     at_places UnknownName (flat_map (unknown_of env) c.arguments) ++ at_places WrongType (wrong_arguments env signature c.arguments)
-    ++ at_places WrongLengths (cond (have_lengths row.lengths (lengths_in (arguments_in env signature c.arguments))) [] (c.name.at ∷ []))
+    ++ at_places WrongLengths (cond (have_lengths row.lengths (list_lengths (arguments_in env signature c.arguments))) [] (c.name.at ∷ []))
 
 abbrev pub row_faults : Environment → ConstraintItem → Option Row → List Fault
 row_faults env c None = at_places UnknownConstraint (named_unknown c.name) ++ at_places UnknownName (flat_map (unknown_of env) c.arguments)
@@ -311,17 +291,17 @@ item_faults env (Predicate p) = []
 item_faults env (Variable v) =
     at_places Unsupported (bad_variable_type v.value_type ++ seventh_ranges v.annotations ++ floats_of_value v.value)
     ++ at_places UnknownName (unknown_of_value env v.value)
-    ++ at_places WrongType (misplaced_output_array v.annotations ++ wrong_value env v.value_type v.value)
+    ++ at_places WrongType (output_array_places v.annotations ++ wrong_value env v.value_type v.value)
     ++ at_places DeclaredTwice (declared_already env v.name)
 item_faults env (Parameter p) =
     at_places Unsupported (bad_parameter_type p.value_type ++ seventh_ranges p.annotations ++ floats_in p.value)
     ++ at_places UnknownName (unknown_in env p.value)
-    ++ at_places WrongType (in_order (misplaced_output_var p.annotations) (misplaced_output_array p.annotations) ++ wrong_place (resolve env (value_asked p.value_type) (Scalar p.value)))
+    ++ at_places WrongType (in_order (output_var_places p.annotations) (output_array_places p.annotations) ++ wrong_place (resolve env (value_asked p.value_type) (Scalar p.value)))
     ++ at_places DeclaredTwice (declared_already env p.name)
 item_faults env (Array a) =
     at_places Unsupported (bad_element_type a.variable a.value_type ++ seventh_ranges a.annotations ++ flat_map floats_in a.list.elements)
     ++ at_places UnknownName (flat_map (unknown_in env) a.list.elements)
-    ++ at_places WrongType (in_order (misplaced_output_var a.annotations) (cond a.variable (malformed_output_array a.annotations) (misplaced_output_array a.annotations)) ++ wrong_element env a.variable a.value_type a.list)
+    ++ at_places WrongType (in_order (output_var_places a.annotations) (cond a.variable (malformed_output_array a.annotations) (output_array_places a.annotations)) ++ wrong_element env a.variable a.value_type a.list)
     ++ at_places WrongLengths (wrong_index_set a ++ wrong_shape a)
     ++ at_places DeclaredTwice (declared_already env a.name)
 item_faults env (Constraint c) = call_faults env c

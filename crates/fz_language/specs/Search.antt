@@ -9,7 +9,7 @@ use Rattle.fz_spec.specs.declared.term.Term.{Term}
 use Rattle.fz_spec.specs.declared.term.Term.TheVariants.{Num, Var}
 use Rattle.fz_spec.specs.Instance.{SearchPart}
 use Rattle.fz_language.specs.Trees.{Name, Truth, Numeral, Literal, Named, Argument, Arguments, Simple, Text, Call, Brackets, Nil, More, Annotation}
-use Rattle.fz_language.specs.Entries.{Environment, Entry, Variable, Set, Numbers, Terms, Sets}
+use Rattle.fz_language.specs.Entries.{Environment, Entry, Variable, Set, Numbers, Terms, Sets, named}
 use Rattle.fz_language.specs.Entries as entries
 use Rattle.fz_language.specs.Annotations.{list_of}
 use Rattle.fz_language.specs.Numerals.{all_of}
@@ -32,19 +32,26 @@ variables_of_terms [] = []
 variables_of_terms (Num n ∷ terms) = variables_of_terms terms
 variables_of_terms (Var v ∷ terms) = v ∷ variables_of_terms terms
 
+-- the variable that an entry is, and the variables of an array of variables
+abbrev pub entry_variable : Entry → Option (List ℕ)
+entry_variable (Variable kind number) = Some (number ∷ [])
+entry_variable (entries.Value kind value) = None
+entry_variable (Set set) = None
+entry_variable (Numbers kind numbers) = None
+entry_variable (Terms kind terms) = None
+entry_variable Sets = None
+
+abbrev pub entry_variables : Entry → Option (List ℕ)
+entry_variables (Terms kind terms) = Some (variables_of_terms terms)
+entry_variables (Variable kind number) = None
+entry_variables (entries.Value kind value) = None
+entry_variables (Set set) = None
+entry_variables (Numbers kind numbers) = None
+entry_variables Sets = None
+
 -- a variable by its name; a number, `true` or `false` is skipped; anything else is of no form
 abbrev pub member : Environment → Argument → Option (List ℕ)
-member env (Simple (Named name)) = elim (env name.bytes) [
-  | Some entry ↦ elim entry [
-    | Variable kind number ↦ Some (number ∷ [])
-    | entries.Value kind value ↦ None
-    | Set set ↦ None
-    | Numbers kind numbers ↦ None
-    | Terms kind terms ↦ None
-    | Sets ↦ None
-  ]
-  | None ↦ None
-]
+member env (Simple (Named name)) = named env entry_variable name
 member env (Simple (Truth value at)) = Some []
 member env (Simple (Numeral number)) = Some []
 member env (Simple (Literal set)) = None
@@ -58,17 +65,7 @@ joined lists = flat_map (λ l. l) lists
 -- a list of variables, or the name of an array of variables
 abbrev pub variables_in : Environment → Argument → Option (List ℕ)
 variables_in env (Brackets at arguments) = option_map joined (all_of (map (member env) (list_of arguments)))
-variables_in env (Simple (Named name)) = elim (env name.bytes) [
-  | Some entry ↦ elim entry [
-    | Terms kind terms ↦ Some (variables_of_terms terms)
-    | Variable kind number ↦ None
-    | entries.Value kind value ↦ None
-    | Set set ↦ None
-    | Numbers kind numbers ↦ None
-    | Sets ↦ None
-  ]
-  | None ↦ None
-]
+variables_in env (Simple (Named name)) = named env entry_variables name
 variables_in env argument = None
 
 abbrev pub part_of : Environment → Argument → Name → Name → List SearchPart

@@ -25,6 +25,11 @@ pub record Token : Type 0 where
   pub lexeme : Lexeme
   pub at : ℕ
 
+-- the place of the first of these tokens, or the end of the text
+abbrev pub place_in : List ℕ → List Token → ℕ
+place_in text [] = length text
+place_in text (t ∷ ts) = t.at
+
 -- space, tab, CR and LF
 abbrev pub is_space : ℕ → Bool
 is_space b = (b == 32) || (b == 9) || (b == 13) || (b == 10)

@@ -21,8 +21,8 @@ pub enum SyntaxFault {
 /// What is at fault where a program breaks a rule, in the order in which the rules of one item come.
 #[derive(Clone, Copy, Debug, PartialEq, Eq)]
 pub enum RuleFault {
-    /// What FlatZinc has and fzn has not: floats, sets that vary, parameters of other types, constraints over them, a seventh
-    /// index range.
+    /// What FlatZinc has and fzn has not: floats, sets that vary, parameters of other types, constraints over them, half reified ones
+    /// and powers, a seventh index range for output, and goals but to satisfy.
     Unsupported,
     /// A constraint of a name that isn't known.
     UnknownConstraint,
@@ -30,7 +30,7 @@ pub enum RuleFault {
     WrongArity,
     /// A name that isn't declared, or only later.
     UnknownName,
-    /// What is of another type than is asked.
+    /// What is of another type than is asked, or an output annotation where it has no place or of another form.
     WrongType,
     /// Lists whose lengths do not fit.
     WrongLengths,

@@ -1,6 +1,7 @@
 //! Laws that the definitions keep: each is the clause of a function that does nothing, so that the clause is proved.
 ghost use Rattle.fz_language.specs.Laws.{EachIsJudged, OneFirstRule, ReadingIsOne, SomeReading};
 ghost use Rattle.fz_language.specs.SyntaxLaws.{SpellingIsOne, FaultIsOne, DepthIsOne, VerdictIsOne, SomeVerdict};
+ghost use Rattle.fz_language.specs.SetLaws.{RangesAreOfNumbers};
 ghost use Rattle.fz_language.specs.WithinLaws.{ProgramsFit};
 ghost use Rattle.fz_language.specs.TokenLaws.{TokensAreOne, TokenFaultIsOne, TokensOrFault, SomeTokens};
 
@@ -49,7 +50,12 @@ pub fn some_verdict()
     ensures { SomeVerdict }
 {}
 
-/// The integers of a program lie within the limits.
+/// The ranges of numbers rise, and hold those numbers and no other.
+pub fn ranges_are_of_numbers()
+    ensures { RangesAreOfNumbers }
+{}
+
+/// A program of a text within its limit is no larger than the text, and its integers lie within the limits.
 pub fn programs_fit()
     ensures { ProgramsFit }
 {}

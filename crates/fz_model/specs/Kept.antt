@@ -1,9 +1,9 @@
 -- What the types keep.
-use Rattle.std.specs.Prelude.{◌≡◌, ℕ, ℤ, pos, ◌≤◌, ◌<◌, ◌*◌, Bool, true, false, IsTrue, List, [], ◌∷◌, length, slice_get, Option, Some, option_map, MatchOption}
+use Rattle.std.specs.Prelude.{◌≡◌, ℕ, ℤ, pos, ◌≤◌, ◌<◌, Bool, true, false, IsTrue, List, [], ◌∷◌, length, slice_get, Option, Some, option_map, MatchOption}
 use Rattle.std.specs.List.{AllByRecursion}
 use Rattle.fz_spec.specs.declared.kind.Kind.{Kind}
 use Rattle.fz_spec.specs.declared.kind.Kind.TheVariants as kinds
-use Rattle.fz_sets.specs.Sets.{IsWithinLimits, IsInRange, AreRanges, AreWithinLimits, interval, set_size}
+use Rattle.fz_sets.specs.Sets.{IsWithinLimits, IsInRange, AreRanges, AreWithinLimits}
 use Rattle.fz_spec.specs.declared.term.Term.{Term}
 use Rattle.fz_spec.specs.declared.term.Term.TheVariants.{Num, Var}
 use Rattle.fz_spec.specs.declared.goal.Goal.{Goal}
@@ -11,9 +11,9 @@ use Rattle.fz_spec.specs.declared.goal.Goal.TheVariants.{Satisfy, Minimize, Maxi
 use Rattle.fz_spec.specs.declared.asked.Element.{Element}
 use Rattle.fz_spec.specs.declared.asked.Asked.{Asked}
 use Rattle.fz_spec.specs.declared.asked.Asked.TheVariants as asked
-use Rattle.fz_spec.specs.Constraints.{Argument, One, Numbers, Terms, Set, Constraint}
-use Rattle.fz_spec.specs.Signatures.{Row, row_of, signature_of, HaveLengths}
-use Rattle.fz_spec.specs.Instance.{Instance, Variable, Output, SearchPart}
+use Rattle.fz_spec.specs.Constraints.{Argument, One, Numbers, Terms, Set, Constraint, list_lengths}
+use Rattle.fz_spec.specs.Signatures.{Row, row_of, signature_of, have_lengths}
+use Rattle.fz_spec.specs.Instance.{Instance, Variable, Output, SearchPart, element_count}
 use Rattle.fz_spec.specs.declared.limits.TheConstants.{TEXT_LIMIT, VARIABLE_LIMIT, CONSTRAINT_LIMIT, ELEMENT_LIMIT}
 
 -- ---- numbers and sets
@@ -78,32 +78,16 @@ AllFit vs (wanted ∷ rest) (argument ∷ arguments) = FitsAsked vs wanted argum
 AllFit vs [] (argument ∷ arguments) = ⊥
 AllFit vs (wanted ∷ rest) [] = ⊥
 
--- the lengths of the lists among arguments
-abbrev pub list_lengths : List Argument → List ℕ
-list_lengths [] = []
-list_lengths (One term ∷ arguments) = list_lengths arguments
-list_lengths (Numbers ns ∷ arguments) = length ns ∷ list_lengths arguments
-list_lengths (Terms ts ∷ arguments) = length ts ∷ list_lengths arguments
-list_lengths (Set set ∷ arguments) = list_lengths arguments
-
 -- the arguments have one of the signatures of the row, and their lists have the lengths that it asks
 pub record FitsRow (vs : List Variable) (row : Row) (arguments : List Argument) : Type 0 where
   pub fit : MatchOption (signature_of row (length arguments)) ⊥ (λ signature. AllFit vs signature arguments)
-  pub lengths : HaveLengths row.lengths (list_lengths arguments)
+  pub lengths : IsTrue (have_lengths row.lengths (list_lengths arguments))
 
 -- a constraint over these variables
 abbrev pub IsConstraint : List Variable → Constraint → Type 0
 IsConstraint vs c = MatchOption (row_of c.name) ⊥ (λ row. FitsRow vs row c.arguments)
 
 -- ---- output items
-
--- how many indices a range has, and how many elements an array of these index ranges
-abbrev pub index_count : ℤ × ℤ → ℕ
-index_count r = set_size (interval r.0 r.1)
-
-abbrev pub element_count : List (ℤ × ℤ) → ℕ
-element_count [] = 1
-element_count (r ∷ shape) = index_count r * element_count shape
 
 abbrev pub IsIndexRange : ℤ × ℤ → Type 0
 IsIndexRange r = IsWithinLimits r.0 × IsWithinLimits r.1

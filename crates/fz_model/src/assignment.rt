@@ -1,7 +1,9 @@
-//! Assignments.
+//! Assignments, and the values that they give.
 ghost use Rattle.std.specs.Prelude.{◌≡◌, ◌↔◌, IfOk, IsTrue};
+ghost use Rattle.fz_spec.specs.Constraints.{term_value};
 ghost use Rattle.fz_model.specs.Kept.{AreNumbers};
 
+use fz_spec::term::Term;
 use std::alloc::{AllocError, Global};
 use std::marker::Model;
 
@@ -52,5 +54,15 @@ impl Assignment {
         ensures { IsTrue result ↔ (self.now ≡ other.now) }
     {
         self.numbers.as_slice() == other.numbers.as_slice()
+    }
+}
+
+/// The value of a term, 0 for a variable that has none among these.
+pub fn value_of(term: Term, values: &[i32]) -> i32
+    ensures { result ≡ term_value values.now term }
+{
+    match term {
+        Term::Num(number) => number,
+        Term::Var(variable) => values.get(variable as usize).copied().unwrap_or(0),
     }
 }

@@ -15,7 +15,7 @@ mod tests;
 pub mod text;
 pub mod variable;
 
-pub use assignment::Assignment;
+pub use assignment::{Assignment, value_of};
 pub use constraint::{Argument, Constraint};
 pub use fz_spec::goal::Goal;
 pub use fz_spec::kind::Kind;

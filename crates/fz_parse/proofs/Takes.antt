@@ -4,7 +4,7 @@ use Rattle.std.proofs.lemmas.List.{drop_more}
 use Rattle.fz_language.specs.declared.fault.SyntaxFault.TheVariants.{Unexpected}
 use Rattle.fz_language.specs.declared.token_kind.TokenKind.{TokenKind}
 use Rattle.fz_language.specs.declared.token_kind.TokenKind.TheVariants as kind
-use Rattle.fz_language.specs.Tokens.{Token, Lexeme, Identifier, Word, Number, Float, Text, Punct}
+use Rattle.fz_language.specs.Tokens.{Token, Lexeme, Identifier, Word, Number, Float, Text, Punct, place_in}
 use Rattle.fz_language.specs.declared.sign.Sign.{Sign}
 use Rattle.fz_language.specs.declared.sign.Sign.TheVariants.{Semicolon}
 use Rattle.fz_language.specs.declared.keyword.Keyword.{Keyword}
@@ -14,7 +14,7 @@ use Rattle.fz_language.proofs.KindLaws.{same_kind}
 use Rattle.fz_language.specs.Grammar.{flatzinc, level_limit}
 use Rattle.fz_grammar.specs.Grammar.{Leaf}
 use Rattle.fz_grammar.specs.Reading.{TookIn, DoneIn, HereIn, allowed, head, has}
-use Rattle.fz_tokens.specs.Lexed.{place_in, head_kind}
+use Rattle.fz_tokens.specs.Lexed.{head_kind}
 use Rattle.fz_parse.specs.declared.stop.Stop.TheVariants as stop
 use Rattle.fz_parse.specs.Steps.{Read, Halts, IsMark, mark}
 

@@ -2,9 +2,9 @@
 use Rattle.std.specs.Prelude.{◌≡◌, List}
 use Rattle.fz_language.specs.declared.fault.SyntaxFault.{SyntaxFault}
 use Rattle.fz_language.specs.declared.fault.SyntaxFault.TheVariants.{Unexpected, TooDeep}
-use Rattle.fz_language.specs.Tokens.{Token}
+use Rattle.fz_language.specs.Tokens.{Token, place_in}
 use Rattle.fz_language.specs.Grammar.{Breaks, IsTooDeep}
-use Rattle.fz_tokens.specs.Lexed.{LexedText, place_in}
+use Rattle.fz_tokens.specs.Lexed.{LexedText}
 use Rattle.fz_parse.specs.declared.stop.Stop.{Stop}
 use Rattle.fz_parse.specs.declared.stop.Stop.TheVariants as stop
 use Rattle.fz_parse.specs.declared.parser.ParseFault.{ParseFault}

@@ -4,7 +4,7 @@ ghost use Rattle.fz_spec.specs.Constraints.{term_value};
 ghost use Rattle.fz_spec.specs.Instance.{AreDeclared};
 ghost use Rattle.fz_spec.specs.Run.{block, line, output_text, values_text, shape_text, range_text, value_text, comma_separated};
 
-use fz_model::{Assignment, Kind, Model, Output, Term};
+use fz_model::{Assignment, Kind, Model, Output, Term, value_of};
 use itoa::Buffer;
 use std::alloc::{AllocError, Global};
 
@@ -114,15 +114,6 @@ fn push_term(text: &mut Vec<u8>, values: &[i32], kind: Kind, term: Term) -> Resu
     ensures { OnOk result (text.new.items ≡ text.old.items ++ value_text kind (term_value values.now term)) }
 {
     push_value(text, kind, value_of(term, values))
-}
-
-fn value_of(term: Term, values: &[i32]) -> i32
-    ensures { result ≡ term_value values.now term }
-{
-    match term {
-        Term::Num(number) => number,
-        Term::Var(variable) => values.get(variable as usize).copied().unwrap_or(0),
-    }
 }
 
 fn push_value(text: &mut Vec<u8>, kind: Kind, value: i32) -> Result<(), AllocError>

@@ -4,3 +4,4 @@ pub mod Equality
 pub mod Opposites
 pub mod Waiting
 pub mod Names
+pub mod Sets

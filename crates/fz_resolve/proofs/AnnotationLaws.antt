@@ -4,23 +4,22 @@ use Rattle.std.specs.Prelude.{Bool, true, false, min, nat_lt}
 use Rattle.std.specs.Bool.{Decides}
 use Rattle.std.proofs.lemmas.Bool.Decides.{Decides-ltb, not_from_Decides}
 use Rattle.std.proofs.Math.Nat.{mul_comm, mul_assoc, mul-zero, le-mul_of_pos_right}
-use Rattle.fz_sets.specs.Sets.{interval, set_size}
 use Rattle.fz_language.specs.Trees.{Argument}
 use Rattle.fz_language.specs.Annotations.{list_of}
-use Rattle.fz_language.specs.Rules.{element_count}
 use Rattle.fz_syntax.specs.Trees.{joined}
+use Rattle.fz_spec.specs.Instance.{index_count, element_count}
 
 pub list_joined : (xs : List Argument) → list_of (joined xs) ≡ xs
 list_joined [] = refl
 list_joined (x ∷ xs) = ap (λ ys. x ∷ ys) (list_joined xs)
 
 -- one range more multiplies the elements
-count_step : (xs : List (ℤ × ℤ)) (i : ℕ) (d : ℤ × ℤ) → i < length xs → element_count (take (suc i) xs) ≡ element_count (take i xs) * set_size (interval (get_or xs i d).0 (get_or xs i d).1)
+count_step : (xs : List (ℤ × ℤ)) (i : ℕ) (d : ℤ × ℤ) → i < length xs → element_count (take (suc i) xs) ≡ element_count (take i xs) * index_count (get_or xs i d)
 count_step [] i d h = absurd (omega (arith, h))
-count_step (x ∷ xs) zero d h = mul_comm (set_size (interval x.0 x.1)) 1
+count_step (x ∷ xs) zero d h = mul_comm (index_count x) 1
 count_step (x ∷ xs) (suc i) d h =
-    ap (λ n. set_size (interval x.0 x.1) * n) (count_step xs i d (omega (arith, h)))
-    ∙ sym (mul_assoc (set_size (interval x.0 x.1)) (element_count (take i xs)) (set_size (interval (get_or xs i d).0 (get_or xs i d).1)))
+    ap (λ n. index_count x * n) (count_step xs i d (omega (arith, h)))
+    ∙ sym (mul_assoc (index_count x) (element_count (take i xs)) (index_count (get_or xs i d)))
 
 -- a product that stops at a bound goes on as the product does
 stopped : (p s m : ℕ) → min (min p m * s) m ≡ min (p * s) m
@@ -36,7 +35,7 @@ stopped p (suc s) m = go (nat_lt p m) (Decides-ltb p m)
         let e : min p m ≡ m = omega (arith, h) in
         ap (λ n. min (n * suc s) m) e ∙ omega (arith, a, b, h)
 
-pub count_more : (xs : List (ℤ × ℤ)) (i : ℕ) (d : ℤ × ℤ) (m count size result : ℕ) → i < length xs → count ≡ min (element_count (take i xs)) m → size ≡ set_size (interval (get_or xs i d).0 (get_or xs i d).1) → result ≡ min (count * size) m
+pub count_more : (xs : List (ℤ × ℤ)) (i : ℕ) (d : ℤ × ℤ) (m count size result : ℕ) → i < length xs → count ≡ min (element_count (take i xs)) m → size ≡ index_count (get_or xs i d) → result ≡ min (count * size) m
     → result ≡ min (element_count (take (i + 1) xs)) m
 count_more xs i d m count size result h c s r =
-    r ∙ ap₂ (λ x y. min (x * y) m) c s ∙ stopped (element_count (take i xs)) (set_size (interval (get_or xs i d).0 (get_or xs i d).1)) m ∙ rw add-one (ap (λ n. min n m) (sym (count_step xs i d h)))
+    r ∙ ap₂ (λ x y. min (x * y) m) c s ∙ stopped (element_count (take i xs)) (index_count (get_or xs i d)) m ∙ rw add-one (ap (λ n. min n m) (sym (count_step xs i d h)))

@@ -5,4 +5,3 @@ pub mod Firsts
 pub mod Members
 pub mod NameLaws
 pub mod RoomLaws
-pub mod SetLaws

@@ -6,9 +6,9 @@ use Rattle.fz_sets.specs.Sets.{AreRanges, AreOneSet, AreWithinLimits, IsWithinLi
 use Rattle.fz_language.specs.Trees.{Number, Whole, Float}
 use Rattle.fz_language.specs.Numerals.{all_of, value_of, ranges_of}
 use Rattle.fz_language.specs.Within.{NumberFits}
-use Rattle.fz_resolve.specs.Points.{points_of}
+use Rattle.fz_language.specs.SetLaws.{points_of}
 use Rattle.fz_resolve.proofs.AllOf.{part}
-use Rattle.fz_resolve.proofs.SetLaws.{ranges_rise, ranges_hold}
+use Rattle.fz_language.proofs.SetProofs.{ranges_rise, ranges_hold}
 
 some_is : {X : Type 0} (x y : X) → Some x ≡ Some y → x ≡ y
 some_is x y e = cc

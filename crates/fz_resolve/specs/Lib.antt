@@ -1,4 +1,2 @@
 pub mod Meant
-pub mod Points
 pub mod Rooms
-pub mod Shapes

@@ -1,11 +1,11 @@
 //! Annotations of output.
 ghost use Rattle.std.specs.Prelude.{◌≡◌, ◌==◌, ◌&&◌, length, ◌∷◌, [], ◌-◌, ◌^◌, min, IfOk, bytes_eq, map, option_map, option_copied, slice_get};
-ghost use Rattle.fz_sets.specs.Sets.{interval, set_size};
+ghost use Rattle.fz_spec.specs.Instance as instance;
 ghost use Rattle.fz_language.specs.Annotations as said;
 ghost use Rattle.fz_language.specs.Numerals.{all_of};
 ghost use Rattle.fz_language.specs.Rules as rules;
 ghost use Rattle.fz_syntax.specs.Trees as trees;
-ghost use Rattle.fz_resolve.specs.Shapes.{shape_among};
+ghost use Rattle.fz_language.specs.Annotations.{shape_among};
 
 use fz_syntax::{Annotation, Argument, Basic, Number, SetLiteral};
 use std::alloc::{AllocError, Global};
@@ -78,7 +78,7 @@ fn is_plain(annotation: &Annotation<'_>, name: &[u8]) -> bool
 /// Where the annotation `output_var` stands among annotations, without arguments.
 pub fn output_var_at(annotations: &[Annotation<'_>]) -> Option<u32>
     ensures { result
-        ≡ slice_get (rules.misplaced_output_var (trees.annotations_of annotations.now)) 0 }
+        ≡ slice_get (rules.output_var_places (trees.annotations_of annotations.now)) 0 }
 {
     match plain_annotation_of(OUTPUT_VAR, annotations) {
         Some(annotation) => Some(annotation.name.at),
@@ -89,7 +89,7 @@ pub fn output_var_at(annotations: &[Annotation<'_>]) -> Option<u32>
 /// Where the annotation `output_array` stands among annotations.
 pub fn output_array_at(annotations: &[Annotation<'_>]) -> Option<u32>
     ensures { result
-        ≡ slice_get (rules.misplaced_output_array (trees.annotations_of annotations.now)) 0 }
+        ≡ slice_get (rules.output_array_places (trees.annotations_of annotations.now)) 0 }
 {
     match annotation_of(OUTPUT_ARRAY, annotations) {
         Some(annotation) => Some(annotation.name.at),
@@ -223,7 +223,7 @@ pub fn seventh_range_at(annotations: &[Annotation<'_>]) -> Option<u32>
 
 /// How many elements an array of these index ranges has, as far as 64 bits say it.
 pub fn element_count(shape: &[(i32, i32)]) -> u64
-    ensures { result ≡ min (rules.element_count shape.now) (2 ^ 64 - 1) }
+    ensures { result ≡ min (instance.element_count shape.now) (2 ^ 64 - 1) }
 {
     let mut count: u64 = 1;
     for range in shape {
@@ -234,7 +234,7 @@ pub fn element_count(shape: &[(i32, i32)]) -> u64
 
 /// How many indices a range has.
 fn index_count(range: (i32, i32)) -> u64
-    ensures { result ≡ set_size (interval range.0 range.1) }
+    ensures { result ≡ instance.index_count range }
 {
     if range.0 > range.1 {
         0

@@ -10,7 +10,7 @@ ghost use Rattle.fz_spec.specs.Constraints as meaning;
 ghost use Rattle.fz_syntax.specs.Trees as trees;
 ghost use Rattle.fz_syntax.specs.Trees.{basic_of, expression_of};
 ghost use Rattle.fz_resolve.specs.Meant.{environment_of, meant};
-ghost use Rattle.fz_resolve.specs.Points.{points_of};
+ghost use Rattle.fz_language.specs.SetLaws.{points_of};
 
 use crate::entry::{Entry, of_kind};
 use crate::names::Names;

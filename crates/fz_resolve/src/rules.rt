@@ -4,7 +4,7 @@ ghost use Rattle.fz_language.specs.Numerals.{floats_in};
 ghost use Rattle.fz_language.specs.Rules as rules;
 ghost use Rattle.fz_syntax.specs.Trees as trees;
 ghost use Rattle.fz_resolve.specs.Meant.{environment_of};
-ghost use Rattle.fz_resolve.specs.Shapes.{shape_among};
+ghost use Rattle.fz_language.specs.Annotations.{shape_among};
 
 use crate::annotations::{
     OUTPUT_ARRAY, annotation_of, element_count, output_array_at, output_var_at, seventh_range_at,
@@ -99,8 +99,8 @@ pub fn unsupported_array(item: &ArrayItem<'_>) -> Option<u32>
 /// The output annotation that has no place at a parameter.
 pub fn misplaced_at_parameter(item: &ParameterItem<'_>) -> Option<u32>
     ensures { let p = trees.parameter_item_of item.now in
-        result ≡ slice_get (rules.in_order (rules.misplaced_output_var p.annotations)
-        (rules.misplaced_output_array p.annotations)) 0 }
+        result ≡ slice_get (rules.in_order (rules.output_var_places p.annotations)
+        (rules.output_array_places p.annotations)) 0 }
 {
     lesser(
         output_var_at(&item.annotations),
@@ -126,7 +126,7 @@ fn output_array_misplaced(item: &ArrayItem<'_>, shape: &Option<Vec<(i32, i32)>>)
         ≡ shape_among (trees.annotations_of item.now.annotations.items) }
     ensures { let a = trees.array_item_of item.now in
         result ≡ slice_get (cond a.variable (rules.malformed_output_array a.annotations)
-        (rules.misplaced_output_array a.annotations)) 0 }
+        (rules.output_array_places a.annotations)) 0 }
 {
     if item.variable {
         malformed_at(&item.annotations, shape)
@@ -141,9 +141,9 @@ pub fn misplaced_at_array(item: &ArrayItem<'_>, shape: &Option<Vec<(i32, i32)>>)
     requires { option_map (λ ranges. ranges.items) shape.now
         ≡ shape_among (trees.annotations_of item.now.annotations.items) }
     ensures { let a = trees.array_item_of item.now in
-        result ≡ slice_get (rules.in_order (rules.misplaced_output_var a.annotations)
+        result ≡ slice_get (rules.in_order (rules.output_var_places a.annotations)
         (cond a.variable (rules.malformed_output_array a.annotations)
-        (rules.misplaced_output_array a.annotations))) 0 }
+        (rules.output_array_places a.annotations))) 0 }
 {
     lesser(
         output_var_at(&item.annotations),

@@ -1,5 +1,5 @@
 -- Constraints, and when an assignment makes one true (MiniZinc Handbook, "FlatZinc builtins").
-use Rattle.std.specs.Prelude.{◌≡◌, ℤ, pos, List, [], ◌∷◌, map, slice_get, unwrap_or}
+use Rattle.std.specs.Prelude.{◌≡◌, ℕ, ℤ, pos, List, [], ◌∷◌, length, map, slice_get, unwrap_or}
 use Rattle.fz_spec.specs.declared.builtin.Builtin.{Builtin}
 use Rattle.fz_spec.specs.declared.term.Term.{Term}
 use Rattle.fz_spec.specs.declared.term.Term.TheVariants.{Num, Var}
@@ -15,6 +15,14 @@ pub data Argument : Type 0 where
 pub record Constraint : Type 0 where
   pub name : Builtin
   pub arguments : List Argument
+
+-- the lengths of the lists among arguments
+abbrev pub list_lengths : List Argument → List ℕ
+list_lengths [] = []
+list_lengths (One term ∷ arguments) = list_lengths arguments
+list_lengths (Numbers ns ∷ arguments) = length ns ∷ list_lengths arguments
+list_lengths (Terms ts ∷ arguments) = length ts ∷ list_lengths arguments
+list_lengths (Set set ∷ arguments) = list_lengths arguments
 
 -- the value that an assignment gives to a term, and to each of a list
 abbrev pub term_value : List ℤ → Term → ℤ

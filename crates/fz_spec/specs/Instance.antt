@@ -1,5 +1,5 @@
 -- What a model means: its assignments, which of them satisfy, and which is better (MiniZinc Handbook, "FlatZinc").
-use Rattle.std.specs.Prelude.{◌≡◌, ◌≢◌, ℕ, ℤ, pos, Bool, ◌-ℤ◌, ◌<ℤ◌, List, [], ◌∷◌, length, count_by, true, false, cond}
+use Rattle.std.specs.Prelude.{◌≡◌, ◌≢◌, ℕ, ℤ, pos, Bool, ◌-ℤ◌, ◌<ℤ◌, ◌*◌, List, [], ◌∷◌, length, count_by, true, false, cond}
 use Rattle.std.specs.Ordering.{int_eq}
 use Rattle.std.specs.List.{AllByRecursion}
 use Rattle.fz_spec.specs.declared.kind.Kind.{Kind}
@@ -8,13 +8,21 @@ use Rattle.fz_spec.specs.declared.goal.Goal.TheVariants.{Satisfy, Minimize, Maxi
 use Rattle.fz_spec.specs.declared.search.Pick.{Pick}
 use Rattle.fz_spec.specs.declared.search.Value.{Value}
 use Rattle.fz_spec.specs.declared.term.Term.{Term}
-use Rattle.fz_sets.specs.Sets.{IsInSet, LEAST, GREATEST}
+use Rattle.fz_sets.specs.Sets.{IsInSet, LEAST, GREATEST, interval, set_size}
 use Rattle.fz_spec.specs.Constraints.{Constraint, IsTrueOf, term_value}
 
 -- a variable: what its values are, and the set that it is declared with (0..1 for a Boolean)
 pub record Variable : Type 0 where
   pub kind : Kind
   pub set : List (ℤ × ℤ)
+
+-- how many indices a range has, and how many elements an array of these index ranges
+abbrev pub index_count : ℤ × ℤ → ℕ
+index_count r = set_size (interval r.0 r.1)
+
+abbrev pub element_count : List (ℤ × ℤ) → ℕ
+element_count [] = 1
+element_count (r ∷ shape) = index_count r * element_count shape
 
 -- An output item: its name, what its values are, whether it is an array, the index ranges of an array, and its terms.
 -- One that is no array has no index range and one term.

@@ -1,9 +1,9 @@
 -- What constraints ask of their arguments: the table of `src/row.rt`.
-use Rattle.std.specs.Prelude.{◌≡◌, ℕ, Option, Some, None, List, [], ◌∷◌, length, map, find, bytes_eq, ◌==◌, ◌<◌, ◌%◌}
-use Rattle.std.specs.List.{AllByRecursion}
+use Rattle.std.specs.Prelude.{ℕ, Bool, true, Option, List, [], ◌∷◌, length, map, find, bytes_eq, nat_lt, ◌&&◌, ◌==◌, ◌%◌}
+use Rattle.std.specs.List.{list_all}
 use Rattle.fz_spec.specs.declared.asked.Asked.{Asked}
 use Rattle.fz_spec.specs.declared.asked.Lengths.{Lengths}
-use Rattle.fz_spec.specs.declared.asked.Lengths.TheVariants.{Any, Equal, Rows}
+use Rattle.fz_spec.specs.declared.asked.Lengths.TheVariants.{Equal, Rows}
 use Rattle.fz_spec.specs.declared.builtin.Builtin.{Builtin}
 use Rattle.fz_spec.specs.declared.row.TheConstants.{ROWS}
 use Rattle.fz_spec.specs.contracts.builtin.BuiltinPartialEq.TheImpl as equality
@@ -30,8 +30,9 @@ row_of builtin = find (λ (row : Row). (equality.ghosts).eq builtin row.builtin)
 abbrev pub signature_of : Row → ℕ → Option (List Asked)
 signature_of row arity = find (λ (asked : List Asked). length asked == arity) row.signatures
 
--- The lengths of a constraint's lists: as long as the first; or the first isn't 0, and the second is a multiple of it.
-abbrev pub HaveLengths : Lengths → List ℕ → Type 0
-HaveLengths Equal (n ∷ ns) = AllByRecursion (λ m. m ≡ n) ns
-HaveLengths Rows (n ∷ m ∷ []) = (0 < n) × (m % n ≡ 0)
-HaveLengths lengths ns = Unit {0}
+-- Whether the lengths of a constraint's lists are those that are asked: each as the first; or the first isn't 0, and the second is a
+-- multiple of it.
+abbrev pub have_lengths : Lengths → List ℕ → Bool
+have_lengths Equal (n ∷ ns) = list_all (λ m. m == n) ns
+have_lengths Rows (n ∷ m ∷ []) = nat_lt 0 n && (m % n == 0)
+have_lengths lengths ns = true

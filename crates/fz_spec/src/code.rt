@@ -15,13 +15,14 @@ pub enum Code {
     DeclaredTwice,
     /// A name that isn't declared, or only later (E05).
     UnknownName,
-    /// An argument of a wrong type (E06).
+    /// A value, an element or an argument of a wrong type, or an output annotation where it has no place or of another form (E06).
     WrongType,
     /// A wrong number of arguments (E07).
     WrongArity,
     /// A constraint of a name that isn't known (E08).
     UnknownConstraint,
-    /// What FlatZinc has and fzn has not: floats, sets that vary, and constraints over them (E09).
+    /// What FlatZinc has and fzn has not: floats, sets that vary, parameters of other types, constraints over them, half reified ones
+    /// and powers, a seventh index range for output, and goals but to satisfy (E09).
     Unsupported,
     /// Lists whose lengths do not fit (E10).
     WrongLengths,

@@ -38,11 +38,6 @@ abbrev pub head_kind : List language.Token → ℕ
 head_kind [] = 0
 head_kind (t ∷ ts) = number (kind_of t.lexeme)
 
--- the place of the first of these tokens, or the end of the text
-abbrev pub place_in : List ℕ → List language.Token → ℕ
-place_in text [] = length text
-place_in text (t ∷ ts) = t.at
-
 -- the token of this number says this, at this place
 abbrev pub Begins : List language.Token → ℕ → language.Lexeme → ℕ → Type 0
 Begins tokens index lexeme at = drop index tokens ≡ record { lexeme = lexeme; at = at } ∷ drop (index + 1) tokens

@@ -1,10 +1,10 @@
 //! A text and its tokens.
 ghost use Rattle.std.specs.Prelude.{◌≡◌, ◌==◌, ℕ, List, ◌<◌, ◌≤◌, length, drop, map, MatchOption};
 ghost use Rattle.fz_language.specs.declared.token_kind.TokenKind.TheVariants as TokenKind;
-ghost use Rattle.fz_language.specs.Tokens.{Identifier, Number};
+ghost use Rattle.fz_language.specs.Tokens.{Identifier, Number, place_in};
 ghost use Rattle.fz_language.specs.Kinds.{number};
 ghost use Rattle.fz_language.specs.Kinds as kinds;
-ghost use Rattle.fz_tokens.specs.Lexed.{IsLexed, IsWhole, Begins, IsNotAt, token_of, lexeme_of, place_in, head_kind};
+ghost use Rattle.fz_tokens.specs.Lexed.{IsLexed, IsWhole, Begins, IsNotAt, token_of, lexeme_of, head_kind};
 
 use crate::token::{Lexeme, Token};
 use fz_language::token_kind::TokenKind;

@@ -14,9 +14,9 @@ use crate::numbers::{is_true_of_three, is_true_of_two};
 use crate::reified::{is_reified, plain_of};
 use crate::sums::{is_true_of_reified_sum, is_true_of_sum, weighted_sum};
 use crate::tasks::{Tasks, is_true_of_tasks};
-use crate::terms::value_of;
 use fz_dom::Dom;
 use fz_model::constraint::{Argument, Constraint};
+use fz_model::value_of;
 use fz_spec::builtin::Builtin;
 use fz_spec::term::Term;
 

@@ -6,7 +6,7 @@ ghost use Rattle.fz_spec.specs.Truth.{HoldsOfSum, IsReifiedOf};
 
 use crate::numbers::product;
 use crate::reified::{is_reified, plain_of};
-use crate::terms::value_of;
+use fz_model::value_of;
 use fz_spec::builtin::Builtin;
 use fz_spec::term::Term;
 

@@ -6,7 +6,7 @@ ghost use Rattle.fz_spec.specs.Truth as truth;
 ghost use Rattle.fz_spec.specs.Truth.{HoldsOfTasks, IsCumulative, IsTask, load_at};
 ghost use Rattle.fz_truth.specs.Listed.{task_of, listed};
 
-use crate::terms::value_of;
+use fz_model::value_of;
 use fz_spec::builtin::Builtin;
 use fz_spec::term::Term;
 

@@ -5,17 +5,8 @@ ghost use Rattle.std.specs.Ordering.{int_eq};
 ghost use Rattle.fz_spec.specs.Constraints.{term_value, term_values};
 ghost use Rattle.fz_spec.specs.Truth.{SomeByRecursion, AreDifferent, is_one};
 
+use fz_model::value_of;
 use fz_spec::term::Term;
-
-/// The value of a term.
-pub(crate) fn value_of(term: Term, values: &[i32]) -> i32
-    ensures { result ≡ term_value values.now term }
-{
-    match term {
-        Term::Num(number) => number,
-        Term::Var(variable) => values.get(variable as usize).copied().unwrap_or(0),
-    }
-}
 
 /// Whether a term has this value.
 pub(crate) fn has_value(term: Term, number: i32, values: &[i32]) -> bool

@@ -5,13 +5,13 @@ use Rattle.std.proofs.lemmas.List.{take_all}
 use Rattle.std.proofs.Math.Nat.{suc-add}
 use Rattle.fz_spec.specs.declared.code.Code.{Code}
 use Rattle.fz_language.specs.Places.{line_of, column_of, is_line_end, is_in_line}
-use Rattle.fz_language.specs.Reads.{IsShort, place_of, syntax_code, Reads, Reading, Accepted, Refused, IsRefused, IsRefusedAt}
+use Rattle.fz_language.specs.Reads.{IsShort, syntax_code, Reads, Reading, Accepted, Refused, IsRefused, IsRefusedAt}
 use Rattle.fz_spec.specs.declared.limits.TheConstants.{TEXT_LIMIT}
 use Rattle.fz_language.specs.declared.fault.SyntaxFault.{SyntaxFault}
 use Rattle.fz_language.specs.declared.fault.SyntaxFault.TheVariants.{Unexpected, TooDeep}
 use Rattle.fz_language.specs.Tokens.{Token}
 use Rattle.fz_language.specs.Grammar.{Breaks, IsTooDeep}
-use Rattle.fz_tokens.specs.Lexed.{LexedText, IsLexed, place_in}
+use Rattle.fz_tokens.specs.Lexed.{LexedText, IsLexed}
 use Rattle.fz_parse.specs.declared.parser.ParseFault.{ParseFault}
 use Rattle.fz_parse.specs.Parsed.{IsAtFault, HasSyntaxFault}
 use Rattle.fz_spec.specs.declared.code.Code.TheVariants.{OverLimit}
@@ -56,10 +56,6 @@ read_of_front text r h = elim (cases_lt TEXT_LIMIT (length text)) [ inl long ↦
 
 -- ---- a fault of syntax
 
-same_place : (text : List ℕ) (ts : List Token) → place_in text ts ≡ place_of text ts
-same_place text [] = refl
-same_place text (t ∷ ts) = refl
-
 abbrev IsSyntaxFault : List Token → List Token → Code → Type 0
 IsSyntaxFault ts behind c = ((c ≡ syntax_code Unexpected) × Breaks ts behind) ⊎ ((c ≡ syntax_code TooDeep) × IsTooDeep ts behind)
 
@@ -74,7 +70,7 @@ unspelt_is lexed fault c at l h e p = inr (inr (inl (record {
   lexed = l.are;
   tokens_behind = h.behind;
   fault = by_cause fault.cause lexed.tokens h.behind c e h.faulty;
-  place = p ∙ h.placed ∙ same_place lexed.text h.behind;
+  place = p ∙ h.placed;
 })))
 
 -- ---- a text that is too long

@@ -1,11 +1,10 @@
 use Rattle.std.proofs.Common.{◌∙◌, ap, sym, subst, List}
-use Rattle.fz_spec.specs.Instance.{Instance, SearchPart, Output}
+use Rattle.fz_spec.specs.Instance.{Instance}
 use Rattle.fz_language.specs.Search.{search_of}
 use Rattle.fz_model.specs.Kept.{IsModel}
 use Rattle.fz_syntax.specs.Trees as trees
 use Rattle.fz_syntax.specs.declared.annotation.Annotation.{Annotation}
 use Rattle.fz_resolve.specs.Meant.{environment_of}
-use Rattle.fz_check.specs.Fits.{AreTextual}
 use Rattle.fz_check.proofs.CheckLaws.{model_is}
 use Rattle.fz_check.proofs.ModelFits.{models_fit}
 use Rattle.fz_check.proofs.checker.model_of.Goals as goal
@@ -15,9 +14,7 @@ new-requires c =
     let p = trees.program_of c.args.program.now in
     let found = c.in_ok-parts.ensures ∙ ap (λ (l : List Annotation). search_of (environment_of c.args.draft.names) (trees.annotations_of l)) c.deref.ensures.value in
     let e = model_is p c.args.draft c.in_ok-parts.parts.items c.requires.draft c.requires.keeps found in
-    let textual = subst (λ (os : List Output). AreTextual os c.in_ok-parts.parts.items) c.deref-2.ensures.value
-    (subst (λ (ps : List SearchPart). AreTextual c.deref-2.result.now ps) c.deref-3.ensures.value (c.are_textual.ensures c.if-not-are_textual.false)) in
-    subst (λ (m : Instance). IsModel m) e (models_fit p c.requires.fits c.requires.keeps (subst (λ (m : Instance). AreTextual m.outputs m.search) (sym e) textual))
+    subst (λ (m : Instance). IsModel m) e (models_fit p c.requires.fits c.requires.keeps)
 
 pub returns : goal.returns
 returns c =

@@ -12,7 +12,7 @@ returns c =
     let v = trees.variable_item_of c.args.item.now in
     let unsupported = rules.bad_variable_type v.value_type ++ rules.seventh_ranges v.annotations ++ rules.floats_of_value v.value in
     let unknown = rules.unknown_of_value env v.value in
-    let wrong = rules.misplaced_output_array v.annotations ++ rules.wrong_value env v.value_type v.value in
+    let wrong = rules.output_array_places v.annotations ++ rules.wrong_value env v.value_type v.value in
     let twice = rules.declared_already env v.name in
     c.or_else-3.ensures (at_places Unsupported unsupported ++ at_places UnknownName unknown ++ at_places WrongType wrong) (at_places DeclaredTwice twice)
     (c.or_else-2.ensures (at_places Unsupported unsupported ++ at_places UnknownName unknown) (at_places WrongType wrong)

@@ -9,4 +9,4 @@ use Rattle.fz_check.proofs.declared.wrong_at_variable.Goals as goal
 pub returns : goal.returns
 returns c =
     let v = trees.variable_item_of c.args.item.now in
-    c.first_place.ensures (rules.misplaced_output_array v.annotations) (rules.wrong_value (environment_of c.args.names.now) v.value_type v.value) (c.output_array_at-misplaced.ensures ∙ ap (λ (l : List Annotation). slice_get (rules.misplaced_output_array (trees.annotations_of l)) 0) c.deref.ensures.value) c.wrong_value.ensures
+    c.first_place.ensures (rules.output_array_places v.annotations) (rules.wrong_value (environment_of c.args.names.now) v.value_type v.value) (c.output_array_at-misplaced.ensures ∙ ap (λ (l : List Annotation). slice_get (rules.output_array_places (trees.annotations_of l)) 0) c.deref.ensures.value) c.wrong_value.ensures

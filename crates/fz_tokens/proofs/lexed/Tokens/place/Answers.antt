@@ -1,7 +1,7 @@
 use Rattle.std.proofs.Common.{ap, sym}
-use Rattle.fz_tokens.specs.Lexed.{place_in}
 use Rattle.fz_tokens.proofs.Drops.{stands}
 use Rattle.fz_tokens.proofs.lexed.Tokens.place.Goals as goal
+use Rattle.fz_language.specs.Tokens.{place_in}
 
 pub returns-in-Some : goal.returns-in-Some
 returns-in-Some c =

@@ -7,12 +7,12 @@ use Rattle.std.proofs.lemmas.Int.{ints}
 use Rattle.std.proofs.lemmas.Bool.Decides.{Decides-int_eq, not_from_Decides}
 use Rattle.fz_sets.specs.Sets.{IsInRange, IsInSet, AreRanges, AreOneSet}
 use Rattle.fz_language.specs.Numerals.{behind, with_number, ranges_of}
-use Rattle.fz_resolve.specs.Points.{points_of}
+use Rattle.fz_language.specs.SetLaws.{points_of}
 
 Decides-int_lt : (a b : ℤ) → Decides (int_lt a b) (a <ℤ b)
 Decides-int_lt a b = (λ t. grind (arith, ints), λ lt. grind (arith, ints))
 
-Decides-int_le : (a b : ℤ) → Decides (int_le a b) (a ≤ℤ b)
+pub Decides-int_le : (a b : ℤ) → Decides (int_le a b) (a ≤ℤ b)
 Decides-int_le a b = (λ t. grind (arith, ints), λ le. grind (arith, ints))
 
 -- rising ranges, all above a number
