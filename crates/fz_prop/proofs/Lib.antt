@@ -5,3 +5,4 @@ pub mod Twice
 pub mod Settling
 pub mod Answering
 pub mod Filled
+pub mod Reifying

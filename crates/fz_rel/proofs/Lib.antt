@@ -2,6 +2,8 @@ pub mod Apartness
 pub mod Orders
 pub mod Equality
 pub mod Opposites
+pub mod Shown
 pub mod Waiting
 pub mod Names
+pub mod ReifiedNames
 pub mod Sets

@@ -80,7 +80,7 @@ impl Comparison {
 }
 
 /// The variables of two terms, the first so many.
-fn variables_of(x: Term, y: Term) -> ([u32; 2], usize)
+pub fn variables_of(x: Term, y: Term) -> ([u32; 2], usize)
     ensures count { result.1 ≤ 2 }
     ensures variables { take result.1 result.0 ≡ variables_of x y }
 {

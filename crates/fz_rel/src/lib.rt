@@ -3,13 +3,16 @@
 
 mod apart;
 pub mod comparison;
+mod ends;
 mod equal;
 pub mod member;
 mod order;
+pub mod reified;
 mod relate;
 
 pub use comparison::Comparison;
 pub use member::Membership;
+pub use reified::ReifiedComparison;
 
 #[cfg(test)]
 mod tests;
