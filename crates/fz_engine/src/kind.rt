@@ -1,20 +1,22 @@
 //! Kinds of propagators.
 ghost use Rattle.std.specs.Prelude.{◌≡◌, ◌<◌, List, [], ◌∷◌, length, map, IfOk, IsSome, MatchOption, slice_get, Some};
 ghost use Rattle.fz_spec.specs.Constraints as meaning;
+ghost use Rattle.fz_spec.specs.declared.builtin.Builtin.TheVariants.{SetIn};
 ghost use Rattle.fz_model.specs.Arguments.{argument_of};
 ghost use Rattle.fz_strength.specs.Costs.{cost_of};
 ghost use Rattle.fz_strength.specs.Events.{Wait, AreBelow};
-ghost use Rattle.fz_strength.specs.Relations.{relation_of};
+ghost use Rattle.fz_strength.specs.Relations.{relation_of, reified_of};
 ghost use Rattle.fz_strength.specs.Lines.{waits, HasOwnLine};
 ghost use Rattle.fz_strength.specs.Promises.{IsCorrect, Suits};
 ghost use Rattle.fz_prop.specs.Answers.{IsAnswer};
 ghost use Rattle.fz_prop.specs.Stores.{Shrinks, IsStore, FitsTerm};
-ghost use Rattle.fz_engine.specs.Known.{IsKnown, HasPropagator, HaveLimits, HasLimits};
+ghost use Rattle.fz_engine.specs.Known.{IsKnown, IsOwn, HasPropagator, HaveLimits, HasLimits};
 
 use fz_await::Awaiting;
+use fz_dom::Dom;
 use fz_model::constraint::{Argument, Constraint};
 use fz_prop::{Answer, Cost, Event, Propagator, Store};
-use fz_rel::Comparison;
+use fz_rel::{Comparison, Membership, ReifiedComparison};
 use fz_spec::builtin::Builtin;
 use fz_spec::term::Term;
 use fz_strength::relation::Relation;
@@ -30,6 +32,8 @@ pub struct Kind {
 #[derive(Drop)]
 enum Form {
     Comparison(Comparison),
+    ReifiedComparison(ReifiedComparison),
+    Membership(Membership),
     Awaiting(Awaiting),
 }
 
@@ -53,7 +57,7 @@ impl Kind {
         requires limits { HasLimits constraint.now }
         ensures { IfOk result (λ k. k ≡ constraint.now) }
     {
-        match own(constraint) {
+        match own(constraint)? {
             Some(kind) => Ok(kind),
             None => awaiting(alloc, constraint),
         }
@@ -65,6 +69,8 @@ impl Kind {
     {
         match &self.form {
             Form::Comparison(comparison) => comparison.vars(),
+            Form::ReifiedComparison(comparison) => comparison.vars(),
+            Form::Membership(membership) => membership.vars(),
             Form::Awaiting(awaiting) => awaiting.vars(),
         }
     }
@@ -76,6 +82,8 @@ impl Kind {
     {
         match &self.form {
             Form::Comparison(comparison) => comparison.event(place),
+            Form::ReifiedComparison(comparison) => comparison.event(place),
+            Form::Membership(membership) => membership.event(place),
             Form::Awaiting(awaiting) => awaiting.event(place),
         }
     }
@@ -86,6 +94,8 @@ impl Kind {
     {
         match &self.form {
             Form::Comparison(comparison) => comparison.cost(),
+            Form::ReifiedComparison(comparison) => comparison.cost(),
+            Form::Membership(membership) => membership.cost(),
             Form::Awaiting(awaiting) => awaiting.cost(),
         }
     }
@@ -104,6 +114,8 @@ impl Kind {
     {
         let answer = match &self.form {
             Form::Comparison(comparison) => comparison.run(store),
+            Form::ReifiedComparison(comparison) => comparison.run(store),
+            Form::Membership(membership) => membership.run(store),
             Form::Awaiting(awaiting) => awaiting.run(store),
         };
         let _ = store.doms();
@@ -123,40 +135,50 @@ fn awaiting(alloc: Global, constraint: &Constraint) -> Result<Kind, AllocError>
 }
 
 /// The propagator of its own that a constraint has; `None` where it has none.
-fn own(constraint: &Constraint) -> Option<Kind>
+fn own(constraint: &Constraint) -> Result<Option<Kind>, AllocError>
     requires { HasLimits constraint.now }
-    ensures { MatchOption result (HasPropagator constraint.now.name constraint.now.arguments → ⊥)
-        (λ k. k ≡ constraint.now) }
+    ensures { IfOk result (λ o. IsOwn o constraint.now.name constraint.now.arguments) }
 {
     match constraint.arguments() {
         [Argument::One(x), rest @ ..] => of_term(constraint.name(), *x, rest),
-        _ => None,
+        _ => Ok(None),
     }
 }
 
-/// The propagator of a constraint whose first argument is a term.
-fn of_term(name: Builtin, x: Term, rest: &[Argument]) -> Option<Kind>
+/// The propagator of its own of a constraint whose first argument is a term.
+fn of_term(name: Builtin, x: Term, rest: &[Argument]) -> Result<Option<Kind>, AllocError>
     requires x { FitsTerm x }
     requires rest { HaveLimits (map argument_of rest.now) }
-    ensures { MatchOption result (HasPropagator name (meaning.One x ∷ map argument_of rest.now) → ⊥)
-        (λ k. k ≡ record { name = name; arguments = meaning.One x ∷ map argument_of rest.now }) }
+    ensures { IfOk result (λ o. IsOwn o name (meaning.One x ∷ map argument_of rest.now)) }
 {
     match rest {
-        [Argument::One(y), tail @ ..] => of_terms(name, x, *y, tail),
-        _ => None,
+        [Argument::One(y), tail @ ..] => Ok(of_terms(name, x, *y, tail)),
+        [Argument::Set(set), tail @ ..] => of_set(name, x, set, tail),
+        _ => Ok(None),
     }
 }
 
-/// The propagator of a constraint whose first two arguments are terms.
+/// The propagator of its own of a constraint whose first two arguments are terms.
 fn of_terms(name: Builtin, x: Term, y: Term, rest: &[Argument]) -> Option<Kind>
     requires x { FitsTerm x }
     requires y { FitsTerm y }
-    ensures { MatchOption result (HasPropagator name (meaning.One x ∷ meaning.One y ∷ map argument_of rest.now) → ⊥)
-        (λ k. k ≡ record { name = name; arguments = meaning.One x ∷ meaning.One y ∷ map argument_of rest.now }) }
+    ensures { IsOwn result name (meaning.One x ∷ meaning.One y ∷ map argument_of rest.now) }
 {
     match rest {
         [] => comparing(name, x, y),
+        [Argument::One(r)] => reifying(name, x, y, *r),
         _ => None,
+    }
+}
+
+/// The propagator of its own of a constraint whose first two arguments are a term and a set.
+fn of_set(name: Builtin, x: Term, set: &Dom, rest: &[Argument]) -> Result<Option<Kind>, AllocError>
+    ensures { IfOk result
+        (λ o. IsOwn o name (meaning.One x ∷ meaning.Set set.now ∷ map argument_of rest.now)) }
+{
+    match (name, rest) {
+        (Builtin::SetIn, []) => Ok(Some(member(x, set.copy()?))),
+        _ => Ok(None),
     }
 }
 
@@ -164,12 +186,31 @@ fn of_terms(name: Builtin, x: Term, y: Term, rest: &[Argument]) -> Option<Kind>
 fn comparing(name: Builtin, x: Term, y: Term) -> Option<Kind>
     requires x { FitsTerm x }
     requires y { FitsTerm y }
-    ensures { MatchOption result (IsSome (relation_of name) → ⊥)
-        (λ k. k ≡ record { name = name; arguments = meaning.One x ∷ meaning.One y ∷ [] }) }
+    ensures { IsOwn result name (meaning.One x ∷ meaning.One y ∷ []) }
 {
     let relation = Relation::of(name)?;
-    let comparison = Comparison::new(name, relation, x, y);
     Some(Kind {
-        form: Form::Comparison(comparison),
+        form: Form::Comparison(Comparison::new(name, relation, x, y)),
     })
+}
+
+/// The propagator of a comparison of two terms and a Boolean; `None` where the name is no reified comparison.
+fn reifying(name: Builtin, x: Term, y: Term, r: Term) -> Option<Kind>
+    requires x { FitsTerm x }
+    requires y { FitsTerm y }
+    ensures { IsOwn result name (meaning.One x ∷ meaning.One y ∷ meaning.One r ∷ []) }
+{
+    let relation = Relation::of_reified(name)?;
+    Some(Kind {
+        form: Form::ReifiedComparison(ReifiedComparison::new(name, relation, x, y, r)),
+    })
+}
+
+/// The propagator of a term in a set.
+fn member(x: Term, set: Dom) -> Kind
+    ensures { result ≡ record { name = SetIn; arguments = meaning.One x ∷ meaning.Set set ∷ [] } }
+{
+    Kind {
+        form: Form::Membership(Membership::new(x, set)),
+    }
 }

@@ -99,8 +99,7 @@ fn kinds_of(alloc: Global, constraints: &[Constraint]) -> Result<Vec<Kind>, Allo
 
 /// The lists of a model's propagators.
 fn wakes_in(alloc: Global, kinds: &[Kind], model: &fz_model::Model) -> Result<Wakes, AllocError>
-    requires kinds { kinds.now ≡ model.now.constraints }
-    requires known { AreKnown model.now.constraints }
+    requires { kinds.now ≡ model.now.constraints }
     ensures index { IfOk result (λ w. IsIndexOf model.now.constraints w) }
     ensures size { IfOk result (λ w. HaveSize w (length model.now.variables)) }
 {

@@ -43,6 +43,34 @@ fn two_that_differ(alloc: Global) -> Result<Model, AllocError>
     Ok(Model::new(variables, constraints, Goal::Satisfy, outputs, search))
 }
 
+/// `int_times(x, y, z)`, if these are the first three variables.
+fn times(alloc: Global) -> Result<Constraint, AllocError>
+    ensures { IfOk result (λ c. c ≡ record {
+      name = Builtin.IntTimes;
+      arguments = meaning.One (Term.Var 0) ∷ meaning.One (Term.Var 1) ∷ meaning.One (Term.Var 2) ∷ [];
+    }) }
+{
+    let mut arguments = Vec::new(alloc);
+    arguments.push(Argument::One(Term::Var(0)))?;
+    arguments.push(Argument::One(Term::Var(1)))?;
+    arguments.push(Argument::One(Term::Var(2)))?;
+    Ok(Constraint::new(Builtin::IntTimes, arguments))
+}
+
+/// `var 1..2: x; var 1..2: y; var 1..4: z; constraint int_times(x, y, z); solve satisfy;`
+fn product(alloc: Global) -> Result<Model, AllocError>
+    ensures { IfOk result (λ m. AreKnown m.constraints) }
+{
+    let mut variables = Vec::new(alloc);
+    variables.push(Variable::new(Kind::Int, Dom::from_ranges(alloc, &[(1, 2)])?))?;
+    variables.push(Variable::new(Kind::Int, Dom::from_ranges(alloc, &[(1, 2)])?))?;
+    variables.push(Variable::new(Kind::Int, Dom::from_ranges(alloc, &[(1, 4)])?))?;
+    let mut constraints = Vec::new(alloc);
+    constraints.push(times(alloc)?)?;
+    let (outputs, search) = (Vec::new(alloc), Vec::new(alloc));
+    Ok(Model::new(variables, constraints, Goal::Satisfy, outputs, search))
+}
+
 /// One variable of such a set: `var SET: x; solve satisfy;`
 fn one_of(alloc: Global, set: Dom) -> Result<Model, AllocError>
     requires { IsVariable (record { kind = Kind.Int; set = set }) }
@@ -122,6 +150,20 @@ fn two_that_differ_are_not_the_same(rt: HostRuntime) -> Result<(), Fail> {
     assert_eq!(rt; known(&mut space)?, (Status::Failed, Status::Failed));
     space.commit(&equals(alloc, 1, 1), 1)?;
     assert_eq!(rt; known(&mut space)?, (Status::Failed, Status::Failed));
+    Ok(())
+}
+
+#[test]
+fn a_product_is_tested_once_all_is_known(rt: HostRuntime) -> Result<(), Fail> {
+    let alloc = rt.alloc();
+    for (z, status) in [(4, Status::Solved), (3, Status::Failed)] {
+        let mut space = root(alloc, product(alloc)?)?;
+        space.commit(&equals(alloc, 0, 2), 0)?;
+        space.commit(&equals(alloc, 1, 2), 0)?;
+        assert_eq!(rt; known(&mut space)?, (Status::Branch, Status::Branch));
+        space.commit(&equals(alloc, 2, z), 0)?;
+        assert_eq!(rt; known(&mut space)?, (status, status));
+    }
     Ok(())
 }
 
