@@ -38,25 +38,26 @@ pub record Few (n : Counts) (adds : List Addition) : Type 0 where
   pub variables_are : (all_counted n adds).variables ≡ n.variables + variables_in adds
   pub constraints_are : (all_counted n adds).constraints ≡ n.constraints + constraints_in adds
 
-under : (b : Bool) (at : ℕ) → cond b [] (at ∷ []) ≡ [] → b ≡ true
-under true at e = refl
-under false at e = cc
+-- a test that has no place holds
+pub no_place : (b : Bool) (at : ℕ) → cond b [] (at ∷ []) ≡ [] → b ≡ true
+no_place true at e = refl
+no_place false at e = cc
 
 pub few : (n : Counts) (adds : List Addition) → over n adds ≡ [] → Few n adds
 few n [] e = record { variables = omega arith; constraints = omega arith; elements = omega arith; variables_are = omega arith; constraints_are = omega arith }
 few n (AVariable at ∷ more) e =
     let p = nil_parts (is_over n (AVariable at)) (over (counted n (AVariable at)) more) e in
-    let l = ltb-true n.variables VARIABLE_LIMIT (under (nat_lt n.variables VARIABLE_LIMIT) at p.0) in
+    let l = ltb-true n.variables VARIABLE_LIMIT (no_place (nat_lt n.variables VARIABLE_LIMIT) at p.0) in
     let rest = few (counted n (AVariable at)) more p.1 in
     record { variables = omega (arith, l, rest.variables); constraints = rest.constraints; elements = rest.elements; variables_are = omega (arith, rest.variables_are); constraints_are = rest.constraints_are }
 few n (AConstraint at ∷ more) e =
     let p = nil_parts (is_over n (AConstraint at)) (over (counted n (AConstraint at)) more) e in
-    let l = ltb-true n.constraints CONSTRAINT_LIMIT (under (nat_lt n.constraints CONSTRAINT_LIMIT) at p.0) in
+    let l = ltb-true n.constraints CONSTRAINT_LIMIT (no_place (nat_lt n.constraints CONSTRAINT_LIMIT) at p.0) in
     let rest = few (counted n (AConstraint at)) more p.1 in
     record { variables = rest.variables; constraints = omega (arith, l, rest.constraints); elements = rest.elements; variables_are = rest.variables_are; constraints_are = omega (arith, rest.constraints_are) }
 few n (AnElement at ∷ more) e =
     let p = nil_parts (is_over n (AnElement at)) (over (counted n (AnElement at)) more) e in
-    let l = ltb-true n.elements ELEMENT_LIMIT (under (nat_lt n.elements ELEMENT_LIMIT) at p.0) in
+    let l = ltb-true n.elements ELEMENT_LIMIT (no_place (nat_lt n.elements ELEMENT_LIMIT) at p.0) in
     let rest = few (counted n (AnElement at)) more p.1 in
     record { variables = rest.variables; constraints = rest.constraints; elements = omega (arith, l, rest.elements); variables_are = rest.variables_are; constraints_are = rest.constraints_are }
 

@@ -1,10 +1,9 @@
 -- What an item that keeps all rules makes of a draft.
-use Rattle.std.proofs.Common.{◌≡◌, ℕ, Bool, true, false, cond, ◌&&◌, Option, Some, None, List, [], ◌∷◌, ◌++◌, length, refl, sym, ap, ap₂, ◌∙◌, subst, append_assoc, length-append, arith}
+use Rattle.std.proofs.Common.{◌≡◌, ℕ, Bool, true, false, ◌&&◌, Option, Some, None, List, [], ◌∷◌, ◌++◌, length, refl, sym, ap, ap₂, ◌∙◌, subst, append_assoc, length-append, arith}
 use Rattle.std.specs.Prelude.{ℤ, flat_map}
-use Rattle.fz_language.specs.declared.fault.RuleFault.TheVariants.{Unsupported, UnknownName, WrongType, WrongLengths, DeclaredTwice, OverLimit}
+use Rattle.fz_language.specs.declared.fault.RuleFault.TheVariants.{OverLimit}
 use Rattle.fz_language.specs.Trees.{Number, SetLiteral, Range, Braces, Basic, Truth, Numeral, Literal, Named, AnyBool, AnyInt, AnyFloat, Within, ValueType, One, SetOf, Expression, Scalar, Listed, Annotation, VariableItem, ArrayItem, Item, Predicate, Variable, Parameter, Array, Constraint, Program, number_at}
-use Rattle.fz_language.specs.Rules.{AVariable, AnElement, Counts, all_counted, additions, over, at_places, item_faults, kind_of, term_asked, is_bound, members_of, members_in, element_additions, expression_additions, type_additions, value_additions, array_element_additions, bad_variable_type, bad_element_type, seventh_ranges, floats_of_value, unknown_of_value, unknown_in, output_array_places, output_var_places, malformed_output_array, in_order, wrong_value, wrong_element, wrong_index_set, wrong_shape, declared_already}
-use Rattle.fz_language.specs.Numerals.{floats_in}
+use Rattle.fz_language.specs.Rules.{AVariable, AnElement, Counts, all_counted, additions, over, at_places, item_faults, kind_of, term_asked, is_bound, members_of, members_in, element_additions, expression_additions, type_additions, value_additions, array_element_additions}
 use Rattle.fz_language.specs.Within.{VariableFits}
 use Rattle.fz_model.specs.Kept.{IsVariable}
 use Rattle.fz_language.specs.Annotations.{output_array_of, shape_in, shape_among}
@@ -16,9 +15,9 @@ use Rattle.fz_resolve.specs.Rooms.{IsRoom}
 use Rattle.fz_check.specs.Drafts.{scope_of, IsCounted, Adds, IsGrown, IsAhead}
 use Rattle.fz_check.specs.Parts.{equal_to_value}
 use Rattle.fz_check.specs.declared.draft.Draft.{Draft}
-use Rattle.fz_check.proofs.Counting.{nil_parts, variables_in, variables_both, elements_both, few}
-use Rattle.fz_check.proofs.ItemFits.{no_places, variable_fits}
-use Rattle.fz_check.proofs.ModelFits.{lists_placed}
+use Rattle.fz_check.proofs.Counting.{variables_in, variables_both, elements_both, few}
+use Rattle.fz_check.proofs.ItemFits.{variable_fits}
+use Rattle.fz_check.proofs.Keeps.{variable_typed, array_keeps, array_placed}
 
 -- ---- only variables count as variables
 
@@ -103,15 +102,8 @@ grown_item old new n item it e c h adds =
 
 pub variable_is : (env : Environment) (n : Counts) (v : VariableItem) → VariableFits v → item_faults env (Variable v) ≡ [] → over n (additions (Variable v)) ≡ [] → IsVariable (record { kind = kind_of v.value_type; set = type_set v.value_type })
 variable_is env n v h e o =
-    let places = bad_variable_type v.value_type ++ seventh_ranges v.annotations ++ floats_of_value v.value in
-    let unsupported = at_places Unsupported places in
-    let unknown = at_places UnknownName (unknown_of_value env v.value) in
-    let wrong = at_places WrongType (output_array_places v.annotations ++ wrong_value env v.value_type v.value) in
-    let p = nil_parts (unsupported ++ unknown ++ wrong) (at_places DeclaredTwice (declared_already env v.name)) e in
-    let q = nil_parts (unsupported ++ unknown) wrong p.0 in
-    let t = nil_parts (bad_variable_type v.value_type ++ seventh_ranges v.annotations) (floats_of_value v.value) (no_places Unsupported places (nil_parts unsupported unknown q.0).0) in
     let w = few n (additions (Variable v)) o in
-    variable_fits v.value_type h.0 (nil_parts (bad_variable_type v.value_type) (seventh_ranges v.annotations) t.0).0
+    variable_fits v.value_type h.0 (variable_typed env v e)
     (omega (arith, w.elements, elements_both (type_additions v.value_type) (AVariable v.name.at ∷ value_additions v.value)))
 
 no_annotation : (o : Option Annotation) → ◌≡◌ {A = List ℕ} (elim o [ Some a ↦ a.name.at ∷ [] | None ↦ [] ]) [] → ◌≡◌ {A = Option (List (ℤ × ℤ))} (elim o [ Some a ↦ shape_in a | None ↦ None ]) None
@@ -120,19 +112,7 @@ no_annotation (Some a) e = cc
 
 -- an array of no variables has no index ranges for output
 pub unplaced : (env : Environment) (a : ArrayItem) → item_faults env (Array a) ≡ [] → a.variable ≡ false → shape_among a.annotations ≡ None
-unplaced env a e f =
-    let places = bad_element_type a.variable a.value_type ++ seventh_ranges a.annotations ++ flat_map floats_in a.list.elements in
-    let order = in_order (output_var_places a.annotations) (cond a.variable (malformed_output_array a.annotations) (output_array_places a.annotations)) in
-    let typed = wrong_element env a.variable a.value_type a.list in
-    let unsupported = at_places Unsupported places in
-    let unknown = at_places UnknownName (flat_map (unknown_in env) a.list.elements) in
-    let wrong = at_places WrongType (order ++ typed) in
-    let long = at_places WrongLengths (wrong_index_set a ++ wrong_shape a) in
-    let p = nil_parts (unsupported ++ unknown ++ wrong ++ long) (at_places DeclaredTwice (declared_already env a.name)) e in
-    let q = nil_parts (unsupported ++ unknown ++ wrong) long p.0 in
-    let r = nil_parts (unsupported ++ unknown) wrong q.0 in
-    no_annotation (output_array_of a.annotations)
-    (lists_placed (output_var_places a.annotations) (malformed_output_array a.annotations) (output_array_places a.annotations) a.variable (nil_parts order typed (no_places WrongType (order ++ typed) r.1)).0 f)
+unplaced env a e f = no_annotation (output_array_of a.annotations) (array_placed a (array_keeps env a e).placed f)
 
 pub value_are : (s : Scope) (v : VariableItem) (value : Option Basic) → equal_to_value (kind_of v.value_type) s.variables (elim value [ Some basic ↦ term_in s.entries (term_asked v.value_type) basic | None ↦ None ]) ≡ value_constraints s v value
 value_are s v None = refl

@@ -14,7 +14,6 @@ use Rattle.fz_spec.specs.declared.asked.Element.{Element}
 use Rattle.fz_spec.specs.Constraints as meaning
 use Rattle.fz_spec.specs.Instance.{Variable, Output, element_count}
 use Rattle.fz_spec.specs.Signatures.{Row, row_named, row_of, signature_of, have_lengths}
-use Rattle.fz_language.specs.declared.fault.RuleFault.{RuleFault}
 use Rattle.fz_language.specs.declared.fault.RuleFault.TheVariants.{Unsupported, UnknownName, WrongType, WrongLengths}
 use Rattle.fz_language.specs.Trees.{Plain, AnyBool, AnyInt, AnyFloat, Within, ValueType, One, SetOf, Basic, ListLiteral, Annotation, VariableItem, ParameterItem, ArrayItem, ConstraintItem}
 use Rattle.fz_language.specs.Trees as trees
@@ -30,14 +29,12 @@ use Rattle.fz_check.proofs.Mapped.{mapped}
 use Rattle.fz_check.specs.Fits.{EntryFits, Sound}
 use Rattle.fz_check.proofs.TermFits.{term_fits, terms_fit, are_terms, is_number, are_numbers}
 use Rattle.fz_check.proofs.SetFits.{literal_fits, set_fits, members_among}
-use Rattle.fz_check.proofs.Counting.{nil_parts, elements_in, members_counted, FewIn}
+use Rattle.fz_check.proofs.Counting.{nil_parts, no_place, elements_in, members_counted, FewIn}
+use Rattle.fz_check.proofs.Keeps.{no_places}
 use Rattle.fz_check.proofs.ArgumentFits.{all_fit}
 use Rattle.fz_check.proofs.RowLaws.{found, row_is_of, signature_length}
 use Rattle.fz_spec.specs.Constraints.{list_lengths}
-
-pub no_places : (rule : RuleFault) (places : List ℕ) → at_places rule places ≡ [] → places ≡ []
-no_places rule [] e = refl
-no_places rule (at ∷ places) e = cc
+use Rattle.std.proofs.lemmas.List.{length-map}
 
 -- ---- types
 
@@ -95,10 +92,6 @@ listing vs env kind may_vary list s h = go (each_of (term_in env (record { kind 
     go (Ok ts) k = let t = terms_fit vs env (record { kind = kind; may_vary = may_vary }) list.elements ts s h k in record { all = t.all; count = omega (arith, t.count) }
     go (Err at) k = record { all = tt; count = omega arith }
 
-length_numbers : (ts : List Term) → length (map number_of ts) ≡ length ts
-length_numbers [] = refl
-length_numbers (t ∷ ts) = ap (λ n. suc n) (length_numbers ts)
-
 array_fits : (vs : List Variable) (env : Environment) (a : ArrayItem) (variable : Bool) (t : ValueType) → Sound vs env → AllByRecursion BasicFits a.list.elements → length a.list.elements ≤ ELEMENT_LIMIT → EntryFits vs (array_entry env a variable t)
 array_fits vs env a true t s h few =
     let l = listing vs env (kind_of t) true a.list s h in
@@ -106,7 +99,7 @@ array_fits vs env a true t s h few =
 array_fits vs env a false (One plain) s h few =
     let ts = terms_of env (number_asked (One plain)) a.list in
     let l = listing vs env (kind_of (One plain)) false a.list s h in
-    (omega (arith, few, l.count, length_numbers ts), are_numbers vs (kind_of (One plain)) ts l.all)
+    (omega (arith, few, l.count, length-map ts number_of), are_numbers vs (kind_of (One plain)) ts l.all)
 array_fits vs env a false (SetOf at plain) s h few = tt
 
 pub array_entered : (vs : List Variable) (env : Environment) (a : ArrayItem) → Sound vs env → AllByRecursion BasicFits a.list.elements → length a.list.elements ≤ ELEMENT_LIMIT → Sound vs (with_entry a.name.bytes (array_entry env a a.variable a.value_type) env)
@@ -153,10 +146,6 @@ elements_fit vs s a sound h few l = go a.variable
 
 -- ---- calls
 
-right_lengths : (b : Bool) (at : ℕ) → cond b [] (at ∷ []) ≡ [] → b ≡ true
-right_lengths true at e = refl
-right_lengths false at e = cc
-
 constraint_of_row : (vs : List Variable) (env : Environment) (c : ConstraintItem) (row : Row) (signature : List Asked) → Sound vs env → AllByRecursion ExpressionFits c.arguments → AllByRecursion FewIn c.arguments
     → row_of row.builtin ≡ Some row → signature_of row (length c.arguments) ≡ Some signature → signature_faults env c row (Some signature) ≡ []
     → IsConstraint vs (record { name = row.builtin; arguments = arguments_in env signature c.arguments })
@@ -168,7 +157,7 @@ constraint_of_row vs env c row signature s h few r k e =
     let p = nil_parts (unknown ++ wrong) lengths e in
     let q = nil_parts unknown wrong p.0 in
     let typed = no_places WrongType (wrong_arguments env signature c.arguments) q.1 in
-    let long = right_lengths right c.name.at (no_places WrongLengths (cond right [] (c.name.at ∷ [])) p.1) in
+    let long = no_place right c.name.at (no_places WrongLengths (cond right [] (c.name.at ∷ [])) p.1) in
     let f = all_fit vs env signature c.arguments s (signature_length row (length c.arguments) signature k) h few typed in
     let arguments = arguments_in env signature c.arguments in
     subst (λ (o : Option Row). MatchOption o ⊥ (λ (found : Row). FitsRow vs found arguments)) (sym r)
@@ -301,10 +290,6 @@ all_resolved env e bs h = go (each_of (term_in env e) bs) refl h
     go (Ok ts) k i = (ts, k)
     go (Err at) k i = cc
 
-whole_shape : (b : Bool) (at : ℕ) → cond b [] (at ∷ []) ≡ [] → b ≡ true
-whole_shape true at e = refl
-whole_shape false at e = cc
-
 array_shown_of : (vs : List Variable) (s : Scope) (a : ArrayItem) (shape : List (ℤ × ℤ)) → Sound vs s.entries → NameFits a.name → AllByRecursion BasicFits a.list.elements → length a.list.elements ≤ ELEMENT_LIMIT → Shaped shape
     → element_count shape ≡ length a.list.elements → wrong_place (each_of (term_in s.entries (term_asked a.value_type)) a.list.elements) ≡ [] → IsOutput vs (shown_as s a shape)
 array_shown_of vs s a shape sound named h few f count typed =
@@ -338,7 +323,7 @@ array_shown vs s a sound h few seven typed placed whole = go (output_array_of a.
         → AllByRecursion (IsOutput vs) (elim o [ Some shape ↦ shown_as s a shape ∷ [] | None ↦ [] ])
     shown ann fit None k n p w = tt
     shown ann fit (Some shape) k n p w = (
-      array_shown_of vs s a shape sound h.4 h.3 few (shaped ann shape fit k n) (eqb-true (element_count shape) (length a.list.elements) (whole_shape (element_count shape == length a.list.elements) ann.name.at w))
+      array_shown_of vs s a shape sound h.4 h.3 few (shaped ann shape fit k n) (eqb-true (element_count shape) (length a.list.elements) (no_place (element_count shape == length a.list.elements) ann.name.at w))
           (is_variable a.variable refl ann.name.at p typed),
       tt,
     )

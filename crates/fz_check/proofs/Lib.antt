@@ -6,9 +6,9 @@ pub mod Counting
 pub mod DraftLaws
 pub mod EntryLaws
 pub mod FaultLaws
-pub mod Finds
 pub mod Halves
 pub mod ItemFits
+pub mod Keeps
 pub mod Mapped
 pub mod ModelFits
 pub mod PlaceLaws

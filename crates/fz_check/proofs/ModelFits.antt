@@ -1,6 +1,6 @@
 -- The model of a program that keeps all rules is one.
 use Rattle.std.proofs.Common.{◌≡◌, ℕ, zero, suc, ◌+◌, ◌-◌, ◌≤◌, Bool, true, false, ◌&&◌, cond, Option, Some, None, List, [], ◌∷◌, ◌++◌, length, map, refl, sym, ap, ◌∙◌, append_assoc, length-append, arith}
-use Rattle.std.specs.Prelude.{ℤ, flat_map, nat_lt}
+use Rattle.std.specs.Prelude.{ℤ, flat_map}
 use Rattle.std.specs.List.{AllByRecursion}
 use Rattle.std.proofs.lemmas.List.{length-map}
 use Rattle.fz_spec.specs.declared.limits.TheConstants.{VARIABLE_LIMIT, CONSTRAINT_LIMIT, ELEMENT_LIMIT}
@@ -12,12 +12,11 @@ use Rattle.fz_spec.specs.Constraints as meaning
 use Rattle.fz_spec.specs.Instance.{Output}
 use Rattle.fz_spec.specs.Instance as instance
 use Rattle.fz_spec.specs.Signatures.{Row, row_named, signature_of}
-use Rattle.fz_language.specs.declared.fault.RuleFault.TheVariants.{Unsupported, UnknownName, WrongType, WrongLengths, DeclaredTwice, OverLimit}
+use Rattle.fz_language.specs.declared.fault.RuleFault.TheVariants.{Unsupported, OverLimit}
 use Rattle.fz_language.specs.Trees.{Basic, Annotation, VariableItem, ParameterItem, ArrayItem, ConstraintItem, Item, Predicate, Variable, Parameter, Array, Constraint, SolveItem, Method, Satisfy, Minimize, Maximize}
-use Rattle.fz_language.specs.Numerals.{floats_in}
 use Rattle.fz_language.specs.Entries.{Environment, nothing_declared, term_in, resolve}
 use Rattle.fz_language.specs.Entries as entries
-use Rattle.fz_language.specs.Rules.{Fault, AVariable, Counts, none_yet, all_counted, additions, over, at_places, faults_of, item_faults, solve_faults, kind_of, term_asked, is_bound, bad_variable_type, bad_element_type, seventh_ranges, floats_of_value, unknown_of_value, unknown_in, output_array_places, output_var_places, malformed_output_array, in_order, arguments_in, wrong_value, wrong_element, wrong_index_set, wrong_shape, declared_already, type_additions, value_additions, array_element_additions, members_in}
+use Rattle.fz_language.specs.Rules.{Fault, AVariable, Counts, none_yet, all_counted, additions, over, at_places, faults_of, item_faults, solve_faults, kind_of, term_asked, is_bound, arguments_in, type_additions, value_additions, array_element_additions, members_in}
 use Rattle.fz_language.specs.Models.{equal_to, goal_term, Scope, empty_scope, behind, scope_behind, made, goal_of, type_set, variables_of, constraints_of, outputs_of, value_constraints, call_constraints, terms_of, bound_to}
 use Rattle.fz_language.specs.Annotations.{output_var_of, shape_among}
 use Rattle.fz_language.specs.Reads.{faults_from}
@@ -25,7 +24,8 @@ use Rattle.fz_language.specs.Within.{BasicFits, ItemFits}
 use Rattle.fz_model.specs.Kept.{IsVariable, IsConstraint, IsOutput, IsGoal, kind_at}
 use Rattle.fz_check.specs.Fits.{Sound, ModelsFit}
 use Rattle.fz_check.proofs.Counting.{nil_parts, variables_in, constraints_in, elements_in, Few, few, elements_both, constraints_both, variables_both, among_counted, array_counted, bound_counted, arguments_few}
-use Rattle.fz_check.proofs.ItemFits.{no_places, variable_fits, entered, parameter_fits, listing, array_entered, value_fits, elements_fit, call_fits, scalar_shown, array_shown}
+use Rattle.fz_check.proofs.Keeps.{no_places, variable_typed, array_keeps, array_placed}
+use Rattle.fz_check.proofs.ItemFits.{variable_fits, entered, parameter_fits, listing, array_entered, value_fits, elements_fit, call_fits, scalar_shown, array_shown}
 use Rattle.fz_check.proofs.SearchFits.{both_all, search_fits}
 
 -- what an item makes
@@ -53,18 +53,9 @@ value_count s v (Some b) = go (term_in s.entries (term_asked v.value_type) b)
 variable_made : (vs : List instance.Variable) (s : Scope) (n : Counts) (v : VariableItem) → Sound vs s.entries → ItemFits (Variable v) → IsNumbered vs s (Variable v) → item_faults s.entries (Variable v) ≡ [] → Few n (additions (Variable v)) → Making vs s (Variable v)
 variable_made vs s n v sound h k e w =
     let kind = k (record { kind = kind_of v.value_type; set = type_set v.value_type }) refl in
-    let unsupported = at_places Unsupported (bad_variable_type v.value_type ++ seventh_ranges v.annotations ++ floats_of_value v.value) in
-    let unknown = at_places UnknownName (unknown_of_value s.entries v.value) in
-    let wrong = at_places WrongType (output_array_places v.annotations ++ wrong_value s.entries v.value_type v.value) in
-    let p = nil_parts (unsupported ++ unknown ++ wrong) (at_places DeclaredTwice (declared_already s.entries v.name)) e in
-    let q = nil_parts (unsupported ++ unknown) wrong p.0 in
-    let r = nil_parts unsupported unknown q.0 in
-    let u = no_places Unsupported (bad_variable_type v.value_type ++ seventh_ranges v.annotations ++ floats_of_value v.value) r.0 in
-    let t = nil_parts (bad_variable_type v.value_type ++ seventh_ranges v.annotations) (floats_of_value v.value) u in
-    let bad = (nil_parts (bad_variable_type v.value_type) (seventh_ranges v.annotations) t.0).0 in
     let rest = AVariable v.name.at ∷ value_additions v.value in
     record {
-      sets = (variable_fits v.value_type h.0 bad (omega (arith, w.elements, elements_both (type_additions v.value_type) rest)), tt);
+      sets = (variable_fits v.value_type h.0 (variable_typed s.entries v e) (omega (arith, w.elements, elements_both (type_additions v.value_type) rest)), tt);
       constrained = value_fits vs s v v.value sound kind h.1;
       shown = scalar_shown vs s v h.2 kind;
       sound = entered vs s.entries v.name.bytes (entries.Variable (kind_of v.value_type) s.variables) sound kind;
@@ -92,35 +83,9 @@ element_count s a h vs sound true true =
 element_count s a h vs sound true false = omega arith
 element_count s a h vs sound false bound = omega arith
 
-pub lists_placed : (xs ys zs : List ℕ) (b : Bool) → in_order xs (cond b ys zs) ≡ [] → b ≡ false → zs ≡ []
-lists_placed [] ys zs true e f = cc
-lists_placed (x ∷ xs) ys zs true e f = cc
-lists_placed [] ys [] false e f = refl
-lists_placed [] ys (z ∷ zs) false e f = cc
-lists_placed (x ∷ xs) ys [] false e f = refl
-lists_placed (x ∷ xs) ys (z ∷ zs) false e f = none (nat_lt z x) e
-  where
-    none : (c : Bool) → cond c (z ∷ x ∷ []) (x ∷ z ∷ []) ≡ [] → z ∷ zs ≡ []
-    none true i = cc
-    none false i = cc
-
 array_made : (vs : List instance.Variable) (s : Scope) (n : Counts) (a : ArrayItem) → Sound vs s.entries → ItemFits (Array a) → item_faults s.entries (Array a) ≡ [] → Few n (additions (Array a)) → Making vs s (Array a)
 array_made vs s n a sound h e w =
-    let bad = bad_element_type a.variable a.value_type in
-    let seven = seventh_ranges a.annotations in
-    let places = in_order (output_var_places a.annotations) (cond a.variable (malformed_output_array a.annotations) (output_array_places a.annotations)) in
-    let typed = wrong_element s.entries a.variable a.value_type a.list in
-    let unsupported = at_places Unsupported (bad ++ seven ++ flat_map floats_in a.list.elements) in
-    let unknown = at_places UnknownName (flat_map (unknown_in s.entries) a.list.elements) in
-    let wrong = at_places WrongType (places ++ typed) in
-    let long = at_places WrongLengths (wrong_index_set a ++ wrong_shape a) in
-    let p = nil_parts (unsupported ++ unknown ++ wrong ++ long) (at_places DeclaredTwice (declared_already s.entries a.name)) e in
-    let q = nil_parts (unsupported ++ unknown ++ wrong) long p.0 in
-    let r = nil_parts (unsupported ++ unknown) wrong q.0 in
-    let t = nil_parts unsupported unknown r.0 in
-    let u = nil_parts (bad ++ seven) (flat_map floats_in a.list.elements) (no_places Unsupported (bad ++ seven ++ flat_map floats_in a.list.elements) t.0) in
-    let types = nil_parts places typed (no_places WrongType (places ++ typed) r.1) in
-    let lengths = nil_parts (wrong_index_set a) (wrong_shape a) (no_places WrongLengths (wrong_index_set a ++ wrong_shape a) q.1) in
+    let keeps = array_keeps s.entries a e in
     let more = flat_map (array_element_additions (a.variable && is_bound a.value_type)) a.list.elements in
     let both = elements_both (type_additions a.value_type) more in
     let few : length a.list.elements ≤ ELEMENT_LIMIT = omega (arith, w.elements, both, array_counted (a.variable && is_bound a.value_type) a.list.elements) in
@@ -128,8 +93,7 @@ array_made vs s n a sound h e w =
     record {
       sets = tt;
       constrained = elements_fit vs s a sound h.2 few_members h.3;
-      shown = array_shown vs s a sound h few (nil_parts bad seven u.0).1 types.1
-          (lists_placed (output_var_places a.annotations) (malformed_output_array a.annotations) (output_array_places a.annotations) a.variable types.0) lengths.1;
+      shown = array_shown vs s a sound h few keeps.seven keeps.typed (array_placed a keeps.placed) keeps.whole;
       sound = array_entered vs s.entries a sound h.3 few;
       count = omega arith;
       few_variables = omega arith;

@@ -1,6 +1,6 @@
 -- Terms of an environment whose entries fit.
 use Rattle.std.proofs.Common.{◌≡◌, ℕ, suc, ◌≤◌, ℤ, Bool, true, false, cond, Option, Some, None, List, [], ◌∷◌, length, map, refl, sym, ap, ◌∙◌, subst, arith, rules}
-use Rattle.std.specs.Prelude.{Result, Ok, Err}
+use Rattle.std.specs.Prelude.{Ok}
 use Rattle.std.specs.List.{AllByRecursion}
 use Rattle.std.proofs.lemmas.Int.{ints}
 use Rattle.fz_spec.specs.declared.limits.TheConstants.{ELEMENT_LIMIT}
@@ -16,18 +16,17 @@ use Rattle.fz_language.specs.Entries.{Environment, Entry, of_kind, named, entry_
 use Rattle.fz_language.specs.Entries as entries
 use Rattle.fz_language.specs.Within.{BasicFits}
 use Rattle.fz_model.specs.Kept.{IsNumberOf, IsTermOf, FitsElement, FitsList, kind_at}
+use Rattle.fz_resolve.proofs.Each.{ok_is, part}
 use Rattle.fz_check.specs.Fits.{EntryFits, Sound}
+use Rattle.std.proofs.lemmas.List.{length-map}
 
 record OfKind {X : Type 0} (wanted kind : Kind) (x y : X) : Type 0 where
   kind_is : wanted ≡ kind
   is : x ≡ y
 
-some_is : {X : Type 0} (x y : X) → Some x ≡ Some y → x ≡ y
-some_is x y e = cc
-
 of_kind_is : {X : Type 0} (wanted kind : Kind) (x y : X) → of_kind wanted kind x ≡ Some y → OfKind wanted kind x y
-of_kind_is kinds.Bool kinds.Bool x y e = record { kind_is = refl; is = some_is x y e }
-of_kind_is kinds.Int kinds.Int x y e = record { kind_is = refl; is = some_is x y e }
+of_kind_is kinds.Bool kinds.Bool x y e = record { kind_is = refl; is = cc }
+of_kind_is kinds.Int kinds.Int x y e = record { kind_is = refl; is = cc }
 of_kind_is kinds.Bool kinds.Int x y e = cc
 of_kind_is kinds.Int kinds.Bool x y e = cc
 
@@ -78,21 +77,6 @@ term_fits vs env e (Named name) t s h o =
 
 -- ---- lists of terms
 
-ok_is : {X : Type 0} (xs ys : List X) → (let r : Result (List X) ℕ = Ok xs in r) ≡ Ok ys → xs ≡ ys
-ok_is xs ys e = cc
-
-record Parted {X : Type 0} (o : Option X) (r : Result (List X) ℕ) (ts : List X) : Type 0 where
-  first : X
-  others : List X
-  first_is : o ≡ Some first
-  others_are : r ≡ Ok others
-  whole : ts ≡ first ∷ others
-
-part : {X : Type 0} (o : Option X) (r : Result (List X) ℕ) (at : ℕ) (ts : List X) → before o r at ≡ Ok ts → Parted o r ts
-part (Some x) (Ok xs) at ts e = record { first = x; others = xs; first_is = refl; others_are = refl; whole = sym (ok_is (x ∷ xs) ts e) }
-part (Some x) (Err place) at ts e = cc
-part None r at ts e = cc
-
 pub record TermsFit (vs : List Variable) (e : Element) (bs : List Basic) (ts : List Term) : Type 0 where
   pub all : AllByRecursion (FitsElement vs e) ts
   pub count : length ts ≡ length bs
@@ -127,14 +111,10 @@ pub are_numbers : (vs : List Variable) (kind : Kind) (ts : List Term) → AllByR
 are_numbers vs kind [] h = tt
 are_numbers vs kind (t ∷ ts) h = (is_number vs kind t h.0, are_numbers vs kind ts h.1)
 
-length_numbers : (ts : List Term) → length (map number_of ts) ≡ length ts
-length_numbers [] = refl
-length_numbers (t ∷ ts) = ap (λ n. suc n) (length_numbers ts)
-
 pub list_fits : (vs : List Variable) (kind : Kind) (may_vary : Bool) (ts : List Term) → length ts ≤ ELEMENT_LIMIT → AllByRecursion (FitsElement vs (element kind may_vary)) ts
     → FitsList vs kind may_vary (list_argument (element kind may_vary) ts)
 list_fits vs kind true ts few h = (few, are_terms vs kind true ts h)
-list_fits vs kind false ts few h = (omega (arith, few, length_numbers ts), are_numbers vs kind ts h)
+list_fits vs kind false ts few h = (omega (arith, few, length-map ts number_of), are_numbers vs kind ts h)
 
 nums_fit : (vs : List Variable) (kind : Kind) (ns : List ℤ) → AllByRecursion (IsNumberOf kind) ns → AllByRecursion (IsTermOf vs kind) (map Num ns)
 nums_fit vs kind [] h = tt

@@ -5,13 +5,21 @@ ghost use Rattle.fz_language.specs.Search as searches;
 ghost use Rattle.fz_language.specs.Trees as lang;
 ghost use Rattle.fz_syntax.specs.Trees as trees;
 ghost use Rattle.fz_resolve.specs.Meant.{environment_of};
-ghost use Rattle.fz_check.specs.Searches.{parts_of_call, option_list, word_of, part_of_words, has_name, parts_of_first};
+ghost use Rattle.fz_check.specs.Searches.{parts_of_call, option_list, word_of, part_of_words, and_word, is_new, parts_of_new};
 
 use fz_model::{SearchPart, Term};
 use fz_resolve::{Entry, Names};
 use fz_spec::search::{Pick, Value};
 use fz_syntax::{Annotation, Argument, Basic, Name};
 use std::alloc::{AllocError, Global};
+
+/// Which of the search words stood before.
+#[derive(Clone, Copy)]
+struct Words {
+    int_search: bool,
+    bool_search: bool,
+    seq_search: bool,
+}
 
 /// The parts of the search, those of each annotation one behind another. An annotation of a name that stood before says nothing.
 pub(crate) fn search(
@@ -23,47 +31,60 @@ pub(crate) fn search(
         ≡ searches.search_of (environment_of names.now) (trees.annotations_of annotations.now)) }
 {
     let mut parts = Vec::new(alloc);
-    for i in 0..annotations.len() {
-        push_first(alloc, names, &annotations[..i], &annotations[i], &mut parts)?;
+    let mut words = Words {
+        int_search: false,
+        bool_search: false,
+        seq_search: false,
+    };
+    for annotation in annotations {
+        push_first(alloc, names, annotation, words, &mut parts)?;
+        words = and_word(words, annotation.name.bytes);
     }
     Ok(parts)
 }
 
-/// Adds the parts of an annotation, if it is the first of its name behind these.
+/// These words, and this one, if it is one.
+fn and_word(words: Words, name: &[u8]) -> Words
+    ensures { result ≡ and_word words name.now }
+{
+    Words {
+        int_search: words.int_search || name == b"int_search".as_slice(),
+        bool_search: words.bool_search || name == b"bool_search".as_slice(),
+        seq_search: words.seq_search || name == b"seq_search".as_slice(),
+    }
+}
+
+/// Whether a name is a search word, and none of these.
+fn is_new(words: Words, name: &[u8]) -> bool
+    ensures { result ≡ is_new words name.now }
+{
+    if name == b"int_search".as_slice() {
+        !words.int_search
+    } else if name == b"bool_search".as_slice() {
+        !words.bool_search
+    } else if name == b"seq_search".as_slice() {
+        !words.seq_search
+    } else {
+        false
+    }
+}
+
+/// Adds the parts of an annotation, if its name is a search word and none of these.
 fn push_first(
     alloc: Global,
     names: &Names<'_>,
-    before: &[Annotation<'_>],
     annotation: &Annotation<'_>,
+    words: Words,
     parts: &mut Vec<SearchPart>,
 ) -> Result<(), AllocError>
-    ensures { OnOk result (parts.new.items ≡ parts.old.items
-        ++ parts_of_first (environment_of names.now) (map trees.annotation_of before.now)
-        (trees.annotation_of annotation.now)) }
+    ensures { let a = trees.annotation_of annotation.now in
+        OnOk result (parts.new.items ≡ parts.old.items
+        ++ parts_of_new (environment_of names.now) words a) }
 {
-    if is_among(before, annotation.name.bytes) {
-        return Ok(());
+    if is_new(words, annotation.name.bytes) {
+        push_annotation(alloc, names, annotation, parts)?;
     }
-    push_annotation(alloc, names, annotation, parts)?;
     Ok(())
-}
-
-/// Whether an annotation of this name is among these.
-fn is_among(annotations: &[Annotation<'_>], name: &[u8]) -> bool
-    ensures { result ≡ has_name name.now (map trees.annotation_of annotations.now) }
-{
-    for annotation in annotations {
-        if is_named(annotation, name) {
-            return true;
-        }
-    }
-    false
-}
-
-fn is_named(annotation: &Annotation<'_>, name: &[u8]) -> bool
-    ensures { result ≡ bytes_eq name.now (trees.annotation_of annotation.now).name.bytes }
-{
-    name == annotation.name.bytes
 }
 
 fn push_annotation(

@@ -8,7 +8,6 @@ use Rattle.fz_sets.specs.Sets.{IsWithinLimits}
 use Rattle.fz_language.specs.declared.sign.Sign.{Sign}
 use Rattle.fz_language.specs.declared.sign.Sign.TheVariants.{Colon}
 use Rattle.fz_language.specs.declared.keyword.Keyword.{Keyword}
-use Rattle.fz_language.specs.declared.keyword.Keyword.TheVariants as keyword
 use Rattle.fz_language.specs.Tokens.{Lexeme, Identifier, Word, Number, Float, Text, Punct, is_blank, is_word_start, is_word_byte, IsWord, keyword_bytes, sign_bytes, IsNatural, IsPlainFloat, IsTail, IsFloat, IsNumber, IsInside, IsSpelt, IsToken, BeginsNoToken, BeginsLargeNumber, digits_value}
 use Rattle.fz_language.proofs.Bytes.{slice_cons, slice_none, slice_all_at, all_of_slice, head_of}
 use Rattle.fz_tokens.specs.declared.token.Lexeme.TheVariants as found
@@ -19,6 +18,8 @@ use Rattle.fz_lex.proofs.Runs.{run_bound, run_digits}
 use Rattle.fz_lex.proofs.NumberTokens.{Parts, natural_first, float_first, number_parts, float_parts, float_longest, natural_longest, float_is, number_is, NaturalFound}
 use Rattle.fz_lex.proofs.Signs.{sign_first, sign_length, bytes_of_sign, IsSignAt, sign_at, sign_starts, sign_longest_sign, sign_begins, sign_within, sign_stands, colon_alone}
 use Rattle.fz_lex.proofs.Strings.{text_first, text_inside, text_from, closes_only}
+use Rattle.fz_lex.proofs.Numbers.{clash}
+use Rattle.fz_language.proofs.LexemeProofs.{keyword_word}
 
 -- what a spelling tells of its bytes
 
@@ -41,10 +42,6 @@ word_from text start stop w h =
     let f : IsWord (slice_index text start ∷ slice_range text (start + 1) stop) =
     (h.first, all_of_slice is_word_byte text (start + 1) stop w h.others) in
     subst IsWord (sym (slice_cons text start stop h.some w)) f
-
-keyword_word : (k : Keyword) → IsWord (keyword_bytes k)
-keyword_word keyword.Array = (refl, refl)
-keyword_word _ = (refl, refl)
 
 -- what begins with a digit, or a minus and a digit
 NumberFirst : List ℕ → ℕ → Type 0
@@ -80,9 +77,6 @@ start (Number v) text at end w h = number_first v text at end w h
 start Float text at end w h = float_begins text at end w h
 start Text text at end w h = text_first text at end w h
 start (Punct s) text at end w h = (sign_starts s text at end (sign_at s text at end w h)).1
-
-clash : (p : ℕ → Bool) (x y : ℕ) → x ≡ y → p x ≡ true → p y ≡ false → ⊥
-clash p x y e t f = both_ways (p y) f (subst (λ (n : ℕ). p n ≡ true) e t)
 
 digit_no_word_start : (b : ℕ) → is_ascii_digit b ≡ true → is_word_start b ≡ true → ⊥
 digit_no_word_start b d w = grind (arith, nat_tests)

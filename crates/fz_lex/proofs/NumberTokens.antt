@@ -1,17 +1,14 @@
 -- The number at a place is a token.
 use Rattle.std.proofs.Common.{◌≡◌, ◌≢◌, ℕ, ℤ, ◌+◌, ◌<◌, ◌≤◌, ◌⊎◌, min, Bool, true, false, List, [], ◌∷◌, ◌++◌, length, slice_index, slice_range, subst, sym, ap, ◌∙◌, refl, inl, inr, arith}
 use Rattle.std.specs.Char.{is_ascii_digit}
-use Rattle.std.proofs.lemmas.Bool.{cases_lt, both_ways}
+use Rattle.std.proofs.lemmas.Bool.{cases_lt}
 use Rattle.fz_language.specs.Tokens.{AreDigits, IsTail, IsNatural, IsPlainFloat, IsFloat, IsNumber, digits_value}
 use Rattle.fz_language.proofs.Bytes.{head_of, cons_from, split, join, slice_none}
 use Rattle.fz_lex.specs.declared.run.DigitRun.{DigitRun}
 use Rattle.fz_lex.specs.declared.run.TheConstants.{OVER}
 use Rattle.fz_lex.specs.Steps.{IsRun, IsLongest, HasNone, IsNaturalAt, IsNumberStart, signed_of}
 use Rattle.fz_lex.proofs.Runs.{run_bound, run_exact, run_digits}
-use Rattle.fz_lex.proofs.Numbers.{first_digit, exponent_at, exponent_some, based_at, one_digit, letter_no_digit}
-
-clash : (p : ℕ → Bool) (x y : ℕ) → x ≡ y → p x ≡ true → p y ≡ false → ⊥
-clash p x y e t f = both_ways (p y) f (subst (λ (n : ℕ). p n ≡ true) e t)
+use Rattle.fz_lex.proofs.Numbers.{first_digit, exponent_at, exponent_some, based_at, one_digit, letter_no_digit, clash}
 
 -- what begins with a digit
 

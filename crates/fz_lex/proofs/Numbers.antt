@@ -9,9 +9,9 @@ use Rattle.fz_language.proofs.Bytes.{head_of, cons_from, split, slice_none, slic
 use Rattle.fz_lex.specs.declared.run.DigitRun.{DigitRun}
 use Rattle.fz_lex.specs.declared.run.TheConstants.{OVER}
 use Rattle.fz_lex.specs.Steps.{IsRun, IsLongest, HasNone, HasNoBased, IsBasedAt, IsBehindSign}
-use Rattle.fz_lex.proofs.Runs.{run_bound, run_exact, run_some, run_digits}
+use Rattle.fz_lex.proofs.Runs.{run_bound, run_exact, run_some, run_digits, two}
 
-clash : (p : ℕ → Bool) (x y : ℕ) → x ≡ y → p x ≡ true → p y ≡ false → ⊥
+pub clash : (p : ℕ → Bool) (x y : ℕ) → x ≡ y → p x ≡ true → p y ≡ false → ⊥
 clash p x y e t f = both_ways (p y) f (subst (λ (n : ℕ). p n ≡ true) e t)
 
 -- a byte that passes a test that 0 fails is one of the text
@@ -40,9 +40,6 @@ pub record ExponentAt (text : List ℕ) (at end : ℕ) : Type 0 where
 letter_is : (text : List ℕ) (at e : ℕ) → slice_index text at ≡ e → (e ≡ 101) ⊎ (e ≡ 69) → (slice_index text at ≡ 101) ⊎ (slice_index text at ≡ 69)
 letter_is text at e b (inl i) = inl (b ∙ i)
 letter_is text at e b (inr i) = inr (b ∙ i)
-
-two : (at : ℕ) → (at + 1) + 1 ≡ at + 2
-two at = omega arith
 
 signed : (text : List ℕ) (at end s e : ℕ) (ds : List ℕ) → end ≤ length text → (e ≡ 101) ⊎ (e ≡ 69) → AreDigits is_ascii_digit ds → (s ≡ 43) ⊎ (s ≡ 45) → slice_range text at end ≡ e ∷ s ∷ ds → ExponentAt text at end
 signed text at end s e ds w l d i q =

@@ -9,6 +9,9 @@ use Rattle.fz_lex.specs.declared.run.Radix.{Radix}
 use Rattle.fz_lex.specs.declared.run.Radix.TheVariants.{Decimal, Hexadecimal, Octal}
 use Rattle.fz_lex.specs.Steps.{Passes, IsRun, radix_of}
 
+pub two : (at : ℕ) → (at + 1) + 1 ≡ at + 2
+two at = omega arith
+
 pub passes_none : (p : ℕ → Bool) (text : List ℕ) (at : ℕ) → at ≤ length text → Passes p text at at
 passes_none p text at w = record { ordered = omega arith; within = w; each = λ k a b. absurd (omega arith) }
 

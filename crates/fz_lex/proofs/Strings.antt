@@ -4,9 +4,7 @@ use Rattle.std.proofs.lemmas.Bool.{cases_lt}
 use Rattle.fz_language.specs.Tokens.{IsInside, Closes, Goes, Takes, IsText}
 use Rattle.fz_language.proofs.Bytes.{head_of, cons_from, slice_none, slice_cons}
 use Rattle.fz_lex.specs.Steps.{HasNone, StepsInside}
-
-two : (at : ℕ) → (at + 1) + 1 ≡ at + 2
-two at = omega arith
+use Rattle.fz_lex.proofs.Runs.{two}
 
 -- how a string goes on behind its quote
 abbrev Went : ℕ → List ℕ → Type 0

@@ -7,3 +7,5 @@ pub mod Waiting
 pub mod Names
 pub mod ReifiedNames
 pub mod Sets
+pub mod Outside
+pub mod ReifiedSets

@@ -4,7 +4,9 @@ use Rattle.fz_sets.specs.Sets.{IsInSet}
 use Rattle.fz_spec.specs.declared.term.Term.{Term}
 use Rattle.fz_spec.specs.Constraints.{term_value}
 use Rattle.fz_strength.specs.Domains.{term_set}
-use Rattle.fz_strength.specs.Lines.{LiesIn}
+use Rattle.fz_dom.specs.declared.change.Change.{Change}
+use Rattle.fz_dom.specs.declared.change.Change.TheVariants.{Same, Changed, Wiped}
+use Rattle.fz_strength.specs.Lines.{LiesIn, LiesOutside}
 use Rattle.fz_rel.specs.Comparisons.{variable_of}
 
 abbrev pub IsMember : Term → List (ℤ × ℤ) → List ℤ → Type 0
@@ -17,3 +19,9 @@ MemberLine x set ds = LiesIn (term_set ds x) set
 pub record IsMembership (x : Term) (variables : List ℕ) (count : ℕ) : Type 0 where
   pub few : count ≤ 1
   pub first : take count variables ≡ variable_of x
+
+-- whether all numbers of d are in the set, none, or some and not all
+abbrev pub IsOverlap : Change → List (ℤ × ℤ) → List (ℤ × ℤ) → Type 0
+IsOverlap Same d set = LiesIn d set
+IsOverlap Wiped d set = LiesOutside d set
+IsOverlap Changed d set = (LiesIn d set → ⊥) × (LiesOutside d set → ⊥)

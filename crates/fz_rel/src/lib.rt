@@ -7,12 +7,15 @@ mod ends;
 mod equal;
 pub mod member;
 mod order;
+mod others;
 pub mod reified;
+pub mod reified_member;
 mod relate;
 
 pub use comparison::Comparison;
 pub use member::Membership;
 pub use reified::ReifiedComparison;
+pub use reified_member::ReifiedMembership;
 
 #[cfg(test)]
 mod tests;

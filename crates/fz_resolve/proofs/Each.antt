@@ -4,18 +4,18 @@ use Rattle.std.specs.Prelude.{Option, Some, None, Result, Ok, Err}
 use Rattle.fz_language.specs.Trees.{Basic, basic_at}
 use Rattle.fz_language.specs.Entries.{before, each_of}
 
-ok_is : {X : Type 0} (xs ys : List X) → (let r : Result (List X) ℕ = Ok xs in r) ≡ Ok ys → xs ≡ ys
+pub ok_is : {X : Type 0} (xs ys : List X) → (let r : Result (List X) ℕ = Ok xs in r) ≡ Ok ys → xs ≡ ys
 ok_is xs ys e = cc
 
 -- where one stands before others, both are what is asked
-record Parted {X : Type 0} (o : Option X) (r : Result (List X) ℕ) (ts : List X) : Type 0 where
-  first : X
-  others : List X
-  first_is : o ≡ Some first
-  others_are : r ≡ Ok others
-  whole : ts ≡ first ∷ others
+pub record Parted {X : Type 0} (o : Option X) (r : Result (List X) ℕ) (ts : List X) : Type 0 where
+  pub first : X
+  pub others : List X
+  pub first_is : o ≡ Some first
+  pub others_are : r ≡ Ok others
+  pub whole : ts ≡ first ∷ others
 
-part : {X : Type 0} (o : Option X) (r : Result (List X) ℕ) (at : ℕ) (ts : List X) → before o r at ≡ Ok ts → Parted o r ts
+pub part : {X : Type 0} (o : Option X) (r : Result (List X) ℕ) (at : ℕ) (ts : List X) → before o r at ≡ Ok ts → Parted o r ts
 part (Some x) (Ok xs) at ts e = record { first = x; others = xs; first_is = refl; others_are = refl; whole = sym (ok_is (x ∷ xs) ts e) }
 part (Some x) (Err place) at ts e = cc
 part None r at ts e = cc

@@ -29,7 +29,7 @@ step places f (x ∷ xs) (suc i) d h e n =
 pub none_more : {X Y : Type 0} (places : Y → List ℕ) (f : X → Y) (xs : List X) (i : ℕ) (d : X) → i < length xs → None ≡ slice_get (places (f (get_or xs i d))) 0 → IsNoneSoFar places f xs i → IsNoneSoFar places f xs (i + 1)
 none_more places f xs i d h e n = rw add-one (step places f xs i d h (empty (places (f (get_or xs i d))) e) n)
 
-front_of : (ps qs : List ℕ) (at : ℕ) → slice_get ps 0 ≡ Some at → slice_get (ps ++ qs) 0 ≡ Some at
+pub front_of : (ps qs : List ℕ) (at : ℕ) → slice_get ps 0 ≡ Some at → slice_get (ps ++ qs) 0 ≡ Some at
 front_of [] qs at e = cc
 front_of (p ∷ ps) qs at e = e
 
@@ -85,11 +85,18 @@ first_step p f (x ∷ xs) (suc i) d h e n =
     let c = chosen_not (p (f x)) (f x) (find p (map f (take i xs))) n in
     ap (λ b. cond b (Some (f x)) (find p (map f xs))) c.0 ∙ first_step p f xs i d (omega (arith, h)) e c.1
 
+pub still_none : {X Y : Type 0} (p : Y → Bool) (f : X → Y) (xs : List X) (i : ℕ) (d : X) → i < length xs → p (f (get_or xs i d)) ≡ false → find p (map f (take i xs)) ≡ None → find p (map f (take (i + 1) xs)) ≡ None
+still_none p f xs i d h e n = rw add-one (none_step p f xs i d h e n)
+
+pub first_found : {X Y : Type 0} (p : Y → Bool) (f : X → Y) (xs : List X) (i : ℕ) (d : X) → i < length xs → p (f (get_or xs i d)) ≡ true → find p (map f (take i xs)) ≡ None → Some (f (get_or xs i d)) ≡ find p (map f xs)
+first_found p f xs i d h e n = sym (first_step p f xs i d h e n)
+
+-- the same of an element that is read
 pub passes_not : {X Y : Type 0} (p : Y → Bool) (f : X → Y) (xs : List X) (i : ℕ) (x : X) → i < length xs → x ≡ get_or xs i x → p (f x) ≡ false → find p (map f (take i xs)) ≡ None → find p (map f (take (i + 1) xs)) ≡ None
-passes_not p f xs i x h is e n = rw add-one (none_step p f xs i x h (ap (λ y. p (f y)) (sym is) ∙ e) n)
+passes_not p f xs i x h is e n = still_none p f xs i x h (ap (λ y. p (f y)) (sym is) ∙ e) n
 
 pub passes_first : {X Y : Type 0} (p : Y → Bool) (f : X → Y) (xs : List X) (i : ℕ) (x : X) → i < length xs → x ≡ get_or xs i x → p (f x) ≡ true → find p (map f (take i xs)) ≡ None → Some (f x) ≡ find p (map f xs)
-passes_first p f xs i x h is e n = ap (λ y. Some (f y)) is ∙ sym (first_step p f xs i x h (ap (λ y. p (f y)) (sym is) ∙ e) n)
+passes_first p f xs i x h is e n = ap (λ y. Some (f y)) is ∙ first_found p f xs i x h (ap (λ y. p (f y)) (sym is) ∙ e) n
 
 pub passes_none : {X Y : Type 0} (p : Y → Bool) (f : X → Y) (xs : List X) (i : ℕ) → length xs ≤ i → find p (map f (take i xs)) ≡ None → None ≡ find p (map f xs)
 passes_none {X} p f xs i h n = sym (subst (λ (ys : List X). find p (map f ys) ≡ None) (take_all i xs h) n)

@@ -1,10 +1,11 @@
 -- What is left behind one list of additions and another.
 use Rattle.std.proofs.Common.{◌≡◌, ℕ, ◌+◌, ◌<◌, ◌≤◌, zero, suc, List, [], ◌∷◌, ◌++◌, map, take, drop, length, get_or, refl, sym, ap, ap₂, ◌∙◌, subst, arith, add-one, append_assoc, append-nil}
 use Rattle.std.proofs.lemmas.List.{take_all}
-use Rattle.std.specs.Prelude.{Result, Ok, Err, Some, flat_map, slice_get}
+use Rattle.std.specs.Prelude.{Result, Ok, Err, flat_map, slice_get}
 use Rattle.fz_language.specs.Rules.{Addition, Counts, counted, all_counted, is_over, over}
 use Rattle.fz_resolve.specs.declared.limits.Room.{Room}
 use Rattle.fz_resolve.specs.Rooms.{IsRoom, IsBehind, IsSoFar}
+use Rattle.fz_resolve.proofs.Firsts.{front_of}
 
 counted_both : (n : Counts) (xs ys : List Addition) → all_counted n (xs ++ ys) ≡ all_counted (all_counted n xs) ys
 counted_both n [] ys = refl
@@ -14,13 +15,9 @@ over_both : (n : Counts) (xs ys : List Addition) → over n (xs ++ ys) ≡ over 
 over_both n [] ys = refl
 over_both n (x ∷ xs) ys = ap (λ u. is_over n x ++ u) (over_both (counted n x) xs ys) ∙ sym (append_assoc (is_over n x) (over (counted n x) xs) (over (all_counted (counted n x) xs) ys))
 
-front : (ps qs : List ℕ) (at : ℕ) → slice_get ps 0 ≡ Some at → slice_get (ps ++ qs) 0 ≡ Some at
-front [] qs at e = cc
-front (p ∷ ps) qs at e = e
-
 -- a place over a limit stands before all that comes later
 pub stops : (n : Counts) (xs ys : List Addition) (at : ℕ) → IsBehind n xs (Err at) → IsBehind n (xs ++ ys) (Err at)
-stops n xs ys at h = ap (λ ps. slice_get ps 0) (over_both n xs ys) ∙ front (over n xs) (over (all_counted n xs) ys) at h
+stops n xs ys at h = ap (λ ps. slice_get ps 0) (over_both n xs ys) ∙ front_of (over n xs) (over (all_counted n xs) ys) at h
 
 -- one list and then another
 pub both : (n : Counts) (xs ys : List Addition) (middle : Room) (result : Result Room ℕ) → IsSoFar n xs middle → IsBehind (all_counted n xs) ys result → IsBehind n (xs ++ ys) result

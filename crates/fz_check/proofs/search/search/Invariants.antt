@@ -4,5 +4,5 @@ use Rattle.fz_check.proofs.SearchLaws.{Searched}
 use Rattle.fz_check.proofs.search.search.Given as goal
 
 -- those of the annotations so far
-abbrev pub invariant-loop-i : goal.invariant-loop-i
-invariant-loop-i l = Searched (environment_of l.names) trees.annotation_of l.annotations l.i l.parts.items
+abbrev pub invariant-loop-annotation : goal.invariant-loop-annotation
+invariant-loop-annotation l = Searched (environment_of l.names) trees.annotation_of l.annotations l.annotation-index l.words l.parts.items
