@@ -2,7 +2,7 @@
 use Rattle.std.specs.Prelude.{◌≡◌, ℕ, List, [], ◌∷◌, Option, IsSome, MatchOption}
 use Rattle.std.specs.List.{AllByRecursion}
 use Rattle.fz_spec.specs.declared.builtin.Builtin.{Builtin}
-use Rattle.fz_spec.specs.declared.builtin.Builtin.TheVariants.{SetIn}
+use Rattle.fz_spec.specs.declared.builtin.Builtin.TheVariants.{SetIn, SetInReif}
 use Rattle.fz_spec.specs.Constraints.{Argument, One, Numbers, Terms, Set, Constraint}
 use Rattle.fz_strength.specs.Lines.{HasOwnLine}
 use Rattle.fz_strength.specs.Relations.{relation_of, reified_of}
@@ -13,6 +13,7 @@ abbrev pub HasPropagator : Builtin → List Argument → Type 0
 HasPropagator name (One x ∷ One y ∷ []) = IsSome (relation_of name)
 HasPropagator name (One x ∷ One y ∷ One r ∷ []) = IsSome (reified_of name)
 HasPropagator name (One x ∷ Set set ∷ []) = name ≡ SetIn
+HasPropagator name (One x ∷ Set set ∷ One r ∷ []) = name ≡ SetInReif
 HasPropagator name arguments = ⊥
 
 -- it, or none

@@ -1,7 +1,7 @@
 //! Kinds of propagators.
 ghost use Rattle.std.specs.Prelude.{◌≡◌, ◌<◌, List, [], ◌∷◌, length, map, IfOk, IsSome, MatchOption, slice_get, Some};
 ghost use Rattle.fz_spec.specs.Constraints as meaning;
-ghost use Rattle.fz_spec.specs.declared.builtin.Builtin.TheVariants.{SetIn};
+ghost use Rattle.fz_spec.specs.declared.builtin.Builtin.TheVariants.{SetIn, SetInReif};
 ghost use Rattle.fz_model.specs.Arguments.{argument_of};
 ghost use Rattle.fz_strength.specs.Costs.{cost_of};
 ghost use Rattle.fz_strength.specs.Events.{Wait, AreBelow};
@@ -16,7 +16,7 @@ use fz_await::Awaiting;
 use fz_dom::Dom;
 use fz_model::constraint::{Argument, Constraint};
 use fz_prop::{Answer, Cost, Event, Propagator, Store};
-use fz_rel::{Comparison, Membership, ReifiedComparison};
+use fz_rel::{Comparison, Membership, ReifiedComparison, ReifiedMembership};
 use fz_spec::builtin::Builtin;
 use fz_spec::term::Term;
 use fz_strength::relation::Relation;
@@ -34,6 +34,7 @@ enum Form {
     Comparison(Comparison),
     ReifiedComparison(ReifiedComparison),
     Membership(Membership),
+    ReifiedMembership(ReifiedMembership),
     Awaiting(Awaiting),
 }
 
@@ -57,7 +58,7 @@ impl Kind {
         requires limits { HasLimits constraint.now }
         ensures { IfOk result (λ k. k ≡ constraint.now) }
     {
-        match own(constraint)? {
+        match own(alloc, constraint)? {
             Some(kind) => Ok(kind),
             None => awaiting(alloc, constraint),
         }
@@ -71,6 +72,7 @@ impl Kind {
             Form::Comparison(comparison) => comparison.vars(),
             Form::ReifiedComparison(comparison) => comparison.vars(),
             Form::Membership(membership) => membership.vars(),
+            Form::ReifiedMembership(membership) => membership.vars(),
             Form::Awaiting(awaiting) => awaiting.vars(),
         }
     }
@@ -84,6 +86,7 @@ impl Kind {
             Form::Comparison(comparison) => comparison.event(place),
             Form::ReifiedComparison(comparison) => comparison.event(place),
             Form::Membership(membership) => membership.event(place),
+            Form::ReifiedMembership(membership) => membership.event(place),
             Form::Awaiting(awaiting) => awaiting.event(place),
         }
     }
@@ -96,6 +99,7 @@ impl Kind {
             Form::Comparison(comparison) => comparison.cost(),
             Form::ReifiedComparison(comparison) => comparison.cost(),
             Form::Membership(membership) => membership.cost(),
+            Form::ReifiedMembership(membership) => membership.cost(),
             Form::Awaiting(awaiting) => awaiting.cost(),
         }
     }
@@ -116,6 +120,7 @@ impl Kind {
             Form::Comparison(comparison) => comparison.run(store),
             Form::ReifiedComparison(comparison) => comparison.run(store),
             Form::Membership(membership) => membership.run(store),
+            Form::ReifiedMembership(membership) => membership.run(store),
             Form::Awaiting(awaiting) => awaiting.run(store),
         };
         let _ = store.doms();
@@ -135,25 +140,30 @@ fn awaiting(alloc: Global, constraint: &Constraint) -> Result<Kind, AllocError>
 }
 
 /// The propagator of its own that a constraint has; `None` where it has none.
-fn own(constraint: &Constraint) -> Result<Option<Kind>, AllocError>
+fn own(alloc: Global, constraint: &Constraint) -> Result<Option<Kind>, AllocError>
     requires { HasLimits constraint.now }
     ensures { IfOk result (λ o. IsOwn o constraint.now.name constraint.now.arguments) }
 {
     match constraint.arguments() {
-        [Argument::One(x), rest @ ..] => of_term(constraint.name(), *x, rest),
+        [Argument::One(x), rest @ ..] => of_term(alloc, constraint.name(), *x, rest),
         _ => Ok(None),
     }
 }
 
 /// The propagator of its own of a constraint whose first argument is a term.
-fn of_term(name: Builtin, x: Term, rest: &[Argument]) -> Result<Option<Kind>, AllocError>
+fn of_term(
+    alloc: Global,
+    name: Builtin,
+    x: Term,
+    rest: &[Argument],
+) -> Result<Option<Kind>, AllocError>
     requires x { FitsTerm x }
     requires rest { HaveLimits (map argument_of rest.now) }
     ensures { IfOk result (λ o. IsOwn o name (meaning.One x ∷ map argument_of rest.now)) }
 {
     match rest {
         [Argument::One(y), tail @ ..] => Ok(of_terms(name, x, *y, tail)),
-        [Argument::Set(set), tail @ ..] => of_set(name, x, set, tail),
+        [Argument::Set(set), tail @ ..] => of_set(alloc, name, x, set, tail),
         _ => Ok(None),
     }
 }
@@ -172,12 +182,20 @@ fn of_terms(name: Builtin, x: Term, y: Term, rest: &[Argument]) -> Option<Kind>
 }
 
 /// The propagator of its own of a constraint whose first two arguments are a term and a set.
-fn of_set(name: Builtin, x: Term, set: &Dom, rest: &[Argument]) -> Result<Option<Kind>, AllocError>
+fn of_set(
+    alloc: Global,
+    name: Builtin,
+    x: Term,
+    set: &Dom,
+    rest: &[Argument],
+) -> Result<Option<Kind>, AllocError>
+    requires { FitsTerm x }
     ensures { IfOk result
         (λ o. IsOwn o name (meaning.One x ∷ meaning.Set set.now ∷ map argument_of rest.now)) }
 {
     match (name, rest) {
         (Builtin::SetIn, []) => Ok(Some(member(x, set.copy()?))),
+        (Builtin::SetInReif, [Argument::One(r)]) => Ok(Some(reified_member(alloc, x, set, *r)?)),
         _ => Ok(None),
     }
 }
@@ -213,4 +231,18 @@ fn member(x: Term, set: Dom) -> Kind
     Kind {
         form: Form::Membership(Membership::new(x, set)),
     }
+}
+
+/// The propagator of a term in a set and a Boolean.
+fn reified_member(alloc: Global, x: Term, set: &Dom, r: Term) -> Result<Kind, AllocError>
+    requires { FitsTerm x }
+    ensures { IfOk result (λ k. k ≡ record {
+      name = SetInReif;
+      arguments = meaning.One x ∷ meaning.Set set.now ∷ meaning.One r ∷ [];
+    }) }
+{
+    let membership = ReifiedMembership::new(alloc, x, set.copy()?, r)?;
+    Ok(Kind {
+        form: Form::ReifiedMembership(membership),
+    })
 }
