@@ -24,8 +24,7 @@ use Rattle.fz_strength.specs.declared.event.Event.TheVariants.{Any, Fixed}
 use Rattle.fz_strength.specs.declared.relation.Relation.{Relation}
 use Rattle.fz_strength.specs.Events.{Wait, wait_for, waits_for, AreBelow}
 use Rattle.fz_strength.specs.Relations.{relation_of, reified_of, event_of, reified_event}
-use Rattle.fz_strength.specs.Sums.{sum_relation_of, sum_event_of}
-use Rattle.fz_strength.specs.Lines.{terms_among, waits, waits_of, waits_of_two, waits_of_reified, waits_of_set, waits_of_set_reified, waits_of_sum}
+use Rattle.fz_strength.specs.Lines.{terms_among, waits, waits_of, waits_of_two, waits_of_reified, waits_of_set, waits_of_set_reified}
 use Rattle.fz_strength.specs.Domains.{dom_at}
 use Rattle.fz_strength.specs.Promises.{truth_of_reified, truths_of, IsTruth}
 use Rattle.fz_strength.proofs.Truths.{is_single}
@@ -157,10 +156,6 @@ set_reified_below : (W : List Wait) (name : Builtin) (x r : Term) (n : ℕ) → 
 set_reified_below W SetInReif x r n general first third = all_both (λ (w : Wait). w.variable < n) (wait_for Any x) (wait_for Any r) (wait_below Any x n first) (wait_below Any r n third)
 set_reified_below W name x r n general first third = general
 
-sum_below : (W : List Wait) (o : Option Relation) (ts : List Term) (n : ℕ) → AreBelow W n → AllByRecursion (IsTermOf n) ts → AreBelow (waits_of_sum W o ts) n
-sum_below W None ts n general all = general
-sum_below W (Some relation) ts n general all = waits_below (sum_event_of relation) ts n all
-
 below_of : (name : Builtin) (arguments : List Argument) (n : ℕ) → AreAmong n arguments → AreBelow (waits_of name arguments) n
 below_of name (One x ∷ One y ∷ []) n among =
     two_below (waits_for Fixed (x ∷ y ∷ [])) (relation_of name) x y n (general_below (One x ∷ One y ∷ []) n among) among.0 among.1.0
@@ -169,8 +164,6 @@ below_of name (One x ∷ One y ∷ One r ∷ []) n among =
 below_of name (One x ∷ Set set ∷ []) n among = set_below (waits_for Fixed (x ∷ [])) name x n (general_below (One x ∷ Set set ∷ []) n among) among.0
 below_of name (One x ∷ Set set ∷ One r ∷ []) n among =
     set_reified_below (waits_for Fixed (x ∷ r ∷ [])) name x r n (general_below (One x ∷ Set set ∷ One r ∷ []) n among) among.0 among.1.1.0
-below_of name (Numbers ks ∷ Terms ts ∷ One (Num c) ∷ []) n among =
-    sum_below (waits_for Fixed (terms_among (Numbers ks ∷ Terms ts ∷ One (Num c) ∷ []))) (sum_relation_of name) ts n (general_below (Numbers ks ∷ Terms ts ∷ One (Num c) ∷ []) n among) among.1.0
 below_of name arguments n among = general_below arguments n among
 
 pub below : (m : Instance) (i : ℕ) (c : Constraint) → IsModel m → slice_get m.constraints i ≡ Some c → AreBelow (waits c) (length m.variables)

@@ -1,31 +1,14 @@
--- The constraints whose propagators are there, and what a model keeps of the arguments of its constraints.
-use Rattle.std.specs.Prelude.{◌≡◌, ℕ, List, [], ◌∷◌, Option, IsSome, MatchOption}
+-- Constraints with a line of their own, and what a model keeps of the arguments of its constraints.
+use Rattle.std.specs.Prelude.{◌≡◌, ℕ, List, Option, MatchOption}
 use Rattle.std.specs.List.{AllByRecursion}
 use Rattle.fz_spec.specs.declared.builtin.Builtin.{Builtin}
-use Rattle.fz_spec.specs.declared.builtin.Builtin.TheVariants.{SetIn, SetInReif}
 use Rattle.fz_spec.specs.Constraints.{Argument, One, Numbers, Terms, Set, Constraint}
 use Rattle.fz_strength.specs.Lines.{HasOwnLine}
-use Rattle.fz_strength.specs.Relations.{relation_of, reified_of}
 use Rattle.fz_prop.specs.Stores.{IsTermOf, FitsTerm}
 
--- the constraints that have a propagator of their own
-abbrev pub HasPropagator : Builtin → List Argument → Type 0
-HasPropagator name (One x ∷ One y ∷ []) = IsSome (relation_of name)
-HasPropagator name (One x ∷ One y ∷ One r ∷ []) = IsSome (reified_of name)
-HasPropagator name (One x ∷ Set set ∷ []) = name ≡ SetIn
-HasPropagator name (One x ∷ Set set ∷ One r ∷ []) = name ≡ SetInReif
-HasPropagator name arguments = ⊥
-
--- it, or none
+-- a constraint with a line of its own, or none where it has none
 abbrev pub IsOwn : Option Constraint → Builtin → List Argument → Type 0
-IsOwn o name arguments = MatchOption o (HasPropagator name arguments → ⊥) (λ (c : Constraint). c ≡ record { name = name; arguments = arguments })
-
--- One with a line of its own has a propagator of its own. Any other waits for its terms to get fixed.
-abbrev pub IsKnown : Constraint → Type 0
-IsKnown c = HasOwnLine c.name c.arguments → HasPropagator c.name c.arguments
-
-abbrev pub AreKnown : List Constraint → Type 0
-AreKnown cs = AllByRecursion IsKnown cs
+IsOwn o name arguments = MatchOption o (HasOwnLine name arguments → ⊥) (λ (c : Constraint). c ≡ record { name = name; arguments = arguments })
 
 -- the numbers among arguments are within the limits
 abbrev pub IsLimited : Argument → Type 0

@@ -1,16 +1,15 @@
 //! Kinds of propagators.
-ghost use Rattle.std.specs.Prelude.{◌≡◌, ◌<◌, List, [], ◌∷◌, length, map, IfOk, IsSome, MatchOption, slice_get, Some};
+ghost use Rattle.std.specs.Prelude.{◌≡◌, ◌<◌, List, [], ◌∷◌, length, map, IfOk, slice_get, Some};
 ghost use Rattle.fz_spec.specs.Constraints as meaning;
 ghost use Rattle.fz_spec.specs.declared.builtin.Builtin.TheVariants.{SetIn, SetInReif};
 ghost use Rattle.fz_model.specs.Arguments.{argument_of};
 ghost use Rattle.fz_strength.specs.Costs.{cost_of};
 ghost use Rattle.fz_strength.specs.Events.{Wait, AreBelow};
-ghost use Rattle.fz_strength.specs.Relations.{relation_of, reified_of};
 ghost use Rattle.fz_strength.specs.Lines.{waits, HasOwnLine};
 ghost use Rattle.fz_strength.specs.Promises.{IsCorrect, Suits};
 ghost use Rattle.fz_prop.specs.Answers.{IsAnswer};
 ghost use Rattle.fz_prop.specs.Stores.{Shrinks, IsStore, FitsTerm};
-ghost use Rattle.fz_engine.specs.Known.{IsKnown, IsOwn, HasPropagator, HaveLimits, HasLimits};
+ghost use Rattle.fz_engine.specs.Known.{IsOwn, HaveLimits, HasLimits};
 
 use fz_await::Awaiting;
 use fz_dom::Dom;
@@ -54,8 +53,7 @@ impl Kind {
     /// # Errors
     /// `AllocError` where there is no memory.
     pub fn of(alloc: Global, constraint: &Constraint) -> Result<Kind, AllocError>
-        requires known { IsKnown constraint.now }
-        requires limits { HasLimits constraint.now }
+        requires { HasLimits constraint.now }
         ensures { IfOk result (λ k. k ≡ constraint.now) }
     {
         match own(alloc, constraint)? {

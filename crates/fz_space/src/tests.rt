@@ -1,9 +1,7 @@
 //! Models worked out by hand, each space also by way of its copies; and that calls succeed where memory is ample.
 ghost use Rattle.std.specs.Prelude.{◌≡◌, ◌∷◌, [], IfOk, length};
-ghost use Rattle.std.specs.Arc.{arc_value};
 ghost use Rattle.fz_model.specs.Kept.{IsVariable};
 ghost use Rattle.fz_spec.specs.Constraints as meaning;
-ghost use Rattle.fz_engine.specs.Known.{AreKnown};
 
 use crate::Space;
 use fz_dom::Dom;
@@ -32,7 +30,6 @@ fn unequal(alloc: Global) -> Result<Constraint, AllocError>
 
 /// `var 1..2: x; var 1..2: y; constraint int_ne(x, y); solve satisfy;`
 fn two_that_differ(alloc: Global) -> Result<Model, AllocError>
-    ensures { IfOk result (λ m. AreKnown m.constraints) }
 {
     let mut variables = Vec::new(alloc);
     variables.push(Variable::new(Kind::Int, Dom::from_ranges(alloc, &[(1, 2)])?))?;
@@ -59,7 +56,6 @@ fn times(alloc: Global) -> Result<Constraint, AllocError>
 
 /// `var 1..2: x; var 1..2: y; var 1..4: z; constraint int_times(x, y, z); solve satisfy;`
 fn product(alloc: Global) -> Result<Model, AllocError>
-    ensures { IfOk result (λ m. AreKnown m.constraints) }
 {
     let mut variables = Vec::new(alloc);
     variables.push(Variable::new(Kind::Int, Dom::from_ranges(alloc, &[(1, 2)])?))?;
@@ -74,7 +70,6 @@ fn product(alloc: Global) -> Result<Model, AllocError>
 /// One variable of such a set: `var SET: x; solve satisfy;`
 fn one_of(alloc: Global, set: Dom) -> Result<Model, AllocError>
     requires { IsVariable (record { kind = Kind.Int; set = set }) }
-    ensures { IfOk result (λ m. AreKnown m.constraints) }
 {
     let mut variables = Vec::new(alloc);
     variables.push(Variable::new(Kind::Int, set))?;
@@ -90,7 +85,6 @@ fn one_of(alloc: Global, set: Dom) -> Result<Model, AllocError>
 
 /// The space of the root of a model.
 fn root(alloc: Global, model: Model) -> Result<Space, AllocError>
-    requires { AreKnown model.constraints }
 {
     match Arc::new(alloc, model) {
         Ok(model) => <Space as Spaces>::root(alloc, model),
