@@ -41,6 +41,15 @@ impl Model for Space {
     ghost invariant = { λ s. s.failed ≡ false → IsAlive (arc_value s.plan).model s.agenda s.store };
 }
 
+impl Space {
+    /// Its store.
+    pub fn store(&self) -> &Store
+        ensures { result.now.doms ≡ self.now.doms }
+    {
+        &self.store
+    }
+}
+
 impl fz_path::Space for Space {
     ghost accepts = { λ m. Unit {0} };
 
