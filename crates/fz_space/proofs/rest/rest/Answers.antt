@@ -15,6 +15,6 @@ returns-clause-answer c =
     let status = c.status_of.result in
     subst (λ (failed : Bool). IsStatus status (spaced m store failed)) (sym c.if-failed.false)
     (left_is m agenda store status
-    (alive_run m c.args.agenda.now agenda c.args.store.now store (c.requires.alive c.if-failed.false) (subst (λ (cs : List Constraint). IsRun cs c.args.store.now store agenda) c.kinds.ensures.kinds c.settle.ensures.run))
-    (subst (λ (cs : List Constraint). AllRest cs store.doms) c.kinds.ensures.kinds (c.in_ok-rests.ensures.rests c.if-not-rests.false))
+    (alive_run m c.args.agenda.now agenda c.args.store.now store (c.requires.alive c.if-failed.false) (subst (λ (cs : List Constraint). IsRun cs c.args.store.now store agenda) c.kinds.ensures c.settle.ensures.run))
+    (subst (λ (cs : List Constraint). AllRest cs store.doms) c.kinds.ensures (c.in_ok-rests.ensures.rests c.if-not-rests.false))
     (subst (λ (ds : List (List (ℤ × ℤ))). IsLeft status ds) c.doms.ensures.doms c.status_of.ensures))
