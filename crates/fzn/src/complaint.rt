@@ -4,7 +4,8 @@ ghost use Rattle.fz_cmd.specs.Meaning.{options_of};
 ghost use Rattle.fzn.specs.Complaints as complaints;
 
 use crate::status::Status;
-use fz_cmd::{Options, options};
+use fz_cmd::Options;
+use fz_cmd::words::options;
 use fz_print::refusal::Refusal;
 use itoa::Buffer;
 use std::alloc::{AllocError, Global};
