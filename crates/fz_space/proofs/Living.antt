@@ -4,7 +4,7 @@ use Rattle.std.specs.Prelude.{ℤ}
 use Rattle.std.proofs.lemmas.Bool.{cases_eq, cases_lt}
 use Rattle.fz_sets.specs.Sets.{IsInSet, set_size}
 use Rattle.fz_spec.specs.Instance.{Instance, Variable, AreDeclared}
-use Rattle.fz_spec.specs.Constraints.{IsTrueOf}
+use Rattle.fz_spec.specs.Constraints.{Constraint, IsTrueOf}
 use Rattle.fz_tree.specs.declared.decision.Decision.{Decision}
 use Rattle.fz_strength.specs.Domains.{Within, Alone, AreDomains, dom_at, number_at}
 use Rattle.fz_strength.proofs.Terms.{within_before}
@@ -79,6 +79,10 @@ alive_run m states after s t alive run = record {
   terms = terms_last m.constraints s.doms t.doms run.narrower alive.terms;
   settled = run.settled;
 }
+
+-- the same, of the list of propagators
+pub alive_settled : (m : Instance) (cs : List Constraint) (states after : List ℕ) (s t : Stored) → cs ≡ m.constraints → IsAlive m states s → IsRun cs s t after → IsAlive m after t
+alive_settled m cs states after s t is alive run = alive_run m states after s t alive (subst (λ (l : List Constraint). IsRun l s t after) is run)
 
 pub covers_run : (m : Instance) (s t : Stored) (after : List ℕ) (ds : List Decision) → IsRun m.constraints s t after → Covers ds (spaced m s false) → Covers ds (spaced m t false)
 covers_run m s t after ds run covers = record {

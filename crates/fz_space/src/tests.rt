@@ -29,8 +29,7 @@ fn unequal(alloc: Global) -> Result<Constraint, AllocError>
 }
 
 /// `var 1..2: x; var 1..2: y; constraint int_ne(x, y); solve satisfy;`
-fn two_that_differ(alloc: Global) -> Result<Model, AllocError>
-{
+fn two_that_differ(alloc: Global) -> Result<Model, AllocError> {
     let mut variables = Vec::new(alloc);
     variables.push(Variable::new(Kind::Int, Dom::from_ranges(alloc, &[(1, 2)])?))?;
     variables.push(Variable::new(Kind::Int, Dom::from_ranges(alloc, &[(1, 2)])?))?;
@@ -55,8 +54,7 @@ fn times(alloc: Global) -> Result<Constraint, AllocError>
 }
 
 /// `var 1..2: x; var 1..2: y; var 1..4: z; constraint int_times(x, y, z); solve satisfy;`
-fn product(alloc: Global) -> Result<Model, AllocError>
-{
+fn product(alloc: Global) -> Result<Model, AllocError> {
     let mut variables = Vec::new(alloc);
     variables.push(Variable::new(Kind::Int, Dom::from_ranges(alloc, &[(1, 2)])?))?;
     variables.push(Variable::new(Kind::Int, Dom::from_ranges(alloc, &[(1, 2)])?))?;
@@ -84,8 +82,7 @@ fn one_of(alloc: Global, set: Dom) -> Result<Model, AllocError>
 }
 
 /// The space of the root of a model.
-fn root(alloc: Global, model: Model) -> Result<Space, AllocError>
-{
+fn root(alloc: Global, model: Model) -> Result<Space, AllocError> {
     match Arc::new(alloc, model) {
         Ok(model) => <Space as Spaces>::root(alloc, model),
         Err(_) => Err(AllocError),
