@@ -1,4 +1,4 @@
 pub mod Fronts
 pub mod Readings
-pub mod Outcomes
 pub mod Searches
+pub mod Outcomes

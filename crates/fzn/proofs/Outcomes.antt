@@ -1,4 +1,5 @@
 -- What the answers of a run say of its text.
+use Rattle.std.specs.Prelude.{ℤ, Bool}
 use Rattle.std.proofs.Common.{◌≡◌, ◌∙◌, ◌≢◌, ℕ, ◌+◌, List, [], ◌++◌, Option, None, Some, IfSome, ap, sym, refl, subst, inl, inr, append_assoc, append-nil, arith, codes, decimal, ◌⊎◌, unwrap_or, take, length}
 use Rattle.std.specs.Fmt.{digits}
 use Rattle.fz_spec.specs.declared.code.Code.{Code}
@@ -8,7 +9,7 @@ use Rattle.fz_spec.specs.Instance.{Instance}
 use Rattle.fz_language.specs.Reads.{Reads, Reading}
 use Rattle.fz_spec.specs.declared.limits.TheConstants.{TEXT_LIMIT}
 use Rattle.fz_language.specs.Reads as reads
-use Rattle.fz_spec.specs.Run.{refusal_text}
+use Rattle.fz_spec.specs.Run.{refusal_text, blocks}
 use Rattle.fz_cmd.specs.Meaning.{Options}
 use Rattle.fzn.specs.Runs.{PrintsWanted, wanted}
 use Rattle.fz_language.proofs.ReadProofs.{reading_is_one}
@@ -18,8 +19,9 @@ use Rattle.fz_print.specs.Refusal.{text_of, code_digits}
 use Rattle.fzn.specs.declared.status.Status.{Status}
 use Rattle.fzn.specs.declared.status.Status.TheVariants.{Done, Refused, Usage, SourceFault, SinkFault, NoMemory}
 use Rattle.fzn.specs.Promises.{AnswersAccepted, AnswersRefused, HasItsCause, HasReadAll, IsDoneOrShort, IsFront, IsRefusedOrShort, IsRefusedRun, IsRun, IsStrictFront, IsWholeRun, Prints, Runs}
-use Rattle.fzn.specs.Steps.{Answers, AnswersWanted, IsReadOf, IsRefusal, LeavesNothing, PrintsOf, TakesFront}
+use Rattle.fzn.specs.Steps.{Answers, AnswersWanted, Flushes, IsListing, IsReadOf, IsRefusal, LeavesNothing, PrintsOf, TakesFront, ending}
 use Rattle.fzn.proofs.Readings.{read_of_front}
+use Rattle.fzn.proofs.Searches.{listing_text}
 
 pub no_more : (taken : Option (List ℕ)) → taken ≡ with_more taken []
 no_more None = refl
@@ -68,9 +70,10 @@ prints_wanted s text m o before after r a = elim a [
   | inl short ↦ at_status s NoMemory text o before after short.0 ([], short.1 ∙ no_more before, inl refl)
   | inr found ↦
       let l = found.0 in
-      let whole = found.1 in
+      let complete = found.1 in
+      let whole = blocks m l ++ ending complete l in
       let run : (u : List ℕ) → whole ≡ u → IsRun text o u =
-      λ u e. record { model = m; listed = l; accepted = r; run = subst (λ (v : List ℕ). PrintsWanted (wanted o) m l v) e found.2 } in
+      λ u e. record { model = m; listed = l; accepted = r; run = subst (λ (v : List ℕ). PrintsWanted (wanted o) m l v) e (listing_text m (wanted o) l complete found.2) } in
       elim found.3 [
         | inl all ↦ elim all.0 [
           | inl done ↦ at_status s Done text o before after done (whole, all.1, run whole refl)
@@ -79,6 +82,12 @@ prints_wanted s text m o before after r a = elim a [
         | inr part ↦ stopped s text whole o before after part.0 part.1 (λ u e. inl (run u e))
       ]
 ]
+
+-- all that is shown was taken
+pub shown : (s : Status) (m : Instance) (w : Option ℕ) (l : List (List ℤ)) (complete : Bool) (before middle after : Option (List ℕ)) (flushed c d : ℕ) → IsListing m w l complete
+    → middle ≡ with_more before (blocks m l ++ ending complete l) → after ≡ middle → Flushes Done s after flushed c d → AnswersWanted s m w before after
+shown s m w l complete before middle after flushed c d listing taken same cases =
+    inr (l, complete, listing, inl (elim cases [ inl done ↦ inl done.0 | inr fault ↦ inr fault.0 ], same ∙ taken))
 
 pub prints_refusal : (s : Status) (text : List ℕ) (r : Refusal) (o : Options) (before after : Option (List ℕ)) → IsRefusal text r → Answers s (Refused r) (text_of r) before after
     → PrintsOf s text o before after

@@ -1,8 +1,9 @@
 -- What a search's book says of the solutions that are shown.
 use Rattle.std.proofs.Common.{◌≡◌, ◌∙◌, append-nil, ℕ, zero, suc, ◌+◌, ◌≤◌, ◌<◌, List, [], ◌∷◌, ◌++◌, Option, None, Some, length, take, ap, sym, refl, subst, arith, inl, inr, cond, Bool, true, false, ◌⊎◌}
-use Rattle.std.specs.Prelude.{ℤ}
+use Rattle.std.specs.Prelude.{ℤ, ◌↔◌, IsSomeAnd}
 use Rattle.std.specs.List.{AllByRecursion}
 use Rattle.std.proofs.lemmas.List.{length-take-le}
+use Rattle.std.proofs.lemmas.List.Sums.{sum_by-take-le}
 use Rattle.fz_spec.specs.Instance.{Instance, AreDeclared, Satisfies, Lists, occurrences, is_same}
 use Rattle.fz_spec.specs.Run.{PrintsAll, blocks, closing}
 use Rattle.fz_spec.specs.declared.goal.Goal.{Goal}
@@ -10,7 +11,9 @@ use Rattle.fz_spec.specs.declared.goal.Goal.TheVariants as goals
 use Rattle.fz_tree.specs.declared.mode.Mode.{Mode}
 use Rattle.fz_tree.specs.declared.mode.Mode.TheVariants as modes
 use Rattle.fz_tree.specs.Book.{Book, BookLaw, Part, incumbent_of, times_recorded_in, times_open}
-use Rattle.fz_tree.specs.Better.{Betters}
+use Rattle.fz_tree.specs.Better.{Betters, mode_of}
+use Rattle.fz_solo.specs.declared.solo.End.{End}
+use Rattle.fz_solo.specs.declared.solo.End.TheVariants as ends
 use Rattle.fz_tree.proofs.Books.{closed_lists}
 use Rattle.fz_language.specs.Trees.{Annotation, Method, SolveItem, Satisfy, Minimize, Maximize, Program, Item}
 use Rattle.fz_language.specs.Entries.{Environment}
@@ -28,12 +31,7 @@ all_first P [] (suc n) all = tt
 all_first P (x ∷ l) (suc n) all = (all.0, all_first P l n all.1)
 
 fewer_first : (a : List ℤ) (l : List (List ℤ)) (n : ℕ) → occurrences a (take n l) ≤ occurrences a l
-fewer_first a l zero = omega arith
-fewer_first a [] (suc n) = omega arith
-fewer_first a (x ∷ l) (suc n) = go (is_same a x) where
-  go : (b : Bool) → cond b (suc (occurrences a (take n l))) (occurrences a (take n l)) ≤ cond b (suc (occurrences a l)) (occurrences a l)
-  go true = let h = fewer_first a l n in omega (arith, h)
-  go false = fewer_first a l n
+fewer_first a l n = sum_by-take-le (λ x. cond (is_same a x) 1 0) l n
 
 counted_once : (mode : Mode) (m : Instance) (a : List ℤ) (recorded : List (List ℤ)) (ps : List Part) → mode ≡ modes.All
     → (Betters m a (incumbent_of mode recorded) → times_recorded_in mode m a recorded + times_open ps a ≡ 1) → occurrences a recorded ≤ 1
@@ -45,6 +43,23 @@ some_of b n law all within = record {
   sound = all_first (Satisfies b.model) b.recorded n law.sound;
   different = λ a satisfies. (let once = counted_once b.mode b.model a b.recorded b.parts all (law.sums a satisfies) in let fewer = fewer_first a b.recorded n in omega (arith, once, fewer));
   count = length-take-le n b.recorded within;
+}
+
+-- ---- a search that has ended
+
+ended_by : (w : Option ℕ) (b : Book) (end : End) → (end ≡ ends.Enough) ↔ IsSomeAnd w (λ n. n ≤ length b.recorded) → (end ≡ ends.Closed → b.parts ≡ []) → HasEnded w b
+ended_by None b ends.Closed enough closed = closed refl
+ended_by None b ends.Enough enough closed = absurd (enough.0 refl)
+ended_by (Some n) b ends.Closed enough closed = inr (closed refl)
+ended_by (Some n) b ends.Enough enough closed = inl (enough.0 refl)
+
+pub searched : (m : Instance) (w v : Option ℕ) (b : Book) (end : End) → m.goal ≡ goals.Satisfy → b.model ≡ m → BookLaw b → v ≡ w
+    → (end ≡ ends.Enough) ↔ IsSomeAnd v (λ n. n ≤ length b.recorded) → (end ≡ ends.Closed → b.parts ≡ []) → IsSearched m w b
+searched m w v b end goal is law same enough closed = record {
+  model = is;
+  mode = law.own_mode ∙ ap (λ (i : Instance). mode_of i.goal) is ∙ ap mode_of goal;
+  law = law;
+  ended = subst (λ (u : Option ℕ). HasEnded u b) same (ended_by v b end enough closed);
 }
 
 -- ---- what is shown

@@ -4,11 +4,11 @@ use Rattle.fz_spec.specs.declared.code.Code.{Code}
 use Rattle.fz_spec.specs.declared.limits.TheConstants.{TEXT_LIMIT}
 use Rattle.fz_spec.specs.Codes.{code_number}
 use Rattle.fz_spec.specs.Instance.{Instance, Lists}
-use Rattle.fz_spec.specs.Run.{closing}
+use Rattle.fz_spec.specs.Run.{blocks, closing}
 use Rattle.fz_tree.specs.declared.mode.Mode.TheVariants as modes
 use Rattle.fz_tree.specs.Book.{Book, BookLaw}
 use Rattle.fz_cmd.specs.Meaning.{Options}
-use Rattle.fzn.specs.Runs.{AreSome, PrintsWanted, wanted}
+use Rattle.fzn.specs.Runs.{AreSome}
 use Rattle.fz_language.specs.Grammar.{Spells}
 use Rattle.fz_language.specs.Reads.{Reads, IsRefusedAt}
 use Rattle.fz_language.specs.Reads as reads
@@ -90,11 +90,6 @@ abbrev pub Answers : Status → Status → List ℕ → Option (List ℕ) → Op
 Answers status whole_status whole before after =
     (((status ≡ whole_status) ⊎ (status ≡ SinkFault)) × (after ≡ with_more before whole)) ⊎ (((status ≡ SinkFault) ⊎ (status ≡ NoMemory)) × TakesFront whole before after)
 
--- the same of what is printed of a model, by how many solutions are asked for
-abbrev pub AnswersWanted : Status → Instance → Option ℕ → Option (List ℕ) → Option (List ℕ) → Type 0
-AnswersWanted status m w before after =
-    ((status ≡ NoMemory) × (after ≡ before)) ⊎ ((l : List (List ℤ)) × (printed : List ℕ) × PrintsWanted w m l printed × Answers status Done printed before after)
-
 -- ---- the search
 
 -- the book of a search that has ended: it is closed, or has as many as are asked for
@@ -118,6 +113,12 @@ IsListing m (Some n) l false = AreSome m n l
 -- the closing line, where there is one
 abbrev pub ending : Bool → List (List ℤ) → List ℕ
 ending complete l = if complete then closing l else []
+
+-- the same of what is shown of a model's search, by how many solutions are asked for
+abbrev pub AnswersWanted : Status → Instance → Option ℕ → Option (List ℕ) → Option (List ℕ) → Type 0
+AnswersWanted status m w before after =
+    ((status ≡ NoMemory) × (after ≡ before))
+    ⊎ ((l : List (List ℤ)) × (complete : Bool) × IsListing m w l complete × Answers status Done (blocks m l ++ ending complete l) before after)
 
 -- all is flushed and the answer is as it was to be, or the sink failed
 abbrev pub Flushes : Status → Status → Option (List ℕ) → ℕ → ℕ → ℕ → Type 0

@@ -53,7 +53,7 @@ pub fn complaint_of(
 
 /// The name of the text that the options name.
 fn shown_name(options: Option<&Options>) -> &str
-    ensures { result.now ≡ complaints.name_of (option_copied options) }
+    ensures { result.now ≡ complaints.name_of (option_copied options.entry) }
 {
     match options {
         Some(options) => match options.file().as_str() {

@@ -7,7 +7,6 @@ ghost use Rattle.fz_io.specs.Outside.{with_more};
 ghost use Rattle.fz_print.specs.Refusal.{text_of};
 ghost use Rattle.fzn.specs.Steps.{TakesFront, HasStopCause, ending};
 
-use crate::search::Listing;
 use fz_io::outside::Sink;
 use fz_io::whole::put_all;
 use fz_model::assignment::Assignment;
@@ -30,20 +29,35 @@ pub(crate) fn print_listing<S: Sink>(
     alloc: Global,
     sink: &mut S,
     model: &Model,
-    listing: Listing<'_>,
+    found: &[Assignment],
+    complete: bool,
 ) -> Result<(), Stop>
     requires faults { S.faults sink.old < 2 ^ 64 - 1 }
-    requires declared { AllByRecursion (AreDeclared model.now.variables) listing.found.now }
-    ensures taken { OnOk result (S.taken sink.new ≡ with_more (S.taken sink.old)
-        (blocks model.now listing.found.now ++ ending listing.complete listing.found.now)) }
-    ensures front { OnErr result (TakesFront
-        (blocks model.now listing.found.now ++ ending listing.complete listing.found.now)
+    requires declared { AllByRecursion (AreDeclared model.now.variables) found.now }
+    ensures taken { OnOk result (S.taken sink.new
+        ≡ with_more (S.taken sink.old) (blocks model.now found.now ++ ending complete found.now)) }
+    ensures front { OnErr result (TakesFront (blocks model.now found.now ++ ending complete found.now)
         (S.taken sink.old) (S.taken sink.new)) }
     ensures cause { HasStopCause (S.faults sink.old) (S.faults sink.new) result }
 {
-    put_blocks(alloc, sink, model, listing.found)?;
-    if listing.complete {
-        put_closing(alloc, sink, listing.found)
+    put_blocks(alloc, sink, model, found)?;
+    put_ending(alloc, sink, found, complete)
+}
+
+/// Prints the closing line, where there is one.
+fn put_ending<S: Sink>(
+    alloc: Global,
+    sink: &mut S,
+    found: &[Assignment],
+    complete: bool,
+) -> Result<(), Stop>
+    requires { S.faults sink.old < 2 ^ 64 - 1 }
+    ensures taken { OnOk result (S.taken sink.new ≡ with_more (S.taken sink.old) (ending complete found.now)) }
+    ensures front { OnErr result (TakesFront (ending complete found.now) (S.taken sink.old) (S.taken sink.new)) }
+    ensures cause { HasStopCause (S.faults sink.old) (S.faults sink.new) result }
+{
+    if complete {
+        put_closing(alloc, sink, found)
     } else {
         Ok(())
     }

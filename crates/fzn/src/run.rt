@@ -105,11 +105,18 @@ fn run_file<R: Source, S: Sink>(
         (S.faults sink.old) (S.faults sink.new) }
     ensures used { result ≢ Status.Usage }
 {
-    match read_text(alloc, options.file().as_str(), source) {
+    match read_text(alloc, file_of(options), source) {
         Ok(text) => run_text(alloc, &text, options, sink),
         Err(Stop::Fault) => Status::SourceFault,
         Err(Stop::Memory) => Status::NoMemory,
     }
+}
+
+/// The name of the file that is read.
+fn file_of(options: &Options) -> &str
+    ensures { result.now ≡ options.now.file }
+{
+    options.file().as_str()
 }
 
 /// The text of a file, or the first bytes of one that is too long, of which there is one over the limit.
@@ -195,7 +202,7 @@ fn show<S: Sink>(alloc: Global, book: &Book, wanted: Option<u32>, sink: &mut S) 
     ensures cause { HasSinkCause result (S.faults sink.old) (S.faults sink.new) }
 {
     let listing = listing_of(book, wanted);
-    match print_listing(alloc, sink, book.model(), listing) {
+    match print_listing(alloc, sink, book.model(), listing.found, listing.complete) {
         Ok(()) => flush(sink, Status::Done),
         Err(Stop::Memory) => flush(sink, Status::NoMemory),
         Err(Stop::Fault) => Status::SinkFault,

@@ -1,5 +1,5 @@
 use Rattle.std.proofs.Common.{List, ℕ, subst}
-use Rattle.fzn.specs.Steps.{PrintsOf}
+use Rattle.fzn.specs.Steps.{IsReadOf, PrintsOf}
 use Rattle.fzn.proofs.Outcomes.{reads_all, runs, runs_source_fault, runs_short}
 use Rattle.fzn.proofs.run.run_file.Goals as goal
 
@@ -7,7 +7,8 @@ pub returns-in-Ok-clause-printed : goal.returns-in-Ok-clause-printed
 returns-in-Ok-clause-printed g c =
     let before = g.S.Sink.taken c.args.sink.now in
     let after = g.S.Sink.taken c.run_text.new.sink in
-    runs c.run_text.result c.args.options.now _ before after c.in-Ok.text.items c.in-Ok.ensures.read
+    runs c.run_text.result c.args.options.now _ before after c.in-Ok.text.items
+    (subst (λ (name : List ℕ). IsReadOf (g.R.Source.texts c.args.source.now name) c.in-Ok.text.items) c.file_of.ensures c.in-Ok.ensures.read)
     (subst (λ (u : List ℕ). PrintsOf c.run_text.result u c.args.options.now before after) c.deref.ensures.value c.run_text.ensures.printed)
 
 pub returns-in-Err-Fault-clause-printed : goal.returns-in-Err-Fault-clause-printed
