@@ -13,10 +13,9 @@ use Rattle.fz_strength.specs.Lines.{Rests, waits}
 use Rattle.fz_strength.specs.Promises.{RestsForGood}
 use Rattle.fz_strength.proofs.Keeping.{kept_where_quiet}
 use Rattle.fz_prop.specs.Stores.{Stored, Shrinks, mark_at, without_first}
-use Rattle.fz_agenda.specs.Agendas.{AreUnmarked, IsSettled, SettledLasts, AllRestAtRest, ShrinksTwice, MayBeIdle, MayBeGone, MayBeQueued, MayBeTaken}
-
-narrower_twice : (ds es fs : List (List (ℤ × ℤ))) → IsNarrower ds es → IsNarrower es fs → IsNarrower ds fs
-narrower_twice ds es fs p q = record { size = q.size ∙ p.size; members = λ v x i. p.members v x (q.members v x i) }
+use Rattle.fz_prop.proofs.Twice.{narrower_twice}
+use Rattle.fz_agenda.specs.Agendas.{AreUnmarked, IsSettled, SettledLasts, AllRestAtRest, MayBeIdle, MayBeGone, MayBeQueued, MayBeTaken}
+use Rattle.fz_agenda.proofs.Places.{by_place}
 
 unmarked_before : (ws : List Wait) (s t : Stored) → Shrinks s t → AreUnmarked ws t → AreUnmarked ws s
 unmarked_before [] s t shrinks un = tt
@@ -49,29 +48,7 @@ all_rest_at_rest cs states s store none free settled i c is = elim (free i) [
   | inr gone ↦ settled.gone i c is gone s.doms store.domains (record { size = refl; members = λ v x m. m })
 ]
 
-quiet_twice : (event : Event) (d e f : List (ℤ × ℤ)) → IsQuiet event d e → IsQuiet event e f → IsQuiet event d f
-quiet_twice Any d e f p q = p ∙ q
-quiet_twice Bound d e f p q = (p.0 ∙ q.0, p.1 ∙ q.1)
-quiet_twice Fixed d e f p q = λ x only. p x (q x only ∙ only) ∙ q x only
-
-falls_twice : (r s t : Stored) → (s ≡ r) ⊎ (room s.doms < room r.doms) → (t ≡ s) ⊎ (room t.doms < room s.doms) → (t ≡ r) ⊎ (room t.doms < room r.doms)
-falls_twice r s t (inl p) (inl q) = inl (q ∙ p)
-falls_twice r s t (inl p) (inr q) = inr (subst (λ (u : Stored). room t.doms < room u.doms) p q)
-falls_twice r s t (inr p) (inl q) = inr (subst (λ (u : Stored). room u.doms < room r.doms) (sym q) p)
-falls_twice r s t (inr p) (inr q) = inr (omega (arith, p, q))
-
-pub shrinks_twice : ShrinksTwice
-shrinks_twice r s t p q = record {
-  narrower = narrower_twice r.doms s.doms t.doms p.narrower q.narrower;
-  marks_grow = λ v. omega (arith, p.marks_grow v, q.marks_grow v);
-  marks_tell = λ v event h. quiet_twice event (dom_at r.doms v) (dom_at s.doms v) (dom_at t.doms v) (p.marks_tell v event (omega (arith, h, q.marks_grow v))) (q.marks_tell v event h);
-  falls = falls_twice r s t p.falls q.falls;
-}
-
 -- ---- what happens to a propagator
-
-by_place : (P : ℕ → Type 0) (i : ℕ) → P i → ((j : ℕ) → j ≢ i → P j) → (j : ℕ) → P j
-by_place P i here there j = elim (cases_eq j i) [ inl e ↦ subst P (sym e) here | inr ne ↦ there j ne ]
 
 one_at : (cs : List Constraint) (i : ℕ) (c d : Constraint) → slice_get cs i ≡ Some c → slice_get cs i ≡ Some d → c ≡ d
 one_at cs i c d p q = let e : Some c ≡ Some d = sym p ∙ q in cc

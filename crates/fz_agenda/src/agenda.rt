@@ -9,7 +9,9 @@ use std::alloc::{AllocError, Global};
 use std::marker::Model;
 
 const IDLE: u8 = 0;
+
 const QUEUED: u8 = 1;
+
 const GONE: u8 = 2;
 
 /// For each propagator of a space whether it is idle, queued or gone, and a queue for each class of cost.

@@ -11,8 +11,8 @@ ghost use Rattle.fz_strength.specs.Costs.{cost_of};
 
 use crate::numbers::{are_fixed, least_numbers};
 use fz_model::constraint::{Argument, Constraint};
-use fz_prop::{Answer, Cost, Event, Propagator, Store};
 use fz_model::part::Part;
+use fz_prop::{Answer, Cost, Event, Propagator, Store};
 use fz_spec::builtin::Builtin;
 use fz_spec::term::Term;
 use fz_truth::is_true;

@@ -6,3 +6,6 @@ pub mod awaiting;
 mod numbers;
 
 pub use awaiting::Awaiting;
+
+#[cfg(test)]
+mod tests;

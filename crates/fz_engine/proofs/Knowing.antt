@@ -1,12 +1,14 @@
 -- What a model's constraints say of their arguments.
-use Rattle.std.proofs.Common.{◌≡◌, ℕ, zero, suc, ◌<◌, List, [], ◌∷◌, sym, ◌∙◌, subst, arith, length, true, false, Bool}
+use Rattle.std.proofs.Common.{◌≡◌, ℕ, zero, suc, ◌<◌, List, [], ◌∷◌, ◌++◌, inl, inr, refl, sym, subst, arith, length, true, false, Bool}
 use Rattle.std.proofs.lemmas.Int.{ints}
-use Rattle.std.specs.Prelude.{ℤ, Option, Some, None, slice_get, MatchOption}
+use Rattle.std.proofs.lemmas.List.{length-map}
+use Rattle.std.specs.Prelude.{ℤ, pos, Option, Some, None, slice_get, MatchOption}
 use Rattle.std.specs.List.{AllByRecursion}
-use Rattle.fz_sets.specs.Sets.{IsWithinLimits}
+use Rattle.fz_sets.specs.Sets.{IsWithinLimits, IsInSet, IsInRange}
 use Rattle.fz_spec.specs.declared.kind.Kind.{Kind}
 use Rattle.fz_spec.specs.declared.kind.Kind.TheVariants as kinds
 use Rattle.fz_spec.specs.declared.builtin.Builtin.{Builtin}
+use Rattle.fz_spec.specs.declared.builtin.Builtin.TheVariants.{BoolEqReif, BoolLeReif, BoolLtReif, IntEqReif, IntLeReif, IntLtReif, IntNeReif, SetIn, SetInReif}
 use Rattle.fz_spec.specs.declared.term.Term.{Term}
 use Rattle.fz_spec.specs.declared.term.Term.TheVariants.{Num, Var}
 use Rattle.fz_spec.specs.declared.asked.Element.{Element}
@@ -15,17 +17,20 @@ use Rattle.fz_spec.specs.declared.asked.Asked.TheVariants as asked
 use Rattle.fz_spec.specs.Constraints.{Argument, One, Numbers, Terms, Set, Constraint}
 use Rattle.fz_spec.specs.Signatures.{Row, row_of, signature_of}
 use Rattle.fz_spec.specs.Instance.{Instance, Variable}
-use Rattle.fz_model.specs.Kept.{IsNumberOf, kind_at, FitsElement, FitsList, FitsAsked, AllFit, FitsRow, IsConstraint, IsModel}
+use Rattle.fz_model.specs.Kept as kept
+use Rattle.fz_model.specs.Kept.{IsNumberOf, kind_at, FitsElement, FitsList, FitsAsked, AllFit, FitsRow, HasSetOf, IsVariable, IsConstraint, IsModel}
 use Rattle.fz_strength.specs.declared.event.Event.{Event}
+use Rattle.fz_strength.specs.declared.event.Event.TheVariants.{Any, Fixed}
 use Rattle.fz_strength.specs.declared.relation.Relation.{Relation}
-use Rattle.fz_strength.specs.declared.relation.Relation.TheVariants.{Equal}
-use Rattle.fz_strength.specs.Events.{Wait, wait_for, AreBelow}
-use Rattle.fz_strength.specs.Relations.{relation_of, event_of}
-use Rattle.fz_strength.specs.Lines.{waits, waits_of, waits_of_two}
-use Rattle.fz_strength.specs.Promises.{truths_of, IsTruth}
+use Rattle.fz_strength.specs.Events.{Wait, wait_for, waits_for, AreBelow}
+use Rattle.fz_strength.specs.Relations.{relation_of, reified_of, event_of, reified_event}
+use Rattle.fz_strength.specs.Lines.{terms_among, waits, waits_of, waits_of_two, waits_of_reified, waits_of_set, waits_of_set_reified}
+use Rattle.fz_strength.specs.Domains.{dom_at}
+use Rattle.fz_strength.specs.Promises.{truth_of_reified, truths_of, IsTruth}
+use Rattle.fz_strength.proofs.Truths.{is_single}
 use Rattle.fz_strength.proofs.Lists.{all_both}
-use Rattle.fz_prop.specs.Stores.{IsTermOf, FitsTerm}
-use Rattle.fz_engine.specs.Known.{IsComparing, IsKnownOf, IsKnown, AreKnown, IsLimited, HaveLimits, HasLimits, IsAmong, AreAmong}
+use Rattle.fz_prop.specs.Stores.{IsTermOf, FitsTerm, declared_sets}
+use Rattle.fz_engine.specs.Known.{IsLimited, HaveLimits, HasLimits, IsAmong, AreAmong}
 use Rattle.fz_engine.specs.Runs.{AreOf}
 use Rattle.fz_engine.proofs.Lists.{each_of, same_some, none_some}
 
@@ -50,6 +55,18 @@ no_list : (vs : List Variable) (kind : Kind) (may_vary : Bool) (t : Term) → Fi
 no_list vs kind true t fits = fits
 no_list vs kind false t fits = fits
 
+term_among : (vs : List Variable) (kind : Kind) (t : Term) → kept.IsTermOf vs kind t → IsTermOf (length vs) t
+term_among vs kind (Num n) is = tt
+term_among vs kind (Var v) is = there_within vs v kind is
+
+terms_among_all : (vs : List Variable) (kind : Kind) (ts : List Term) → AllByRecursion (kept.IsTermOf vs kind) ts → AllByRecursion (IsTermOf (length vs)) ts
+terms_among_all vs kind [] all = tt
+terms_among_all vs kind (t ∷ ts) all = (term_among vs kind t all.0, terms_among_all vs kind ts all.1)
+
+list_among : (vs : List Variable) (kind : Kind) (may_vary : Bool) (ts : List Term) → FitsList vs kind may_vary (Terms ts) → AllByRecursion (IsTermOf (length vs)) ts
+list_among vs kind true ts fits = terms_among_all vs kind ts fits.1
+list_among vs kind false ts fits = absurd fits
+
 asked_limited : (vs : List Variable) (wanted : Asked) (argument : Argument) → FitsAsked vs wanted argument → IsLimited argument
 asked_limited vs (asked.One element) (One t) fits = element_limited vs element t fits
 asked_limited vs (asked.List element) (One t) fits = absurd (no_list vs element.kind element.may_vary t fits)
@@ -62,8 +79,10 @@ asked_among : (vs : List Variable) (wanted : Asked) (argument : Argument) → Fi
 asked_among vs (asked.One element) (One t) fits = element_among vs element t fits
 asked_among vs (asked.List element) (One t) fits = absurd (no_list vs element.kind element.may_vary t fits)
 asked_among vs asked.Set (One t) fits = absurd fits
+asked_among vs (asked.List element) (Terms ts) fits = list_among vs element.kind element.may_vary ts fits
+asked_among vs (asked.One element) (Terms ts) fits = absurd fits
+asked_among vs asked.Set (Terms ts) fits = absurd fits
 asked_among vs wanted (Numbers ns) fits = tt
-asked_among vs wanted (Terms ts) fits = tt
 asked_among vs wanted (Set set) fits = tt
 
 all_limited : (vs : List Variable) (signature : List Asked) (arguments : List Argument) → AllFit vs signature arguments → HaveLimits arguments
@@ -89,12 +108,6 @@ in_row vs (Some row) arguments fits = matched vs (signature_of row (length argum
 pub fits_of : (vs : List Variable) (c : Constraint) → IsConstraint vs c → HasLimits c × AreAmong (length vs) c.arguments
 fits_of vs c is = in_row vs (row_of c.name) c.arguments is
 
-pub no_relation : (name : Builtin) → relation_of name ≡ None → IsComparing name → ⊥
-no_relation name none known = none_some (relation_of name) known.relation none known.is
-
-pub equation : (name : Builtin) (relation : Relation) → relation_of name ≡ Some relation → relation ≡ Equal → IsComparing name → ⊥
-equation name relation is equal known = known.unequal (same_some known.relation relation (sym known.is ∙ is) ∙ equal)
-
 all_limits : (vs : List Variable) (cs : List Constraint) → AllByRecursion (IsConstraint vs) cs → AllByRecursion HasLimits cs
 all_limits vs [] is = tt
 all_limits vs (c ∷ cs) is = ((fits_of vs c is.0).0, all_limits vs cs is.1)
@@ -102,32 +115,114 @@ all_limits vs (c ∷ cs) is = ((fits_of vs c is.0).0, all_limits vs cs is.1)
 pub limits_known : (m : Instance) → IsModel m → AllByRecursion HasLimits m.constraints
 limits_known m model = all_limits m.variables m.constraints model.constrained
 
--- ---- what known constraints wait for
+-- ---- what constraints wait for
 
 wait_below : (event : Event) (t : Term) (n : ℕ) → IsTermOf n t → AreBelow (wait_for event t) n
 wait_below event (Num number) n is = tt
 wait_below event (Var v) n is = (is, tt)
 
-two_below : (o : Option Relation) (relation : Relation) (x y : Term) (n : ℕ) → o ≡ Some relation → IsTermOf n x → IsTermOf n y → AreBelow (waits_of_two o x y) n
-two_below o relation x y n is first second =
-    subst (λ (p : Option Relation). AreBelow (waits_of_two p x y) n) (sym is)
-    (all_both (λ (w : Wait). w.variable < n) (wait_for (event_of relation) x) (wait_for (event_of relation) y) (wait_below (event_of relation) x n first) (wait_below (event_of relation) y n second))
+waits_below : (event : Event) (ts : List Term) (n : ℕ) → AllByRecursion (IsTermOf n) ts → AreBelow (waits_for event ts) n
+waits_below event [] n all = tt
+waits_below event (t ∷ ts) n all = all_both (λ (w : Wait). w.variable < n) (wait_for event t) (waits_for event ts) (wait_below event t n all.0) (waits_below event ts n all.1)
 
-below_of : (name : Builtin) (arguments : List Argument) (n : ℕ) → IsKnownOf name arguments → AreAmong n arguments → AreBelow (waits_of name arguments) n
-below_of name (One x ∷ One y ∷ []) n known among = two_below (relation_of name) known.relation x y n known.is among.0 among.1.0
-below_of name arguments n known among = absurd known
+terms_below : (n : ℕ) (arguments : List Argument) → AreAmong n arguments → AllByRecursion (IsTermOf n) (terms_among arguments)
+terms_below n [] among = tt
+terms_below n (One t ∷ arguments) among = all_both (IsTermOf n) (t ∷ []) (terms_among arguments) (among.0, tt) (terms_below n arguments among.1)
+terms_below n (Numbers ns ∷ arguments) among = terms_below n arguments among.1
+terms_below n (Terms ts ∷ arguments) among = all_both (IsTermOf n) ts (terms_among arguments) among.0 (terms_below n arguments among.1)
+terms_below n (Set set ∷ arguments) among = terms_below n arguments among.1
 
-suits_of : (name : Builtin) (arguments : List Argument) (ds : List (List (ℤ × ℤ))) → IsKnownOf name arguments → AllByRecursion (IsTruth ds) (truths_of name arguments)
-suits_of name (One x ∷ One y ∷ []) ds known = tt
-suits_of name arguments ds known = absurd known
+general_below : (arguments : List Argument) (n : ℕ) → AreAmong n arguments → AreBelow (waits_for Fixed (terms_among arguments)) n
+general_below arguments n among = waits_below Fixed (terms_among arguments) n (terms_below n arguments among)
 
-pub below_known : (m : Instance) (i : ℕ) (c : Constraint) → IsModel m → AreKnown m.constraints → slice_get m.constraints i ≡ Some c → AreBelow (waits c) (length m.variables)
-below_known m i c model known is =
-    below_of c.name c.arguments (length m.variables) (each_of IsKnown m.constraints i c known is) (fits_of m.variables c (each_of (IsConstraint m.variables) m.constraints i c model.constrained is)).1
+two_below : (W : List Wait) (o : Option Relation) (x y : Term) (n : ℕ) → AreBelow W n → IsTermOf n x → IsTermOf n y → AreBelow (waits_of_two W o x y) n
+two_below W None x y n general first second = general
+two_below W (Some relation) x y n general first second =
+    all_both (λ (w : Wait). w.variable < n) (wait_for (event_of relation) x) (wait_for (event_of relation) y) (wait_below (event_of relation) x n first) (wait_below (event_of relation) y n second)
 
--- the constraints of a model that are known are over domains of its variables
-pub terms_known : (m : Instance) (ds : List (List (ℤ × ℤ))) → IsModel m → AreKnown m.constraints → length ds ≡ length m.variables → AreOf m.constraints ds
-terms_known m ds model known size i c is = (
-  subst (λ (n : ℕ). AreBelow (waits c) n) (sym size) (below_known m i c model known is),
-  suits_of c.name c.arguments ds (each_of IsKnown m.constraints i c known is),
+reified_below : (W : List Wait) (o : Option Relation) (x y r : Term) (n : ℕ) → AreBelow W n → IsTermOf n x → IsTermOf n y → IsTermOf n r → AreBelow (waits_of_reified W o x y r) n
+reified_below W None x y r n general first second third = general
+reified_below W (Some relation) x y r n general first second third =
+    let below : Wait → Type 0 = λ (w : Wait). w.variable < n in
+    let event = reified_event relation in
+    all_both below (wait_for event x) (wait_for event y ++ wait_for Any r) (wait_below event x n first)
+    (all_both below (wait_for event y) (wait_for Any r) (wait_below event y n second) (wait_below Any r n third))
+
+set_below : (W : List Wait) (name : Builtin) (x : Term) (n : ℕ) → AreBelow W n → IsTermOf n x → AreBelow (waits_of_set W name x) n
+set_below W SetIn x n general first = wait_below Fixed x n first
+set_below W name x n general first = general
+
+set_reified_below : (W : List Wait) (name : Builtin) (x r : Term) (n : ℕ) → AreBelow W n → IsTermOf n x → IsTermOf n r → AreBelow (waits_of_set_reified W name x r) n
+set_reified_below W SetInReif x r n general first third = all_both (λ (w : Wait). w.variable < n) (wait_for Any x) (wait_for Any r) (wait_below Any x n first) (wait_below Any r n third)
+set_reified_below W name x r n general first third = general
+
+below_of : (name : Builtin) (arguments : List Argument) (n : ℕ) → AreAmong n arguments → AreBelow (waits_of name arguments) n
+below_of name (One x ∷ One y ∷ []) n among =
+    two_below (waits_for Fixed (x ∷ y ∷ [])) (relation_of name) x y n (general_below (One x ∷ One y ∷ []) n among) among.0 among.1.0
+below_of name (One x ∷ One y ∷ One r ∷ []) n among =
+    reified_below (waits_for Fixed (x ∷ y ∷ r ∷ [])) (reified_of name) x y r n (general_below (One x ∷ One y ∷ One r ∷ []) n among) among.0 among.1.0 among.1.1.0
+below_of name (One x ∷ Set set ∷ []) n among = set_below (waits_for Fixed (x ∷ [])) name x n (general_below (One x ∷ Set set ∷ []) n among) among.0
+below_of name (One x ∷ Set set ∷ One r ∷ []) n among =
+    set_reified_below (waits_for Fixed (x ∷ r ∷ [])) name x r n (general_below (One x ∷ Set set ∷ One r ∷ []) n among) among.0 among.1.1.0
+below_of name arguments n among = general_below arguments n among
+
+pub below : (m : Instance) (i : ℕ) (c : Constraint) → IsModel m → slice_get m.constraints i ≡ Some c → AreBelow (waits c) (length m.variables)
+below m i c model is = below_of c.name c.arguments (length m.variables) (fits_of m.variables c (each_of (IsConstraint m.variables) m.constraints i c model.constrained is)).1
+
+-- ---- which terms are Booleans
+
+-- one has the set 0..1
+bool_set : (vs : List Variable) (v : ℕ) → AllByRecursion IsVariable vs → kind_at vs v ≡ Some kinds.Bool → dom_at (declared_sets vs) v ≡ (pos 0, pos 1) ∷ []
+bool_set [] v sets is = absurd (cc (is))
+bool_set (u ∷ vs) zero sets is = subst (λ (kind : Kind). HasSetOf kind u.set) (same_some u.kind kinds.Bool is) sets.0
+bool_set (u ∷ vs) (suc v) sets is = bool_set vs v sets.1 is
+
+in_bool : (x : ℤ) → IsInSet ((pos 0, pos 1) ∷ []) x → IsInRange (pos 0, pos 1) x
+in_bool x member = elim member [ inl h ↦ h | inr h ↦ absurd h ]
+
+bool_truth : (vs : List Variable) (t : Term) → AllByRecursion IsVariable vs → kept.IsTermOf vs kinds.Bool t → IsTruth (declared_sets vs) t
+bool_truth vs (Num n) sets is x member = subst (λ (y : ℤ). IsInRange (pos 0, pos 1) y) (sym (is_single x n member)) is
+bool_truth vs (Var v) sets is x member = in_bool x (subst (λ (d : List (ℤ × ℤ)). IsInSet d x) (bool_set vs v sets is) member)
+
+-- the third argument of a reified comparison is one
+third_bool : (vs : List Variable) (name : Builtin) (x y r : Term) (relation : Relation) → reified_of name ≡ Some relation → MatchOption (row_of name) ⊥ (λ row. FitsRow vs row (One x ∷ One y ∷ One r ∷ [])) → kept.IsTermOf vs kinds.Bool r
+third_bool vs IntEqReif x y (Num n) relation is fits = fits.fit.1.1.0
+third_bool vs IntEqReif x y (Var v) relation is fits = fits.fit.1.1.0.1
+third_bool vs BoolEqReif x y (Num n) relation is fits = fits.fit.1.1.0
+third_bool vs BoolEqReif x y (Var v) relation is fits = fits.fit.1.1.0.1
+third_bool vs IntNeReif x y (Num n) relation is fits = fits.fit.1.1.0
+third_bool vs IntNeReif x y (Var v) relation is fits = fits.fit.1.1.0.1
+third_bool vs IntLeReif x y (Num n) relation is fits = fits.fit.1.1.0
+third_bool vs IntLeReif x y (Var v) relation is fits = fits.fit.1.1.0.1
+third_bool vs BoolLeReif x y (Num n) relation is fits = fits.fit.1.1.0
+third_bool vs BoolLeReif x y (Var v) relation is fits = fits.fit.1.1.0.1
+third_bool vs IntLtReif x y (Num n) relation is fits = fits.fit.1.1.0
+third_bool vs IntLtReif x y (Var v) relation is fits = fits.fit.1.1.0.1
+third_bool vs BoolLtReif x y (Num n) relation is fits = fits.fit.1.1.0
+third_bool vs BoolLtReif x y (Var v) relation is fits = fits.fit.1.1.0.1
+third_bool vs name x y r relation is fits = absurd (none_some None relation refl is)
+
+set_third_bool : (vs : List Variable) (x r : Term) (set : List (ℤ × ℤ)) → MatchOption (row_of SetInReif) ⊥ (λ row. FitsRow vs row (One x ∷ Set set ∷ One r ∷ [])) → kept.IsTermOf vs kinds.Bool r
+set_third_bool vs x (Num n) set fits = fits.fit.1.1.0
+set_third_bool vs x (Var v) set fits = fits.fit.1.1.0.1
+
+suits_reified : (vs : List Variable) (name : Builtin) (o : Option Relation) (x y r : Term) → reified_of name ≡ o → AllByRecursion IsVariable vs → MatchOption (row_of name) ⊥ (λ row. FitsRow vs row (One x ∷ One y ∷ One r ∷ []))
+    → AllByRecursion (IsTruth (declared_sets vs)) (truth_of_reified o r)
+suits_reified vs name None x y r of sets fits = tt
+suits_reified vs name (Some relation) x y r of sets fits = (bool_truth vs r sets (third_bool vs name x y r relation of fits), tt)
+
+suits_of : (vs : List Variable) (name : Builtin) (arguments : List Argument) → AllByRecursion IsVariable vs → MatchOption (row_of name) ⊥ (λ row. FitsRow vs row arguments)
+    → AllByRecursion (IsTruth (declared_sets vs)) (truths_of name arguments)
+suits_of vs name (One x ∷ One y ∷ One r ∷ []) sets fits = suits_reified vs name (reified_of name) x y r refl sets fits
+suits_of vs SetInReif (One x ∷ Set set ∷ One r ∷ []) sets fits = (bool_truth vs r sets (set_third_bool vs x r set fits), tt)
+suits_of vs name arguments sets fits = tt
+
+pub declared_length : (vs : List Variable) → length (declared_sets vs) ≡ length vs
+declared_length vs = length-map vs (λ (v : Variable). v.set)
+
+-- the constraints of a model are over the domains that its variables are declared with
+pub terms_declared : (m : Instance) → IsModel m → AreOf m.constraints (declared_sets m.variables)
+terms_declared m model i c is = (
+  subst (λ (n : ℕ). AreBelow (waits c) n) (sym (declared_length m.variables)) (below m i c model is),
+  suits_of m.variables c.name c.arguments model.sets (each_of (IsConstraint m.variables) m.constraints i c model.constrained is),
 )

@@ -1,20 +1,51 @@
 -- Lists of those that wait, one propagator after another.
-use Rattle.std.proofs.Common.{◌≡◌, ◌⊎◌, inl, inr, ℕ, zero, suc, ◌+◌, ◌<◌, List, [], ◌∷◌, refl, sym, ◌∙◌, subst, arith, length, replicate}
-use Rattle.std.specs.Prelude.{Some, slice_get, slice_index}
+use Rattle.std.proofs.Common.{◌≡◌, ◌⊎◌, inl, inr, ℕ, zero, suc, ◌+◌, ◌<◌, List, [], ◌∷◌, refl, sym, ◌∙◌, ap, subst, arith, length, map, replicate, get_or, Result, Ok, Err}
+use Rattle.std.specs.Prelude.{Some, slice_get, slice_index, OnOk}
 use Rattle.std.proofs.lemmas.Bool.{cases_eq}
 use Rattle.std.proofs.lemmas.Option.{slice_get_within}
 use Rattle.fz_spec.specs.Constraints.{Constraint}
+use Rattle.fz_strength.specs.declared.event.Event.{Event}
 use Rattle.fz_strength.specs.Events.{Wait}
 use Rattle.fz_strength.specs.Lines.{waits}
 use Rattle.fz_prop.specs.Stores.{Stored, IsListed}
 use Rattle.fz_agenda.specs.Agendas.{IsSettled}
 use Rattle.fz_agenda.specs.Queues.{IsWoken}
-use Rattle.fz_agenda.specs.Wakes.{Waking, waiting_at, IsListedAt, IsIndexOf, Extends}
+use Rattle.fz_agenda.specs.Wakes.{Waking, waiting_at, HasVariable, IsListedAt, IsIndexOf, Extends}
 use Rattle.fz_agenda.proofs.Places.{below_or_same}
 use Rattle.fz_engine.proofs.Lists.{all_of, same_some}
 
 pub extends_twice : (u v w : Waking) → Extends u v → Extends v w → Extends u w
 extends_twice u v w p q event variable place listed = q event variable place (p event variable place listed)
+
+-- ---- one change
+
+-- the variable that the code reads is that of the change at this place
+pub record IsWaitAt (ws : List Wait) (i v : ℕ) : Type 0 where
+  pub wait : Wait
+  pub at : slice_get ws i ≡ Some wait
+  pub variable : v ≡ wait.variable
+
+variable_at : (ws : List Wait) (i : ℕ) → i < length ws → IsWaitAt ws i (get_or (map (λ (w : Wait). w.variable) ws) i 0)
+variable_at [] i within = absurd (omega (arith, within))
+variable_at (w ∷ ws) zero within = record { wait = w; at = refl; variable = refl }
+variable_at (w ∷ ws) (suc i) within =
+    let v = get_or (map (λ (w : Wait). w.variable) ws) i 0 in
+    let here : IsWaitAt ws i v = variable_at ws i (omega (arith, within)) in
+    record { wait = here.wait; at = here.at; variable = here.variable }
+
+pub wait_at : (ws : List Wait) (vs : List ℕ) (i : ℕ) → vs ≡ map (λ (w : Wait). w.variable) ws → i < length ws → IsWaitAt ws i (get_or vs i 0)
+wait_at ws vs i all within = subst (λ (us : List ℕ). IsWaitAt ws i (get_or us i 0)) (sym all) (variable_at ws i within)
+
+pub has_variable_at : (w : Waking) (ws : List Wait) (i v : ℕ) → IsWaitAt ws i v → ((x : Wait) → slice_get ws i ≡ Some x → HasVariable w x.variable) → HasVariable w v
+has_variable_at w ws i v here each = subst (λ (u : ℕ). HasVariable w u) (sym here.variable) (each here.wait here.at)
+
+pub listed_at : {T E : Type 0} (r : Result T E) (w : Waking) (ws : List Wait) (i v place : ℕ) (event : Event) → IsWaitAt ws i v → ((x : Wait) → slice_get ws i ≡ Some x → event ≡ x.event)
+    → OnOk r (IsListed (waiting_at w event v) place) → OnOk r ((x : Wait) → slice_get ws i ≡ Some x → IsListed (waiting_at w x.event x.variable) place)
+listed_at (Ok u) w ws i v place event here is listed = λ x at.
+    let same : here.wait ≡ x = same_some here.wait x (sym here.at ∙ at) in
+    let variable : v ≡ x.variable = here.variable ∙ ap (λ (y : Wait). y.variable) same in
+    subst (λ (u : ℕ). IsListed (waiting_at w x.event u) place) variable (subst (λ (e : Event). IsListed (waiting_at w e v) place) (is x at) listed)
+listed_at (Err u) w ws i v place event here is listed = tt
 
 -- ---- the changes of one propagator
 

@@ -12,6 +12,7 @@ use Rattle.fz_strength.specs.Lines.{Rests, waits}
 use Rattle.fz_strength.specs.Promises.{IsCorrect, IsNeverTrue, IsTruth, RestsForGood, truths_of}
 use Rattle.fz_strength.proofs.Keeping.{term_narrower}
 use Rattle.fz_prop.specs.Stores.{Stored, IsStore, Shrinks}
+use Rattle.fz_prop.proofs.Twice.{narrower_twice}
 use Rattle.fz_agenda.specs.Agendas.{IsSettled}
 use Rattle.fz_agenda.specs.Queues.{IsAtRest, counts_queued, queued}
 use Rattle.fz_agenda.specs.Wakes.{Waking, HaveSize, IsIndexOf, IsDraining, IsDrained}
@@ -47,7 +48,7 @@ run_none cs s states store settled = record {
 pub run_twice : (cs : List Constraint) (r s t : Stored) (mid after : List ℕ) → IsRun cs r s mid → IsRun cs s t after → IsRun cs r t after
 run_twice cs r s t mid after p q = record {
   store = q.store;
-  narrower = record { size = q.narrower.size ∙ p.narrower.size; members = λ v x member. p.narrower.members v x (q.narrower.members v x member) };
+  narrower = narrower_twice r.doms s.doms t.doms p.narrower q.narrower;
   correct = λ a all within. q.correct a all (p.correct a all within);
   settled = q.settled;
 }

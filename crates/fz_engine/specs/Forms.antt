@@ -5,3 +5,7 @@ use Rattle.fz_engine.specs.declared.kind.Form.TheVariants as forms
 
 abbrev pub constraint_of : Form → Constraint
 constraint_of (forms.Comparison comparison) = comparison
+constraint_of (forms.ReifiedComparison comparison) = comparison
+constraint_of (forms.Membership membership) = membership
+constraint_of (forms.ReifiedMembership membership) = membership
+constraint_of (forms.Awaiting awaiting) = awaiting

@@ -1,28 +1,14 @@
--- The constraints whose propagators are there.
-use Rattle.std.specs.Prelude.{◌≡◌, ◌≢◌, ℕ, List, [], ◌∷◌, Some}
+-- Constraints with a line of their own, and what a model keeps of the arguments of its constraints.
+use Rattle.std.specs.Prelude.{◌≡◌, ℕ, List, Option, MatchOption}
 use Rattle.std.specs.List.{AllByRecursion}
 use Rattle.fz_spec.specs.declared.builtin.Builtin.{Builtin}
 use Rattle.fz_spec.specs.Constraints.{Argument, One, Numbers, Terms, Set, Constraint}
-use Rattle.fz_strength.specs.declared.relation.Relation.{Relation}
-use Rattle.fz_strength.specs.declared.relation.Relation.TheVariants.{Equal}
-use Rattle.fz_strength.specs.Relations.{relation_of}
+use Rattle.fz_strength.specs.Lines.{HasOwnLine}
 use Rattle.fz_prop.specs.Stores.{IsTermOf, FitsTerm}
 
--- a comparison of two terms that isn't an equation
-pub record IsComparing (name : Builtin) : Type 0 where
-  pub relation : Relation
-  pub is : relation_of name ≡ Some relation
-  pub unequal : relation ≢ Equal
-
-abbrev pub IsKnownOf : Builtin → List Argument → Type 0
-IsKnownOf name (One x ∷ One y ∷ []) = IsComparing name
-IsKnownOf name arguments = ⊥
-
-abbrev pub IsKnown : Constraint → Type 0
-IsKnown c = IsKnownOf c.name c.arguments
-
-abbrev pub AreKnown : List Constraint → Type 0
-AreKnown cs = AllByRecursion IsKnown cs
+-- a constraint with a line of its own, or none where it has none
+abbrev pub IsOwn : Option Constraint → Builtin → List Argument → Type 0
+IsOwn o name arguments = MatchOption o (HasOwnLine name arguments → ⊥) (λ (c : Constraint). c ≡ record { name = name; arguments = arguments })
 
 -- the numbers among arguments are within the limits
 abbrev pub IsLimited : Argument → Type 0
@@ -41,7 +27,7 @@ HasLimits c = HaveLimits c.arguments
 abbrev pub IsAmong : ℕ → Argument → Type 0
 IsAmong n (One t) = IsTermOf n t
 IsAmong n (Numbers ns) = Unit {0}
-IsAmong n (Terms ts) = Unit {0}
+IsAmong n (Terms ts) = AllByRecursion (IsTermOf n) ts
 IsAmong n (Set set) = Unit {0}
 
 abbrev pub AreAmong : ℕ → List Argument → Type 0

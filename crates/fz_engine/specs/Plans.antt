@@ -2,7 +2,6 @@
 use Rattle.std.specs.Prelude.{◌≡◌, List, length}
 use Rattle.fz_spec.specs.Constraints.{Constraint}
 use Rattle.fz_spec.specs.Instance.{Instance}
-use Rattle.fz_engine.specs.Known.{AreKnown}
 use Rattle.fz_agenda.specs.Wakes.{Waking, IsIndexOf, HaveSize}
 
 pub record Planned : Type 0 where
@@ -12,6 +11,5 @@ pub record Planned : Type 0 where
 -- a propagator for each constraint, each listed at all changes that it waits for
 pub record IsPlan (cs : List Constraint) (m : Instance) (w : Waking) : Type 0 where
   pub kinds : cs ≡ m.constraints
-  pub known : AreKnown m.constraints
   pub index : IsIndexOf m.constraints w
   pub size : HaveSize w (length m.variables)

@@ -1,23 +1,25 @@
 //! Kinds of propagators.
-ghost use Rattle.std.specs.Prelude.{◌≡◌, ◌↔◌, ◌<◌, List, [], ◌∷◌, length, map, IfOk, IsTrue, MatchOption, slice_get, Some};
+ghost use Rattle.std.specs.Prelude.{◌≡◌, ◌<◌, List, [], ◌∷◌, length, map, IfOk, slice_get, Some};
 ghost use Rattle.fz_spec.specs.Constraints as meaning;
+ghost use Rattle.fz_spec.specs.declared.builtin.Builtin.TheVariants.{SetIn, SetInReif};
 ghost use Rattle.fz_model.specs.Arguments.{argument_of};
-ghost use Rattle.fz_strength.specs.declared.relation.Relation.TheVariants.{Equal};
 ghost use Rattle.fz_strength.specs.Costs.{cost_of};
 ghost use Rattle.fz_strength.specs.Events.{Wait, AreBelow};
-ghost use Rattle.fz_strength.specs.Lines.{waits};
+ghost use Rattle.fz_strength.specs.Lines.{waits, HasOwnLine};
 ghost use Rattle.fz_strength.specs.Promises.{IsCorrect, Suits};
 ghost use Rattle.fz_prop.specs.Answers.{IsAnswer};
 ghost use Rattle.fz_prop.specs.Stores.{Shrinks, IsStore, FitsTerm};
-ghost use Rattle.fz_engine.specs.Known.{IsKnown, IsKnownOf, IsComparing, HaveLimits, HasLimits};
+ghost use Rattle.fz_engine.specs.Known.{IsOwn, HaveLimits, HasLimits};
 
+use fz_await::Awaiting;
+use fz_dom::Dom;
 use fz_model::constraint::{Argument, Constraint};
 use fz_prop::{Answer, Cost, Event, Propagator, Store};
-use fz_rel::Comparison;
+use fz_rel::{Comparison, Membership, ReifiedComparison, ReifiedMembership};
 use fz_spec::builtin::Builtin;
 use fz_spec::term::Term;
 use fz_strength::relation::Relation;
-use std::alloc::AllocError;
+use std::alloc::{AllocError, Global};
 use std::marker::Model;
 
 /// The propagator of a constraint, which contracts see as the constraint.
@@ -29,6 +31,10 @@ pub struct Kind {
 #[derive(Drop)]
 enum Form {
     Comparison(Comparison),
+    ReifiedComparison(ReifiedComparison),
+    Membership(Membership),
+    ReifiedMembership(ReifiedMembership),
+    Awaiting(Awaiting),
 }
 
 impl Model for Kind {
@@ -42,14 +48,17 @@ impl Model for Kind {
 }
 
 impl Kind {
-    /// The propagator of a constraint; `None` where there is none yet.
-    pub fn of(constraint: &Constraint) -> Option<Kind>
+    /// The propagator of a constraint.
+    ///
+    /// # Errors
+    /// `AllocError` where there is no memory.
+    pub fn of(alloc: Global, constraint: &Constraint) -> Result<Kind, AllocError>
         requires { HasLimits constraint.now }
-        ensures { MatchOption result (IsKnown constraint.now → ⊥) (λ k. k ≡ constraint.now) }
+        ensures { IfOk result (λ k. k ≡ constraint.now) }
     {
-        match constraint.arguments() {
-            [Argument::One(x), rest @ ..] => of_term(constraint.name(), *x, rest),
-            _ => None,
+        match own(alloc, constraint)? {
+            Some(kind) => Ok(kind),
+            None => awaiting(alloc, constraint),
         }
     }
 
@@ -59,6 +68,10 @@ impl Kind {
     {
         match &self.form {
             Form::Comparison(comparison) => comparison.vars(),
+            Form::ReifiedComparison(comparison) => comparison.vars(),
+            Form::Membership(membership) => membership.vars(),
+            Form::ReifiedMembership(membership) => membership.vars(),
+            Form::Awaiting(awaiting) => awaiting.vars(),
         }
     }
 
@@ -69,6 +82,10 @@ impl Kind {
     {
         match &self.form {
             Form::Comparison(comparison) => comparison.event(place),
+            Form::ReifiedComparison(comparison) => comparison.event(place),
+            Form::Membership(membership) => membership.event(place),
+            Form::ReifiedMembership(membership) => membership.event(place),
+            Form::Awaiting(awaiting) => awaiting.event(place),
         }
     }
 
@@ -78,6 +95,10 @@ impl Kind {
     {
         match &self.form {
             Form::Comparison(comparison) => comparison.cost(),
+            Form::ReifiedComparison(comparison) => comparison.cost(),
+            Form::Membership(membership) => membership.cost(),
+            Form::ReifiedMembership(membership) => membership.cost(),
+            Form::Awaiting(awaiting) => awaiting.cost(),
         }
     }
 
@@ -95,57 +116,131 @@ impl Kind {
     {
         let answer = match &self.form {
             Form::Comparison(comparison) => comparison.run(store),
+            Form::ReifiedComparison(comparison) => comparison.run(store),
+            Form::Membership(membership) => membership.run(store),
+            Form::ReifiedMembership(membership) => membership.run(store),
+            Form::Awaiting(awaiting) => awaiting.run(store),
         };
         let _ = store.doms();
         answer
     }
 }
 
-/// The propagator of a constraint whose first argument is a term.
-fn of_term(name: Builtin, x: Term, rest: &[Argument]) -> Option<Kind>
-    requires x { FitsTerm x }
-    requires rest { HaveLimits (map argument_of rest.now) }
-    ensures { MatchOption result (IsKnownOf name (meaning.One x ∷ map argument_of rest.now) → ⊥)
-        (λ k. k ≡ record { name = name; arguments = meaning.One x ∷ map argument_of rest.now }) }
+/// The propagator of a constraint that waits for its terms to get fixed.
+fn awaiting(alloc: Global, constraint: &Constraint) -> Result<Kind, AllocError>
+    requires { HasOwnLine constraint.now.name constraint.now.arguments → ⊥ }
+    ensures { IfOk result (λ k. k ≡ constraint.now) }
 {
-    match rest {
-        [Argument::One(y), tail @ ..] => of_terms(name, x, *y, tail),
-        _ => None,
-    }
-}
-
-/// The propagator of a constraint whose first two arguments are terms.
-fn of_terms(name: Builtin, x: Term, y: Term, rest: &[Argument]) -> Option<Kind>
-    requires x { FitsTerm x }
-    requires y { FitsTerm y }
-    ensures { MatchOption result (IsKnownOf name (meaning.One x ∷ meaning.One y ∷ map argument_of rest.now) → ⊥)
-        (λ k. k ≡ record { name = name; arguments = meaning.One x ∷ meaning.One y ∷ map argument_of rest.now }) }
-{
-    match rest {
-        [] => comparing(name, x, y),
-        _ => None,
-    }
-}
-
-/// The propagator of a comparison of two terms; `None` where the name is no comparison, or an equation.
-fn comparing(name: Builtin, x: Term, y: Term) -> Option<Kind>
-    requires x { FitsTerm x }
-    requires y { FitsTerm y }
-    ensures { MatchOption result (IsComparing name → ⊥)
-        (λ k. k ≡ record { name = name; arguments = meaning.One x ∷ meaning.One y ∷ [] }) }
-{
-    let relation = Relation::of(name)?;
-    if is_equal(relation) {
-        return None;
-    }
-    let comparison = Comparison::new(name, relation, x, y);
-    Some(Kind {
-        form: Form::Comparison(comparison),
+    let awaiting = Awaiting::new(alloc, constraint)?;
+    Ok(Kind {
+        form: Form::Awaiting(awaiting),
     })
 }
 
-fn is_equal(relation: Relation) -> bool
-    ensures { IsTrue result ↔ (relation ≡ Equal) }
+/// The propagator of its own that a constraint has; `None` where it has none.
+fn own(alloc: Global, constraint: &Constraint) -> Result<Option<Kind>, AllocError>
+    requires { HasLimits constraint.now }
+    ensures { IfOk result (λ o. IsOwn o constraint.now.name constraint.now.arguments) }
 {
-    relation == Relation::Equal
+    match constraint.arguments() {
+        [Argument::One(x), rest @ ..] => of_term(alloc, constraint.name(), *x, rest),
+        _ => Ok(None),
+    }
+}
+
+/// The propagator of its own of a constraint whose first argument is a term.
+fn of_term(
+    alloc: Global,
+    name: Builtin,
+    x: Term,
+    rest: &[Argument],
+) -> Result<Option<Kind>, AllocError>
+    requires x { FitsTerm x }
+    requires rest { HaveLimits (map argument_of rest.now) }
+    ensures { IfOk result (λ o. IsOwn o name (meaning.One x ∷ map argument_of rest.now)) }
+{
+    match rest {
+        [Argument::One(y), tail @ ..] => Ok(of_terms(name, x, *y, tail)),
+        [Argument::Set(set), tail @ ..] => of_set(alloc, name, x, set, tail),
+        _ => Ok(None),
+    }
+}
+
+/// The propagator of its own of a constraint whose first two arguments are terms.
+fn of_terms(name: Builtin, x: Term, y: Term, rest: &[Argument]) -> Option<Kind>
+    requires x { FitsTerm x }
+    requires y { FitsTerm y }
+    ensures { IsOwn result name (meaning.One x ∷ meaning.One y ∷ map argument_of rest.now) }
+{
+    match rest {
+        [] => comparing(name, x, y),
+        [Argument::One(r)] => reifying(name, x, y, *r),
+        _ => None,
+    }
+}
+
+/// The propagator of its own of a constraint whose first two arguments are a term and a set.
+fn of_set(
+    alloc: Global,
+    name: Builtin,
+    x: Term,
+    set: &Dom,
+    rest: &[Argument],
+) -> Result<Option<Kind>, AllocError>
+    requires { FitsTerm x }
+    ensures { IfOk result
+        (λ o. IsOwn o name (meaning.One x ∷ meaning.Set set.now ∷ map argument_of rest.now)) }
+{
+    match (name, rest) {
+        (Builtin::SetIn, []) => Ok(Some(member(x, set.copy()?))),
+        (Builtin::SetInReif, [Argument::One(r)]) => Ok(Some(reified_member(alloc, x, set, *r)?)),
+        _ => Ok(None),
+    }
+}
+
+/// The propagator of a comparison of two terms; `None` where the name is no comparison.
+fn comparing(name: Builtin, x: Term, y: Term) -> Option<Kind>
+    requires x { FitsTerm x }
+    requires y { FitsTerm y }
+    ensures { IsOwn result name (meaning.One x ∷ meaning.One y ∷ []) }
+{
+    let relation = Relation::of(name)?;
+    Some(Kind {
+        form: Form::Comparison(Comparison::new(name, relation, x, y)),
+    })
+}
+
+/// The propagator of a comparison of two terms and a Boolean; `None` where the name is no reified comparison.
+fn reifying(name: Builtin, x: Term, y: Term, r: Term) -> Option<Kind>
+    requires x { FitsTerm x }
+    requires y { FitsTerm y }
+    ensures { IsOwn result name (meaning.One x ∷ meaning.One y ∷ meaning.One r ∷ []) }
+{
+    let relation = Relation::of_reified(name)?;
+    Some(Kind {
+        form: Form::ReifiedComparison(ReifiedComparison::new(name, relation, x, y, r)),
+    })
+}
+
+/// The propagator of a term in a set.
+fn member(x: Term, set: Dom) -> Kind
+    ensures { result ≡ record { name = SetIn; arguments = meaning.One x ∷ meaning.Set set ∷ [] } }
+{
+    Kind {
+        form: Form::Membership(Membership::new(x, set)),
+    }
+}
+
+/// The propagator of a term in a set and a Boolean.
+fn reified_member(alloc: Global, x: Term, set: &Dom, r: Term) -> Result<Kind, AllocError>
+    requires { FitsTerm x }
+    ensures { IfOk result (λ k. k ≡ record {
+      name = SetInReif;
+      arguments = meaning.One x ∷ meaning.Set set.now ∷ meaning.One r ∷ [];
+    }) }
+{
+    let membership = ReifiedMembership::new(alloc, x, set.copy()?, r)?;
+    Ok(Kind {
+        form: Form::ReifiedMembership(membership),
+    })
 }

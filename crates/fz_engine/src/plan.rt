@@ -9,7 +9,7 @@ ghost use Rattle.fz_strength.specs.Lines.{waits};
 ghost use Rattle.fz_prop.specs.Stores.{Stored, IsListed};
 ghost use Rattle.fz_agenda.specs.Agendas.{IsSettled};
 ghost use Rattle.fz_agenda.specs.Wakes.{waiting_at, IsListedAt, IsIndexOf, HaveSize, HasVariable, Extends};
-ghost use Rattle.fz_engine.specs.Known.{AreKnown, IsKnown, HasLimits};
+ghost use Rattle.fz_engine.specs.Known.{HasLimits};
 ghost use Rattle.fz_engine.specs.Plans.{Planned, IsPlan};
 
 use crate::kind::Kind;
@@ -44,7 +44,6 @@ impl Plan {
     /// # Errors
     /// `AllocError` where there is no memory.
     pub fn new(alloc: Global, model: Arc<fz_model::Model>) -> Result<Plan, AllocError>
-        requires { AreKnown (arc_value model).constraints }
         ensures { IfOk result (λ p. p.model ≡ arc_value model) }
     {
         let kinds = kinds_of(alloc, model.constraints())?;
@@ -68,8 +67,7 @@ impl Plan {
 
     /// The propagators, in the order of the constraints.
     pub fn kinds(&self) -> &[Kind]
-        ensures kinds { result.now ≡ self.now.model.constraints }
-        ensures known { AreKnown self.now.model.constraints }
+        ensures { result.now ≡ self.now.model.constraints }
     {
         &self.kinds
     }
@@ -86,33 +84,19 @@ impl Plan {
 
 /// The propagators of constraints.
 fn kinds_of(alloc: Global, constraints: &[Constraint]) -> Result<Vec<Kind>, AllocError>
-    requires known { AreKnown constraints.now }
-    requires limits { AllByRecursion HasLimits constraints.now }
+    requires { AllByRecursion HasLimits constraints.now }
     ensures { IfOk result (λ v. v.items ≡ constraints.now) }
 {
     let mut kinds = Vec::with_capacity(alloc, constraints.len())?;
     for constraint in constraints {
-        kinds.push(kind_of(constraint))?;
+        kinds.push(Kind::of(alloc, constraint)?)?;
     }
     Ok(kinds)
 }
 
-/// The propagator of a constraint.
-fn kind_of(constraint: &Constraint) -> Kind
-    requires known { IsKnown constraint.now }
-    requires limits { HasLimits constraint.now }
-    ensures { result ≡ constraint.now }
-{
-    match Kind::of(constraint) {
-        Some(kind) => kind,
-        None => unreachable!(),
-    }
-}
-
 /// The lists of a model's propagators.
 fn wakes_in(alloc: Global, kinds: &[Kind], model: &fz_model::Model) -> Result<Wakes, AllocError>
-    requires kinds { kinds.now ≡ model.now.constraints }
-    requires known { AreKnown model.now.constraints }
+    requires { kinds.now ≡ model.now.constraints }
     ensures index { IfOk result (λ w. IsIndexOf model.now.constraints w) }
     ensures size { IfOk result (λ w. HaveSize w (length model.now.variables)) }
 {

@@ -1,8 +1,8 @@
 -- Answers of a run by one truth and line, and by another that say the same.
-use Rattle.std.proofs.Common.{◌≡◌, ◌<◌, List, inl, inr, subst, arith}
+use Rattle.std.proofs.Common.{◌<◌, List, inl, inr, subst, arith}
 use Rattle.std.specs.Prelude.{ℤ, ◌↔◌}
 use Rattle.fz_spec.specs.Constraints.{Constraint, IsTrueOf}
-use Rattle.fz_strength.specs.Domains.{room, Within}
+use Rattle.fz_strength.specs.Domains.{room}
 use Rattle.fz_strength.specs.Lines.{Rests}
 use Rattle.fz_strength.specs.Promises.{IsCorrect}
 use Rattle.fz_prop.specs.declared.answer.Answer.{Answer}

@@ -1,8 +1,8 @@
 -- A constraint and a Boolean that says whether it is true.
-use Rattle.std.proofs.Common.{◌≡◌, ℕ, List, [], ◌∷◌, refl, sym, ap, subst, ◌∙◌, length, arith}
+use Rattle.std.proofs.Common.{◌≡◌, ℕ, List, sym, ap, subst, length, arith}
 use Rattle.std.specs.Prelude.{ℤ, pos}
 use Rattle.std.proofs.lemmas.Int.{ints, by_lt_z}
-use Rattle.fz_sets.specs.Sets.{IsInSet, IsInRange}
+use Rattle.fz_sets.specs.Sets.{IsInRange}
 use Rattle.fz_dom.specs.Shape.{least}
 use Rattle.fz_spec.specs.declared.term.Term.{Term}
 use Rattle.fz_spec.specs.Constraints.{term_value}

@@ -5,9 +5,8 @@ use Rattle.fz_sets.specs.Sets.{IsInSet}
 use Rattle.fz_dom.specs.declared.change.Change.{Change}
 use Rattle.fz_dom.specs.declared.change.Change.TheVariants.{Same, Changed, Wiped}
 use Rattle.fz_spec.specs.declared.term.Term.{Term}
-use Rattle.fz_spec.specs.declared.term.Term.TheVariants.{Num, Var}
 use Rattle.fz_spec.specs.Constraints.{term_value}
-use Rattle.fz_strength.specs.Domains.{dom_at, term_set, number_at, AreDomains, Within, IsNarrower}
+use Rattle.fz_strength.specs.Domains.{term_set, number_at, AreDomains, Within, IsNarrower}
 use Rattle.fz_prop.specs.declared.answer.Answer.TheVariants.{Subsumed}
 use Rattle.fz_prop.specs.Answers.{IsAnswerOf, IsCorrectOf, IsDecided}
 use Rattle.fz_prop.specs.Outcomes.{settled_by}

@@ -71,7 +71,8 @@ pub fn cut_one(dom: &mut Dom, cut: Cut) -> Result<(Change, u8), AllocError>
 /// 0 where nothing left.
 pub fn cut_to(dom: &mut Dom, other: &Dom, shift: i32) -> Result<(Change, u8), AllocError>
     requires { 0 < length dom.old }
-    ensures cut { IfOk result (λ r. IsCut r.0 r.1 (λ x. IsInSet other.now (x -ℤ shift)) dom.old dom.new) }
+    ensures cut { IfOk result
+        (λ r. IsCut r.0 r.1 (λ x. IsInSet other.now (x -ℤ shift)) dom.old dom.new) }
     ensures err { OnErr result (dom.new ≡ dom.old) }
     ensures domain { IsDomain dom.new }
     ensures old_domain { IsDomain dom.old }

@@ -1,18 +1,11 @@
 -- A relation and the one that is true exactly where it is false.
-use Rattle.std.proofs.Common.{◌≡◌, List, [], ◌∷◌, refl, sym, subst, ◌∙◌, inl, inr, ◌⊎◌, arith}
+use Rattle.std.proofs.Common.{◌≡◌, arith}
 use Rattle.std.specs.Prelude.{ℤ, ◌≤ℤ◌, ◌<ℤ◌}
 use Rattle.std.proofs.lemmas.Int.{ints, by_lt_z}
-use Rattle.fz_sets.specs.Sets.{IsInSet}
-use Rattle.fz_dom.specs.Shape.{least, greatest}
-use Rattle.fz_dom.proofs.Ranges.{least_member, greatest_member}
 use Rattle.fz_spec.specs.declared.term.Term.{Term}
 use Rattle.fz_spec.specs.Constraints.{term_value}
-use Rattle.fz_strength.specs.declared.relation.Relation.{Relation}
 use Rattle.fz_strength.specs.declared.relation.Relation.TheVariants.{Equal, NotEqual, AtMost, Below}
-use Rattle.fz_strength.specs.Events.{IsOnly}
-use Rattle.fz_strength.specs.Relations.{Relates, RestsAs, RestsAgainst, IsShown, IsRefuted}
 use Rattle.fz_prop.proofs.Answering.{IsSame}
-use Rattle.fz_prop.proofs.Filled.{HasRanges, one_left}
 use Rattle.fz_rel.specs.Truths.{TruthOf, FalseOf, LineOf, AgainstOf}
 
 same_of_not : (x y : ℤ) → ((x ≡ y → ⊥) → ⊥) → x ≡ y

@@ -1,5 +1,5 @@
 -- Two terms in order.
-use Rattle.std.proofs.Common.{◌≡◌, ℕ, List, sym, subst, length, arith, Bool, true, false}
+use Rattle.std.proofs.Common.{◌≡◌, List, subst, length, arith, Bool, true, false}
 use Rattle.std.specs.Prelude.{ℤ, ◌+ℤ◌, ◌-ℤ◌, ◌≤ℤ◌, ◌<◌}
 use Rattle.std.proofs.lemmas.Int.{ints}
 use Rattle.fz_sets.specs.Sets.{IsInSet, AreRanges}
@@ -16,7 +16,7 @@ use Rattle.fz_prop.specs.declared.answer.Answer.TheVariants.{Subsumed}
 use Rattle.fz_prop.specs.Answers.{IsCorrectOf}
 use Rattle.fz_prop.specs.Stores.{Stored, Shrinks, IsTermOf, IsTermChange}
 use Rattle.fz_rel.specs.Truths.{TruthOf, IsAnswerAs, order_of, gap_of, IsOrdered}
-use Rattle.fz_prop.proofs.Filled.{HasRanges, term_ranges, narrower_ranges}
+use Rattle.fz_prop.proofs.Filled.{term_ranges, narrower_ranges}
 use Rattle.fz_prop.proofs.TermChanges.{term_within, narrower_term, within_kept, kept_term, none_kept}
 
 pub to_order : (strict : Bool) (x y : ℤ) → Relates (order_of strict) x y → IsOrdered strict x y

@@ -2,7 +2,7 @@
 use Rattle.std.proofs.Common.{◌≡◌, ℕ, zero, suc, ◌<◌, ◌≤◌, ◌+◌, add-one, List, [], ◌∷◌, refl, sym, subst, length, take, get_or, arith, inl, inr, ◌⊎◌}
 use Rattle.std.specs.Prelude.{ℤ, pos, ◌↔◌}
 use Rattle.std.proofs.lemmas.List.{take_all}
-use Rattle.fz_sets.specs.Sets.{IsInSet, IsInRange, IsWithinLimits, LEAST, GREATEST, AreOneSet}
+use Rattle.fz_sets.specs.Sets.{IsInSet, IsInRange, LEAST, GREATEST, AreOneSet}
 use Rattle.fz_dom.specs.Changes.{IsChange, IsFromTo}
 use Rattle.fz_dom.specs.declared.change.Change.{Change}
 use Rattle.fz_dom.specs.declared.change.Change.TheVariants.{Same, Changed, Wiped}

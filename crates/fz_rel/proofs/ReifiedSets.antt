@@ -1,7 +1,6 @@
 -- A term in a set, and a Boolean that says whether it is.
-use Rattle.std.proofs.Common.{◌≡◌, ℕ, ◌<◌, List, [], ◌∷◌, ◌++◌, refl, sym, ap, subst, map, length, arith}
+use Rattle.std.proofs.Common.{◌≡◌, ℕ, ◌<◌, List, [], ◌∷◌, ap, map, length, arith}
 use Rattle.std.specs.Prelude.{ℤ, pos}
-use Rattle.std.specs.List.{AllByRecursion}
 use Rattle.fz_sets.specs.Sets.{IsInSet, IsWithinLimits, set_size}
 use Rattle.fz_dom.specs.Shape.{IsDomain, least}
 use Rattle.fz_dom.specs.Changes.{IsChange}
@@ -11,23 +10,23 @@ use Rattle.fz_dom.specs.declared.change.Change.TheVariants.{Same, Changed, Wiped
 use Rattle.fz_spec.specs.declared.builtin.Builtin.TheVariants.{SetInReif}
 use Rattle.fz_spec.specs.declared.term.Term.{Term}
 use Rattle.fz_spec.specs.declared.term.Term.TheVariants.{Num, Var}
-use Rattle.fz_spec.specs.Constraints.{One, Set, Constraint, IsTrueOf, term_value}
+use Rattle.fz_spec.specs.Constraints.{One, Set, Constraint, term_value}
 use Rattle.fz_strength.specs.declared.event.Event.TheVariants.{Any}
 use Rattle.fz_strength.specs.Domains.{term_set, dom_at, AreDomains, Within, IsNarrower, number_at}
 use Rattle.fz_strength.specs.Events.{IsOnly, IsFixedIn, Wait, wait_for, AreBelow, AreFixed}
-use Rattle.fz_strength.specs.Lines.{LiesIn, LiesOutside, Rests, waits}
-use Rattle.fz_strength.specs.Promises.{IsCorrect, IsTruth, Suits}
+use Rattle.fz_strength.specs.Lines.{LiesIn, LiesOutside, waits}
+use Rattle.fz_strength.specs.Promises.{IsTruth}
 use Rattle.fz_strength.proofs.Lists.{all_left, all_right}
 use Rattle.fz_prop.specs.declared.answer.Answer.{Answer}
 use Rattle.fz_prop.specs.declared.answer.Answer.TheVariants.{Fix, NoFix, Subsumed, Failed}
 use Rattle.fz_prop.specs.Answers.{IsAnswer, IsAnswerOf, IsCorrectOf}
 use Rattle.fz_prop.specs.Stores.{IsTermOf, FitsTerm}
-use Rattle.fz_prop.proofs.Answering.{IsSame, answer_of, correct_of}
+use Rattle.fz_prop.proofs.Answering.{answer_of}
 use Rattle.fz_prop.proofs.Filled.{narrower_ranges}
-use Rattle.fz_prop.proofs.Reifying.{Sides, AreSides, TruthWith, LineWith, one_answer, zero_answer, zero_correct, shown_about, refuted_about}
+use Rattle.fz_prop.proofs.Reifying.{Sides, AreSides, one_answer, zero_answer, zero_correct, shown_about, refuted_about}
 use Rattle.fz_prop.proofs.Settling.{IsAbout}
 use Rattle.fz_prop.proofs.TermChanges.{term_within, narrower_term}
-use Rattle.fz_rel.specs.Comparisons.{variable_of, variables_of}
+use Rattle.fz_rel.specs.Comparisons.{variables_of}
 use Rattle.fz_rel.specs.Members.{IsMember, MemberLine, IsOverlap}
 use Rattle.fz_rel.specs.Reified.{ReifiedTruth, ReifiedMemberLine, AreOthers}
 use Rattle.fz_rel.proofs.Waiting.{term_of, single_of, variable_waited}

@@ -1,5 +1,5 @@
 -- A term in a set.
-use Rattle.std.proofs.Common.{◌≡◌, ℕ, List, [], ◌∷◌, refl, map}
+use Rattle.std.proofs.Common.{◌≡◌, List, [], ◌∷◌, map}
 use Rattle.std.specs.Prelude.{ℤ}
 use Rattle.fz_sets.specs.Sets.{IsInSet}
 use Rattle.fz_spec.specs.declared.builtin.Builtin.TheVariants.{SetIn}
@@ -9,7 +9,7 @@ use Rattle.fz_strength.specs.Events.{Wait}
 use Rattle.fz_strength.specs.Lines.{Rests, waits}
 use Rattle.fz_strength.specs.declared.event.Event.TheVariants.{Fixed}
 use Rattle.fz_prop.specs.declared.answer.Answer.{Answer}
-use Rattle.fz_prop.specs.Answers.{IsAnswer, IsAnswerOf, IsCorrectOf}
+use Rattle.fz_prop.specs.Answers.{IsAnswer, IsAnswerOf}
 use Rattle.fz_prop.proofs.Answering.{IsSame, answer_of}
 use Rattle.fz_prop.proofs.Settling.{IsAbout}
 use Rattle.fz_rel.specs.Comparisons.{variable_of}

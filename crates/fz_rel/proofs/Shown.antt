@@ -1,6 +1,6 @@
 -- What the ends of two terms show of a relation.
-use Rattle.std.proofs.Common.{◌≡◌, ℕ, List, [], ◌∷◌, refl, sym, ap, subst, ◌∙◌, inl, inr, ◌⊎◌, arith, length}
-use Rattle.std.specs.Prelude.{ℤ, pos, ◌≤ℤ◌, ◌<ℤ◌}
+use Rattle.std.proofs.Common.{◌≡◌, List, refl, sym, ap, subst, ◌∙◌, inl, inr, arith, length}
+use Rattle.std.specs.Prelude.{ℤ, pos, ◌≤ℤ◌}
 use Rattle.std.proofs.lemmas.Int.{ints}
 use Rattle.fz_sets.specs.Sets.{IsInSet}
 use Rattle.fz_dom.specs.Shape.{least, greatest}
@@ -172,11 +172,11 @@ shown_one relation x y r ds is_x is_y is_r filled shown =
     shown_about (TruthOf relation x y) (sides_of relation x y) r ds is_r (are_sides relation x y ds is_x is_y)
     (λ a within. shown_true relation (term_set ds x) (term_set ds y) (term_value a x) (term_value a y) has_x has_y shown (term_within ds a x is_x within) (term_within ds a y is_y within))
     (λ es domains narrower.
-        let in_x = narrower_ranges ds es x is_x domains narrower in
-        let in_y = narrower_ranges ds es y is_y domains narrower in
-        shown_rests relation (term_set es x) (term_set es y) in_x in_y
-        (shown_still relation (term_set ds x) (term_set ds y) (term_set es x) (term_set es y) (part_of (term_set ds x) (term_set es x) has_x in_x (narrower_term ds es x narrower))
-            (part_of (term_set ds y) (term_set es y) has_y in_y (narrower_term ds es y narrower)) shown))
+    let in_x = narrower_ranges ds es x is_x domains narrower in
+    let in_y = narrower_ranges ds es y is_y domains narrower in
+    shown_rests relation (term_set es x) (term_set es y) in_x in_y
+    (shown_still relation (term_set ds x) (term_set ds y) (term_set es x) (term_set es y) (part_of (term_set ds x) (term_set es x) has_x in_x (narrower_term ds es x narrower))
+    (part_of (term_set ds y) (term_set es y) has_y in_y (narrower_term ds es y narrower)) shown))
 
 pub refuted_zero : (relation : Relation) (x y r : Term) (ds : List (List (ℤ × ℤ))) → IsTermOf (length ds) x → IsTermOf (length ds) y → IsTermOf (length ds) r → IsTruth ds r → AreDomains ds
     → IsRefuted relation (term_set ds x) (term_set ds y) → IsAbout r (λ u. u ≡ pos 0) (TruthWith (TruthOf relation x y) r) (LineWith (sides_of relation x y) r) ds
@@ -186,8 +186,8 @@ refuted_zero relation x y r ds is_x is_y is_r truth filled refuted =
     refuted_about (TruthOf relation x y) (sides_of relation x y) r ds is_r truth (are_sides relation x y ds is_x is_y)
     (λ a within. refuted_false relation (term_set ds x) (term_set ds y) (term_value a x) (term_value a y) has_x has_y refuted (term_within ds a x is_x within) (term_within ds a y is_y within))
     (λ es domains narrower.
-        let in_x = narrower_ranges ds es x is_x domains narrower in
-        let in_y = narrower_ranges ds es y is_y domains narrower in
-        refuted_rests relation (term_set es x) (term_set es y) in_x in_y
-        (refuted_still relation (term_set ds x) (term_set ds y) (term_set es x) (term_set es y) (part_of (term_set ds x) (term_set es x) has_x in_x (narrower_term ds es x narrower))
-            (part_of (term_set ds y) (term_set es y) has_y in_y (narrower_term ds es y narrower)) refuted))
+    let in_x = narrower_ranges ds es x is_x domains narrower in
+    let in_y = narrower_ranges ds es y is_y domains narrower in
+    refuted_rests relation (term_set es x) (term_set es y) in_x in_y
+    (refuted_still relation (term_set ds x) (term_set ds y) (term_set es x) (term_set es y) (part_of (term_set ds x) (term_set es x) has_x in_x (narrower_term ds es x narrower))
+    (part_of (term_set ds y) (term_set es y) has_y in_y (narrower_term ds es y narrower)) refuted))

@@ -1,5 +1,5 @@
 -- The terms and the variables that are waited for.
-use Rattle.std.proofs.Common.{◌≡◌, ℕ, ◌<◌, List, [], ◌∷◌, ◌++◌, refl, ap, map}
+use Rattle.std.proofs.Common.{◌≡◌, ℕ, List, refl, map}
 use Rattle.std.specs.Prelude.{ℤ}
 use Rattle.fz_spec.specs.declared.term.Term.{Term}
 use Rattle.fz_spec.specs.declared.term.Term.TheVariants.{Num, Var}

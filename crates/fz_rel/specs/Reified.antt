@@ -7,13 +7,10 @@ use Rattle.fz_spec.specs.Constraints.{term_value}
 use Rattle.fz_spec.specs.Truth.{IsReified}
 use Rattle.fz_strength.specs.declared.relation.Relation.{Relation}
 use Rattle.fz_strength.specs.Domains.{term_set}
-use Rattle.fz_strength.specs.Events.{IsFixedIn}
 use Rattle.fz_strength.specs.Lines.{IsReifiedLine, LiesIn, LiesOutside}
 use Rattle.fz_strength.specs.Relations.{reified_of, IsShown, IsRefuted, RestsAs, RestsAgainst}
 use Rattle.fz_prop.specs.Stores.{FitsTerm}
-use Rattle.fz_rel.specs.Truths.{TruthOf}
 use Rattle.fz_rel.specs.Comparisons.{variable_of, variables_of}
-use Rattle.fz_rel.specs.Members.{IsMember}
 
 -- r is 1 exactly where the assignment makes this true
 abbrev pub ReifiedTruth : (List ℤ → Type 0) → Term → List ℤ → Type 0

@@ -39,7 +39,8 @@ fn exclude(store: &mut Store, fixed: Term, other: Term, value: i32) -> Result<An
     requires only { IsOnly (term_set store.old.doms fixed) value }
     ensures shrinks { Shrinks store.old store.new }
     ensures correct { IsCorrectOf (TruthOf NotEqual fixed other) store.old.doms store.new.doms }
-    ensures answer { IfOk result (λ r. IsAnswerAs NotEqual fixed other r store.old.doms store.new.doms) }
+    ensures answer { IfOk result
+        (λ r. IsAnswerAs NotEqual fixed other r store.old.doms store.new.doms) }
     ensures decided { IfOk result (λ r. IsDecided r) }
 {
     let change = remove(store, other, value)?;

@@ -73,7 +73,8 @@ impl Comparison {
         ensures shrinks { Shrinks store.old store.new }
         ensures correct { IsCorrect self.now store.old.doms store.new.doms }
         ensures answer { IfOk result (λ r. IsAnswer r self.now store.old.doms store.new.doms) }
-        ensures checking { IfOk result (λ r. AreFixed (waits self.now) store.old.doms → IsDecided r) }
+        ensures checking { IfOk result
+            (λ r. AreFixed (waits self.now) store.old.doms → IsDecided r) }
     {
         relate(store, self.relation, self.x, self.y)
     }

@@ -31,7 +31,8 @@ pub fn ends_of(store: &Store, term: Term) -> Ends
 
 /// Whether the ends of two terms show that all their numbers are so related.
 pub fn is_shown(relation: Relation, x: Ends, y: Ends) -> bool
-    ensures { (d e : List (ℤ × ℤ)) → AreEnds x d → AreEnds y e → IsTrue result ↔ IsShown relation d e }
+    ensures { (d e : List (ℤ × ℤ)) → AreEnds x d → AreEnds y e
+        → IsTrue result ↔ IsShown relation d e }
 {
     match relation {
         Relation::Equal => x.high <= y.low && y.high <= x.low,
@@ -43,7 +44,8 @@ pub fn is_shown(relation: Relation, x: Ends, y: Ends) -> bool
 
 /// Whether they show that none are.
 pub fn is_refuted(relation: Relation, x: Ends, y: Ends) -> bool
-    ensures { (d e : List (ℤ × ℤ)) → AreEnds x d → AreEnds y e → IsTrue result ↔ IsRefuted relation d e }
+    ensures { (d e : List (ℤ × ℤ)) → AreEnds x d → AreEnds y e
+        → IsTrue result ↔ IsRefuted relation d e }
 {
     match relation {
         Relation::Equal => is_shown(Relation::NotEqual, x, y),

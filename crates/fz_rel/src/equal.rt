@@ -31,13 +31,19 @@ pub fn keep_equal(store: &mut Store, x: Term, y: Term) -> Result<Answer, AllocEr
 }
 
 /// The same of a term that is fixed and another.
-fn keep_number(store: &mut Store, fixed: Term, other: Term, value: i32) -> Result<Answer, AllocError>
+fn keep_number(
+    store: &mut Store,
+    fixed: Term,
+    other: Term,
+    value: i32,
+) -> Result<Answer, AllocError>
     requires fixed { IsTermOf (length store.old.doms) fixed }
     requires other { IsTermOf (length store.old.doms) other }
     requires only { IsOnly (term_set store.old.doms fixed) value }
     ensures shrinks { Shrinks store.old store.new }
     ensures correct { IsCorrectOf (TruthOf Equal fixed other) store.old.doms store.new.doms }
-    ensures answer { IfOk result (λ r. IsAnswerAs Equal fixed other r store.old.doms store.new.doms) }
+    ensures answer { IfOk result
+        (λ r. IsAnswerAs Equal fixed other r store.old.doms store.new.doms) }
     ensures decided { IfOk result (λ r. IsDecided r) }
 {
     let change = keep_only(store, other, value)?;
@@ -65,7 +71,8 @@ fn keep_same(store: &mut Store, x: u32, y: u32) -> Result<Answer, AllocError>
 fn keep_rest(store: &mut Store, x: u32, y: u32) -> Result<Answer, AllocError>
     requires x { x < length store.old.doms }
     requires y { y < length store.old.doms }
-    requires among { (z : ℤ) → IsInSet (dom_at store.old.doms x) z → IsInSet (dom_at store.old.doms y) z }
+    requires among { (z : ℤ)
+        → IsInSet (dom_at store.old.doms x) z → IsInSet (dom_at store.old.doms y) z }
     ensures shrinks { Shrinks store.old store.new }
     ensures correct { IsCorrectOf (TruthOf Equal (Var x) (Var y)) store.old.doms store.new.doms }
     ensures answer { IfOk result
@@ -98,8 +105,10 @@ fn keep_among(store: &mut Store, variable: u32, other: u32) -> Result<Change, Al
 fn same_now(store: &Store, x: u32, y: u32) -> Answer
     requires x { x < length store.now.doms }
     requires y { y < length store.now.doms }
-    requires among { (z : ℤ) → IsInSet (dom_at store.now.doms x) z → IsInSet (dom_at store.now.doms y) z }
-    requires back { (z : ℤ) → IsInSet (dom_at store.now.doms y) z → IsInSet (dom_at store.now.doms x) z }
+    requires among { (z : ℤ)
+        → IsInSet (dom_at store.now.doms x) z → IsInSet (dom_at store.now.doms y) z }
+    requires back { (z : ℤ)
+        → IsInSet (dom_at store.now.doms y) z → IsInSet (dom_at store.now.doms x) z }
     ensures answer { IsAnswerAs Equal (Var x) (Var y) result store.now.doms store.now.doms }
     ensures checking { IsFixedIn store.now.doms (Var x) → IsDecided result }
     ensures store { IsStore store.now }

@@ -64,7 +64,8 @@ impl Membership {
         ensures shrinks { Shrinks store.old store.new }
         ensures correct { IsCorrect self.now store.old.doms store.new.doms }
         ensures answer { IfOk result (λ r. IsAnswer r self.now store.old.doms store.new.doms) }
-        ensures checking { IfOk result (λ r. AreFixed (waits self.now) store.old.doms → IsDecided r) }
+        ensures checking { IfOk result
+            (λ r. AreFixed (waits self.now) store.old.doms → IsDecided r) }
     {
         keep_member(store, self.x, &self.set)
     }
@@ -87,7 +88,8 @@ pub fn keep_member(store: &mut Store, x: Term, set: &Dom) -> Result<Answer, Allo
     ensures shrinks { Shrinks store.old store.new }
     ensures correct { IsCorrectOf (IsMember x set.now) store.old.doms store.new.doms }
     ensures answer { IfOk result
-        (λ r. IsAnswerOf r (IsMember x set.now) (MemberLine x set.now) store.old.doms store.new.doms) }
+        (λ r. IsAnswerOf r (IsMember x set.now) (MemberLine x set.now)
+        store.old.doms store.new.doms) }
     ensures decided { IfOk result (λ r. IsDecided r) }
 {
     let change = keep_in(store, x, set)?;

@@ -38,7 +38,8 @@ fn keep_behind(store: &mut Store, strict: bool, x: Term, y: Term) -> Result<Answ
     requires y { IsTermOf (length store.old.doms) y }
     requires fits_x { FitsTerm x }
     requires fits_y { FitsTerm y }
-    requires highs { IsOrdered strict (greatest (term_set store.old.doms x)) (greatest (term_set store.old.doms y)) }
+    requires highs { IsOrdered strict
+        (greatest (term_set store.old.doms x)) (greatest (term_set store.old.doms y)) }
     ensures shrinks { Shrinks store.old store.new }
     ensures correct { IsCorrectOf (TruthOf (order_of strict) x y) store.old.doms store.new.doms }
     ensures answer { IfOk result
@@ -58,8 +59,10 @@ fn ordered(store: &Store, strict: bool, x: Term, y: Term) -> Answer
     requires x { IsTermOf (length store.now.doms) x }
     requires y { IsTermOf (length store.now.doms) y }
     requires fits_x { FitsTerm x }
-    requires highs { IsOrdered strict (greatest (term_set store.now.doms x)) (greatest (term_set store.now.doms y)) }
-    requires lows { IsOrdered strict (least (term_set store.now.doms x)) (least (term_set store.now.doms y)) }
+    requires highs { IsOrdered strict
+        (greatest (term_set store.now.doms x)) (greatest (term_set store.now.doms y)) }
+    requires lows { IsOrdered strict
+        (least (term_set store.now.doms x)) (least (term_set store.now.doms y)) }
     ensures answer { IsAnswerAs (order_of strict) x y result store.now.doms store.now.doms }
     ensures checking { AreSingle x y store.now.doms → IsDecided result }
 {
@@ -75,7 +78,8 @@ fn highest_before(store: &Store, strict: bool, y: Term) -> i32
     requires y { IsTermOf (length store.now.doms) y }
     requires fits_y { FitsTerm y }
     ensures greatest { result ≡ greatest (term_set store.now.doms y) -ℤ gap_of strict }
-    ensures upper_bound { (z : ℤ) → IsInSet (term_set store.now.doms y) z → z ≤ℤ greatest (term_set store.now.doms y) }
+    ensures upper_bound { (z : ℤ) → IsInSet (term_set store.now.doms y) z
+        → z ≤ℤ greatest (term_set store.now.doms y) }
     ensures store { IsStore store.now }
 {
     let _ = store.doms();
@@ -87,7 +91,8 @@ fn lowest_behind(store: &Store, strict: bool, x: Term) -> i32
     requires x { IsTermOf (length store.now.doms) x }
     requires fits_x { FitsTerm x }
     ensures least { result ≡ least (term_set store.now.doms x) +ℤ gap_of strict }
-    ensures lower_bound { (z : ℤ) → IsInSet (term_set store.now.doms x) z → least (term_set store.now.doms x) ≤ℤ z }
+    ensures lower_bound { (z : ℤ) → IsInSet (term_set store.now.doms x) z
+        → least (term_set store.now.doms x) ≤ℤ z }
     ensures store { IsStore store.now }
 {
     let _ = store.doms();

@@ -46,7 +46,8 @@ impl Model for ReifiedComparison {
 
     ghost view = { λ p. record { name = p.name; arguments = One p.x ∷ One p.y ∷ One p.r ∷ [] } };
 
-    ghost invariant = { λ p. IsReifiedComparison p.name p.relation p.x p.y p.r p.variables p.compared p.count };
+    ghost invariant = { λ p.
+        IsReifiedComparison p.name p.relation p.x p.y p.r p.variables p.compared p.count };
 }
 
 impl ReifiedComparison {
@@ -81,7 +82,8 @@ impl ReifiedComparison {
         ensures shrinks { Shrinks store.old store.new }
         ensures correct { IsCorrect self.now store.old.doms store.new.doms }
         ensures answer { IfOk result (λ r. IsAnswer r self.now store.old.doms store.new.doms) }
-        ensures checking { IfOk result (λ r. AreFixed (waits self.now) store.old.doms → IsDecided r) }
+        ensures checking { IfOk result
+            (λ r. AreFixed (waits self.now) store.old.doms → IsDecided r) }
     {
         keep_reified(store, self.relation, self.x, self.y, self.r)
     }
@@ -117,7 +119,8 @@ fn keep_reified(
     requires fits_y { FitsTerm y }
     requires truth { IsTruth store.old.doms r }
     ensures shrinks { Shrinks store.old store.new }
-    ensures correct { IsCorrectOf (ReifiedTruth (TruthOf relation x y) r) store.old.doms store.new.doms }
+    ensures correct { IsCorrectOf (ReifiedTruth (TruthOf relation x y) r)
+        store.old.doms store.new.doms }
     ensures answer { IfOk result (λ a. IsAnswerOf a (ReifiedTruth (TruthOf relation x y) r)
         (ReifiedLine relation x y r) store.old.doms store.new.doms) }
     ensures checking { IfOk result
@@ -145,7 +148,8 @@ fn keep_true(
     requires fits_y { FitsTerm y }
     requires one { IsOnly (term_set store.old.doms r) (pos 1) }
     ensures shrinks { Shrinks store.old store.new }
-    ensures correct { IsCorrectOf (ReifiedTruth (TruthOf relation x y) r) store.old.doms store.new.doms }
+    ensures correct { IsCorrectOf (ReifiedTruth (TruthOf relation x y) r)
+        store.old.doms store.new.doms }
     ensures answer { IfOk result (λ a. IsAnswerOf a (ReifiedTruth (TruthOf relation x y) r)
         (ReifiedLine relation x y r) store.old.doms store.new.doms) }
     ensures checking { IfOk result (λ a. AreSingle x y store.old.doms → IsDecided a) }
@@ -170,7 +174,8 @@ fn keep_false(
     requires fits_y { FitsTerm y }
     requires zero { IsOnly (term_set store.old.doms r) (pos 0) }
     ensures shrinks { Shrinks store.old store.new }
-    ensures correct { IsCorrectOf (ReifiedTruth (TruthOf relation x y) r) store.old.doms store.new.doms }
+    ensures correct { IsCorrectOf (ReifiedTruth (TruthOf relation x y) r)
+        store.old.doms store.new.doms }
     ensures answer { IfOk result (λ a. IsAnswerOf a (ReifiedTruth (TruthOf relation x y) r)
         (ReifiedLine relation x y r) store.old.doms store.new.doms) }
     ensures checking { IfOk result (λ a. AreSingle x y store.old.doms → IsDecided a) }
@@ -194,7 +199,8 @@ fn decide(
     requires truth { IsTruth store.old.doms r }
     requires unfixed { IsFixedIn store.old.doms r → ⊥ }
     ensures shrinks { Shrinks store.old store.new }
-    ensures correct { IsCorrectOf (ReifiedTruth (TruthOf relation x y) r) store.old.doms store.new.doms }
+    ensures correct { IsCorrectOf (ReifiedTruth (TruthOf relation x y) r)
+        store.old.doms store.new.doms }
     ensures answer { IfOk result (λ a. IsAnswerOf a (ReifiedTruth (TruthOf relation x y) r)
         (ReifiedLine relation x y r) store.old.doms store.new.doms) }
 {

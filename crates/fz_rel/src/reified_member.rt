@@ -43,7 +43,10 @@ impl Model for ReifiedMembership {
 
     ghost Value = { Constraint };
 
-    ghost view = { λ p. record { name = SetInReif; arguments = One p.x ∷ Set p.set ∷ One p.r ∷ [] } };
+    ghost view = { λ p. record {
+      name = SetInReif;
+      arguments = One p.x ∷ Set p.set ∷ One p.r ∷ [];
+    } };
 
     ghost invariant = { λ p. IsReifiedMembership p.x p.set p.others p.r p.variables p.count };
 }
@@ -55,7 +58,8 @@ impl ReifiedMembership {
     /// `AllocError` where there is no memory for the numbers outside the set.
     pub fn new(alloc: Global, x: Term, set: Dom, r: Term) -> Result<ReifiedMembership, AllocError>
         requires { FitsTerm x }
-        ensures { IfOk result (λ p. p ≡ record { name = SetInReif; arguments = One x ∷ Set set ∷ One r ∷ [] }) }
+        ensures { IfOk result
+            (λ p. p ≡ record { name = SetInReif; arguments = One x ∷ Set set ∷ One r ∷ [] }) }
     {
         let others = others_of(alloc, &set)?;
         let (variables, count) = variables_of(x, r);
@@ -79,7 +83,8 @@ impl ReifiedMembership {
         ensures shrinks { Shrinks store.old store.new }
         ensures correct { IsCorrect self.now store.old.doms store.new.doms }
         ensures answer { IfOk result (λ r. IsAnswer r self.now store.old.doms store.new.doms) }
-        ensures checking { IfOk result (λ r. AreFixed (waits self.now) store.old.doms → IsDecided r) }
+        ensures checking { IfOk result
+            (λ r. AreFixed (waits self.now) store.old.doms → IsDecided r) }
     {
         match value_of(store, self.r) {
             Some(1) => keep_inside(store, self.x, &self.set, self.r),
@@ -95,7 +100,8 @@ fn keep_inside(store: &mut Store, x: Term, set: &Dom, r: Term) -> Result<Answer,
     requires r { IsTermOf (length store.old.doms) r }
     requires one { IsOnly (term_set store.old.doms r) (pos 1) }
     ensures shrinks { Shrinks store.old store.new }
-    ensures correct { IsCorrectOf (ReifiedTruth (IsMember x set.now) r) store.old.doms store.new.doms }
+    ensures correct { IsCorrectOf (ReifiedTruth (IsMember x set.now) r)
+        store.old.doms store.new.doms }
     ensures answer { IfOk result (λ a. IsAnswerOf a (ReifiedTruth (IsMember x set.now) r)
         (ReifiedMemberLine x set.now r) store.old.doms store.new.doms) }
     ensures decided { IfOk result (λ a. IsDecided a) }
@@ -116,7 +122,8 @@ fn keep_outside(store: &mut Store, x: Term, others: &Dom, r: Term) -> Result<Ans
     ensures correct { (set : List (ℤ × ℤ)) → AreOthers set others.now
         → IsCorrectOf (ReifiedTruth (IsMember x set) r) store.old.doms store.new.doms }
     ensures answer { IfOk result (λ a. (set : List (ℤ × ℤ)) → AreOthers set others.now
-        → IsAnswerOf a (ReifiedTruth (IsMember x set) r) (ReifiedMemberLine x set r) store.old.doms store.new.doms) }
+        → IsAnswerOf a (ReifiedTruth (IsMember x set) r) (ReifiedMemberLine x set r)
+        store.old.doms store.new.doms) }
     ensures decided { IfOk result (λ a. IsDecided a) }
 {
     let _ = r;
@@ -133,7 +140,8 @@ fn decide(store: &mut Store, x: Term, set: &Dom, r: Term) -> Result<Answer, Allo
     requires truth { IsTruth store.old.doms r }
     requires unfixed { IsFixedIn store.old.doms r → ⊥ }
     ensures shrinks { Shrinks store.old store.new }
-    ensures correct { IsCorrectOf (ReifiedTruth (IsMember x set.now) r) store.old.doms store.new.doms }
+    ensures correct { IsCorrectOf (ReifiedTruth (IsMember x set.now) r)
+        store.old.doms store.new.doms }
     ensures answer { IfOk result (λ a. IsAnswerOf a (ReifiedTruth (IsMember x set.now) r)
         (ReifiedMemberLine x set.now r) store.old.doms store.new.doms) }
 {

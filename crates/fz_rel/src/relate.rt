@@ -45,7 +45,8 @@ pub fn relate_against(
     ensures shrinks { Shrinks store.old store.new }
     ensures correct { IsCorrectOf (FalseOf relation x y) store.old.doms store.new.doms }
     ensures answer { IfOk result
-        (λ r. IsAnswerOf r (FalseOf relation x y) (AgainstOf relation x y) store.old.doms store.new.doms) }
+        (λ r. IsAnswerOf r (FalseOf relation x y) (AgainstOf relation x y)
+        store.old.doms store.new.doms) }
     ensures checking { IfOk result (λ r. AreSingle x y store.old.doms → IsDecided r) }
 {
     match relation {

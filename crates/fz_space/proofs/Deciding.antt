@@ -6,6 +6,7 @@ use Rattle.std.specs.Ordering.{int_eq}
 use Rattle.std.proofs.lemmas.Bool.Decides.{Decides-int_eq}
 use Rattle.std.proofs.lemmas.Option.{slice_get_past}
 use Rattle.fz_sets.specs.Sets.{IsInSet}
+use Rattle.fz_spec.specs.declared.term.Term.TheVariants.{Var}
 use Rattle.fz_spec.specs.Instance.{Instance}
 use Rattle.fz_dom.specs.declared.change.Change.{Change}
 use Rattle.fz_dom.specs.declared.change.Change.TheVariants.{Same, Changed, Wiped}
@@ -14,8 +15,10 @@ use Rattle.fz_tree.specs.declared.decision.Comparison.TheVariants.{Equal, NotEqu
 use Rattle.fz_tree.specs.declared.decision.Decision.{Decision}
 use Rattle.fz_tree.specs.Choice.{meets, compares, compares_if_there}
 use Rattle.fz_strength.specs.Domains.{Within, IsNarrower, dom_at, number_at}
+use Rattle.fz_strength.proofs.Terms.{within_before}
 use Rattle.fz_strength.proofs.Lists.{all_left, all_right, all_both}
 use Rattle.fz_prop.specs.Stores.{Stored, IsStore, Shrinks, IsChangeAt}
+use Rattle.fz_prop.proofs.TermChanges.{within_kept}
 use Rattle.fz_agenda.proofs.Settled.{settled_lasts}
 use Rattle.fz_agenda.proofs.Places.{by_place}
 use Rattle.fz_path.specs.Spaces as path
@@ -63,27 +66,13 @@ meets_is a d within =
 
 -- ---- what is within a changed store
 
-pub within_wider : (ds es : List (List (ℤ × ℤ))) (a : List ℤ) → IsNarrower ds es → Within es a → Within ds a
-within_wider ds es a narrower within = record {
-  size = within.size ∙ narrower.size;
-  members = λ v h. narrower.members v (number_at a v) (within.members v (omega (arith, h, narrower.size)));
-}
-
-kept_changed : (v : ℕ) (P : ℤ → Type 0) (s t : Stored) (a : List ℤ) → IsChangeAt Changed v P s t → Shrinks s t → Within s.doms a → P (number_at a v) → Within t.doms a
-kept_changed v P s t a change shrinks within holds = record {
-  size = within.size ∙ sym shrinks.narrower.size;
-  members = by_place (λ u. u < length t.doms → IsInSet (dom_at t.doms u) (number_at a u)) v
-      (λ h. (change.kept (number_at a v)).1 (within.members v (omega (arith, h, shrinks.narrower.size)), holds))
-      (λ u ne h. subst (λ (d : List (ℤ × ℤ)). IsInSet d (number_at a u)) (sym (change.others u ne)) (within.members u (omega (arith, h, shrinks.narrower.size))));
-}
-
 pub decided_changed : (d : Decision) (s t : Stored) → d.variable < length s.doms → Shrinks s t → IsChangeAt Changed d.variable (Compares d.comparison d.value) s t → IsDecided true d s.doms t.doms
 decided_changed d s t within shrinks change a = (
   (λ inside.
-      let before : Within s.doms a = within_wider s.doms t.doms a shrinks.narrower inside in
+      let before : Within s.doms a = within_before s.doms t.doms a shrinks.narrower inside in
       let there : d.variable < length t.doms = omega (arith, within, shrinks.narrower.size) in
       (before, (meets_is a d (omega (arith, within, before.size))).1 ((change.kept (number_at a d.variable)).0 (inside.members d.variable there)).1)),
-  (λ both. kept_changed d.variable (Compares d.comparison d.value) s t a change shrinks both.0 ((meets_is a d (omega (arith, within, both.0.size))).0 both.1)),
+  (λ both. within_kept Changed (Var d.variable) (Compares d.comparison d.value) s t a change shrinks both.0 ((meets_is a d (omega (arith, within, both.0.size))).0 both.1)),
 )
 
 pub decided_same : (d : Decision) (s t : Stored) → d.variable < length s.doms → IsChangeAt Same d.variable (Compares d.comparison d.value) s t → IsDecided true d s.doms t.doms

@@ -4,9 +4,10 @@ use Rattle.std.specs.Prelude.{ℤ}
 use Rattle.std.proofs.lemmas.Bool.{cases_eq, cases_lt}
 use Rattle.fz_sets.specs.Sets.{IsInSet, set_size}
 use Rattle.fz_spec.specs.Instance.{Instance, Variable, AreDeclared}
-use Rattle.fz_spec.specs.Constraints.{IsTrueOf}
+use Rattle.fz_spec.specs.Constraints.{Constraint, IsTrueOf}
 use Rattle.fz_tree.specs.declared.decision.Decision.{Decision}
 use Rattle.fz_strength.specs.Domains.{Within, Alone, AreDomains, dom_at, number_at}
+use Rattle.fz_strength.proofs.Terms.{within_before}
 use Rattle.fz_strength.proofs.Truths.{single, is_single, true_where_alone}
 use Rattle.fz_prop.specs.Stores.{Stored, HasEmpty, declared_sets}
 use Rattle.fz_agenda.specs.Agendas.{IsSettled}
@@ -17,9 +18,10 @@ use Rattle.fz_path.specs.declared.space.Status.{Status}
 use Rattle.fz_path.specs.declared.space.Status.TheVariants as status
 use Rattle.fz_engine.specs.Runs.{AreOf, IsRun, AreNeverTrue, AllRest}
 use Rattle.fz_space.specs.Alive.{spaced, IsAlive, IsLeft}
+use Rattle.fz_engine.proofs.Knowing.{declared_length}
 use Rattle.fz_engine.proofs.Lists.{all_of}
 use Rattle.fz_engine.proofs.Running.{terms_last}
-use Rattle.fz_space.proofs.Deciding.{within_wider, to_path, from_path}
+use Rattle.fz_space.proofs.Deciding.{to_path, from_path}
 
 -- ---- the root
 
@@ -62,14 +64,12 @@ covers_empty m s empty = record {
   only = λ a alive within. true_is_false (AreDeclared m.variables a × path.MeetsAll [] a) alive;
 }
 
-declared_length : (vs : List Variable) → length (declared_sets vs) ≡ length vs
-declared_length [] = refl
-declared_length (v ∷ vs) = ap suc (declared_length vs)
-
-pub alive_root : (m : Instance) (states : List ℕ) (s : Stored) → s.doms ≡ declared_sets m.variables → (length s.doms ≡ length m.variables → AreOf m.constraints s.doms) → IsSettled m.constraints states s → IsAlive m states s
-alive_root m states s is terms settled =
-    let size : length s.doms ≡ length m.variables = ap length is ∙ declared_length m.variables in
-    record { size = size; terms = terms size; settled = settled }
+pub alive_root : (m : Instance) (states : List ℕ) (s : Stored) → s.doms ≡ declared_sets m.variables → AreOf m.constraints (declared_sets m.variables) → IsSettled m.constraints states s → IsAlive m states s
+alive_root m states s is terms settled = record {
+  size = ap length is ∙ declared_length m.variables;
+  terms = subst (λ (ds : List (List (ℤ × ℤ))). AreOf m.constraints ds) (sym is) terms;
+  settled = settled;
+}
 
 -- ---- at rest
 
@@ -80,10 +80,14 @@ alive_run m states after s t alive run = record {
   settled = run.settled;
 }
 
+-- the same, of the list of propagators
+pub alive_settled : (m : Instance) (cs : List Constraint) (states after : List ℕ) (s t : Stored) → cs ≡ m.constraints → IsAlive m states s → IsRun cs s t after → IsAlive m after t
+alive_settled m cs states after s t is alive run = alive_run m states after s t alive (subst (λ (l : List Constraint). IsRun l s t after) is run)
+
 pub covers_run : (m : Instance) (s t : Stored) (after : List ℕ) (ds : List Decision) → IsRun m.constraints s t after → Covers ds (spaced m s false) → Covers ds (spaced m t false)
 covers_run m s t after ds run covers = record {
   all = λ a satisfies met. (refl, to_path t.doms a (run.correct a satisfies.constraints (from_path s.doms a (covers.all a satisfies met).1)));
-  only = λ a alive within. covers.only a refl (to_path s.doms a (within_wider s.doms t.doms a run.narrower (from_path t.doms a within)));
+  only = λ a alive within. covers.only a refl (to_path s.doms a (within_before s.doms t.doms a run.narrower (from_path t.doms a within)));
 }
 
 pub covers_never : (m : Instance) (s t : Stored) (ds : List Decision) → AreNeverTrue m.constraints s.doms → Covers ds (spaced m s false) → Covers ds (spaced m t true)

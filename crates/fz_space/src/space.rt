@@ -4,7 +4,6 @@ ghost use Rattle.std.specs.List.{slice_get};
 ghost use Rattle.std.specs.Arc.{arc_value};
 ghost use Rattle.fz_tree.specs.declared.decision.Decision.{Decision};
 ghost use Rattle.fz_path.specs.Spaces.{Spaced, Covers, IsStatus};
-ghost use Rattle.fz_engine.specs.Known.{AreKnown};
 ghost use Rattle.fz_space.specs.Alive.{HaveLines};
 
 use crate::commit::take;
@@ -42,8 +41,17 @@ impl Model for Space {
     ghost invariant = { λ s. s.failed ≡ false → IsAlive (arc_value s.plan).model s.agenda s.store };
 }
 
+impl Space {
+    /// Its store.
+    pub fn store(&self) -> &Store
+        ensures { result.now.doms ≡ self.now.doms }
+    {
+        &self.store
+    }
+}
+
 impl fz_path::Space for Space {
-    ghost accepts = { λ m. AreKnown m.constraints };
+    ghost accepts = { λ m. Unit {0} };
 
     ghost spaced = { λ s. s };
 
@@ -131,7 +139,6 @@ impl fz_path::Space for Space {
 
 /// The plan of a model, to be shared.
 fn plan_of(alloc: Global, model: Arc<fz_model::Model>) -> Result<Arc<Plan>, AllocError>
-    requires { AreKnown (arc_value model).constraints }
     ensures { IfOk result (λ p. (arc_value p).model ≡ arc_value model) }
 {
     let plan = Plan::new(alloc, model)?;

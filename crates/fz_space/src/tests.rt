@@ -1,9 +1,7 @@
 //! Models worked out by hand, each space also by way of its copies; and that calls succeed where memory is ample.
 ghost use Rattle.std.specs.Prelude.{◌≡◌, ◌∷◌, [], IfOk, length};
-ghost use Rattle.std.specs.Arc.{arc_value};
 ghost use Rattle.fz_model.specs.Kept.{IsVariable};
 ghost use Rattle.fz_spec.specs.Constraints as meaning;
-ghost use Rattle.fz_engine.specs.Known.{AreKnown};
 
 use crate::Space;
 use fz_dom::Dom;
@@ -31,9 +29,7 @@ fn unequal(alloc: Global) -> Result<Constraint, AllocError>
 }
 
 /// `var 1..2: x; var 1..2: y; constraint int_ne(x, y); solve satisfy;`
-fn two_that_differ(alloc: Global) -> Result<Model, AllocError>
-    ensures { IfOk result (λ m. AreKnown m.constraints) }
-{
+fn two_that_differ(alloc: Global) -> Result<Model, AllocError> {
     let mut variables = Vec::new(alloc);
     variables.push(Variable::new(Kind::Int, Dom::from_ranges(alloc, &[(1, 2)])?))?;
     variables.push(Variable::new(Kind::Int, Dom::from_ranges(alloc, &[(1, 2)])?))?;
@@ -43,10 +39,35 @@ fn two_that_differ(alloc: Global) -> Result<Model, AllocError>
     Ok(Model::new(variables, constraints, Goal::Satisfy, outputs, search))
 }
 
+/// `int_times(x, y, z)`, if these are the first three variables.
+fn times(alloc: Global) -> Result<Constraint, AllocError>
+    ensures { IfOk result (λ c. c ≡ record {
+      name = Builtin.IntTimes;
+      arguments = meaning.One (Term.Var 0) ∷ meaning.One (Term.Var 1) ∷ meaning.One (Term.Var 2) ∷ [];
+    }) }
+{
+    let mut arguments = Vec::new(alloc);
+    arguments.push(Argument::One(Term::Var(0)))?;
+    arguments.push(Argument::One(Term::Var(1)))?;
+    arguments.push(Argument::One(Term::Var(2)))?;
+    Ok(Constraint::new(Builtin::IntTimes, arguments))
+}
+
+/// `var 1..2: x; var 1..2: y; var 1..4: z; constraint int_times(x, y, z); solve satisfy;`
+fn product(alloc: Global) -> Result<Model, AllocError> {
+    let mut variables = Vec::new(alloc);
+    variables.push(Variable::new(Kind::Int, Dom::from_ranges(alloc, &[(1, 2)])?))?;
+    variables.push(Variable::new(Kind::Int, Dom::from_ranges(alloc, &[(1, 2)])?))?;
+    variables.push(Variable::new(Kind::Int, Dom::from_ranges(alloc, &[(1, 4)])?))?;
+    let mut constraints = Vec::new(alloc);
+    constraints.push(times(alloc)?)?;
+    let (outputs, search) = (Vec::new(alloc), Vec::new(alloc));
+    Ok(Model::new(variables, constraints, Goal::Satisfy, outputs, search))
+}
+
 /// One variable of such a set: `var SET: x; solve satisfy;`
 fn one_of(alloc: Global, set: Dom) -> Result<Model, AllocError>
     requires { IsVariable (record { kind = Kind.Int; set = set }) }
-    ensures { IfOk result (λ m. AreKnown m.constraints) }
 {
     let mut variables = Vec::new(alloc);
     variables.push(Variable::new(Kind::Int, set))?;
@@ -61,9 +82,7 @@ fn one_of(alloc: Global, set: Dom) -> Result<Model, AllocError>
 }
 
 /// The space of the root of a model.
-fn root(alloc: Global, model: Model) -> Result<Space, AllocError>
-    requires { AreKnown model.constraints }
-{
+fn root(alloc: Global, model: Model) -> Result<Space, AllocError> {
     match Arc::new(alloc, model) {
         Ok(model) => <Space as Spaces>::root(alloc, model),
         Err(_) => Err(AllocError),
@@ -122,6 +141,20 @@ fn two_that_differ_are_not_the_same(rt: HostRuntime) -> Result<(), Fail> {
     assert_eq!(rt; known(&mut space)?, (Status::Failed, Status::Failed));
     space.commit(&equals(alloc, 1, 1), 1)?;
     assert_eq!(rt; known(&mut space)?, (Status::Failed, Status::Failed));
+    Ok(())
+}
+
+#[test]
+fn a_product_is_tested_once_all_is_known(rt: HostRuntime) -> Result<(), Fail> {
+    let alloc = rt.alloc();
+    for (z, status) in [(4, Status::Solved), (3, Status::Failed)] {
+        let mut space = root(alloc, product(alloc)?)?;
+        space.commit(&equals(alloc, 0, 2), 0)?;
+        space.commit(&equals(alloc, 1, 2), 0)?;
+        assert_eq!(rt; known(&mut space)?, (Status::Branch, Status::Branch));
+        space.commit(&equals(alloc, 2, z), 0)?;
+        assert_eq!(rt; known(&mut space)?, (status, status));
+    }
     Ok(())
 }
 

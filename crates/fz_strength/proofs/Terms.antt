@@ -86,4 +86,3 @@ within_alone ds a alone = record {
   size = alone.size;
   members = λ v inside. rw (alone.alone v inside) (in_single (number_at a v) (number_at a v) refl);
 }
-

@@ -25,5 +25,8 @@ returns-in_default-clause-answer c =
 
 pub returns-in_default-clause-checking : goal.returns-in_default-clause-checking
 returns-in_default-clause-checking c = λ fixed.
-    c.same_now.ensures.checking (fixed.0, still_only c.args.store.now.doms c.keep_among.new.store.doms (Var c.args.x) fixed.0 c.requires.x fixed.1
-    c.same_now.ensures.store.domains c.in_ok-keep_among.ensures.shrinks.narrower)
+    c.same_now.ensures.checking (
+      fixed.0,
+      still_only c.args.store.now.doms c.keep_among.new.store.doms (Var c.args.x) fixed.0 c.requires.x fixed.1
+          c.same_now.ensures.store.domains c.in_ok-keep_among.ensures.shrinks.narrower,
+    )

@@ -39,6 +39,9 @@ returns-in_default-clause-checking c =
     let x = Var c.args.x in
     IfOk-weaker c.keep_rest.result (λ (r : Answer). IsFixedIn c.keep_among.new.store.doms x → IsDecided r)
     (λ (r : Answer). AreSingle x (Var c.args.y) c.args.store.now.doms → IsDecided r)
-    (λ r h single. h (single.0.0, still_only c.args.store.now.doms c.keep_among.new.store.doms x single.0.0 c.requires.x single.0.1
-        c.keep_rest.ensures.old_store.domains c.in_ok-keep_among.ensures.shrinks.narrower))
+    (λ r h single. h (
+      single.0.0,
+      still_only c.args.store.now.doms c.keep_among.new.store.doms x single.0.0 c.requires.x single.0.1
+          c.keep_rest.ensures.old_store.domains c.in_ok-keep_among.ensures.shrinks.narrower,
+    ))
     c.keep_rest.ensures.checking

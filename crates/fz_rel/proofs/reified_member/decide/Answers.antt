@@ -1,5 +1,5 @@
 use Rattle.std.proofs.Common.{◌≡◌}
-use Rattle.std.specs.Prelude.{ℤ, pos}
+use Rattle.std.specs.Prelude.{pos}
 use Rattle.fz_prop.proofs.Settling.{IsAbout, settled_correct, settled_answer}
 use Rattle.fz_rel.specs.Members.{IsMember}
 use Rattle.fz_rel.specs.Reified.{ReifiedTruth, ReifiedMemberLine}

@@ -2,7 +2,7 @@ use Rattle.std.proofs.Common.{◌≡◌, List, ap, subst}
 use Rattle.fz_spec.specs.Constraints.{Constraint}
 use Rattle.fz_prop.specs.Stores.{Stored, declared_sets}
 use Rattle.fz_agenda.specs.Agendas.{IsSettled}
-use Rattle.fz_engine.proofs.Knowing.{terms_known}
+use Rattle.fz_engine.proofs.Knowing.{terms_declared}
 use Rattle.fz_space.proofs.Living.{covers_root, alive_root}
 use Rattle.fz_space.proofs.root.live_parts.Goals as goal
 
@@ -12,8 +12,8 @@ returns-clause-alive c =
     let store = c.args.store in
     let doms : store.doms ≡ declared_sets m.variables = ap (λ (s : Stored). s.doms) c.requires in
     λ _. alive_root m c.in_ok-agenda.agenda store doms
-    (λ size. terms_known m store.doms c.model.ensures.kept c.kinds.ensures.known size)
-    (subst (λ (cs : List Constraint). IsSettled cs c.in_ok-agenda.agenda store) c.kinds.ensures.kinds (c.in_ok-agenda.ensures store))
+    (terms_declared m c.model.ensures.kept)
+    (subst (λ (cs : List Constraint). IsSettled cs c.in_ok-agenda.agenda store) c.kinds.ensures (c.in_ok-agenda.ensures store))
 
 pub returns-clause-covers : goal.returns-clause-covers
 returns-clause-covers c = covers_root c.args.plan.now.model c.args.store (ap (λ (s : Stored). s.doms) c.requires)

@@ -5,6 +5,6 @@ use Rattle.fz_engine.specs.Known.{HasLimits}
 use Rattle.fz_engine.proofs.Knowing.{limits_known}
 use Rattle.fz_engine.proofs.plan.Plan.new.Goals as goal
 
-pub kinds_of-requires-clause-limits : goal.kinds_of-requires-clause-limits
-kinds_of-requires-clause-limits c =
+pub kinds_of-requires : goal.kinds_of-requires
+kinds_of-requires c =
     subst (λ (cs : List Constraint). AllByRecursion HasLimits cs) (sym c.constraints.ensures.constraints) (limits_known c.deref.result.now c.constraints.ensures.kept)

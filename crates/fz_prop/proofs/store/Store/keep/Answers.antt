@@ -1,5 +1,5 @@
 use Rattle.std.proofs.Common.{refl}
-use Rattle.std.specs.Prelude.{ℤ, pos, ◌-ℤ◌}
+use Rattle.std.specs.Prelude.{pos, ◌-ℤ◌}
 use Rattle.std.proofs.lemmas.Result.{IfOk-weaker}
 use Rattle.fz_sets.specs.Sets.{IsInSet}
 use Rattle.fz_dom.specs.declared.change.Change.{Change}
