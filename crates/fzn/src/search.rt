@@ -42,7 +42,13 @@ pub(crate) fn search<S: Space>(
 {
     let distance = options.commit_distance();
     let mut book = begin(alloc, model)?;
-    let mut path: Path<S> = Path::idle(alloc, model.clone()?, Mode::All, distance, ADAPTIVE_DISTANCE)?;
+    let mut path: Path<S> = Path::idle(
+        alloc,
+        model.clone()?,
+        Mode::All,
+        distance,
+        ADAPTIVE_DISTANCE,
+    )?;
     finish(&mut book, &mut path, wanted(options))?;
     Ok(book)
 }

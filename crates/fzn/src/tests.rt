@@ -199,7 +199,10 @@ fn as_many_blocks_are_printed_as_are_asked_for(rt: HostRuntime) -> Result<(), Fa
         let outcome = run(alloc, THREE_VALUES, words)?;
         let closing = if complete { "==========\n".len() } else { 0 };
         assert_eq!(rt; outcome.status, Status::Done);
-        assert_eq!(rt; outcome.printed.len(), blocks * "x = 1;\n----------\n".len() + closing);
+        assert_eq!(rt;
+            outcome.printed.len(),
+            blocks * "x = 1;\n----------\n".len() + closing
+        );
         assert_eq!(rt; outcome.printed.ends_with(b"==========\n"), complete);
     }
     Ok(())
