@@ -1,12 +1,11 @@
 -- What a search's book says of the solutions that are shown.
-use Rattle.std.proofs.Common.{◌≡◌, ◌∙◌, append-nil, ℕ, zero, suc, ◌+◌, ◌≤◌, ◌<◌, List, [], ◌∷◌, ◌++◌, Option, None, Some, length, take, ap, sym, refl, subst, arith, inl, inr, cond, Bool, true, false, ◌⊎◌}
+use Rattle.std.proofs.Common.{◌≡◌, ◌∙◌, append-nil, ℕ, zero, suc, ◌+◌, ◌≤◌, ◌<◌, List, [], ◌∷◌, ◌++◌, Option, None, Some, length, take, ap, refl, subst, arith, inl, inr, cond, Bool, true, false}
 use Rattle.std.specs.Prelude.{ℤ, ◌↔◌, IsSomeAnd}
 use Rattle.std.specs.List.{AllByRecursion}
 use Rattle.std.proofs.lemmas.List.{length-take-le}
 use Rattle.std.proofs.lemmas.List.Sums.{sum_by-take-le}
-use Rattle.fz_spec.specs.Instance.{Instance, AreDeclared, Satisfies, Lists, occurrences, is_same}
-use Rattle.fz_spec.specs.Run.{PrintsAll, blocks, closing}
-use Rattle.fz_spec.specs.declared.goal.Goal.{Goal}
+use Rattle.fz_spec.specs.Instance.{Instance, AreDeclared, Satisfies, occurrences, is_same}
+use Rattle.fz_spec.specs.Run.{blocks}
 use Rattle.fz_spec.specs.declared.goal.Goal.TheVariants as goals
 use Rattle.fz_tree.specs.declared.mode.Mode.{Mode}
 use Rattle.fz_tree.specs.declared.mode.Mode.TheVariants as modes
@@ -15,12 +14,12 @@ use Rattle.fz_tree.specs.Better.{Betters, mode_of}
 use Rattle.fz_solo.specs.declared.solo.End.{End}
 use Rattle.fz_solo.specs.declared.solo.End.TheVariants as ends
 use Rattle.fz_tree.proofs.Books.{closed_lists}
-use Rattle.fz_language.specs.Trees.{Annotation, Method, SolveItem, Satisfy, Minimize, Maximize, Program, Item}
+use Rattle.fz_language.specs.Trees.{Annotation, Method, SolveItem, Satisfy, Minimize, Maximize, Item}
 use Rattle.fz_language.specs.Entries.{Environment}
 use Rattle.fz_language.specs.Rules.{Fault, Counts, none_yet, all_counted, additions, solve_faults, faults_of}
-use Rattle.fz_language.specs.Models.{Scope, empty_scope, behind, scope_behind, goal_of, model_of}
+use Rattle.fz_language.specs.Models.{Scope, empty_scope, behind, scope_behind, goal_of}
 use Rattle.fz_language.specs.Reads.{IsAccepted, faults_from}
-use Rattle.fzn.specs.Runs.{AreSome, PrintsSome, PrintsWanted}
+use Rattle.fzn.specs.Runs.{AreSome, PrintsWanted}
 use Rattle.fzn.specs.Steps.{HasEnded, IsSearched, IsListing, ending}
 
 -- ---- the first so many of a list
