@@ -185,24 +185,20 @@ fn the_words_are_options_and_at_most_one_file(rt: HostRuntime) -> Result<(), Fai
 #[test]
 fn as_many_blocks_are_printed_as_are_asked_for(rt: HostRuntime) -> Result<(), Fail> {
     let alloc = rt.alloc();
-    // The words, how many blocks there are, and whether `==========` stands behind them.
+    // The words, how many bytes are printed, and whether `==========` stands at the end. A block has 18 bytes, that line 11.
     let rows: [(&[&str], usize, bool); 7] = [
-        (&[], 1, false),
-        (&["-n", "1"], 1, false),
-        (&["-n", "2"], 2, false),
-        (&["-a", "-n", "3"], 3, false),
-        (&["-n", "4"], 3, true),
-        (&["-n", "0"], 3, true),
-        (&["-a"], 3, true),
+        (&[], 18, false),
+        (&["-n", "1"], 18, false),
+        (&["-n", "2"], 36, false),
+        (&["-a", "-n", "3"], 54, false),
+        (&["-n", "4"], 65, true),
+        (&["-n", "0"], 65, true),
+        (&["-a"], 65, true),
     ];
-    for (words, blocks, complete) in rows {
+    for (words, length, complete) in rows {
         let outcome = run(alloc, THREE_VALUES, words)?;
-        let closing = if complete { "==========\n".len() } else { 0 };
         assert_eq!(rt; outcome.status, Status::Done);
-        assert_eq!(rt;
-            outcome.printed.len(),
-            blocks * "x = 1;\n----------\n".len() + closing
-        );
+        assert_eq!(rt; outcome.printed.len(), length);
         assert_eq!(rt; outcome.printed.ends_with(b"==========\n"), complete);
     }
     Ok(())
