@@ -8,6 +8,3 @@ mod root;
 pub mod space;
 
 pub use space::Space;
-
-#[cfg(test)]
-mod tests;
