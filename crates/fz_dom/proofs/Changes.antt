@@ -1,6 +1,6 @@
 -- Changes of heads.
-use Rattle.std.proofs.Common.{◌≡◌, ◌≢◌, ℕ, ◌^◌, ◌<◌, ◌≤◌, ℤ, pos, ◌+ℤ◌, ◌-ℤ◌, ◌≤ℤ◌, ◌<ℤ◌, ◌⊎◌, inl, inr, List, [], ◌∷◌, length, refl, sym, subst, ◌∙◌, arith}
-use Rattle.std.specs.Prelude.{◌↔◌, nat_abs}
+use Rattle.std.proofs.Common.{◌≡◌, ◌≢◌, ℕ, ◌^◌, ◌<◌, ◌≤◌, ℤ, pos, ◌+ℤ◌, ◌≤ℤ◌, ◌<ℤ◌, ◌⊎◌, inl, inr, List, [], ◌∷◌, length, refl, sym, subst, ◌∙◌, arith}
+use Rattle.std.specs.Prelude.{◌↔◌}
 use Rattle.std.specs.Int.{bit_at, w64, trailing_zeros}
 use Rattle.std.specs.Int.{int_max, int_min}
 use Rattle.std.proofs.lemmas.Int.{ints, clamps}
@@ -17,6 +17,8 @@ use Rattle.fz_dom.specs.declared.head.Head.{Head}
 use Rattle.fz_dom.proofs.Ranges.{least_member, greatest_member, least_below, upper_bound, same_ranges, none_of_size, nonempty_of_size, within_limits}
 use Rattle.fz_dom.proofs.Places.{bits_read, bits_count, ones_fall}
 use Rattle.fz_dom.proofs.Heads.{head_word, head_plain, filled, lowest_bit}
+use Rattle.fz_dom.proofs.Runs.{offset_in}
+use Rattle.fz_dom.proofs.Words.{positive}
 
 -- ---- changes by another property
 
@@ -121,16 +123,13 @@ ends_in h w p =
       subst (λ (x : ℤ). IsInSet (head_set h) x) (sym w.high_is) (greatest_member (head_set h) s w.are_ranges).0,
     )
 
-by_size : (n : ℕ) → (n ≡ 0 → ⊥) → 0 < n
-by_size n f = omega (arith, f)
-
 by_none : (n : ℕ) → (0 < n → ⊥) → n ≡ 0
 by_none n f = omega (arith, f)
 
 pub size_of_word : (h : Head) → IsWhole h → 0 < h.bits → 0 < h.size
 size_of_word h w p =
     let s = bits_some h w p in
-    by_size h.size (λ e. none_of_zero h w e (least (head_set h)) (least_member (head_set h) s w.are_ranges).0)
+    positive h.size (λ e. none_of_zero h w e (least (head_set h)) (least_member (head_set h) s w.are_ranges).0)
 
 -- ---- a part from a low to a high
 
@@ -174,9 +173,6 @@ changed_plain h k l u w e p f a b c s = rw (plain_form h e p, f) (range_change h
 
 -- ---- a word for an interval
 
-offset : (b x : ℤ) → b ≤ℤ x → (i : ℕ) × (x ≡ (b +ℤ pos i))
-offset b x le = (nat_abs (x -ℤ b), omega (arith, ints))
-
 run_ranges : (base l u : ℤ) (first last bits : ℕ) → l ≡ (base +ℤ pos first) → u ≡ (base +ℤ pos last) → last < 64 → l ≤ℤ u
     → ((i : ℕ) → i < 64 → (bit_at bits i ≡ 1) ↔ ((first ≤ i) × (i ≤ last))) → bit_ranges base bits ≡ (l, u) ∷ []
 run_ranges base l u first last bits d e lt le f =
@@ -185,7 +181,7 @@ run_ranges base l u first last bits d e lt le f =
     (λ x. (
       λ i. (let m = r.to x i in let n = (f m.0 m.1).0 m.3 in let a = n.0 in let b = n.1 in let q = m.2 in inl (omega (arith, ints), omega (arith, ints))),
       λ i. elim i [
-        | inl j ↦ (let a = j.0 in let b = j.1 in let o = offset base x (omega (arith, ints)) in let q = o.1 in
+        | inl j ↦ (let a = j.0 in let b = j.1 in let o = offset_in base x (omega (arith, ints)) in let q = o.1 in
             let s : o.0 < 64 = omega (arith, ints) in
             r.from x (o.0, s, q, (f o.0 s).1 (omega (arith, ints), omega (arith, ints))))
         | inr j ↦ absurd j
@@ -195,7 +191,7 @@ run_ranges base l u first last bits d e lt le f =
 pub run_some : (first last bits : ℕ) → last < 64 → first ≤ last → ((i : ℕ) → i < 64 → (bit_at bits i ≡ 1) ↔ ((first ≤ i) × (i ≤ last))) → 0 < bits
 run_some first last bits lt le f =
     let b = (f first (omega arith)).1 (omega arith, le) in
-    by_size bits (λ e. let z = subst (λ (n : ℕ). bit_at n first ≡ 1) e b in let o = bit_at-zero first in omega arith)
+    positive bits (λ e. let z = subst (λ (n : ℕ). bit_at n first ≡ 1) e b in let o = bit_at-zero first in omega arith)
 
 pub same_in_bits : (h k : Head) (first last : ℕ) → IsWhole h → h.bits ≡ 0 → 0 < h.size → k.low ≡ h.low → k.high ≡ h.high → k.size ≡ h.size
     → LEAST ≤ℤ k.base → (k.base +ℤ pos 63) ≤ℤ GREATEST → k.bits < 2 ^ 64 → h.low ≡ (k.base +ℤ pos first) → h.high ≡ (k.base +ℤ pos last) → last < 64
@@ -235,7 +231,7 @@ next_bit h v y k run above w p le e l q f g is =
     let top = in_word h h.high w p (ends_in h w (size_of_word h w p)).1 in
     let te = top.2 in
     let high = (g top.0 top.1).1 (top.3, (f top.0 top.1).1 (omega (arith, ints), (let lt = top.1 in omega arith))) in
-    let some : 0 < above = by_size above (λ z. let b = subst (λ (n : ℕ). bit_at n top.0 ≡ 1) z high in let o = bit_at-zero top.0 in omega arith) in
+    let some : 0 < above = positive above (λ z. let b = subst (λ (n : ℕ). bit_at n top.0 ≡ 1) z high in let o = bit_at-zero top.0 in omega arith) in
     let t = lowest_bit above some q in
     let ye = is t.0 in
     let b = (g (trailing_zeros w64 above) t.0).0 t.1 in
@@ -287,5 +283,5 @@ word_narrow h w p =
 pub plain_when_wide : (h : Head) → IsWhole h → (h.low +ℤ pos 63) <ℤ h.high → 0 < length (head_set h) → head_set h ≡ (h.low, h.high) ∷ []
 plain_when_wide h w lt l =
     let none : h.bits ≡ 0 = by_none h.bits (λ p. let n = word_narrow h w p in omega (arith, ints)) in
-    let some : 0 < h.size = by_size h.size (λ z. none_of_zero h w z (least (head_set h)) (least_member (head_set h) l w.are_ranges).0) in
+    let some : 0 < h.size = positive h.size (λ z. none_of_zero h w z (least (head_set h)) (least_member (head_set h) l w.are_ranges).0) in
     plain_form h none some

@@ -20,6 +20,7 @@ use Rattle.fz_dom.proofs.Ranges.{same_ranges, least_member, greatest_member, wit
 use Rattle.fz_dom.proofs.Heads.{head_word, filled}
 use Rattle.fz_dom.proofs.Places.{bits_read}
 use Rattle.fz_dom.proofs.Runs.{offset_in}
+use Rattle.fz_dom.proofs.Words.{positive}
 use Rattle.fz_dom.proofs.Lists.{same_or_less, outside}
 
 -- ---- which form it is
@@ -109,9 +110,6 @@ low_high h rs k l =
     let e = ends_of h rs k l in
     ((e.2 h.low e.0).1, (within_limits rs h.low k.within e.0).0, (within_limits rs h.high k.within e.1).1)
 
-by_zero : (n : ℕ) → (n ≡ 0 → ⊥) → 0 < n
-by_zero n f = omega (arith, f)
-
 pub of_narrow : (h : Head) (rs : List (ℤ × ℤ)) → IsHeadOf h rs → 0 < length rs → h.base ≡ int_min h.low (pos 2147483583) → h.high ≤ℤ (h.low +ℤ pos 63)
     → ((i : ℕ) → i < 64 → (bit_at h.bits i ≡ 1) ↔ IsInSet rs (h.base +ℤ pos i)) → (head_set h ≡ rs) × (0 < h.bits)
 of_narrow h rs k l b n g =
@@ -125,7 +123,7 @@ of_narrow h rs k l b n g =
     let o = offset_in h.base h.low a0 in
     let s : o.0 < 64 = (let q = o.1 in omega (arith, ints)) in
     let bit = (g o.0 s).1 (subst (λ (x : ℤ). IsInSet rs x) o.1 e.0) in
-    let some : 0 < h.bits = by_zero h.bits (λ z. let c = subst (λ (n : ℕ). bit_at n o.0 ≡ 1) z bit in let d = bit_at-zero o.0 in omega arith) in
+    let some : 0 < h.bits = positive h.bits (λ z. let c = subst (λ (n : ℕ). bit_at n o.0 ≡ 1) z bit in let d = bit_at-zero o.0 in omega arith) in
     (word_same h rs k.are_ranges some inside g, some)
 
 pub settled_small : (h : Head) (rs : List (ℤ × ℤ)) → IsHeadOf h rs → head_set h ≡ rs → IsKept h []
@@ -213,9 +211,6 @@ one_is h (r ∷ s ∷ rs) k e = absurd (omega (arith, e))
 pub filled_of : (d : List (ℤ × ℤ)) → least d <ℤ greatest d → 0 < length d
 filled_of [] lt = absurd (omega (arith, ints, lt))
 filled_of (r ∷ rs) lt = omega arith
-
-pub end_of : (d : List (ℤ × ℤ)) (x : ℤ) → IsInSet d x → 0 < length d
-end_of d x i = filled d x i
 
 single : (d : List (ℤ × ℤ)) → AreRanges d → set_size d ≡ 1 → (x : ℤ) × (d ≡ (x, x) ∷ [])
 single [] k e = absurd (omega (arith, e))

@@ -6,7 +6,7 @@ use Rattle.std.proofs.lemmas.Int.{ints}
 use Rattle.std.proofs.lemmas.Bool.Decides.{leb_tells}
 use Rattle.std.proofs.lemmas.Nat.Bits.{bit_at-zero, bit_at_cat_low, bit_at_cat_high}
 use Rattle.std.proofs.lemmas.Nat.{pow_pos}
-use Rattle.fz_dom.proofs.Words.{lowered_bits}
+use Rattle.fz_dom.proofs.Words.{lowered_bits, positive}
 use Rattle.fz_sets.specs.Sets.{AreRanges, IsInSet, set_size}
 use Rattle.fz_dom.specs.Places.{bit_ranges}
 use Rattle.fz_dom.proofs.Ranges.{same_ranges, least_is_in}
@@ -69,11 +69,8 @@ none_of_word base word e = no_member (bit_ranges base word) (λ x i.
 pub few_ranges : (base : ℤ) (word : ℕ) → word < 2 ^ 64 → length (bit_ranges base word) ≤ 64
 few_ranges base word q = let a = length_size (bit_ranges base word) in let b = bits_count base word q in let c = ones-le 64 word q in omega arith
 
-by_some : (n : ℕ) → (n ≡ 0 → ⊥) → 0 < n
-by_some n f = omega (arith, f)
-
 pub word_left : (base : ℤ) (word bits k : ℕ) → bit_ranges base word ≡ drop k (bit_ranges base bits) → k < length (bit_ranges base bits) → 0 < word
-word_left base word bits k e l = by_some word (λ z.
+word_left base word bits k e l = positive word (λ z.
     let n = none_of_word base word z in
     let f = ap length e in
     let g = length-drop k (bit_ranges base bits) in omega arith)

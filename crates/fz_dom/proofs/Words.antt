@@ -127,8 +127,8 @@ whole_run word rest t q f e =
           let s : i + t ≡ i = omega arith in subst (λ (n : ℕ). bit_at word n ≡ 1) s b,
     )
 
-by_none : (n : ℕ) → (n ≡ 0 → ⊥) → 0 < n
-by_none n f = omega (arith, f)
+pub positive : (n : ℕ) → (n ≡ 0 → ⊥) → 0 < n
+positive n f = omega (arith, f)
 
 none_one : (n : ℕ) → n < 2 → (n ≡ 1 → ⊥) → n ≡ 0
 none_one n l f = omega (arith, f)
@@ -146,7 +146,7 @@ part_run word rest t p q r et f n =
     let b = first_bit word p q in
     let o = bit_at-trailing_ones w64 rest (omega (arith, n)) in
     let low : bit_at rest 0 ≡ 1 = (f 0 (omega arith)).1 (subst (λ (n : ℕ). bit_at word n ≡ 1) (sym et ∙ (let s : t ≡ 0 + t = omega arith in s)) b.1) in
-    let some : 0 < trailing_ones w64 rest = by_none (trailing_ones w64 rest) (λ z. let v = subst (λ (n : ℕ). bit_at rest n ≡ 0) z o.1 in omega arith) in
+    let some : 0 < trailing_ones w64 rest = positive (trailing_ones w64 rest) (λ z. let v = subst (λ (n : ℕ). bit_at rest n ≡ 0) z o.1 in omega arith) in
     let k = trailing_ones w64 rest in
     let top = (f (k - 1) (let l = o.0 in omega arith)).0 (o.2 (k - 1) (omega arith)) in
     let below : t + k - 1 < 64 = elim (leb_tells 64 (k - 1 + t)) [ inl l ↦ (let n = bit_at_above word 64 (k - 1 + t) q l.1 in absurd (omega arith)) | inr l ↦ omega (arith, l.1) ] in (

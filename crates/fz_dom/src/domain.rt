@@ -50,8 +50,10 @@ impl Dom {
         requires { AreWithinLimits ranges.now }
         ensures one_set { IfOk result (λ d. AreOneSet d ranges.now) }
         ensures domain { IfOk result (λ d. IsDomain d) }
-        ensures unique { IfOk result (λ d. (s : List (ℤ × ℤ)) → AreRanges s → AreOneSet s ranges.now → d ≡ s) }
-        ensures one_range { IfOk result (λ d. (l u : ℤ) → ranges.now ≡ (l, u) ∷ [] → d ≡ interval l u) }
+        ensures unique { IfOk result
+            (λ d. (s : List (ℤ × ℤ)) → AreRanges s → AreOneSet s ranges.now → d ≡ s) }
+        ensures one_range { IfOk result
+            (λ d. (l u : ℤ) → ranges.now ≡ (l, u) ∷ [] → d ≡ interval l u) }
         ensures succeeds { length ranges.now ≤ 1 → IsOk result }
     {
         match ranges {
@@ -270,7 +272,8 @@ impl Dom {
 
     /// The least number of the set at or above a value, if there is one.
     pub fn next_from(&self, value: i32) -> Option<i32>
-        ensures next { MatchOption result (IsNoneFrom self.now value) (λ y. IsNextFrom self.now value y) }
+        ensures next { MatchOption result (IsNoneFrom self.now value)
+            (λ y. IsNextFrom self.now value y) }
         ensures domain { IsDomain self.now }
     {
         if self.head.size == 0 || value > self.head.high {
@@ -287,7 +290,8 @@ impl Dom {
 
     /// The least number of the set above a value, if there is one.
     pub fn next_above(&self, value: i32) -> Option<i32>
-        ensures next { MatchOption result (IsNoneAbove self.now value) (λ y. IsNextAbove self.now value y) }
+        ensures next { MatchOption result (IsNoneAbove self.now value)
+            (λ y. IsNextAbove self.now value y) }
         ensures domain { IsDomain self.now }
     {
         if self.head.size == 0 || value >= self.head.high {
@@ -362,7 +366,8 @@ impl Dom {
     /// `AllocError` where there is no memory for its ranges; it is then left as it was. A domain that is at most 64 wide,
     /// or has no hole, takes none.
     pub fn remove_range(&mut self, low: i32, high: i32) -> Result<Change, AllocError>
-        ensures change { IfOk result (λ r. IsChange r (λ x. IsFromTo low high x → ⊥) self.old self.new) }
+        ensures change { IfOk result
+            (λ r. IsChange r (λ x. IsFromTo low high x → ⊥) self.old self.new) }
         ensures err { OnErr result (self.new ≡ self.old) }
         ensures one { length self.old ≤ 1 → IsOk result }
         ensures narrow { greatest self.old ≤ℤ (least self.old +ℤ pos 63) → IsOk result }
@@ -394,7 +399,8 @@ impl Dom {
         requires from { least self.old <ℤ low }
         requires to { high <ℤ greatest self.old }
         requires order { low ≤ℤ high }
-        ensures change { IfOk result (λ r. IsChange r (λ x. IsFromTo low high x → ⊥) self.old self.new) }
+        ensures change { IfOk result
+            (λ r. IsChange r (λ x. IsFromTo low high x → ⊥) self.old self.new) }
         ensures err { OnErr result (self.new ≡ self.old) }
         ensures narrow { greatest self.old ≤ℤ (least self.old +ℤ pos 63) → IsOk result }
         ensures one { length self.old ≤ 1 → IsOk result }
@@ -442,7 +448,8 @@ impl Dom {
     /// `AllocError` where there is no memory for its ranges; it is then left as it was. Where one of the two is at most 64
     /// wide, or the other has no hole, it takes none.
     pub fn keep(&mut self, other: &Dom) -> Result<Change, AllocError>
-        ensures change { IfOk result (λ r. IsChange r (λ x. IsInSet other.now x) self.old self.new) }
+        ensures change { IfOk result
+            (λ r. IsChange r (λ x. IsInSet other.now x) self.old self.new) }
         ensures err { OnErr result (self.new ≡ self.old) }
         ensures one { length other.now ≤ 1 → IsOk result }
         ensures narrow { greatest self.old ≤ℤ (least self.old +ℤ pos 63) → IsOk result }
@@ -458,7 +465,8 @@ impl Dom {
     /// `AllocError` where there is no memory for its ranges; it is then left as it was. Where one of the two is at most 64
     /// wide, or the other has no hole, it takes none.
     pub fn keep_shifted(&mut self, other: &Dom, shift: i32) -> Result<Change, AllocError>
-        ensures change { IfOk result (λ r. IsChange r (λ x. IsInSet other.now (x -ℤ shift)) self.old self.new) }
+        ensures change { IfOk result
+            (λ r. IsChange r (λ x. IsInSet other.now (x -ℤ shift)) self.old self.new) }
         ensures err { OnErr result (self.new ≡ self.old) }
         ensures one { length other.now ≤ 1 → IsOk result }
         ensures narrow { greatest self.old ≤ℤ (least self.old +ℤ pos 63) → IsOk result }
@@ -595,7 +603,8 @@ impl Dom {
         requires wide { (least self.old +ℤ pos 63) <ℤ greatest self.old }
         requires other_wide { (least other.now +ℤ pos 63) <ℤ greatest other.now }
         requires several { 2 ≤ length other.now }
-        ensures change { IfOk result (λ r. IsChange r (λ x. IsInSet other.now (x -ℤ shift)) self.old self.new) }
+        ensures change { IfOk result
+            (λ r. IsChange r (λ x. IsInSet other.now (x -ℤ shift)) self.old self.new) }
         ensures err { OnErr result (self.new ≡ self.old) }
         ensures domain { IsDomain self.new }
     {
@@ -611,7 +620,8 @@ impl Dom {
     ) -> Result<SmallVec<(i32, i32), 2>, AllocError>
         requires wide { (least self.now +ℤ pos 63) <ℤ greatest self.now }
         requires theirs { AreRanges theirs.now }
-        ensures part { IfOk result (λ v. IsPart (λ x. IsInSet theirs.now (x -ℤ shift)) self.now v.items) }
+        ensures part { IfOk result
+            (λ v. IsPart (λ x. IsInSet theirs.now (x -ℤ shift)) self.now v.items) }
         ensures domain { IsDomain self.now }
     {
         let alloc = *self.rest.allocator();

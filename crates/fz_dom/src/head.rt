@@ -88,7 +88,8 @@ impl Head {
         requires bits { 0 < self.old.bits }
         requires among { (i : ℕ) → i < 64 → bit_at kept i ≡ 1 → bit_at self.old.bits i ≡ 1 }
         ensures whole { IsWhole self.new }
-        ensures change { IsChange result (λ x. IsBit self.old.base kept x) (head_set self.old) (head_set self.new) }
+        ensures change { IsChange result (λ x. IsBit self.old.base kept x)
+            (head_set self.old) (head_set self.new) }
     {
         if kept == self.bits {
             return Change::Same;
@@ -116,7 +117,8 @@ impl Head {
     pub fn keep_range(&mut self, low: i32, high: i32) -> Change
         requires whole { IsWhole self.old }
         ensures whole { IsWhole self.new }
-        ensures change { IsChange result (λ x. IsFromTo low high x) (head_set self.old) (head_set self.new) }
+        ensures change { IsChange result (λ x. IsFromTo low high x)
+            (head_set self.old) (head_set self.new) }
     {
         if high < self.low || self.high < low || high < low || self.size == 0 {
             return Change::Wiped;
@@ -136,7 +138,8 @@ impl Head {
         requires order { low ≤ℤ high }
         requires part { (self.old.low <ℤ low) ⊎ (high <ℤ self.old.high) }
         ensures whole { IsWhole self.new }
-        ensures change { IsChange result (λ x. IsFromTo low high x) (head_set self.old) (head_set self.new) }
+        ensures change { IsChange result (λ x. IsFromTo low high x)
+            (head_set self.old) (head_set self.new) }
     {
         if self.bits != 0 {
             let part = run_of(self.place(low), self.place(high));
@@ -178,7 +181,8 @@ impl Head {
         requires to { high ≤ℤ self.old.high }
         requires order { low ≤ℤ high }
         ensures whole { IsWhole self.new }
-        ensures change { IsChange result (λ x. IsFromTo low high x → ⊥) (head_set self.old) (head_set self.new) }
+        ensures change { IsChange result (λ x. IsFromTo low high x → ⊥)
+            (head_set self.old) (head_set self.new) }
     {
         if self.bits == 0 {
             *self = self.in_bits();
@@ -193,7 +197,8 @@ impl Head {
         requires to { high ≤ℤ self.old.high }
         requires order { low ≤ℤ high }
         ensures whole { IsWhole self.new }
-        ensures change { IsChange result (λ x. IsFromTo low high x → ⊥) (head_set self.old) (head_set self.new) }
+        ensures change { IsChange result (λ x. IsFromTo low high x → ⊥)
+            (head_set self.old) (head_set self.new) }
     {
         let part = run_of(self.place(low), self.place(high));
         self.keep_bits(without(self.bits, part))
@@ -215,7 +220,8 @@ impl Head {
         requires whole { IsWhole self.now }
         requires floor { neg_ℤ (pos (2 ^ 40)) ≤ℤ base }
         requires ceiling { base ≤ℤ pos (2 ^ 40) }
-        ensures { (i : ℕ) → i < 64 → (bit_at result i ≡ 1) ↔ IsInSet (head_set self.now) (base +ℤ pos i) }
+        ensures { (i : ℕ) → i < 64
+            → (bit_at result i ≡ 1) ↔ IsInSet (head_set self.now) (base +ℤ pos i) }
     {
         if self.bits != 0 {
             return rebased(self.bits, self.base, base);
@@ -249,7 +255,8 @@ impl Head {
         ensures head { IsHeadOf result ranges.now }
         ensures word { 0 < result.bits → head_set result ≡ ranges.now }
         ensures one { length ranges.now ≡ 1 → head_set result ≡ ranges.now }
-        ensures wide { (0 < result.bits) ⊎ ((length ranges.now ≡ 1) ⊎ ((result.low +ℤ pos 63) <ℤ result.high)) }
+        ensures wide { (0 < result.bits)
+            ⊎ ((length ranges.now ≡ 1) ⊎ ((result.low +ℤ pos 63) <ℤ result.high)) }
     {
         let low = ranges[0].0;
         let high = ranges[ranges.len() - 1].1;

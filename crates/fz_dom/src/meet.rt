@@ -69,7 +69,8 @@ fn push_overlap(
     other: (i32, i32),
 ) -> Result<(), AllocError>
     ensures { OnOk result
-        (kept.new.items ≡ kept.old.items ++ interval (int_max range.0 other.0) (int_min range.1 other.1)) }
+        (kept.new.items
+        ≡ kept.old.items ++ interval (int_max range.0 other.0) (int_min range.1 other.1)) }
 {
     let low = range.0.max(other.0);
     let high = range.1.min(other.1);

@@ -26,7 +26,8 @@ pub fn size_of(ranges: &[(i32, i32)]) -> u32
 /// The least number in rising ranges at or above a value, if there is one.
 pub fn next_in(ranges: &[(i32, i32)], value: i32) -> Option<i32>
     requires { AreRanges ranges.now }
-    ensures { MatchOption result (IsNoneFrom ranges.now value) (λ y. IsNextFrom ranges.now value y) }
+    ensures { MatchOption result (IsNoneFrom ranges.now value)
+        (λ y. IsNextFrom ranges.now value y) }
 {
     let at = ranges.partition_point(|r| r.1 < value);
     let range = ranges.get(at)?;

@@ -79,7 +79,8 @@ pub fn window_of(low: i32, high: i32, base: i64) -> u64
     requires order { low ≤ℤ high }
     requires floor { neg_ℤ (pos (2 ^ 40)) ≤ℤ base }
     requires ceiling { base ≤ℤ pos (2 ^ 40) }
-    ensures { (i : ℕ) → i < 64 → (bit_at result i ≡ 1) ↔ ((low ≤ℤ (base +ℤ pos i)) × ((base +ℤ pos i) ≤ℤ high)) }
+    ensures { (i : ℕ) → i < 64
+        → (bit_at result i ≡ 1) ↔ ((low ≤ℤ (base +ℤ pos i)) × ((base +ℤ pos i) ≤ℤ high)) }
 {
     let first = i64::from(low) - base;
     let last = i64::from(high) - base;

@@ -3,6 +3,7 @@ use Rattle.std.proofs.Common.{◌≡◌, ◌⊎◌, inl, inr, ℕ, List, [], ◌
 use Rattle.fz_grammar.specs.Grammar.{Symbol, Leaf, Rule, Alternative, Choice, Only, When, Among, Grammar, Trees, Body, Spells, Ends, Takes, Opens}
 use Rattle.fz_grammar.specs.Reading.{level, head, has, chosen, Reads, Done, Took, Chose, Stops, IsOther, Here, Along, Within, Behind}
 use Rattle.fz_grammar.specs.Tables.{subset, apart, Tables, starts, followed, have_examples, is_listed, are_listed, others_apart, are_apart, is_fine}
+use Rattle.fz_grammar.proofs.Lists.{heads, tails}
 use Rattle.fz_grammar.proofs.Sets.{and_left, and_right, in_subset, out_apart, has_one}
 
 -- what stands first in a spelling
@@ -85,12 +86,6 @@ chosen_is G F n (When b rest) a k (inr h) i s =
 pub record Same (G : Grammar) (ss : List (Symbol G.Name)) (mid new : List G.Token) (w v : Trees G ss) : Type 0 where
   pub place : mid ≡ new
   pub trees : w ≡ v
-
-tails : {T : Type 0} (t u : T) (ts us : List T) → t ∷ ts ≡ u ∷ us → ts ≡ us
-tails t u ts us e = cc
-
-heads : {T : Type 0} (t u : T) (ts us : List T) → t ∷ ts ≡ u ∷ us → t ≡ u
-heads t u ts us e = cc
 
 module _ (G : Grammar) (F : Tables G) (fine : (n : G.Name) → is_fine G F n ≡ true) where
   listed : (n : G.Name) (a : Body G n) → Among (G.rules n) a → is_listed G F n a ≡ true

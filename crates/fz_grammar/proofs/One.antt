@@ -3,6 +3,7 @@ use Rattle.std.proofs.Common.{inl, inr, ◌≡◌, ◌⊎◌, ℕ, List, [], ◌
 use Rattle.fz_grammar.specs.Grammar.{Grammar, IsSpelt, IsFront, Breaks}
 use Rattle.fz_grammar.specs.Reading.{level, allowed}
 use Rattle.fz_grammar.specs.Verdict.{depth, Stays, IsAccepted, HasFault, IsTooDeep}
+use Rattle.fz_grammar.proofs.Lists.{heads, tails}
 
 -- the first front is shorter than the second
 record IsShorter {T : Type 0} (a b c d : List T) : Type 0 where
@@ -13,12 +14,6 @@ record IsShorter {T : Type 0} (a b c d : List T) : Type 0 where
 
 abbrev Cut : {T : Type 0} → List T → List T → List T → List T → Type 0
 Cut a b c d = ((a ≡ c) × (b ≡ d)) ⊎ (IsShorter a b c d ⊎ IsShorter c d a b)
-
-heads : {T : Type 0} (t u : T) (ts us : List T) → t ∷ ts ≡ u ∷ us → t ≡ u
-heads t u ts us e = cc
-
-tails : {T : Type 0} (t u : T) (ts us : List T) → t ∷ ts ≡ u ∷ us → ts ≡ us
-tails t u ts us e = cc
 
 cut : {T : Type 0} (a b c d : List T) → a ++ b ≡ c ++ d → Cut a b c d
 cut [] b [] d e = inl (refl, e)

@@ -1,6 +1,6 @@
 -- Every list of tokens has a verdict.
 use Rattle.std.proofs.Common.{◌≡◌, ◌⊎◌, inl, inr, ℕ, zero, suc, ◌<◌, ◌≤◌, List, [], ◌∷◌, Bool, true, false, not, ◌||◌, ◌&&◌, ◌==◌, nat_lt, if◌then◌else◌, length, ltb-true, lt-ltb, eqb-true, eq-eqb, true≢false, refl, sym, ap, subst, arith}
-use Rattle.std.proofs.lemmas.Bool.{cases_lt, both_ways}
+use Rattle.std.proofs.lemmas.Bool.{cases_lt, cases_Bool, both_ways}
 use Rattle.fz_grammar.specs.Grammar.{Symbol, Leaf, Rule, Choice, Only, When, Among, Grammar, Trees, Body}
 use Rattle.fz_grammar.specs.Reading.{level, allowed, down, head, chosen, ReadsIn, DoneIn, TookIn, ChoseIn, StopsIn, HereIn, AlongIn, WithinIn, IsOther}
 use Rattle.fz_grammar.specs.Tables.{Tables, followed, is_fine}
@@ -32,10 +32,6 @@ or_of_false false b e h = h
 not_of_true : (a b : Bool) → a ≡ true → (not a || b) ≡ true → b ≡ true
 not_of_true true b e h = h
 not_of_true false b e h = absurd (true≢false (sym e))
-
-by_cases : (b : Bool) → (b ≡ true) ⊎ (b ≡ false)
-by_cases true = inl refl
-by_cases false = inr refl
 
 finite_one : (G : Grammar) (L : Lefts G) (n : G.Name) (c : Choice G.Tree G.Token n) (a : Body G n) → Among c a → are_finite G L n c ≡ true → is_finite G L n a ≡ true
 finite_one G L n (Only b) a h i = subst (λ (x : Body G n). is_finite G L n x ≡ true) h i
@@ -96,7 +92,7 @@ module _ (G : Grammar) (L : Lefts G) (limit : ℕ) (finite : (n : G.Name) → ar
     trees = (r.trees.0, q.trees);
     reads = joined G limit l (Rule n ∷ []) ss ts r.new q.new r.trees q.trees r.reads q.reads;
     less = omega (arith, r.less, q.less);
-    took = λ e. elim (by_cases (L.takes n)) [
+    took = λ e. elim (cases_Bool (L.takes n)) [
       | inl t ↦ let m = r.took (ap (λ (b : Bool). b || false) t) in omega (arith, m, q.less)
       | inr f ↦ let m = q.took (or_of_false (L.takes n) (some_takes G L ss) f e) in omega (arith, m, r.less)
     ];
@@ -120,9 +116,9 @@ module _ (G : Grammar) (L : Lefts G) (limit : ℕ) (finite : (n : G.Name) → ar
 
   read_leaf : (size : ℕ) → Below size → (l k : ℕ) (ss : List (Symbol G.Name)) (ts : List G.Token) → no_end G (Leaf k ∷ ss) ≡ true → length ts ≤ size → l ≤ limit → Outcome G L limit l (Leaf k ∷ ss) ts
   read_leaf size below l k ss [] z s w = inr (inl ([], HereIn l k ss [] (no_zero k ss z)))
-  read_leaf size below l k ss (t ∷ ts) z s w = elim (by_cases (G.kind t == k)) [
+  read_leaf size below l k ss (t ∷ ts) z s w = elim (cases_Bool (G.kind t == k)) [
     | inr f ↦ inr (inl (t ∷ ts, HereIn l k ss (t ∷ ts) (λ e. both_ways (G.kind t == k) f (eq-eqb (G.kind t) k e))))
-    | inl e ↦ elim (by_cases (allowed G limit k l)) [
+    | inl e ↦ elim (cases_Bool (allowed G limit k l)) [
       | inr f ↦ let o = over_limit G limit k l w f in inr (inr (t ∷ ts, HereIn l k ss (t ∷ ts) (o.0, eqb-true (G.kind t) k e, o.1)))
       | inl a ↦ behind_leaf l k ss t ts (eqb-true (G.kind t) k e) a (below ts (omega (arith, s)) (level G k l) (level_within G limit k l w a) ss (and_right (not (k == 0)) (no_end G ss) z))
     ]
@@ -139,7 +135,7 @@ module _ (G : Grammar) (L : Lefts G) (limit : ℕ) (finite : (n : G.Name) → ar
     | inl r ↦ elim (cases_lt (length r.new) (length ts)) [
       | inl c ↦ behind_rule l n ss ts r (below r.new (omega (arith, c, s)) l w ss z)
       | inr g ↦
-          let f : L.takes n ≡ false = elim (by_cases (L.takes n)) [
+          let f : L.takes n ≡ false = elim (cases_Bool (L.takes n)) [
             | inl t ↦ absurd (let c = r.took (ap (λ (b : Bool). b || false) t) in omega (arith, c, g))
             | inr f ↦ f
           ] in

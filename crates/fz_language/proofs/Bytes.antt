@@ -5,6 +5,7 @@ use Rattle.std.proofs.lemmas.Bool.{cases_lt, both_ways, and_from, true_from_ne_f
 use Rattle.std.proofs.lemmas.List.{length-take, length-drop, get_or-take, get_or-drop, drop_more, take_more}
 use Rattle.std.proofs.lemmas.List.{append_cancel_right}
 use Rattle.std.proofs.lemmas.List.Folds.{list_all_at, drop_split}
+use Rattle.fz_grammar.proofs.Lists.{heads, tails, none_is_no_cons}
 
 -- tests on all bytes
 
@@ -61,15 +62,6 @@ pub record Head (text : List ℕ) (start stop x : ℕ) (xs : List ℕ) : Type 0 
   pub some : start < stop
   pub byte : slice_index text start ≡ x
   pub others : slice_range text (start + 1) stop ≡ xs
-
-heads : {A : Type 0} (x y : A) (xs ys : List A) → x ∷ xs ≡ y ∷ ys → x ≡ y
-heads x y xs ys e = cc
-
-tails : {A : Type 0} (x y : A) (xs ys : List A) → x ∷ xs ≡ y ∷ ys → xs ≡ ys
-tails x y xs ys e = cc
-
-none_is_no_cons : {A : Type 0} (x : A) (xs : List A) → [] ≡ x ∷ xs → ⊥
-none_is_no_cons x xs e = cc
 
 pub head_of : (text : List ℕ) (start stop x : ℕ) (xs : List ℕ) → stop ≤ length text → slice_range text start stop ≡ x ∷ xs → Head text start stop x xs
 head_of text start stop x xs w e = elim (cases_lt start stop) [

@@ -6,6 +6,7 @@ use Rattle.std.proofs.lemmas.Bool.{true≢false}
 use Rattle.std.proofs.lemmas.Slice.Eq.{bytes_eq-Decides}
 use Rattle.std.proofs.lemmas.Bool.Decides.{Decides-eqb}
 use Rattle.std.specs.Bool.{Decides}
+use Rattle.fz_grammar.proofs.Lists.{heads, tails, none_is_no_cons}
 use Rattle.fz_language.specs.declared.sign.Sign.{Sign}
 use Rattle.fz_language.specs.declared.keyword.Keyword.{Keyword}
 use Rattle.fz_language.specs.Tokens.{Lexeme, Identifier, Word, Number, Float, Text, Punct, IsSpelt, IsWord, is_word_start, is_word_byte, keyword_bytes, is_octal_digit, AreDigits, digits_value, IsNatural, IsNumber, IsExponent, IsTail, IsPlainFloat, IsFloat, IsInside, Closes, Goes, Takes, IsText, sign_bytes}
@@ -42,15 +43,6 @@ same_byte a b = from_test _ (Decides-eqb a b)
 
 abbrev same_bytes : (xs ys : List ℕ) → Decided (xs ≡ ys)
 same_bytes xs ys = from_test _ (bytes_eq-Decides xs ys)
-
-pub heads : {A : Type 0} (x y : A) (xs ys : List A) → x ∷ xs ≡ y ∷ ys → x ≡ y
-heads x y xs ys e = cc
-
-pub tails : {A : Type 0} (x y : A) (xs ys : List A) → x ∷ xs ≡ y ∷ ys → xs ≡ ys
-tails x y xs ys e = cc
-
-pub none_is_no_cons : {A : Type 0} (x : A) (xs : List A) → [] ≡ x ∷ xs → ⊥
-none_is_no_cons x xs e = cc
 
 -- behind certain bytes stand bytes of which something holds
 abbrev Behind : List ℕ → (List ℕ → Type 0) → List ℕ → Type 0

@@ -4,19 +4,14 @@ use Rattle.std.specs.List.{list_all}
 use Rattle.std.specs.Char.{is_ascii_digit}
 use Rattle.std.proofs.lemmas.Bool.{both_ways, and_parts}
 use Rattle.std.proofs.lemmas.Bool.Decides.{nat_tests}
+use Rattle.fz_grammar.proofs.Lists.{heads, tails}
 use Rattle.fz_language.specs.declared.sign.Sign.{Sign}
 use Rattle.fz_language.specs.declared.sign.Sign.TheVariants.{Semicolon, Colon, DoubleColon, Comma, LeftParenthesis, RightParenthesis, LeftBracket, RightBracket, LeftBrace, RightBrace, Equals, DoubleDot}
 use Rattle.fz_language.specs.declared.keyword.Keyword.{Keyword}
 use Rattle.fz_language.specs.declared.keyword.Keyword.TheVariants as keyword
 use Rattle.fz_language.specs.Tokens.{Lexeme, Identifier, Word, Number, Float, Text, Punct, IsSpelt, IsWord, keyword_bytes, AreDigits, digits_value, IsNatural, IsNumber, IsExponent, IsTail, IsPlainFloat, IsFloat, IsText, sign_bytes, is_blank, is_word_start}
 
-heads : {A : Type 0} (x y : A) (xs ys : List A) → x ∷ xs ≡ y ∷ ys → x ≡ y
-heads x y xs ys e = cc
-
-tails : {A : Type 0} (x y : A) (xs ys : List A) → x ∷ xs ≡ y ∷ ys → xs ≡ ys
-tails x y xs ys e = cc
-
-clash : (p : ℕ → Bool) (x y : ℕ) → x ≡ y → p x ≡ true → p y ≡ false → ⊥
+pub clash : (p : ℕ → Bool) (x y : ℕ) → x ≡ y → p x ≡ true → p y ≡ false → ⊥
 clash p x y e t f = both_ways (p y) f (subst (λ (n : ℕ). p n ≡ true) e t)
 
 -- the first byte of bytes, of which something holds
@@ -89,7 +84,7 @@ sign_first s bs e = subst (First IsOfSign) (sym e) (sign_of_bytes s)
 
 -- no two kinds begin alike
 
-digit_no_word : (b : ℕ) → is_ascii_digit b ≡ true → is_word_start b ≡ true → ⊥
+pub digit_no_word : (b : ℕ) → is_ascii_digit b ≡ true → is_word_start b ≡ true → ⊥
 digit_no_word b d w = grind (arith, nat_tests)
 
 word_number : (b : ℕ) → is_word_start b ≡ true → IsDigitOrMinus b → ⊥

@@ -1,6 +1,6 @@
 -- A text has tokens, or a first fault.
-use Rattle.std.proofs.Common.{◌≡◌, ◌≢◌, ℕ, zero, suc, ℤ, pos, negsuc, ◌+◌, ◌-◌, ◌<◌, ◌≤◌, ◌⊎◌, inl, inr, ◌==◌, Bool, true, false, List, [], ◌∷◌, length, slice_range, slice_index, refl, subst, arith, eqb-true, eq-eqb}
-use Rattle.std.proofs.lemmas.Bool.{cases_lt, both_ways, or_cases}
+use Rattle.std.proofs.Common.{◌≡◌, ◌≢◌, ℕ, zero, suc, ℤ, pos, negsuc, ◌+◌, ◌-◌, ◌<◌, ◌≤◌, ◌⊎◌, inl, inr, ◌==◌, true, false, List, [], ◌∷◌, length, slice_range, slice_index, refl, subst, arith, eqb-true, eq-eqb}
+use Rattle.std.proofs.lemmas.Bool.{cases_lt, cases_Bool, both_ways, or_cases}
 use Rattle.std.proofs.lemmas.Int.{ints}
 use Rattle.fz_sets.specs.Sets.{IsWithinLimits}
 use Rattle.fz_language.specs.declared.fault.TokenFault.{TokenFault}
@@ -10,10 +10,6 @@ use Rattle.fz_language.specs.TokenLaws.{SomeTokens}
 use Rattle.fz_language.proofs.Bytes.{head_of}
 use Rattle.fz_language.proofs.LexemeProofs.{begins_visible}
 use Rattle.fz_language.proofs.Decisions.{Decided, IsLexeme, lexeme}
-
-bool_cases : (b : Bool) → (b ≡ true) ⊎ (b ≡ false)
-bool_cases true = inl refl
-bool_cases false = inr refl
 
 -- ---- the longest token at a place
 
@@ -120,7 +116,7 @@ comment_end : (text : List ℕ) (start from fuel : ℕ) → from ≤ length text
 comment_end text start from zero w f = absurd (omega (arith, f))
 comment_end text start from (suc fuel) w f = elim (cases_lt from (length text)) [
   | inr g ↦ record { stop = from; ahead = omega arith; within = w; inside = λ k a b. absurd (omega (arith, a, b)); ends = inl (omega (arith, w, g)) }
-  | inl l ↦ elim (bool_cases (slice_index text from == 10)) [
+  | inl l ↦ elim (cases_Bool (slice_index text from == 10)) [
     | inl e ↦ record { stop = from; ahead = omega arith; within = w; inside = λ k a b. absurd (omega (arith, a, b)); ends = inr (eqb-true (slice_index text from) 10 e) }
     | inr n ↦ later text start from (λ e. both_ways (slice_index text from == 10) n (eq-eqb (slice_index text from) 10 e)) (comment_end text start (from + 1) fuel (omega (arith, l)) (omega (arith, f, l)))
   ]
@@ -155,7 +151,7 @@ gap : (text : List ℕ) (from fuel : ℕ) → from ≤ length text → length te
 gap text from zero w f = absurd (omega (arith, f))
 gap text from (suc fuel) w f = elim (cases_lt from (length text)) [
   | inr g ↦ record { stop = from; ahead = omega arith; within = w; gap = Ends from w; visible = λ l. absurd (omega (arith, l, g)) }
-  | inl l ↦ elim (bool_cases (is_blank (slice_index text from))) [
+  | inl l ↦ elim (cases_Bool (is_blank (slice_index text from))) [
     | inr n ↦ record { stop = from; ahead = omega arith; within = w; gap = Ends from w; visible = λ _. n }
     | inl b ↦
         let h = blank text from l b in

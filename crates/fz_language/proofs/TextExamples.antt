@@ -9,7 +9,8 @@ use Rattle.fz_language.specs.Examples.{UnknownByteIsRefused, unknown_byte}
 use Rattle.fz_sets.specs.Sets.{IsWithinLimits}
 use Rattle.fz_language.proofs.Bytes.{slice_none}
 use Rattle.fz_language.proofs.LexemeProofs.{begins_visible}
-use Rattle.fz_language.proofs.Decisions.{none_is_no_cons, is_no, refuted, lexeme, lexeme_of, spelt_of}
+use Rattle.fz_grammar.proofs.Lists.{none_is_no_cons}
+use Rattle.fz_language.proofs.Decisions.{is_no, refuted, lexeme, lexeme_of, spelt_of}
 
 -- so many ends behind a place, at which no lexeme from another place on ends
 abbrev none_behind : List ℕ → ℕ → ℕ → ℕ → Bool

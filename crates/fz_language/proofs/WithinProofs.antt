@@ -7,7 +7,7 @@ use Rattle.fz_spec.specs.declared.limits.TheConstants.{TEXT_LIMIT}
 use Rattle.fz_language.specs.Tokens.{Token, Lexeme, Identifier, Word, Number, Float, Text, Punct, IsSpelt, IsToken, IsBlank, IsGap, Ends, Skips, IsFine, Ending, End, LeadsTo}
 use Rattle.fz_language.specs.Trees as trees
 use Rattle.fz_language.specs.Grammar.{Part, Element, WholeProgram, Items, OneItem, PredicateItem, Parameter, OfArray, IndexSets, Index, Variability, VariableItem, OptionalValue, ParameterItem, ArrayItem, ValueType, Plain, SetLiteral, Braces, OneNumber, Constant, RangeEnd, Basic, ListLiteral, Expression, ConstraintItem, SolveItem, Method, Annotations, Annotation, Called, Argument, Listed, More, Parameters, Indexes, Members, Elements, Expressions, Arguments, flatzinc, rules, Tree, TreesOf, name_in, integer_in, number_or_range, name_or_call}
-use Rattle.fz_language.specs.Within.{NameFits, ArgumentsFit, CalledFits, AnnotationFits, ArgumentFits, argument_size, arguments_size, called_size, annotations_size, program_size, NumberFits, SetFits, PlainFits, TypeFits, BasicFits, ListFits, ExpressionFits, ValueFits, VariableFits, ParameterFits, ArrayFits, ItemFits, MethodFits, ProgramFits}
+use Rattle.fz_language.specs.Within.{NameFits, ArgumentsFit, CalledFits, AnnotationFits, ArgumentFits, argument_size, arguments_size, called_size, annotations_size, program_size, NumberFits, SetFits, PlainFits, TypeFits, BasicFits, ListFits, ExpressionFits, ValueFits, VariableFits, ParameterFits, ArrayFits, ItemFits, MethodFits}
 use Rattle.fz_language.specs.WithinLaws.{ProgramsFit}
 use Rattle.fz_language.proofs.Bytes.{slice_length, head_of}
 use Rattle.fz_language.proofs.LexemeProofs.{begins_visible}
@@ -258,7 +258,7 @@ blank_moves : (text : List ℕ) (start stop : ℕ) → IsBlank text start stop �
 blank_moves text start stop (inl s) = omega (arith, s.2)
 blank_moves text start stop (inr c) = omega (arith, c.some)
 
-gap_moves : (text : List ℕ) (from at : ℕ) → IsGap text from at → from ≤ at
+pub gap_moves : (text : List ℕ) (from at : ℕ) → IsGap text from at → from ≤ at
 gap_moves text from at (Ends _ l) = omega arith
 gap_moves text from at (Skips _ mid _ b g) = omega (arith, blank_moves text from mid b, gap_moves text mid at g)
 

@@ -69,14 +69,6 @@ pub gap_within : (text : List ℕ) (start stop : ℕ) → IsGap text start stop 
 gap_within text start stop (Ends _ w) = w
 gap_within text start stop (Skips _ mid _ b g) = gap_within text mid stop g
 
-blank_some : (text : List ℕ) (start stop : ℕ) → IsBlank text start stop → start < stop
-blank_some text start stop (inl s) = omega (arith, s.2)
-blank_some text start stop (inr c) = c.some
-
-pub gap_ordered : (text : List ℕ) (start stop : ℕ) → IsGap text start stop → start ≤ stop
-gap_ordered text start stop (Ends _ w) = omega arith
-gap_ordered text start stop (Skips _ mid _ b g) = let i = gap_ordered text mid stop g in let j = blank_some text start mid b in omega (arith, i, j)
-
 pub bounded_push : (text : List ℕ) (tokens pushed : List Token) (t : Token) → All (Bounded text) tokens → pushed ≡ tokens ++ t ∷ [] → Bounded text t → All (Bounded text) pushed
 bounded_push text tokens pushed t a e b = subst (All (Bounded text)) (sym e) (All-push (Bounded text) tokens t a b)
 

@@ -2,7 +2,6 @@
 use Rattle.std.proofs.Common.{◌≡◌, ◌≢◌, ℕ, ℤ, pos, ◌-ℤ◌, ◌+◌, ◌<◌, ◌≤◌, ◌⊎◌, Bool, true, false, IsTrue, List, ◌∷◌, length, slice_index, slice_range, not, ◌==◌, eq-eqb, eqb-true, subst, sym, ap, ◌∙◌, refl, inl, inr, arith}
 use Rattle.std.specs.Char.{is_ascii_digit}
 use Rattle.std.proofs.lemmas.Bool.{cases_lt, both_ways}
-use Rattle.std.proofs.lemmas.Bool.Decides.{nat_tests}
 use Rattle.std.proofs.lemmas.Int.{ints}
 use Rattle.fz_sets.specs.Sets.{IsWithinLimits}
 use Rattle.fz_language.specs.declared.sign.Sign.{Sign}
@@ -18,8 +17,7 @@ use Rattle.fz_lex.proofs.Runs.{run_bound, run_digits}
 use Rattle.fz_lex.proofs.NumberTokens.{Parts, natural_first, float_first, number_parts, float_parts, float_longest, natural_longest, float_is, number_is, NaturalFound}
 use Rattle.fz_lex.proofs.Signs.{sign_first, sign_length, bytes_of_sign, IsSignAt, sign_at, sign_starts, sign_longest_sign, sign_begins, sign_within, sign_stands, colon_alone}
 use Rattle.fz_lex.proofs.Strings.{text_first, text_inside, text_from, closes_only}
-use Rattle.fz_lex.proofs.Numbers.{clash}
-use Rattle.fz_language.proofs.LexemeProofs.{keyword_word}
+use Rattle.fz_language.proofs.LexemeProofs.{keyword_word, clash, digit_no_word}
 
 -- what a spelling tells of its bytes
 
@@ -78,13 +76,10 @@ start Float text at end w h = float_begins text at end w h
 start Text text at end w h = text_first text at end w h
 start (Punct s) text at end w h = (sign_starts s text at end (sign_at s text at end w h)).1
 
-digit_no_word_start : (b : ℕ) → is_ascii_digit b ≡ true → is_word_start b ≡ true → ⊥
-digit_no_word_start b d w = grind (arith, nat_tests)
-
 number_no_word : (text : List ℕ) (at : ℕ) → NumberFirst text at → is_word_start (slice_index text at) ≡ true → ⊥
 unfolding NumberFirst
 number_no_word text at n w = elim n [
-  | inl d ↦ digit_no_word_start (slice_index text at) d w
+  | inl d ↦ digit_no_word (slice_index text at) d w
   | inr m ↦ clash is_word_start (slice_index text at) 45 m.0 w refl
 ]
 
@@ -135,7 +130,7 @@ no_sign_start s text at (inl d) e = clash is_ascii_digit (slice_index text at) (
 no_sign_start s text at (inr m) e = (bytes_of_sign s).3 (sym e ∙ m)
 
 no_word_start : (text : List ℕ) (at : ℕ) → (is_ascii_digit (slice_index text at) ≡ true) ⊎ (slice_index text at ≡ 45) → is_word_start (slice_index text at) ≡ true → ⊥
-no_word_start text at (inl d) w = digit_no_word_start (slice_index text at) d w
+no_word_start text at (inl d) w = digit_no_word (slice_index text at) d w
 no_word_start text at (inr m) w = clash is_word_start (slice_index text at) 45 m w refl
 
 no_quote_start : (text : List ℕ) (at : ℕ) → (is_ascii_digit (slice_index text at) ≡ true) ⊎ (slice_index text at ≡ 45) → slice_index text at ≡ 34 → ⊥

@@ -4,11 +4,12 @@ use Rattle.std.specs.Char.{is_ascii_digit}
 use Rattle.std.proofs.lemmas.Bool.{cases_lt}
 use Rattle.fz_language.specs.Tokens.{AreDigits, IsTail, IsNatural, IsPlainFloat, IsFloat, IsNumber, digits_value}
 use Rattle.fz_language.proofs.Bytes.{head_of, cons_from, split, join, slice_none}
+use Rattle.fz_language.proofs.LexemeProofs.{clash}
 use Rattle.fz_lex.specs.declared.run.DigitRun.{DigitRun}
 use Rattle.fz_lex.specs.declared.run.TheConstants.{OVER}
 use Rattle.fz_lex.specs.Steps.{IsRun, IsLongest, HasNone, IsNaturalAt, IsNumberStart, signed_of}
 use Rattle.fz_lex.proofs.Runs.{run_bound, run_exact, run_digits}
-use Rattle.fz_lex.proofs.Numbers.{first_digit, exponent_at, exponent_some, based_at, one_digit, letter_no_digit, clash}
+use Rattle.fz_lex.proofs.Numbers.{first_digit, exponent_at, exponent_some, based_at, one_digit, letter_no_digit}
 
 -- what begins with a digit
 

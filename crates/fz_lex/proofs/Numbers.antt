@@ -6,13 +6,11 @@ use Rattle.std.proofs.lemmas.Bool.{cases_lt, both_ways}
 use Rattle.std.proofs.lemmas.List.{get_or_past, append-nil}
 use Rattle.fz_language.specs.Tokens.{AreDigits, IsExponent, IsTail, IsBased, is_octal_digit, digits_value}
 use Rattle.fz_language.proofs.Bytes.{head_of, cons_from, split, slice_none, slice_length, slice_all_at, join}
+use Rattle.fz_language.proofs.LexemeProofs.{clash}
 use Rattle.fz_lex.specs.declared.run.DigitRun.{DigitRun}
 use Rattle.fz_lex.specs.declared.run.TheConstants.{OVER}
 use Rattle.fz_lex.specs.Steps.{IsRun, IsLongest, HasNone, HasNoBased, IsBasedAt, IsBehindSign}
 use Rattle.fz_lex.proofs.Runs.{run_bound, run_exact, run_some, run_digits, two}
-
-pub clash : (p : ℕ → Bool) (x y : ℕ) → x ≡ y → p x ≡ true → p y ≡ false → ⊥
-clash p x y e t f = both_ways (p y) f (subst (λ (n : ℕ). p n ≡ true) e t)
 
 -- a byte that passes a test that 0 fails is one of the text
 pub inside : (p : ℕ → Bool) (text : List ℕ) (at : ℕ) → p 0 ≡ false → p (slice_index text at) ≡ true → at < length text

@@ -7,6 +7,7 @@ use Rattle.std.proofs.lemmas.List.{get_or-map, length-map}
 use Rattle.fz_spec.specs.declared.term.Term.{Term}
 use Rattle.fz_spec.specs.Truth.{weighted_sum}
 use Rattle.fz_spec.specs.Constraints.{term_value}
+use Rattle.fz_truth.proofs.Sizes.{near_more}
 
 one_first : (p : ℤ) → (p +ℤ pos 0) ≡ (pos 0 +ℤ p)
 one_first p = omega (arith, ints)
@@ -27,20 +28,14 @@ pub record IsSummed (cs ys : List ℤ) (n : ℕ) (sum : ℤ) : Type 0 where
   pub is : sum ≡ weighted_sum (take n cs) (take n ys)
   pub near : unsigned_abs sum ≤ n * 2 ^ 62
 
-abs_of_sum : (a b : ℤ) → unsigned_abs (a +ℤ b) ≤ unsigned_abs a + unsigned_abs b
-abs_of_sum a b = grind (arith, ints)
-
 pub none : (cs ys : List ℤ) → IsSummed cs ys 0 (pos 0)
 none cs ys = record { is = refl; near = omega arith }
-
-pub near_more : (n : ℕ) (a b : ℤ) → unsigned_abs a ≤ n * 2 ^ 62 → unsigned_abs b ≤ 2 ^ 62 → unsigned_abs (a +ℤ b) ≤ (n + 1) * 2 ^ 62
-near_more n a b h k = let s = abs_of_sum a b in omega (arith, h, k)
 
 pub more : (cs ys : List ℤ) (n : ℕ) (sum d e p : ℤ) → IsSummed cs ys n sum → n < length cs → n < length ys → d ≡ get_or cs n d → e ≡ get_or ys n e → p ≡ d *ℤ e → unsigned_abs p ≤ 2 ^ 62
     → IsSummed cs ys (n + 1) (sum +ℤ p)
 more cs ys n sum d e p so_far h k first second is near = record {
   is = rw add-one (ap₂ (λ u v. u +ℤ v) so_far.is (is ∙ ap₂ (λ u v. u *ℤ v) first second) ∙ sym (one_more cs ys n d e h k));
-  near = near_more n sum p so_far.near near;
+  near = near_more (2 ^ 62) n sum p so_far.near near;
 }
 
 -- past the end of a list there is no product
@@ -73,7 +68,7 @@ ended cs ys n k sum s l e =
 -- ---- the same, of what the code reads
 
 pub fits : (n : ℕ) (a b : ℤ) → unsigned_abs a ≤ n * 2 ^ 62 → unsigned_abs b ≤ 2 ^ 62 → n < 2 ^ 64 → FitsSigned w128 (a +ℤ b)
-fits n a b h k l = fits_signed_from_abs w128 (a +ℤ b) (let m = near_more n a b h k in omega (arith, m, l))
+fits n a b h k l = fits_signed_from_abs w128 (a +ℤ b) (let m = near_more (2 ^ 62) n a b h k in omega (arith, m, l))
 
 pub product_fits : (b : ℤ) → unsigned_abs b ≤ 2 ^ 62 → FitsSigned w128 b
 product_fits b k = fits_signed_from_abs w128 b (omega (arith, k))

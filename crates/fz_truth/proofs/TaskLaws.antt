@@ -5,6 +5,7 @@ use Rattle.std.specs.Int.{w128}
 use Rattle.std.specs.Int.RustNames.{FitsSigned, unsigned_abs}
 use Rattle.std.proofs.lemmas.Int.{ints, fits_signed_from_abs}
 use Rattle.fz_spec.specs.Truth.{Task, tasks_of, load_at, usage_at}
+use Rattle.fz_truth.proofs.Sizes.{near_more}
 
 pub length_of_tasks : {X : Type 0} (f : X → ℤ) (ss ds us : List X) → length (tasks_of (map f ss) (map f ds) (map f us)) ≡ min (min (length ss) (length ds)) (length us)
 length_of_tasks f [] ds us = grind arith
@@ -40,18 +41,12 @@ one_more time [] n d h = absurd (omega (arith, h))
 one_more time (task ∷ tasks) zero d h = omega (arith, ints)
 one_more time (task ∷ tasks) (suc n) d h = let e = one_more time tasks n d (omega (arith, h)) in omega (arith, ints, e)
 
-abs_of_sum : (a b : ℤ) → unsigned_abs (a +ℤ b) ≤ unsigned_abs a + unsigned_abs b
-abs_of_sum a b = grind (arith, ints)
-
-near_more : (n : ℕ) (a b : ℤ) → unsigned_abs a ≤ n * 2 ^ 31 → unsigned_abs b ≤ 2 ^ 31 → unsigned_abs (a +ℤ b) ≤ (n + 1) * 2 ^ 31
-near_more n a b h k = let s = abs_of_sum a b in omega (arith, h, k)
-
 pub load_fits : (n : ℕ) (a b : ℤ) → unsigned_abs a ≤ n * 2 ^ 31 → unsigned_abs b ≤ 2 ^ 31 → n < 2 ^ 64 → FitsSigned w128 (a +ℤ b)
-load_fits n a b h k l = fits_signed_from_abs w128 (a +ℤ b) (let m = near_more n a b h k in omega (arith, m, l))
+load_fits n a b h k l = fits_signed_from_abs w128 (a +ℤ b) (let m = near_more (2 ^ 31) n a b h k in omega (arith, m, l))
 
 pub load_more : (time : ℤ) (tasks : List Task) (n : ℕ) (load used : ℤ) (task : Task) → IsLoaded time tasks n load → n < length tasks → task ≡ get_or tasks n task → used ≡ usage_at time task → unsigned_abs used ≤ 2 ^ 31
     → IsLoaded time tasks (n + 1) (load +ℤ used)
 load_more time tasks n load used task so_far h at is near = record {
   is = rw add-one (let e = one_more time tasks n task h in ap (λ u. u +ℤ used) so_far.is ∙ ap (λ u. load_at time (take n tasks) +ℤ u) (is ∙ ap (usage_at time) at) ∙ sym e);
-  near = near_more n load used so_far.near near;
+  near = near_more (2 ^ 31) n load used so_far.near near;
 }

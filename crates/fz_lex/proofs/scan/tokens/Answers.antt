@@ -2,7 +2,8 @@ use Rattle.std.proofs.Common.{◌≡◌, List, length, map, sym, subst, arith}
 use Rattle.fz_tokens.specs.declared.token.Token.{Token}
 use Rattle.fz_tokens.specs.Lexed.{token_of}
 use Rattle.fz_lex.specs.Steps.{Led}
-use Rattle.fz_lex.proofs.Blanks.{led_none, led_fault, led_push, led_end, gap_within, gap_ordered, bounded_push, bounded_none}
+use Rattle.fz_language.proofs.WithinProofs.{gap_moves}
+use Rattle.fz_lex.proofs.Blanks.{led_none, led_fault, led_push, led_end, gap_within, bounded_push, bounded_none}
 use Rattle.fz_lex.proofs.scan.tokens.Goals as goal
 
 pub text-init : goal.text-init
@@ -21,7 +22,7 @@ returns-in-Err c = led_fault c.args.text.now (map (token_of c.args.text.now) c.t
 pub text-smaller : goal.text-smaller
 text-smaller c =
     let text = c.args.text.now in
-    let o = gap_ordered text c.in-Ok.next.stop c.skip_blanks-at-in-text.result c.skip_blanks-at-in-text.ensures.gap in
+    let o = gap_moves text c.in-Ok.next.stop c.skip_blanks-at-in-text.result c.skip_blanks-at-in-text.ensures.gap in
     omega (arith, o, c.in-Ok.ensures.some, c.text-test.true)
 
 pub text-preserved : goal.text-preserved
