@@ -2,17 +2,19 @@
 use Rattle.std.proofs.Common.{◌≡◌, ◌≢◌, ◌<◌, ℕ, zero, suc, List, [], ◌∷◌, ◌++◌, ◌∙◌, refl, sym, subst, ap, arith, length, inl, inr}
 use Rattle.std.specs.Prelude.{ℤ, slice_get, Some}
 use Rattle.std.specs.List.{AllByRecursion}
+use Rattle.std.proofs.lemmas.List.{append-nil}
 use Rattle.fz_sets.specs.Sets.{IsInSet}
 use Rattle.fz_spec.specs.declared.builtin.Builtin.{Builtin}
 use Rattle.fz_spec.specs.declared.builtin.Builtin.TheVariants.{AllDifferentInt, FznAllDifferentInt}
 use Rattle.fz_spec.specs.declared.term.Term.{Term}
-use Rattle.fz_spec.specs.Constraints.{term_value, term_values}
+use Rattle.fz_spec.specs.Constraints.{Terms, term_value, term_values}
 use Rattle.fz_spec.specs.Truth.{AreDifferent, HoldsOfList}
 use Rattle.fz_strength.specs.declared.event.Event.TheVariants.{Fixed}
 use Rattle.fz_strength.specs.Domains.{term_set, Alone, IsNarrower}
 use Rattle.fz_strength.specs.Events.{IsQuiet, waits_for, AreQuiet, AreBelow}
 use Rattle.fz_strength.specs.Relations.{IsApart}
 use Rattle.fz_strength.specs.Differences.{IsDifference, AreApart, RestsOfDifferences}
+use Rattle.fz_strength.specs.Lines.{waits_of}
 use Rattle.fz_strength.proofs.Lists.{all_left, all_at}
 use Rattle.fz_strength.proofs.Terms.{AreSingle, in_single, term_narrower, terms_quiet, terms_alone}
 
@@ -77,3 +79,6 @@ difference_truth name ns is = elim is [
   | inl e ↦ ap (λ (n : Builtin). HoldsOfList n ns) e
   | inr e ↦ ap (λ (n : Builtin). HoldsOfList n ns) e
 ]
+
+pub difference_waits : (name : Builtin) (xs : List Term) → IsDifference name → waits_of name (Terms xs ∷ []) ≡ waits_for Fixed xs
+difference_waits name xs is = ap (waits_for Fixed) (append-nil xs)

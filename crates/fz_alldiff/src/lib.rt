@@ -1,0 +1,7 @@
+//! The propagator of terms that are all different.
+#![tactic(auto)]
+
+pub mod all_different;
+mod differ;
+
+pub use all_different::AllDifferent;
