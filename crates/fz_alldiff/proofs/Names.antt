@@ -66,6 +66,14 @@ all_for_fixed (Var v ∷ xs) w (suc i) at = all_for_fixed xs w i at
 pub terms_of : (name : Builtin) (xs : List Term) (n : ℕ) → IsDifference name → AreBelow (waits (differing name xs)) n → AllByRecursion (IsTermOf n) xs
 terms_of name xs n is below = terms_below xs n (subst (λ (ws : List Wait). AreBelow ws n) (difference_waits name xs is) below)
 
+waits_below : (xs : List Term) (n : ℕ) → AllByRecursion (IsTermOf n) xs → AreBelow (waits_for Fixed xs) n
+waits_below [] n terms = tt
+waits_below (Num m ∷ xs) n terms = waits_below xs n terms.1
+waits_below (Var v ∷ xs) n terms = (terms.0, waits_below xs n terms.1)
+
+pub below_of : (name : Builtin) (xs : List Term) (n : ℕ) → IsDifference name → AllByRecursion (IsTermOf n) xs → AreBelow (waits (differing name xs)) n
+below_of name xs n is terms = subst (λ (ws : List Wait). AreBelow ws n) (sym (difference_waits name xs is)) (waits_below xs n terms)
+
 pub fixed_of : (name : Builtin) (xs : List Term) (ds : List (List (ℤ × ℤ))) → IsDifference name → AreFixed (waits (differing name xs)) ds → AllFixed ds xs
 fixed_of name xs ds is fixed = terms_fixed xs ds (subst (λ (ws : List Wait). AreFixed ws ds) (difference_waits name xs is) fixed)
 

@@ -5,3 +5,6 @@ pub mod all_different;
 mod differ;
 
 pub use all_different::AllDifferent;
+
+#[cfg(test)]
+mod tests;
