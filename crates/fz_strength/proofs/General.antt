@@ -4,12 +4,13 @@ use Rattle.std.specs.Prelude.{ℤ, Option, Some, None, IsSome}
 use Rattle.fz_spec.specs.declared.builtin.Builtin.{Builtin}
 use Rattle.fz_spec.specs.declared.builtin.Builtin.TheVariants.{SetIn, SetInReif}
 use Rattle.fz_spec.specs.declared.term.Term.{Term}
-use Rattle.fz_spec.specs.Constraints.{Argument, One, Set}
+use Rattle.fz_spec.specs.Constraints.{Argument, One, Terms, Set}
 use Rattle.fz_strength.specs.declared.relation.Relation.{Relation}
 use Rattle.fz_strength.specs.declared.event.Event.TheVariants.{Fixed}
 use Rattle.fz_strength.specs.Domains.{term_set}
 use Rattle.fz_strength.specs.Events.{Wait, waits_for}
 use Rattle.fz_strength.specs.Relations.{relation_of, reified_of}
+use Rattle.fz_strength.proofs.Differences.{line_of_differences}
 use Rattle.fz_strength.specs.Lines.{terms_among, RestsOnceFixed, RestsOfTwo, RestsReified, RestsOfSet, RestsOfSetReified, RestsOf, waits_of_two, waits_of_reified, waits_of_set, waits_of_set_reified, waits_of, HasOwnLine}
 
 line_of_two : (G : Type 0) (o : Option Relation) (d e : List (ℤ × ℤ)) → (IsSome o → ⊥) → G → RestsOfTwo G o d e
@@ -36,6 +37,7 @@ general_line name (One x ∷ One y ∷ One r ∷ []) ds none h =
 general_line name (One x ∷ Set set ∷ []) ds none h = line_of_set (RestsOnceFixed name (One x ∷ Set set ∷ []) ds) name (term_set ds x) set none h
 general_line name (One x ∷ Set set ∷ One r ∷ []) ds none h =
     line_of_set_reified (RestsOnceFixed name (One x ∷ Set set ∷ One r ∷ []) ds) name (term_set ds x) set (term_set ds r) none h
+general_line name (Terms xs ∷ []) ds none h = line_of_differences (RestsOnceFixed name (Terms xs ∷ []) ds) name xs ds none h
 general_line name arguments ds none h = h
 
 -- ---- what it waits for

@@ -10,6 +10,7 @@ use Rattle.fz_strength.specs.declared.event.Event.TheVariants.{Any, Fixed}
 use Rattle.fz_strength.specs.Domains.{term_set, Within}
 use Rattle.fz_strength.specs.Events.{IsOnly, AllFixed, Wait, wait_for, waits_for}
 use Rattle.fz_strength.specs.Relations.{relation_of, reified_of, RestsAs, RestsAgainst, IsShown, IsRefuted, event_of, reified_event}
+use Rattle.fz_strength.specs.Differences.{IsDifference, RestsOfDifferences}
 
 -- Where what is left decides, r is fixed; where r is fixed, the line of that side holds.
 pub record IsReifiedLine (shown refuted line against : Type 0) (r : List (ℤ × ℤ)) : Type 0 where
@@ -69,6 +70,7 @@ RestsOf name (One x ∷ One y ∷ One r ∷ []) ds =
 RestsOf name (One x ∷ Set set ∷ []) ds = RestsOfSet (RestsOnceFixed name (One x ∷ Set set ∷ []) ds) name (term_set ds x) set
 RestsOf name (One x ∷ Set set ∷ One r ∷ []) ds =
     RestsOfSetReified (RestsOnceFixed name (One x ∷ Set set ∷ One r ∷ []) ds) name (term_set ds x) set (term_set ds r)
+RestsOf name (Terms xs ∷ []) ds = RestsOfDifferences (RestsOnceFixed name (Terms xs ∷ []) ds) name xs ds
 RestsOf name arguments ds = RestsOnceFixed name arguments ds
 
 -- the constraints that have a line of their own
@@ -77,6 +79,7 @@ HasOwnLine name (One x ∷ One y ∷ []) = IsSome (relation_of name)
 HasOwnLine name (One x ∷ One y ∷ One r ∷ []) = IsSome (reified_of name)
 HasOwnLine name (One x ∷ Set set ∷ []) = name ≡ SetIn
 HasOwnLine name (One x ∷ Set set ∷ One r ∷ []) = name ≡ SetInReif
+HasOwnLine name (Terms xs ∷ []) = IsDifference name
 HasOwnLine name arguments = ⊥
 
 abbrev pub Rests : Constraint → List (List (ℤ × ℤ)) → Type 0
