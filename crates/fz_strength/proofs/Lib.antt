@@ -1,5 +1,6 @@
 pub mod Lists
 pub mod Terms
+pub mod SumLaws
 pub mod Truths
 pub mod Keeping
 pub mod General
