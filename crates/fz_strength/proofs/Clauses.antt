@@ -19,7 +19,7 @@ use Rattle.fz_strength.specs.declared.event.Event.TheVariants.{Fixed}
 use Rattle.fz_strength.specs.Domains.{dom_at, term_set, AreDomains, IsNarrower}
 use Rattle.fz_strength.specs.Events.{IsOnly, IsQuiet}
 use Rattle.fz_strength.specs.Lines.{terms_among}
-use Rattle.fz_strength.specs.Clauses.{Clause, positive, negative, true_number, false_number, disjunction, conjunction, clause, clause_of, MakesTrue, MakesFalse, IsTrueIn, IsFalseIn, IsUntrueIn, IsClauseLine}
+use Rattle.fz_strength.specs.Clauses.{Clause, positive, negative, true_number, false_number, disjunction, conjunction, clause, clause_of, MakesTrue, MakesFalse, ClauseTruth, IsTrueIn, IsFalseIn, IsUntrueIn, IsClauseLine}
 use Rattle.fz_strength.proofs.Lists.{all_left, all_right, all_both}
 use Rattle.fz_strength.proofs.Terms.{quiet_self, in_single, is_single}
 
@@ -148,10 +148,7 @@ clause_kept c ds es domains narrower calm line =
 abbrev IsAlone : List (List (ℤ × ℤ)) → List ℤ → Term → Type 0
 IsAlone ds a t = IsOnly (term_set ds t) (term_value a t)
 
--- the result is true exactly where a literal is, and false exactly where all are
-abbrev pub SomeTruth : Clause → List ℤ → Type 0
-SomeTruth c a = MakesTrue a c.result ↔ SomeByRecursion (MakesTrue a) c.literals
-
+-- the result is false exactly where all literals are
 abbrev pub AllTruth : Clause → List ℤ → Type 0
 AllTruth c a = MakesFalse a c.result ↔ AllByRecursion (MakesFalse a) c.literals
 
@@ -185,7 +182,7 @@ some_or_none a (l ∷ ls) = elim (same_or_not (term_value a l.term) (true_number
   | inr ne ↦ elim (some_or_none a ls) [ inl some ↦ inl (inr some) | inr none ↦ inr (ne, none) ]
 ]
 
-pub some_truth : (c : Clause) (ds : List (List (ℤ × ℤ))) (a : List ℤ) → AllOfClause (IsAlone ds a) c → IsClauseLine c ds → SomeTruth c a
+pub some_truth : (c : Clause) (ds : List (List (ℤ × ℤ))) (a : List ℤ) → AllOfClause (IsAlone ds a) c → IsClauseLine c ds → ClauseTruth c a
 some_truth c ds a alone line =
     let alone_at : Literal → Type 0 = λ (l : Literal). IsAlone ds a l.term in (
       (λ holds. elim (some_or_none a c.literals) [
@@ -237,7 +234,7 @@ with_right P Q R same = ((λ h. ((λ p. same.1 (h.0 p)), (λ q. h.1 (same.0 q)))
 
 -- the truth of a constraint, of a clause that it says
 abbrev IsTruthOf : Type 0 → List ℤ → Clause → Type 0
-IsTruthOf H a c = (SomeTruth c a ↔ H) ⊎ (AllTruth c a ↔ H)
+IsTruthOf H a c = (ClauseTruth c a ↔ H) ⊎ (AllTruth c a ↔ H)
 
 pub clause_truth : (name : Builtin) (arguments : List Argument) (c : Clause) (a : List ℤ) → clause_of name arguments ≡ Some c → IsTruthOf (Holds name arguments a) a c
 clause_truth BoolClause (Terms ps ∷ Terms ns ∷ []) c a is =

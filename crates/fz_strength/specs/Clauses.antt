@@ -1,5 +1,5 @@
 -- Constraints that say whether one of their literals is true: the literals, and the line where a propagator rests.
-use Rattle.std.specs.Prelude.{◌≡◌, ◌≢◌, ℕ, ℤ, pos, true, false, List, [], ◌∷◌, ◌++◌, map, slice_get, Option, Some, None, if◌then◌else◌}
+use Rattle.std.specs.Prelude.{◌≡◌, ◌≢◌, ◌↔◌, ℕ, ℤ, pos, true, false, List, [], ◌∷◌, ◌++◌, map, slice_get, Option, Some, None, if◌then◌else◌}
 use Rattle.std.specs.List.{AllByRecursion}
 use Rattle.fz_spec.specs.declared.builtin.Builtin.{Builtin}
 use Rattle.fz_spec.specs.declared.builtin.Builtin.TheVariants.{ArrayBoolAnd, ArrayBoolOr, BoolAnd, BoolClause, BoolClauseReif, BoolOr}
@@ -69,6 +69,10 @@ clause_of ArrayBoolAnd (Terms ts ∷ One r ∷ []) = Some (conjunction ts r)
 clause_of BoolOr (One a ∷ One b ∷ One r ∷ []) = Some (disjunction (a ∷ b ∷ []) r)
 clause_of BoolAnd (One a ∷ One b ∷ One r ∷ []) = Some (conjunction (a ∷ b ∷ []) r)
 clause_of name arguments = None
+
+-- an assignment makes its result true exactly where it makes a literal true
+abbrev pub ClauseTruth : Clause → List ℤ → Type 0
+ClauseTruth c a = MakesTrue a c.result ↔ SomeByRecursion (MakesTrue a) c.literals
 
 -- the terms that it takes for 0 or 1
 abbrev pub clause_terms : Clause → List Term
