@@ -2,18 +2,18 @@
 use Rattle.std.proofs.Common.{◌≡◌, ◌≢◌, ◌⊎◌, ℕ, zero, suc, ◌<◌, ◌≤◌, ◌+◌, List, [], ◌∷◌, ◌∙◌, refl, sym, ap, subst, arith, length, get_or, inl, inr}
 use Rattle.std.specs.Prelude.{ℤ, pos, false, Option, Some, None, slice_get}
 use Rattle.std.specs.List.{AllByRecursion}
-use Rattle.std.proofs.lemmas.Bool.{cases_lt, cases_eq}
+use Rattle.std.proofs.lemmas.Bool.{cases_eq}
 use Rattle.fz_spec.specs.declared.term.Term.TheVariants.{Num}
 use Rattle.fz_spec.specs.Truth.{SomeByRecursion}
 use Rattle.fz_strength.specs.declared.literal.Literal.{Literal}
 use Rattle.fz_dom.specs.Shape.{least}
 use Rattle.fz_strength.specs.Domains.{term_set}
 use Rattle.fz_strength.specs.Events.{IsOnly, IsFixedIn}
-use Rattle.fz_strength.specs.Clauses.{IsTrueIn, IsUntrueIn, AreOthersUntrue, true_number}
+use Rattle.fz_strength.specs.Clauses.{IsTrueIn, IsUntrueIn, true_number}
 use Rattle.fz_strength.proofs.Clauses.{all_at}
 use Rattle.fz_bool.specs.declared.literals.State.{State}
 use Rattle.fz_bool.specs.declared.literals.State.TheVariants.{True, False, Open}
-use Rattle.fz_bool.specs.Looks.{IsOpen, IsStateOf, IsLastOf, HasTwoOpen, IsTruthAmong}
+use Rattle.fz_bool.specs.Looks.{IsOpen, IsLastOf, HasTwoOpen, IsTruthAmong}
 
 -- ---- places of lists
 
@@ -45,7 +45,7 @@ none_of P [] each some = some
 none_of P (x ∷ xs) each (inl here) = each 0 x refl here
 none_of P (x ∷ xs) each (inr there) = none_of P xs (λ i y at. each (suc i) y at) there
 
-same_item : (l k : Literal) → Some l ≡ Some k → l ≡ k
+pub same_item : (l k : Literal) → Some l ≡ Some k → l ≡ k
 same_item l k e = cc
 
 -- ---- the first so many
@@ -67,7 +67,7 @@ LastSoFar None ds ls n = AreUntrueBelow ds ls n
 LastSoFar (Some l) ds ls n = IsLastBelow ds ls n l
 
 -- at place n or before
-split : (j n : ℕ) → j < n + 1 → (j ≡ n) ⊎ (j < n)
+pub split : (j n : ℕ) → j < n + 1 → (j ≡ n) ⊎ (j < n)
 split j n below = elim (cases_eq j n) [ inl e ↦ inl e | inr ne ↦ inr (omega (arith, below, ne)) ]
 
 untrue_more : (ds : List (List (ℤ × ℤ))) (ls : List Literal) (n : ℕ) (l : Literal) → slice_get ls n ≡ Some l → IsUntrueIn ds l → AreUntrueBelow ds ls n → AreUntrueBelow ds ls (n + 1)
@@ -143,10 +143,10 @@ StateSoFar Open ds ls n = AreNotTrueBelow ds ls n × HasOpen ds ls
 only_number : (d : List (ℤ × ℤ)) (x y : ℤ) → IsOnly d x → IsOnly d y → x ≡ y
 only_number d x y of_x of_y = ap least (sym of_x ∙ of_y)
 
-untrue_not_true : (ds : List (List (ℤ × ℤ))) (l : Literal) → IsUntrueIn ds l → IsTrueIn ds l → ⊥
+pub untrue_not_true : (ds : List (List (ℤ × ℤ))) (l : Literal) → IsUntrueIn ds l → IsTrueIn ds l → ⊥
 untrue_not_true ds l untrue holds = untrue.2 (only_number (term_set ds l.term) untrue.0 (true_number l) untrue.1 holds)
 
-open_not_true : (ds : List (List (ℤ × ℤ))) (l : Literal) → IsOpen ds l → IsTrueIn ds l → ⊥
+pub open_not_true : (ds : List (List (ℤ × ℤ))) (l : Literal) → IsOpen ds l → IsTrueIn ds l → ⊥
 open_not_true ds l unfixed holds = unfixed (true_number l, holds)
 
 not_true_more : (ds : List (List (ℤ × ℤ))) (ls : List Literal) (n : ℕ) (l : Literal) → slice_get ls n ≡ Some l → (IsTrueIn ds l → ⊥) → AreNotTrueBelow ds ls n → AreNotTrueBelow ds ls (n + 1)

@@ -6,9 +6,7 @@ use Rattle.fz_spec.specs.declared.term.Term.TheVariants.{Num, Var}
 use Rattle.fz_spec.specs.Constraints.{Constraint}
 use Rattle.fz_strength.specs.declared.literal.Literal.{Literal}
 use Rattle.fz_strength.specs.Events.{IsFixedIn}
-use Rattle.fz_strength.specs.Clauses.{Clause, clause_of, ClauseTruth, MakesFalse, IsFalseIn, IsClauseLine}
-use Rattle.fz_prop.specs.declared.answer.Answer.{Answer}
-use Rattle.fz_prop.specs.Answers.{IsAnswerOf}
+use Rattle.fz_strength.specs.Clauses.{clause_of, ClauseTruth, MakesFalse, IsFalseIn, IsClauseLine}
 
 abbrev pub TruthOf : List Literal → Literal → List ℤ → Type 0
 TruthOf ls r a = ClauseTruth (record { literals = ls; result = r }) a

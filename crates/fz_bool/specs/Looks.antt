@@ -12,6 +12,10 @@ use Rattle.fz_bool.specs.declared.literals.State.TheVariants.{True, False, Open}
 use Rattle.fz_bool.specs.declared.literals.Left.{Left}
 use Rattle.fz_bool.specs.declared.literals.Left.TheVariants.{Held, Nothing, Last, More}
 
+-- the terms of literals are terms of the store
+abbrev pub AreTermsOf : List (List (ℤ × ℤ)) → List Literal → Type 0
+AreTermsOf ds ls = AllByRecursion (λ (l : Literal). IsTermOf (length ds) l.term) ls
+
 -- a literal of a term of the store, of which only 0 and 1 are left
 abbrev pub IsLiteralOf : List (List (ℤ × ℤ)) → Literal → Type 0
 IsLiteralOf ds l = IsTermOf (length ds) l.term × IsTruth ds l.term

@@ -9,11 +9,12 @@ ghost use Rattle.fz_prop.specs.Stores.{Shrinks};
 ghost use Rattle.fz_bool.specs.Looks.{IsLiteralOf, AreLiteralsOf, IsOpen};
 ghost use Rattle.fz_bool.specs.Clausal.{TruthOf, LineOf, AreFixedLiterals, variable_of, literal_variables};
 
-use crate::literals::{Left, State, keep_false, left_of, state_of, truth_among};
+use crate::literals::{
+    Left, State, keep_false, left_of, make_false, make_true, state_of, truth_among,
+};
 use crate::parts::parts_of;
 use fz_model::constraint::Constraint;
 use fz_model::part::Part;
-use fz_prop::terms::keep_only;
 use fz_prop::{Answer, Cost, Event, Propagator, Store};
 use fz_spec::term::Term;
 use fz_strength::literal::Literal;
@@ -46,7 +47,8 @@ impl Clause {
     /// # Errors
     /// `AllocError` where there is no memory.
     pub fn of(alloc: Global, constraint: &Constraint) -> Result<Option<Clause>, AllocError>
-        ensures { IfOk result (λ o. MatchOption o (clause_of constraint.now.name constraint.now.arguments ≡ None) (λ p. p ≡ constraint.now)) }
+        ensures { IfOk result (λ o. MatchOption o
+            (clause_of constraint.now.name constraint.now.arguments ≡ None) (λ p. p ≡ constraint.now)) }
     {
         let Some(parts) = parts_of(alloc, constraint.name(), constraint.arguments())? else {
             return Ok(None);
@@ -74,7 +76,9 @@ impl Clause {
         ensures checking { IfOk result
             (λ r. AreFixed (waits self.now) store.old.doms → IsDecided r) }
     {
-        keep_clause(store, &self.literals, self.r)
+        let answer = keep_clause(store, &self.literals, self.r);
+        let _ = store.doms();
+        answer
     }
 }
 
@@ -134,7 +138,7 @@ fn keep_some(store: &mut Store, literals: &[Literal], r: Literal) -> Result<Answ
         Left::Nothing => Ok(Answer::Failed),
         Left::More => Ok(Answer::Fix),
         Left::Last(literal) => {
-            let change = keep_only(store, literal.term, literal.true_number())?;
+            let change = make_true(store, literal)?;
             Ok(Answer::settled(change))
         }
     }
@@ -168,11 +172,11 @@ fn decide(store: &mut Store, literals: &[Literal], r: Literal) -> Result<Answer,
 {
     match truth_among(store, literals) {
         State::True => {
-            let change = keep_only(store, r.term, r.true_number())?;
+            let change = make_true(store, r)?;
             Ok(Answer::settled(change))
         }
         State::False => {
-            let change = keep_only(store, r.term, r.false_number())?;
+            let change = make_false(store, r)?;
             Ok(Answer::settled(change))
         }
         State::Open => Ok(Answer::Fix),

@@ -41,7 +41,12 @@ fn of_clause(alloc: Global, arguments: &[Argument]) -> Result<Option<Parts>, All
     ensures { IfOk result (λ o. IsPartsOf o BoolClause (map argument_of arguments.now)) }
 {
     match arguments {
-        [Argument::Terms(ps), Argument::Terms(ns)] => Ok(Some(either(alloc, ps, ns, Term::Num(1))?)),
+        [Argument::Terms(ps), Argument::Terms(ns)] => Ok(Some(either(
+            alloc,
+            ps,
+            ns,
+            Term::Num(1),
+        )?)),
         _ => Ok(None),
     }
 }
@@ -50,7 +55,9 @@ fn of_reified_clause(alloc: Global, arguments: &[Argument]) -> Result<Option<Par
     ensures { IfOk result (λ o. IsPartsOf o BoolClauseReif (map argument_of arguments.now)) }
 {
     match arguments {
-        [Argument::Terms(ps), Argument::Terms(ns), Argument::One(r)] => Ok(Some(either(alloc, ps, ns, *r)?)),
+        [Argument::Terms(ps), Argument::Terms(ns), Argument::One(r)] => Ok(Some(either(
+            alloc, ps, ns, *r,
+        )?)),
         _ => Ok(None),
     }
 }
@@ -77,7 +84,11 @@ fn of_or(alloc: Global, arguments: &[Argument]) -> Result<Option<Parts>, AllocEr
     ensures { IfOk result (λ o. IsPartsOf o BoolOr (map argument_of arguments.now)) }
 {
     match arguments {
-        [Argument::One(a), Argument::One(b), Argument::One(r)] => Ok(Some(some(alloc, &[*a, *b], *r)?)),
+        [Argument::One(a), Argument::One(b), Argument::One(r)] => Ok(Some(some(
+            alloc,
+            &[*a, *b],
+            *r,
+        )?)),
         _ => Ok(None),
     }
 }
@@ -86,7 +97,11 @@ fn of_and(alloc: Global, arguments: &[Argument]) -> Result<Option<Parts>, AllocE
     ensures { IfOk result (λ o. IsPartsOf o BoolAnd (map argument_of arguments.now)) }
 {
     match arguments {
-        [Argument::One(a), Argument::One(b), Argument::One(r)] => Ok(Some(all(alloc, &[*a, *b], *r)?)),
+        [Argument::One(a), Argument::One(b), Argument::One(r)] => Ok(Some(all(
+            alloc,
+            &[*a, *b],
+            *r,
+        )?)),
         _ => Ok(None),
     }
 }

@@ -171,11 +171,11 @@ apart l x = elim l.negated as (λ b. x ≡ (if b then pos 0 else pos 1) → x �
   | false ↦ λ one zero. omega (arith, ints, one, zero)
 ]
 
-same_or_not : (x y : ℤ) → (x ≡ y) ⊎ (x ≡ y → ⊥)
+pub same_or_not : (x y : ℤ) → (x ≡ y) ⊎ (x ≡ y → ⊥)
 same_or_not x y = by_lt_z x y (λ below. inr (λ e. omega (arith, ints, below, e))) (λ above. by_lt_z y x (λ over. inr (λ e. omega (arith, ints, over, e))) (λ under. inl (omega (arith, ints, above, under))))
 
 -- some is true, or none is
-some_or_none : (a : List ℤ) (ls : List Literal) → SomeByRecursion (MakesTrue a) ls ⊎ AllByRecursion (λ (l : Literal). MakesTrue a l → ⊥) ls
+pub some_or_none : (a : List ℤ) (ls : List Literal) → SomeByRecursion (MakesTrue a) ls ⊎ AllByRecursion (λ (l : Literal). MakesTrue a l → ⊥) ls
 some_or_none a [] = inr tt
 some_or_none a (l ∷ ls) = elim (same_or_not (term_value a l.term) (true_number l)) [
   | inl e ↦ inl (inl e)

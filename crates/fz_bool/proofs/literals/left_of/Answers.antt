@@ -1,5 +1,5 @@
 use Rattle.std.proofs.Common.{◌+◌, subst, sym, get_or}
-use Rattle.std.specs.Prelude.{Option, Some, None}
+use Rattle.std.specs.Prelude.{Option}
 use Rattle.fz_strength.specs.declared.literal.Literal.{Literal}
 use Rattle.fz_strength.specs.Clauses.{IsTrueIn}
 use Rattle.fz_bool.proofs.Looks.{blank, at_place, some_at, LastSoFar, untrue_next, open_next, two_open, last_of, all_untrue}
@@ -42,6 +42,6 @@ loop-literal-preserved c =
     elim c.match-state_of.branch [
       | in-False-default w ↦ subst next (sym w.last-is) (untrue_next c.loop-literal.last ds ls i (get_or ls i blank) here w.in-False-default.ensures c.loop-literal.invariant)
       | in-Open-None w ↦
-        subst next (sym w.last-is)
+          subst next (sym w.last-is)
           (open_next ds ls i (get_or ls i blank) here w.in-Open-None.ensures (subst (λ (o : Option Literal). LastSoFar o ds ls i) w.in-Open-None.is-1 c.loop-literal.invariant))
     ]
