@@ -1,5 +1,5 @@
 -- Of a constraint without a line of its own: the general line is its line, and it waits for its terms to get fixed.
-use Rattle.std.proofs.Common.{◌≡◌, List, [], ◌∷◌, refl}
+use Rattle.std.proofs.Common.{◌≡◌, List, [], ◌∷◌, refl, inl, inr}
 use Rattle.std.specs.Prelude.{ℤ, Option, Some, None, IsSome}
 use Rattle.fz_spec.specs.declared.builtin.Builtin.{Builtin}
 use Rattle.fz_spec.specs.declared.builtin.Builtin.TheVariants.{SetIn, SetInReif}
@@ -8,11 +8,12 @@ use Rattle.fz_spec.specs.Constraints.{Argument, One, Terms, Set, Numbers}
 use Rattle.fz_spec.specs.declared.term.Term.TheVariants.{Num}
 use Rattle.fz_strength.specs.declared.relation.Relation.{Relation}
 use Rattle.fz_strength.specs.declared.event.Event.TheVariants.{Fixed}
+use Rattle.fz_strength.specs.Clauses.{Clause, clause_of}
 use Rattle.fz_strength.specs.Domains.{term_set}
 use Rattle.fz_strength.specs.Events.{Wait, waits_for}
 use Rattle.fz_strength.specs.Relations.{relation_of, reified_of}
 use Rattle.fz_strength.proofs.Differences.{line_of_differences}
-use Rattle.fz_strength.specs.Lines.{terms_among, RestsOnceFixed, RestsOfTwo, RestsReified, RestsOfSet, RestsOfSetReified, RestsOf, waits_of_two, waits_of_reified, waits_of_set, waits_of_set_reified, waits_of, HasOwnLine, RestsOfSum, waits_of_sum}
+use Rattle.fz_strength.specs.Lines.{terms_among, RestsOnceFixed, RestsOfTwo, RestsReified, RestsOfSet, RestsOfSetReified, RestsOf, waits_of_two, waits_of_reified, waits_of_set, waits_of_set_reified, waits_of, HasOwnLine, RestsOfSum, waits_of_sum, RestsOfClause, RestsOtherwise}
 use Rattle.fz_strength.specs.Sums.{sum_relation_of}
 
 line_of_two : (G : Type 0) (o : Option Relation) (d e : List (ℤ × ℤ)) → (IsSome o → ⊥) → G → RestsOfTwo G o d e
@@ -35,18 +36,27 @@ line_of_sum : (G : Type 0) (o : Option Relation) (ds : List (List (ℤ × ℤ)))
 line_of_sum G None ds ks ts c none h = h
 line_of_sum G (Some relation) ds ks ts c none h = absurd (none refl)
 
+line_of_clause : (G : Type 0) (o : Option Clause) (ds : List (List (ℤ × ℤ))) → (IsSome o → ⊥) → G → RestsOfClause G o ds
+line_of_clause G None ds none h = h
+line_of_clause G (Some clause) ds none h = absurd (none refl)
+
+line_otherwise : (name : Builtin) (arguments : List Argument) (ds : List (List (ℤ × ℤ))) → (IsSome (clause_of name arguments) → ⊥) → RestsOnceFixed name arguments ds
+    → RestsOtherwise name arguments ds
+line_otherwise name arguments ds none h = line_of_clause (RestsOnceFixed name arguments ds) (clause_of name arguments) ds none h
+
 pub general_line : (name : Builtin) (arguments : List Argument) (ds : List (List (ℤ × ℤ))) → (HasOwnLine name arguments → ⊥) → RestsOnceFixed name arguments ds
     → RestsOf name arguments ds
 general_line name (One x ∷ One y ∷ []) ds none h = line_of_two (RestsOnceFixed name (One x ∷ One y ∷ []) ds) (relation_of name) (term_set ds x) (term_set ds y) none h
 general_line name (One x ∷ One y ∷ One r ∷ []) ds none h =
-    line_of_reified (RestsOnceFixed name (One x ∷ One y ∷ One r ∷ []) ds) (reified_of name) (term_set ds x) (term_set ds y) (term_set ds r) none h
+    let at = One x ∷ One y ∷ One r ∷ [] in
+    line_of_reified (RestsOtherwise name at ds) (reified_of name) (term_set ds x) (term_set ds y) (term_set ds r) (λ own. none (inl own)) (line_otherwise name at ds (λ own. none (inr own)) h)
 general_line name (One x ∷ Set set ∷ []) ds none h = line_of_set (RestsOnceFixed name (One x ∷ Set set ∷ []) ds) name (term_set ds x) set none h
 general_line name (One x ∷ Set set ∷ One r ∷ []) ds none h =
     line_of_set_reified (RestsOnceFixed name (One x ∷ Set set ∷ One r ∷ []) ds) name (term_set ds x) set (term_set ds r) none h
 general_line name (Terms xs ∷ []) ds none h = line_of_differences (RestsOnceFixed name (Terms xs ∷ []) ds) name xs ds none h
 general_line name (Numbers ks ∷ Terms ts ∷ One (Num c) ∷ []) ds none h =
     line_of_sum (RestsOnceFixed name (Numbers ks ∷ Terms ts ∷ One (Num c) ∷ []) ds) (sum_relation_of name) ds ks ts c none h
-general_line name arguments ds none h = h
+general_line name arguments ds none h = line_otherwise name arguments ds none h
 
 -- ---- what it waits for
 
@@ -72,7 +82,7 @@ waits_sum W (Some relation) ts none = absurd (none refl)
 
 pub general_waits : (name : Builtin) (arguments : List Argument) → (HasOwnLine name arguments → ⊥) → waits_of name arguments ≡ waits_for Fixed (terms_among arguments)
 general_waits name (One x ∷ One y ∷ []) none = waits_two (waits_for Fixed (x ∷ y ∷ [])) (relation_of name) x y none
-general_waits name (One x ∷ One y ∷ One r ∷ []) none = waits_reified (waits_for Fixed (x ∷ y ∷ r ∷ [])) (reified_of name) x y r none
+general_waits name (One x ∷ One y ∷ One r ∷ []) none = waits_reified (waits_for Fixed (x ∷ y ∷ r ∷ [])) (reified_of name) x y r (λ own. none (inl own))
 general_waits name (One x ∷ Set set ∷ []) none = waits_set (waits_for Fixed (x ∷ [])) name x none
 general_waits name (One x ∷ Set set ∷ One r ∷ []) none = waits_set_reified (waits_for Fixed (x ∷ r ∷ [])) name x r none
 general_waits name (Numbers ks ∷ Terms ts ∷ One (Num c) ∷ []) none =

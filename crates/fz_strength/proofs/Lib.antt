@@ -3,5 +3,6 @@ pub mod Terms
 pub mod Differences
 pub mod SumLaws
 pub mod Truths
+pub mod Clauses
 pub mod Keeping
 pub mod General

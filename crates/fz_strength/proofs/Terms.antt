@@ -13,7 +13,7 @@ use Rattle.fz_strength.specs.Domains.{dom_at, term_set, Within, Alone, IsNarrowe
 use Rattle.fz_strength.specs.Events.{IsQuiet, IsOnly, IsFixedIn, AllFixed, Wait, wait_for, waits_for, AreQuiet, AreBelow}
 use Rattle.fz_strength.proofs.Lists.{all_left, all_right}
 
-quiet_self : (event : Event) (d : List (ℤ × ℤ)) → IsQuiet event d d
+pub quiet_self : (event : Event) (d : List (ℤ × ℤ)) → IsQuiet event d d
 quiet_self Any d = refl
 quiet_self Bound d = (refl, refl)
 quiet_self Fixed d = λ x only. refl

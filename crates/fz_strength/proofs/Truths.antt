@@ -1,6 +1,6 @@
 -- Where one number is left of each variable, a line says that the constraint is true.
 use Rattle.std.proofs.Common.{◌≡◌, ◌<◌, List, [], ◌∷◌, ◌++◌, refl, sym, ap, subst, arith, length}
-use Rattle.std.specs.Prelude.{ℤ, pos, Some}
+use Rattle.std.specs.Prelude.{ℤ, pos, Option, Some, None}
 use Rattle.std.proofs.lemmas.Int.{ints}
 use Rattle.fz_sets.specs.Sets.{IsInSet}
 use Rattle.fz_dom.specs.Shape.{least}
@@ -13,14 +13,16 @@ use Rattle.fz_spec.specs.Truth.{HoldsOfTwo, HoldsOfThree, HoldsOfSet, IsReifiedO
 use Rattle.fz_strength.specs.declared.relation.Relation.{Relation}
 use Rattle.fz_strength.specs.declared.relation.Relation.TheVariants.{Equal, NotEqual, AtMost, Below}
 use Rattle.fz_strength.specs.declared.event.Event.TheVariants.{Any, Fixed}
+use Rattle.fz_strength.specs.Clauses.{Clause, clause_of}
 use Rattle.fz_strength.specs.Domains.{term_set, Alone}
 use Rattle.fz_strength.specs.Events.{Wait, wait_for, waits_for, AreBelow}
 use Rattle.fz_strength.specs.Relations.{relation_of, reified_of, Relates, RestsAs, RestsAgainst, IsShown, IsRefuted, event_of, reified_event}
-use Rattle.fz_strength.specs.Lines.{IsReifiedLine, terms_among, RestsOnceFixed, RestsOfTwo, RestsReified, LiesIn, LiesOutside, RestsOfSet, RestsOfSetReified, RestsOf, waits_of_two, waits_of_reified, waits_of_set, waits_of_set_reified, waits_of}
+use Rattle.fz_strength.specs.Lines.{IsReifiedLine, terms_among, RestsOnceFixed, RestsOfTwo, RestsReified, LiesIn, LiesOutside, RestsOfSet, RestsOfSetReified, RestsOfClause, RestsOtherwise, RestsOf, waits_of_two, waits_of_reified, waits_of_set, waits_of_set_reified, waits_of}
 use Rattle.fz_strength.specs.Laws.{TrueWhereAlone}
 use Rattle.fz_strength.proofs.Differences.{true_differences}
 use Rattle.fz_strength.proofs.Lists.{all_left, all_right}
 use Rattle.fz_strength.proofs.SumLaws.{true_sum}
+use Rattle.fz_strength.proofs.Clauses.{clause_true}
 use Rattle.fz_strength.proofs.Terms.{terms_alone, all_fixed_alone, within_alone}
 pub use Rattle.fz_strength.proofs.Terms.{single, in_single, is_single, term_alone}
 
@@ -131,12 +133,22 @@ once_fixed : (name : Builtin) (arguments : List Argument) (ds : List (List (ℤ 
 once_fixed name arguments ds a alone below h =
     h (all_fixed_alone (terms_among arguments) ds a (terms_alone Fixed (terms_among arguments) ds a below alone)) a (within_alone ds a alone)
 
+by_clause : (G H : Type 0) (o : Option Clause) (ds : List (List (ℤ × ℤ))) → (G → H) → ((c : Clause) → o ≡ Some c → RestsOfClause ⊥ o ds → H) → RestsOfClause G o ds → H
+by_clause G H None ds general truth h = general h
+by_clause G H (Some clause) ds general truth h = truth clause refl h
+
+otherwise : (name : Builtin) (arguments : List Argument) (ds : List (List (ℤ × ℤ))) (a : List ℤ) → Alone ds a → AreBelow (waits_for Fixed (terms_among arguments)) (length ds)
+    → RestsOtherwise name arguments ds → Holds name arguments a
+otherwise name arguments ds a alone below h =
+    by_clause (RestsOnceFixed name arguments ds) (Holds name arguments a) (clause_of name arguments) ds (once_fixed name arguments ds a alone below)
+    (λ c is. rw is (clause_true name arguments c ds a is (terms_alone Fixed (terms_among arguments) ds a below alone))) h
+
 arguments_true : (name : Builtin) (arguments : List Argument) (ds : List (List (ℤ × ℤ))) (a : List ℤ) → AreBelow (waits_of name arguments) (length ds) → Alone ds a
     → RestsOf name arguments ds → Holds name arguments a
 arguments_true name (One x ∷ One y ∷ []) ds a below alone h =
     let at = One x ∷ One y ∷ [] in two (RestsOnceFixed name at ds) (waits_for Fixed (terms_among at)) name x y ds a (once_fixed name at ds a alone) below alone h
 arguments_true name (One x ∷ One y ∷ One r ∷ []) ds a below alone h =
-    let at = One x ∷ One y ∷ One r ∷ [] in three (RestsOnceFixed name at ds) (waits_for Fixed (terms_among at)) name x y r ds a (once_fixed name at ds a alone) below alone h
+    let at = One x ∷ One y ∷ One r ∷ [] in three (RestsOtherwise name at ds) (waits_for Fixed (terms_among at)) name x y r ds a (otherwise name at ds a alone) below alone h
 arguments_true name (One x ∷ Set s ∷ []) ds a below alone h =
     let at = One x ∷ Set s ∷ [] in set (RestsOnceFixed name at ds) (waits_for Fixed (terms_among at)) name x s ds a (once_fixed name at ds a alone) below alone h
 arguments_true name (One x ∷ Set s ∷ One r ∷ []) ds a below alone h =
@@ -146,7 +158,7 @@ arguments_true name (Terms xs ∷ []) ds a below alone h =
 arguments_true name (Numbers ks ∷ Terms ts ∷ One (Num c) ∷ []) ds a below alone h =
     let at = Numbers ks ∷ Terms ts ∷ One (Num c) ∷ [] in
     true_sum (RestsOnceFixed name at ds) (waits_for Fixed (terms_among at)) name ks ts c ds a (once_fixed name at ds a alone) below alone h
-arguments_true name arguments ds a below alone h = once_fixed name arguments ds a alone below h
+arguments_true name arguments ds a below alone h = otherwise name arguments ds a alone below h
 
 pub true_where_alone : TrueWhereAlone
 true_where_alone c ds a below alone h = arguments_true c.name c.arguments ds a below alone h

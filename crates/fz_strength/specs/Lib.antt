@@ -3,6 +3,7 @@ pub mod Events
 pub mod Relations
 pub mod Differences
 pub mod Sums
+pub mod Clauses
 pub mod Lines
 pub mod Laws
 pub mod Costs

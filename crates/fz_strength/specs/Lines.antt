@@ -1,5 +1,5 @@
 -- For each constraint the line that holds of the domains where its propagator rests, and the changes that may break the line.
-use Rattle.std.specs.Prelude.{◌≡◌, ℤ, pos, List, [], ◌∷◌, ◌++◌, flat_map, Option, Some, None, IsSome}
+use Rattle.std.specs.Prelude.{◌≡◌, ℤ, pos, List, [], ◌∷◌, ◌++◌, ◌⊎◌, flat_map, Option, Some, None, IsSome}
 use Rattle.fz_sets.specs.Sets.{IsInSet}
 use Rattle.fz_spec.specs.declared.builtin.Builtin.{Builtin}
 use Rattle.fz_spec.specs.declared.builtin.Builtin.TheVariants.{SetIn, SetInReif}
@@ -10,6 +10,7 @@ use Rattle.fz_strength.specs.declared.relation.Relation.{Relation}
 use Rattle.fz_strength.specs.declared.event.Event.TheVariants.{Any, Fixed}
 use Rattle.fz_strength.specs.Domains.{term_set, Within}
 use Rattle.fz_strength.specs.Events.{IsOnly, AllFixed, Wait, wait_for, waits_for}
+use Rattle.fz_strength.specs.Clauses.{Clause, clause_of, IsClauseLine}
 use Rattle.fz_strength.specs.Relations.{relation_of, reified_of, RestsAs, RestsAgainst, IsShown, IsRefuted, event_of, reified_event}
 use Rattle.fz_strength.specs.Differences.{IsDifference, RestsOfDifferences}
 use Rattle.fz_strength.specs.Sums.{sum_relation_of, RestsSum, sum_event_of}
@@ -69,35 +70,44 @@ abbrev pub RestsOfSum : Type 0 → Option Relation → List (List (ℤ × ℤ)) 
 RestsOfSum G None ds ks ts c = G
 RestsOfSum G (Some relation) ds ks ts c = RestsSum relation ds ks ts c
 
+-- of a clause
+abbrev pub RestsOfClause : Type 0 → Option Clause → List (List (ℤ × ℤ)) → Type 0
+RestsOfClause G None ds = G
+RestsOfClause G (Some clause) ds = IsClauseLine clause ds
+
+-- of a constraint that is no comparison and no membership
+abbrev pub RestsOtherwise : Builtin → List Argument → List (List (ℤ × ℤ)) → Type 0
+RestsOtherwise name arguments ds = RestsOfClause (RestsOnceFixed name arguments ds) (clause_of name arguments) ds
+
 -- The line of a constraint.
 abbrev pub RestsOf : Builtin → List Argument → List (List (ℤ × ℤ)) → Type 0
 RestsOf name (One x ∷ One y ∷ []) ds = RestsOfTwo (RestsOnceFixed name (One x ∷ One y ∷ []) ds) (relation_of name) (term_set ds x) (term_set ds y)
 RestsOf name (One x ∷ One y ∷ One r ∷ []) ds =
-    RestsReified (RestsOnceFixed name (One x ∷ One y ∷ One r ∷ []) ds) (reified_of name) (term_set ds x) (term_set ds y) (term_set ds r)
+    RestsReified (RestsOtherwise name (One x ∷ One y ∷ One r ∷ []) ds) (reified_of name) (term_set ds x) (term_set ds y) (term_set ds r)
 RestsOf name (One x ∷ Set set ∷ []) ds = RestsOfSet (RestsOnceFixed name (One x ∷ Set set ∷ []) ds) name (term_set ds x) set
 RestsOf name (One x ∷ Set set ∷ One r ∷ []) ds =
     RestsOfSetReified (RestsOnceFixed name (One x ∷ Set set ∷ One r ∷ []) ds) name (term_set ds x) set (term_set ds r)
 RestsOf name (Terms xs ∷ []) ds = RestsOfDifferences (RestsOnceFixed name (Terms xs ∷ []) ds) name xs ds
 RestsOf name (Numbers ks ∷ Terms ts ∷ One (Num c) ∷ []) ds =
     RestsOfSum (RestsOnceFixed name (Numbers ks ∷ Terms ts ∷ One (Num c) ∷ []) ds) (sum_relation_of name) ds ks ts c
-RestsOf name arguments ds = RestsOnceFixed name arguments ds
+RestsOf name arguments ds = RestsOtherwise name arguments ds
 
 -- the constraints that have a line of their own
 abbrev pub HasOwnLine : Builtin → List Argument → Type 0
 HasOwnLine name (One x ∷ One y ∷ []) = IsSome (relation_of name)
-HasOwnLine name (One x ∷ One y ∷ One r ∷ []) = IsSome (reified_of name)
+HasOwnLine name (One x ∷ One y ∷ One r ∷ []) = IsSome (reified_of name) ⊎ IsSome (clause_of name (One x ∷ One y ∷ One r ∷ []))
 HasOwnLine name (One x ∷ Set set ∷ []) = name ≡ SetIn
 HasOwnLine name (One x ∷ Set set ∷ One r ∷ []) = name ≡ SetInReif
 HasOwnLine name (Terms xs ∷ []) = IsDifference name
 HasOwnLine name (Numbers ks ∷ Terms ts ∷ One (Num c) ∷ []) = IsSome (sum_relation_of name)
-HasOwnLine name arguments = ⊥
+HasOwnLine name arguments = IsSome (clause_of name arguments)
 
 abbrev pub Rests : Constraint → List (List (ℤ × ℤ)) → Type 0
 Rests c ds = RestsOf c.name c.arguments ds
 
 -- ---- what may break it
 
--- W is what is waited for where there is no line of its own: that a term gets fixed.
+-- W is what is waited for where there is no line of its own, or that of a clause: that a term gets fixed.
 abbrev pub waits_of_two : List Wait → Option Relation → Term → Term → List Wait
 waits_of_two W None x y = W
 waits_of_two W (Some relation) x y = wait_for (event_of relation) x ++ wait_for (event_of relation) y

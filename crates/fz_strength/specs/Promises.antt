@@ -8,6 +8,7 @@ use Rattle.fz_spec.specs.declared.term.Term.{Term}
 use Rattle.fz_spec.specs.Constraints.{Argument, One, Set, Constraint, IsTrueOf}
 use Rattle.fz_strength.specs.Domains.{term_set, AreDomains, Within, IsNarrower}
 use Rattle.fz_strength.specs.declared.relation.Relation.{Relation}
+use Rattle.fz_strength.specs.Clauses.{Clause, clause_of, clause_terms}
 use Rattle.fz_strength.specs.Relations.{reified_of}
 use Rattle.fz_strength.specs.Lines.{Rests}
 
@@ -26,16 +27,21 @@ IsNeverTrue c ds = (a : List ℤ) → Within ds a → IsTrueOf a c → ⊥
 abbrev pub RestsForGood : Constraint → List (List (ℤ × ℤ)) → Type 0
 RestsForGood c ds = (es : List (List (ℤ × ℤ))) → AreDomains es → IsNarrower ds es → Rests c es
 
--- the Boolean of a reified comparison
-abbrev pub truth_of_reified : Option Relation → Term → List Term
-truth_of_reified None r = []
-truth_of_reified (Some relation) r = r ∷ []
+-- the terms of a clause
+abbrev pub truths_of_clause : Option Clause → List Term
+truths_of_clause None = []
+truths_of_clause (Some clause) = clause_terms clause
+
+-- the Boolean of a reified comparison; where it is none, T
+abbrev pub truth_of_reified : List Term → Option Relation → Term → List Term
+truth_of_reified T None r = T
+truth_of_reified T (Some relation) r = r ∷ []
 
 -- The terms that a constraint takes for 0 or 1, where that matters to its propagator.
 abbrev pub truths_of : Builtin → List Argument → List Term
-truths_of name (One x ∷ One y ∷ One r ∷ []) = truth_of_reified (reified_of name) r
+truths_of name (One x ∷ One y ∷ One r ∷ []) = truth_of_reified (truths_of_clause (clause_of name (One x ∷ One y ∷ One r ∷ []))) (reified_of name) r
 truths_of SetInReif (One x ∷ Set set ∷ One r ∷ []) = r ∷ []
-truths_of name arguments = []
+truths_of name arguments = truths_of_clause (clause_of name arguments)
 
 -- only 0 and 1 are left of a term
 abbrev pub IsTruth : List (List (ℤ × ℤ)) → Term → Type 0

@@ -6,4 +6,5 @@
 pub mod cost;
 pub mod event;
 pub mod laws;
+pub mod literal;
 pub mod relation;

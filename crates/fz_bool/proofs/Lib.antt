@@ -1,0 +1,5 @@
+pub mod Looks
+pub mod Within
+pub mod Falsing
+pub mod Clausal
+pub mod Names
