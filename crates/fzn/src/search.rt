@@ -98,7 +98,7 @@ pub(crate) fn wanted(options: &Options) -> Option<u32>
 pub(crate) fn listing_of<'a>(book: &'a Book, options: &Options) -> Listing<'a>
     requires { IsSearched book.now.book.model
         (enough_for book.now.book.model.goal options.now) book.now.book }
-    ensures { IsShown book.now.book.model.goal options.entry book.now.book.model
+    ensures { IsShown book.now.book.model.goal options.now book.now.book.model
         result.found.now result.complete }
 {
     match book.model().goal() {
