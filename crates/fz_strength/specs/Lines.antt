@@ -81,13 +81,17 @@ RestsOf name (One x ∷ Set set ∷ One r ∷ []) ds =
     RestsOfSetReified (RestsOnceFixed name (One x ∷ Set set ∷ One r ∷ []) ds) name (term_set ds x) set (term_set ds r)
 RestsOf name arguments ds = RestsOtherwise name arguments ds
 
+-- the constraints that compare terms, or a term with a set
+abbrev pub IsComparing : Builtin → List Argument → Type 0
+IsComparing name (One x ∷ One y ∷ []) = IsSome (relation_of name)
+IsComparing name (One x ∷ One y ∷ One r ∷ []) = IsSome (reified_of name)
+IsComparing name (One x ∷ Set set ∷ []) = name ≡ SetIn
+IsComparing name (One x ∷ Set set ∷ One r ∷ []) = name ≡ SetInReif
+IsComparing name arguments = ⊥
+
 -- the constraints that have a line of their own
 abbrev pub HasOwnLine : Builtin → List Argument → Type 0
-HasOwnLine name (One x ∷ One y ∷ []) = IsSome (relation_of name)
-HasOwnLine name (One x ∷ One y ∷ One r ∷ []) = IsSome (reified_of name) ⊎ IsSome (clause_of name (One x ∷ One y ∷ One r ∷ []))
-HasOwnLine name (One x ∷ Set set ∷ []) = name ≡ SetIn
-HasOwnLine name (One x ∷ Set set ∷ One r ∷ []) = name ≡ SetInReif
-HasOwnLine name arguments = IsSome (clause_of name arguments)
+HasOwnLine name arguments = IsComparing name arguments ⊎ IsSome (clause_of name arguments)
 
 abbrev pub Rests : Constraint → List (List (ℤ × ℤ)) → Type 0
 Rests c ds = RestsOf c.name c.arguments ds
