@@ -8,3 +8,6 @@ mod literals;
 mod parts;
 
 pub use clause::Clause;
+
+#[cfg(test)]
+mod tests;

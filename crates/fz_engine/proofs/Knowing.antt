@@ -8,7 +8,7 @@ use Rattle.fz_sets.specs.Sets.{IsWithinLimits, IsInSet, IsInRange}
 use Rattle.fz_spec.specs.declared.kind.Kind.{Kind}
 use Rattle.fz_spec.specs.declared.kind.Kind.TheVariants as kinds
 use Rattle.fz_spec.specs.declared.builtin.Builtin.{Builtin}
-use Rattle.fz_spec.specs.declared.builtin.Builtin.TheVariants.{BoolEqReif, BoolLeReif, BoolLtReif, IntEqReif, IntLeReif, IntLtReif, IntNeReif, SetIn, SetInReif}
+use Rattle.fz_spec.specs.declared.builtin.Builtin.TheVariants.{ArrayBoolAnd, ArrayBoolOr, BoolAnd, BoolClause, BoolClauseReif, BoolOr, BoolEqReif, BoolLeReif, BoolLtReif, IntEqReif, IntLeReif, IntLtReif, IntNeReif, SetIn, SetInReif}
 use Rattle.fz_spec.specs.declared.term.Term.{Term}
 use Rattle.fz_spec.specs.declared.term.Term.TheVariants.{Num, Var}
 use Rattle.fz_spec.specs.declared.asked.Element.{Element}
@@ -26,7 +26,10 @@ use Rattle.fz_strength.specs.Events.{Wait, wait_for, waits_for, AreBelow}
 use Rattle.fz_strength.specs.Relations.{relation_of, reified_of, event_of, reified_event}
 use Rattle.fz_strength.specs.Lines.{terms_among, waits, waits_of, waits_of_two, waits_of_reified, waits_of_set, waits_of_set_reified}
 use Rattle.fz_strength.specs.Domains.{dom_at}
-use Rattle.fz_strength.specs.Promises.{truth_of_reified, truths_of, IsTruth}
+use Rattle.fz_strength.specs.declared.literal.Literal.{Literal}
+use Rattle.fz_strength.specs.Clauses.{Clause, clause_of}
+use Rattle.fz_strength.specs.Promises.{truths_of_clause, truth_of_reified, truths_of, IsTruth}
+use Rattle.fz_strength.proofs.Clauses.{clause_all, all_map}
 use Rattle.fz_strength.proofs.Truths.{is_single}
 use Rattle.fz_strength.proofs.Lists.{all_both}
 use Rattle.fz_prop.specs.Stores.{IsTermOf, FitsTerm, declared_sets}
@@ -206,16 +209,53 @@ set_third_bool : (vs : List Variable) (x r : Term) (set : List (ℤ × ℤ)) →
 set_third_bool vs x (Num n) set fits = fits.fit.1.1.0
 set_third_bool vs x (Var v) set fits = fits.fit.1.1.0.1
 
-suits_reified : (vs : List Variable) (name : Builtin) (o : Option Relation) (x y r : Term) → reified_of name ≡ o → AllByRecursion IsVariable vs → MatchOption (row_of name) ⊥ (λ row. FitsRow vs row (One x ∷ One y ∷ One r ∷ []))
-    → AllByRecursion (IsTruth (declared_sets vs)) (truth_of_reified o r)
-suits_reified vs name None x y r of sets fits = tt
-suits_reified vs name (Some relation) x y r of sets fits = (bool_truth vs r sets (third_bool vs name x y r relation of fits), tt)
+-- all terms of a clause are Booleans
+none_clause : (c : Clause) → None ≡ Some c → ⊥
+none_clause c is = cc
+
+bool_element : (vs : List Variable) (t : Term) → FitsElement vs (record { kind = kinds.Bool; may_vary = true }) t → kept.IsTermOf vs kinds.Bool t
+bool_element vs (Num n) fits = fits
+bool_element vs (Var v) fits = fits.1
+
+clause_bools : (vs : List Variable) (name : Builtin) (arguments : List Argument) (c : Clause) → clause_of name arguments ≡ Some c → MatchOption (row_of name) ⊥ (λ row. FitsRow vs row arguments)
+    → AllByRecursion (kept.IsTermOf vs kinds.Bool) (terms_among arguments)
+clause_bools vs BoolClause (Terms ps ∷ Terms ns ∷ []) c is fits =
+    let of : Term → Type 0 = kept.IsTermOf vs kinds.Bool in all_both of ps (ns ++ []) fits.fit.0.1 (all_both of ns [] fits.fit.1.0.1 tt)
+clause_bools vs BoolClauseReif (Terms ps ∷ Terms ns ∷ One r ∷ []) c is fits =
+    let of : Term → Type 0 = kept.IsTermOf vs kinds.Bool in
+    all_both of ps (ns ++ r ∷ []) fits.fit.0.1 (all_both of ns (r ∷ []) fits.fit.1.0.1 (bool_element vs r fits.fit.1.1.0, tt))
+clause_bools vs ArrayBoolOr (Terms ts ∷ One r ∷ []) c is fits = all_both (kept.IsTermOf vs kinds.Bool) ts (r ∷ []) fits.fit.0.1 (bool_element vs r fits.fit.1.0, tt)
+clause_bools vs ArrayBoolAnd (Terms ts ∷ One r ∷ []) c is fits = all_both (kept.IsTermOf vs kinds.Bool) ts (r ∷ []) fits.fit.0.1 (bool_element vs r fits.fit.1.0, tt)
+clause_bools vs BoolOr (One x ∷ One y ∷ One r ∷ []) c is fits = (bool_element vs x fits.fit.0, (bool_element vs y fits.fit.1.0, (bool_element vs r fits.fit.1.1.0, tt)))
+clause_bools vs BoolAnd (One x ∷ One y ∷ One r ∷ []) c is fits = (bool_element vs x fits.fit.0, (bool_element vs y fits.fit.1.0, (bool_element vs r fits.fit.1.1.0, tt)))
+clause_bools vs name arguments c is fits = absurd (none_clause c is)
+
+bools_truths : (vs : List Variable) (ts : List Term) → AllByRecursion IsVariable vs → AllByRecursion (kept.IsTermOf vs kinds.Bool) ts → AllByRecursion (IsTruth (declared_sets vs)) ts
+bools_truths vs [] sets are = tt
+bools_truths vs (t ∷ ts) sets are = (bool_truth vs t sets are.0, bools_truths vs ts sets are.1)
+
+suits_clause : (vs : List Variable) (name : Builtin) (arguments : List Argument) (o : Option Clause) → clause_of name arguments ≡ o → AllByRecursion IsVariable vs
+    → MatchOption (row_of name) ⊥ (λ row. FitsRow vs row arguments) → AllByRecursion (IsTruth (declared_sets vs)) (truths_of_clause o)
+suits_clause vs name arguments None is sets fits = tt
+suits_clause vs name arguments (Some c) is sets fits =
+    let truth : Term → Type 0 = IsTruth (declared_sets vs) in
+    let all = clause_all truth name arguments c is (bool_truth vs (Num (pos 1)) sets (omega (arith, ints), omega (arith, ints)))
+    (bools_truths vs (terms_among arguments) sets (clause_bools vs name arguments c is fits)) in
+    (all.1, all_map truth (λ (l : Literal). l.term) c.literals all.0)
+
+suits_reified : (T : List Term) (vs : List Variable) (name : Builtin) (o : Option Relation) (x y r : Term) → reified_of name ≡ o → AllByRecursion IsVariable vs
+    → MatchOption (row_of name) ⊥ (λ row. FitsRow vs row (One x ∷ One y ∷ One r ∷ [])) → AllByRecursion (IsTruth (declared_sets vs)) T
+    → AllByRecursion (IsTruth (declared_sets vs)) (truth_of_reified T o r)
+suits_reified T vs name None x y r of sets fits others = others
+suits_reified T vs name (Some relation) x y r of sets fits others = (bool_truth vs r sets (third_bool vs name x y r relation of fits), tt)
 
 suits_of : (vs : List Variable) (name : Builtin) (arguments : List Argument) → AllByRecursion IsVariable vs → MatchOption (row_of name) ⊥ (λ row. FitsRow vs row arguments)
     → AllByRecursion (IsTruth (declared_sets vs)) (truths_of name arguments)
-suits_of vs name (One x ∷ One y ∷ One r ∷ []) sets fits = suits_reified vs name (reified_of name) x y r refl sets fits
+suits_of vs name (One x ∷ One y ∷ One r ∷ []) sets fits =
+    let at = One x ∷ One y ∷ One r ∷ [] in
+    suits_reified (truths_of_clause (clause_of name at)) vs name (reified_of name) x y r refl sets fits (suits_clause vs name at (clause_of name at) refl sets fits)
 suits_of vs SetInReif (One x ∷ Set set ∷ One r ∷ []) sets fits = (bool_truth vs r sets (set_third_bool vs x r set fits), tt)
-suits_of vs name arguments sets fits = tt
+suits_of vs name arguments sets fits = suits_clause vs name arguments (clause_of name arguments) refl sets fits
 
 pub declared_length : (vs : List Variable) → length (declared_sets vs) ≡ length vs
 declared_length vs = length-map vs (λ (v : Variable). v.set)

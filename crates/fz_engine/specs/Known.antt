@@ -3,12 +3,16 @@ use Rattle.std.specs.Prelude.{◌≡◌, ℕ, List, Option, MatchOption}
 use Rattle.std.specs.List.{AllByRecursion}
 use Rattle.fz_spec.specs.declared.builtin.Builtin.{Builtin}
 use Rattle.fz_spec.specs.Constraints.{Argument, One, Numbers, Terms, Set, Constraint}
-use Rattle.fz_strength.specs.Lines.{HasOwnLine}
+use Rattle.fz_strength.specs.Lines.{HasOwnLine, IsComparing}
 use Rattle.fz_prop.specs.Stores.{IsTermOf, FitsTerm}
 
 -- a constraint with a line of its own, or none where it has none
 abbrev pub IsOwn : Option Constraint → Builtin → List Argument → Type 0
 IsOwn o name arguments = MatchOption o (HasOwnLine name arguments → ⊥) (λ (c : Constraint). c ≡ record { name = name; arguments = arguments })
+
+-- the same of a constraint that compares
+abbrev pub IsCompared : Option Constraint → Builtin → List Argument → Type 0
+IsCompared o name arguments = MatchOption o (IsComparing name arguments → ⊥) (λ (c : Constraint). c ≡ record { name = name; arguments = arguments })
 
 -- the numbers among arguments are within the limits
 abbrev pub IsLimited : Argument → Type 0

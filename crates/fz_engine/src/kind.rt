@@ -6,14 +6,15 @@ ghost use Rattle.fz_model.specs.Arguments.{argument_of};
 ghost use Rattle.fz_strength.specs.Costs.{cost_of};
 ghost use Rattle.fz_strength.specs.Differences.{IsDifference};
 ghost use Rattle.fz_strength.specs.Events.{Wait, AreBelow};
-ghost use Rattle.fz_strength.specs.Lines.{waits, HasOwnLine};
+ghost use Rattle.fz_strength.specs.Lines.{waits, HasOwnLine, IsComparing};
 ghost use Rattle.fz_strength.specs.Promises.{IsCorrect, Suits};
 ghost use Rattle.fz_prop.specs.Answers.{IsAnswer};
 ghost use Rattle.fz_prop.specs.Stores.{Shrinks, IsStore, FitsTerm};
-ghost use Rattle.fz_engine.specs.Known.{IsOwn, HaveLimits, HasLimits};
+ghost use Rattle.fz_engine.specs.Known.{IsOwn, IsCompared, HaveLimits, HasLimits};
 
 use fz_alldiff::AllDifferent;
 use fz_await::Awaiting;
+use fz_bool::Clause;
 use fz_dom::Dom;
 use fz_model::constraint::{Argument, Constraint};
 use fz_prop::{Answer, Cost, Event, Propagator, Store};
@@ -37,6 +38,7 @@ enum Form {
     Membership(Membership),
     ReifiedMembership(ReifiedMembership),
     AllDifferent(AllDifferent),
+    Clause(Clause),
     Awaiting(Awaiting),
 }
 
@@ -75,6 +77,7 @@ impl Kind {
             Form::Membership(membership) => membership.vars(),
             Form::ReifiedMembership(membership) => membership.vars(),
             Form::AllDifferent(different) => different.vars(),
+            Form::Clause(clause) => clause.vars(),
             Form::Awaiting(awaiting) => awaiting.vars(),
         }
     }
@@ -90,6 +93,7 @@ impl Kind {
             Form::Membership(membership) => membership.event(place),
             Form::ReifiedMembership(membership) => membership.event(place),
             Form::AllDifferent(different) => different.event(place),
+            Form::Clause(clause) => clause.event(place),
             Form::Awaiting(awaiting) => awaiting.event(place),
         }
     }
@@ -104,6 +108,7 @@ impl Kind {
             Form::Membership(membership) => membership.cost(),
             Form::ReifiedMembership(membership) => membership.cost(),
             Form::AllDifferent(different) => different.cost(),
+            Form::Clause(clause) => clause.cost(),
             Form::Awaiting(awaiting) => awaiting.cost(),
         }
     }
@@ -126,6 +131,7 @@ impl Kind {
             Form::Membership(membership) => membership.run(store),
             Form::ReifiedMembership(membership) => membership.run(store),
             Form::AllDifferent(different) => different.run(store),
+            Form::Clause(clause) => clause.run(store),
             Form::Awaiting(awaiting) => awaiting.run(store),
         };
         let _ = store.doms();
@@ -149,6 +155,30 @@ fn own(alloc: Global, constraint: &Constraint) -> Result<Option<Kind>, AllocErro
     requires { HasLimits constraint.now }
     ensures { IfOk result (λ o. IsOwn o constraint.now.name constraint.now.arguments) }
 {
+    match compared(alloc, constraint)? {
+        Some(kind) => Ok(Some(kind)),
+        None => clause(alloc, constraint),
+    }
+}
+
+/// The propagator of a constraint that says a clause; `None` where it says none.
+fn clause(alloc: Global, constraint: &Constraint) -> Result<Option<Kind>, AllocError>
+    requires { IsComparing constraint.now.name constraint.now.arguments → ⊥ }
+    ensures { IfOk result (λ o. IsOwn o constraint.now.name constraint.now.arguments) }
+{
+    match Clause::of(alloc, constraint)? {
+        Some(clause) => Ok(Some(Kind {
+            form: Form::Clause(clause),
+        })),
+        None => Ok(None),
+    }
+}
+
+/// The propagator of a constraint that compares; `None` where it is another one.
+fn compared(alloc: Global, constraint: &Constraint) -> Result<Option<Kind>, AllocError>
+    requires { HasLimits constraint.now }
+    ensures { IfOk result (λ o. IsCompared o constraint.now.name constraint.now.arguments) }
+{
     match constraint.arguments() {
         [Argument::One(x), rest @ ..] => of_term(alloc, constraint.name(), *x, rest),
         [Argument::Terms(terms)] => of_list(alloc, constraint.name(), terms),
@@ -156,7 +186,7 @@ fn own(alloc: Global, constraint: &Constraint) -> Result<Option<Kind>, AllocErro
     }
 }
 
-/// The propagator of its own of a constraint whose first argument is a term.
+/// The propagator of a constraint that compares whose first argument is a term.
 fn of_term(
     alloc: Global,
     name: Builtin,
@@ -165,7 +195,7 @@ fn of_term(
 ) -> Result<Option<Kind>, AllocError>
     requires x { FitsTerm x }
     requires rest { HaveLimits (map argument_of rest.now) }
-    ensures { IfOk result (λ o. IsOwn o name (meaning.One x ∷ map argument_of rest.now)) }
+    ensures { IfOk result (λ o. IsCompared o name (meaning.One x ∷ map argument_of rest.now)) }
 {
     match rest {
         [Argument::One(y), tail @ ..] => Ok(of_terms(name, x, *y, tail)),
@@ -174,11 +204,11 @@ fn of_term(
     }
 }
 
-/// The propagator of its own of a constraint whose first two arguments are terms.
+/// The propagator of a constraint that compares whose first two arguments are terms.
 fn of_terms(name: Builtin, x: Term, y: Term, rest: &[Argument]) -> Option<Kind>
     requires x { FitsTerm x }
     requires y { FitsTerm y }
-    ensures { IsOwn result name (meaning.One x ∷ meaning.One y ∷ map argument_of rest.now) }
+    ensures { IsCompared result name (meaning.One x ∷ meaning.One y ∷ map argument_of rest.now) }
 {
     match rest {
         [] => comparing(name, x, y),
@@ -187,7 +217,7 @@ fn of_terms(name: Builtin, x: Term, y: Term, rest: &[Argument]) -> Option<Kind>
     }
 }
 
-/// The propagator of its own of a constraint whose first two arguments are a term and a set.
+/// The propagator of a constraint that compares whose first two arguments are a term and a set.
 fn of_set(
     alloc: Global,
     name: Builtin,
@@ -197,7 +227,7 @@ fn of_set(
 ) -> Result<Option<Kind>, AllocError>
     requires { FitsTerm x }
     ensures { IfOk result
-        (λ o. IsOwn o name (meaning.One x ∷ meaning.Set set.now ∷ map argument_of rest.now)) }
+        (λ o. IsCompared o name (meaning.One x ∷ meaning.Set set.now ∷ map argument_of rest.now)) }
 {
     match (name, rest) {
         (Builtin::SetIn, []) => Ok(Some(member(x, set.copy()?))),
@@ -208,7 +238,7 @@ fn of_set(
 
 /// The propagator of its own of a constraint whose only argument is a list of terms.
 fn of_list(alloc: Global, name: Builtin, terms: &[Term]) -> Result<Option<Kind>, AllocError>
-    ensures { IfOk result (λ o. IsOwn o name (meaning.Terms terms.now ∷ [])) }
+    ensures { IfOk result (λ o. IsCompared o name (meaning.Terms terms.now ∷ [])) }
 {
     match name {
         Builtin::AllDifferentInt | Builtin::FznAllDifferentInt => {
@@ -222,7 +252,7 @@ fn of_list(alloc: Global, name: Builtin, terms: &[Term]) -> Result<Option<Kind>,
 fn comparing(name: Builtin, x: Term, y: Term) -> Option<Kind>
     requires x { FitsTerm x }
     requires y { FitsTerm y }
-    ensures { IsOwn result name (meaning.One x ∷ meaning.One y ∷ []) }
+    ensures { IsCompared result name (meaning.One x ∷ meaning.One y ∷ []) }
 {
     let relation = Relation::of(name)?;
     Some(Kind {
@@ -234,7 +264,7 @@ fn comparing(name: Builtin, x: Term, y: Term) -> Option<Kind>
 fn reifying(name: Builtin, x: Term, y: Term, r: Term) -> Option<Kind>
     requires x { FitsTerm x }
     requires y { FitsTerm y }
-    ensures { IsOwn result name (meaning.One x ∷ meaning.One y ∷ meaning.One r ∷ []) }
+    ensures { IsCompared result name (meaning.One x ∷ meaning.One y ∷ meaning.One r ∷ []) }
 {
     let relation = Relation::of_reified(name)?;
     Some(Kind {

@@ -17,8 +17,9 @@ use Rattle.fz_strength.specs.declared.event.Event.TheVariants.{Any, Fixed}
 use Rattle.fz_strength.specs.Domains.{term_set, dom_at}
 use Rattle.fz_strength.specs.Events.{IsOnly, IsFixedIn, Wait, wait_for, waits_for, AreBelow, AreFixed}
 use Rattle.fz_strength.specs.Relations.{reified_of, Relates, RestsAs, RestsAgainst, IsShown, IsRefuted, reified_event}
-use Rattle.fz_strength.specs.Lines.{IsReifiedLine, Rests, RestsReified, RestsOnceFixed, waits_of_reified, waits}
-use Rattle.fz_strength.specs.Promises.{IsCorrect, IsTruth, Suits, truth_of_reified}
+use Rattle.fz_strength.specs.Lines.{IsReifiedLine, Rests, RestsReified, RestsOtherwise, waits_of_reified, waits}
+use Rattle.fz_strength.specs.Promises.{IsCorrect, IsTruth, Suits, truth_of_reified, truths_of_clause}
+use Rattle.fz_strength.specs.Clauses.{clause_of}
 use Rattle.fz_strength.proofs.Lists.{all_left, all_right}
 use Rattle.fz_prop.specs.declared.answer.Answer.{Answer}
 use Rattle.fz_prop.specs.Answers.{IsAnswer, IsAnswerOf, IsCorrectOf}
@@ -55,7 +56,7 @@ named : (name : Builtin) (relation : Relation) (x y r : Term) → reified_of nam
     → IsSame (ReifiedTruth (TruthOf relation x y) r) (λ a. IsTrueOf a (reifying name x y r)) (ReifiedLine relation x y r) (Rests (reifying name x y r))
 named name relation x y r is = record {
   truth = λ a. truth_is name relation (term_value a x) (term_value a y) (term_value a r) is;
-  line = λ ds h. line_is (RestsOnceFixed name (One x ∷ One y ∷ One r ∷ []) ds) (reified_of name) relation (term_set ds x) (term_set ds y) (term_set ds r) is h;
+  line = λ ds h. line_is (RestsOtherwise name (One x ∷ One y ∷ One r ∷ []) ds) (reified_of name) relation (term_set ds x) (term_set ds y) (term_set ds r) is h;
 }
 
 pub reified_answer : (name : Builtin) (relation : Relation) (x y r : Term) (answer : Answer) (ds es : List (List (ℤ × ℤ))) → reified_of name ≡ Some relation
@@ -108,7 +109,7 @@ reified_fixed name relation x y r ds is fixed =
 
 pub reified_suits : (name : Builtin) (relation : Relation) (x y r : Term) (ds : List (List (ℤ × ℤ))) → reified_of name ≡ Some relation → Suits (reifying name x y r) ds → IsTruth ds r
 reified_suits name relation x y r ds is suits =
-    (subst (λ (o : Option Relation). AllByRecursion (IsTruth ds) (truth_of_reified o r)) is suits).0
+    (subst (λ (o : Option Relation). AllByRecursion (IsTruth ds) (truth_of_reified (truths_of_clause (clause_of name (One x ∷ One y ∷ One r ∷ []))) o r)) is suits).0
 
 three : (event : Event) (x y r : Term) → map (λ (w : Wait). w.variable) (wait_for event x ++ (wait_for event y ++ wait_for Any r)) ≡ variables_of x y ++ variable_of r
 three event (Num l) (Num m) r = variable_waited Any r

@@ -46,17 +46,17 @@ line_otherwise name arguments ds none h = line_of_clause (RestsOnceFixed name ar
 
 pub general_line : (name : Builtin) (arguments : List Argument) (ds : List (List (ℤ × ℤ))) → (HasOwnLine name arguments → ⊥) → RestsOnceFixed name arguments ds
     → RestsOf name arguments ds
-general_line name (One x ∷ One y ∷ []) ds none h = line_of_two (RestsOnceFixed name (One x ∷ One y ∷ []) ds) (relation_of name) (term_set ds x) (term_set ds y) none h
+general_line name (One x ∷ One y ∷ []) ds none h = line_of_two (RestsOnceFixed name (One x ∷ One y ∷ []) ds) (relation_of name) (term_set ds x) (term_set ds y) (λ own. none (inl own)) h
 general_line name (One x ∷ One y ∷ One r ∷ []) ds none h =
     let at = One x ∷ One y ∷ One r ∷ [] in
     line_of_reified (RestsOtherwise name at ds) (reified_of name) (term_set ds x) (term_set ds y) (term_set ds r) (λ own. none (inl own)) (line_otherwise name at ds (λ own. none (inr own)) h)
-general_line name (One x ∷ Set set ∷ []) ds none h = line_of_set (RestsOnceFixed name (One x ∷ Set set ∷ []) ds) name (term_set ds x) set none h
+general_line name (One x ∷ Set set ∷ []) ds none h = line_of_set (RestsOnceFixed name (One x ∷ Set set ∷ []) ds) name (term_set ds x) set (λ own. none (inl own)) h
 general_line name (One x ∷ Set set ∷ One r ∷ []) ds none h =
-    line_of_set_reified (RestsOnceFixed name (One x ∷ Set set ∷ One r ∷ []) ds) name (term_set ds x) set (term_set ds r) none h
-general_line name (Terms xs ∷ []) ds none h = line_of_differences (RestsOnceFixed name (Terms xs ∷ []) ds) name xs ds none h
+    line_of_set_reified (RestsOnceFixed name (One x ∷ Set set ∷ One r ∷ []) ds) name (term_set ds x) set (term_set ds r) (λ own. none (inl own)) h
+general_line name (Terms xs ∷ []) ds none h = line_of_differences (RestsOnceFixed name (Terms xs ∷ []) ds) name xs ds (λ own. none (inl own)) h
 general_line name (Numbers ks ∷ Terms ts ∷ One (Num c) ∷ []) ds none h =
-    line_of_sum (RestsOnceFixed name (Numbers ks ∷ Terms ts ∷ One (Num c) ∷ []) ds) (sum_relation_of name) ds ks ts c none h
-general_line name arguments ds none h = line_otherwise name arguments ds none h
+    line_of_sum (RestsOnceFixed name (Numbers ks ∷ Terms ts ∷ One (Num c) ∷ []) ds) (sum_relation_of name) ds ks ts c (λ own. none (inl own)) h
+general_line name arguments ds none h = line_otherwise name arguments ds (λ own. none (inr own)) h
 
 -- ---- what it waits for
 
@@ -81,10 +81,10 @@ waits_sum W None ts none = refl
 waits_sum W (Some relation) ts none = absurd (none refl)
 
 pub general_waits : (name : Builtin) (arguments : List Argument) → (HasOwnLine name arguments → ⊥) → waits_of name arguments ≡ waits_for Fixed (terms_among arguments)
-general_waits name (One x ∷ One y ∷ []) none = waits_two (waits_for Fixed (x ∷ y ∷ [])) (relation_of name) x y none
+general_waits name (One x ∷ One y ∷ []) none = waits_two (waits_for Fixed (x ∷ y ∷ [])) (relation_of name) x y (λ own. none (inl own))
 general_waits name (One x ∷ One y ∷ One r ∷ []) none = waits_reified (waits_for Fixed (x ∷ y ∷ r ∷ [])) (reified_of name) x y r (λ own. none (inl own))
-general_waits name (One x ∷ Set set ∷ []) none = waits_set (waits_for Fixed (x ∷ [])) name x none
-general_waits name (One x ∷ Set set ∷ One r ∷ []) none = waits_set_reified (waits_for Fixed (x ∷ r ∷ [])) name x r none
+general_waits name (One x ∷ Set set ∷ []) none = waits_set (waits_for Fixed (x ∷ [])) name x (λ own. none (inl own))
+general_waits name (One x ∷ Set set ∷ One r ∷ []) none = waits_set_reified (waits_for Fixed (x ∷ r ∷ [])) name x r (λ own. none (inl own))
 general_waits name (Numbers ks ∷ Terms ts ∷ One (Num c) ∷ []) none =
-    waits_sum (waits_for Fixed (terms_among (Numbers ks ∷ Terms ts ∷ One (Num c) ∷ []))) (sum_relation_of name) ts none
+    waits_sum (waits_for Fixed (terms_among (Numbers ks ∷ Terms ts ∷ One (Num c) ∷ []))) (sum_relation_of name) ts (λ own. none (inl own))
 general_waits name arguments none = refl

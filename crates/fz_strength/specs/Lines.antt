@@ -92,15 +92,19 @@ RestsOf name (Numbers ks ∷ Terms ts ∷ One (Num c) ∷ []) ds =
     RestsOfSum (RestsOnceFixed name (Numbers ks ∷ Terms ts ∷ One (Num c) ∷ []) ds) (sum_relation_of name) ds ks ts c
 RestsOf name arguments ds = RestsOtherwise name arguments ds
 
+-- the constraints that compare terms, or a term with a set, all terms with one another, or a sum with a number
+abbrev pub IsComparing : Builtin → List Argument → Type 0
+IsComparing name (One x ∷ One y ∷ []) = IsSome (relation_of name)
+IsComparing name (One x ∷ One y ∷ One r ∷ []) = IsSome (reified_of name)
+IsComparing name (One x ∷ Set set ∷ []) = name ≡ SetIn
+IsComparing name (One x ∷ Set set ∷ One r ∷ []) = name ≡ SetInReif
+IsComparing name (Terms xs ∷ []) = IsDifference name
+IsComparing name (Numbers ks ∷ Terms ts ∷ One (Num c) ∷ []) = IsSome (sum_relation_of name)
+IsComparing name arguments = ⊥
+
 -- the constraints that have a line of their own
 abbrev pub HasOwnLine : Builtin → List Argument → Type 0
-HasOwnLine name (One x ∷ One y ∷ []) = IsSome (relation_of name)
-HasOwnLine name (One x ∷ One y ∷ One r ∷ []) = IsSome (reified_of name) ⊎ IsSome (clause_of name (One x ∷ One y ∷ One r ∷ []))
-HasOwnLine name (One x ∷ Set set ∷ []) = name ≡ SetIn
-HasOwnLine name (One x ∷ Set set ∷ One r ∷ []) = name ≡ SetInReif
-HasOwnLine name (Terms xs ∷ []) = IsDifference name
-HasOwnLine name (Numbers ks ∷ Terms ts ∷ One (Num c) ∷ []) = IsSome (sum_relation_of name)
-HasOwnLine name arguments = IsSome (clause_of name arguments)
+HasOwnLine name arguments = IsComparing name arguments ⊎ IsSome (clause_of name arguments)
 
 abbrev pub Rests : Constraint → List (List (ℤ × ℤ)) → Type 0
 Rests c ds = RestsOf c.name c.arguments ds
