@@ -75,8 +75,10 @@ ends_best : (m : Instance) (l : List (List ℤ)) → AllByRecursion (Satisfies m
 ends_best m [] sound none = λ a satisfies. none a satisfies tt
 ends_best m (x ∷ []) sound none = record { satisfies = sound.0; unbettered = none }
 ends_best m (x ∷ y ∷ ys) sound none =
-    let e : suc (length ys) - 1 ≡ length ys = omega arith in
-    ends_best m (y ∷ ys) sound.1 (λ a satisfies better. none a satisfies (rw e at better))
+    let one : suc (length ys) - 1 ≡ length ys = omega arith in
+    let two : suc (suc (length ys)) - 1 ≡ suc (length ys) = omega arith in
+    let last : slice_get (x ∷ y ∷ ys) (suc (suc (length ys)) - 1) ≡ slice_get (y ∷ ys) (suc (length ys) - 1) = ap (slice_get (x ∷ y ∷ ys)) two ∙ ap (slice_get (y ∷ ys)) (sym one) in
+    ends_best m (y ∷ ys) sound.1 (λ a satisfies better. none a satisfies (subst (λ (o : Option (List ℤ)). Betters m a o) (sym last) better))
 
 of_best : (mode : Mode) (m : Instance) (l : List (List ℤ)) → mode ≡ modes.Best → SuitsRecord mode m l → AreImproving m l
 of_best modes.Best m l is suits = suits
@@ -100,13 +102,17 @@ last_alone : (all : Bool) (m : Instance) (l : List (List ℤ)) → AreBest true 
 last_alone all m [] best = record { sound = tt; improving = tt; alone = λ e. omega arith; last = best.last }
 last_alone all m (x ∷ []) best = record { sound = best.sound; improving = tt; alone = λ e. omega arith; last = best.last }
 last_alone all m (x ∷ y ∷ ys) best =
-    let e : suc (length ys) - 1 ≡ length ys = omega arith in
+    let one : suc (length ys) - 1 ≡ length ys = omega arith in
+    let two : suc (suc (length ys)) - 1 ≡ suc (length ys) = omega arith in
     let rest = last_alone all m (y ∷ ys) (record { sound = best.sound.1; improving = best.improving.1; alone = λ f. absurd (cc f); last = best.last }) in
-    rw e at rest
+    let same : drop (suc (length ys) - 1) (y ∷ ys) ≡ drop (suc (suc (length ys)) - 1) (x ∷ y ∷ ys) = ap (λ n. drop n (y ∷ ys)) one ∙ ap (λ n. drop n (x ∷ y ∷ ys)) (sym two) in
+    subst (λ (l : List (List ℤ)). AreBest all m l) same rest
 
-pub best_shown : (b : Book) (all : Bool) (front : ℕ) → IsSearched b.model None b → b.mode ≡ modes.Best → front ≡ cond all 0 (length b.recorded - 1) → AreBest all b.model (drop front b.recorded)
-best_shown b true front s best is = subst (λ n. AreBest true b.model (drop n b.recorded)) (sym is) (best_recorded b s.law best s.ended)
-best_shown b false front s best is = subst (λ n. AreBest false b.model (drop n b.recorded)) (sym is) (last_alone false b.model b.recorded (best_recorded b s.law best s.ended))
+pub best_listed : (b : Book) (all : Bool) (l : List (List ℤ)) → IsSearched b.model None b → b.mode ≡ modes.Best → all ≡ true → l ≡ b.recorded → AreBest all b.model l
+best_listed b all l s best is same = rw (is, same) (best_recorded b s.law best s.ended)
+
+pub best_alone : (b : Book) (all : Bool) (l : List (List ℤ)) → IsSearched b.model None b → b.mode ≡ modes.Best → l ≡ b.recorded → AreBest all b.model (drop (length l - 1) l)
+best_alone b all l s best same = subst (λ (k : List (List ℤ)). AreBest all b.model (drop (length k - 1) k)) (sym same) (last_alone all b.model b.recorded (best_recorded b s.law best s.ended))
 
 -- what is shown is declared
 all_declared : (m : Instance) (l : List (List ℤ)) → AllByRecursion (Satisfies m) l → AllByRecursion (AreDeclared m.variables) l

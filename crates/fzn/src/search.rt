@@ -1,5 +1,5 @@
 //! The search of a model, and what is shown of it.
-ghost use Rattle.std.specs.Prelude.{◌≡◌, None, true, IfOk};
+ghost use Rattle.std.specs.Prelude.{◌≡◌, ◌-◌, None, true, drop, length, IfOk};
 ghost use Rattle.std.specs.Arc.{arc_value};
 ghost use Rattle.fz_tree.specs.declared.mode.Mode.TheVariants as modes;
 ghost use Rattle.fz_tree.specs.Better.{mode_of};
@@ -135,9 +135,21 @@ fn best_of(book: &Book, all: bool) -> Listing<'_>
     ensures complete { result.complete ≡ true }
 {
     let found = book.recorded();
-    let front = if all { 0 } else { found.len().saturating_sub(1) };
+    if all {
+        return Listing {
+            found,
+            complete: true,
+        };
+    }
     Listing {
-        found: &found[front..],
+        found: last_of(found),
         complete: true,
     }
+}
+
+/// The last of a list alone; of an empty list nothing.
+fn last_of(found: &[Assignment]) -> &[Assignment]
+    ensures { result.now ≡ drop (length found.now - 1) found.now }
+{
+    &found[found.len().saturating_sub(1)..]
 }

@@ -1,5 +1,6 @@
-use Rattle.std.proofs.Common.{◌∙◌, ap}
+use Rattle.std.proofs.Common.{◌≡◌, ◌∙◌, ap, rules}
 use Rattle.std.specs.Arc.{arc_value}
+use Rattle.fz_spec.specs.declared.goal.Goal.{Goal}
 use Rattle.fz_tree.specs.Book.{Book}
 use Rattle.fzn.specs.Steps.{enough_for}
 use Rattle.fzn.proofs.Searches.{searched}
@@ -7,5 +8,6 @@ use Rattle.fzn.proofs.search.search.Goals as goal
 
 pub returns : goal.returns
 returns g c =
+    let aim : c.goal-2.result.now ≡ (arc_value c.args.model.now).goal = search rules in
     searched (arc_value c.args.model.now) (enough_for (arc_value c.args.model.now).goal c.args.options.now) c.enough_for.result c.finish.new.book.book c.in_ok-finish.field-0
-    (c.finish.ensures.model ∙ ap (λ (b : Book). b.model) c.in_ok-book.ensures) c.finish.ensures.law c.enough_for.ensures c.in_ok-finish.ensures.enough c.in_ok-finish.ensures.closed
+    (c.finish.ensures.model ∙ ap (λ (b : Book). b.model) c.in_ok-book.ensures) c.finish.ensures.law (c.enough_for.ensures ∙ ap (λ (goal : Goal). enough_for goal c.args.options.now) aim) c.in_ok-finish.ensures.enough c.in_ok-finish.ensures.closed
