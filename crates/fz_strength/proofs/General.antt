@@ -4,13 +4,14 @@ use Rattle.std.specs.Prelude.{ℤ, Option, Some, None, IsSome}
 use Rattle.fz_spec.specs.declared.builtin.Builtin.{Builtin}
 use Rattle.fz_spec.specs.declared.builtin.Builtin.TheVariants.{SetIn, SetInReif}
 use Rattle.fz_spec.specs.declared.term.Term.{Term}
-use Rattle.fz_spec.specs.Constraints.{Argument, One, Terms, Set}
+use Rattle.fz_spec.specs.Constraints.{Argument, One, Numbers, Terms, Set}
 use Rattle.fz_strength.specs.declared.relation.Relation.{Relation}
 use Rattle.fz_strength.specs.declared.event.Event.TheVariants.{Fixed}
 use Rattle.fz_strength.specs.Domains.{term_set}
 use Rattle.fz_strength.specs.Events.{Wait, waits_for}
 use Rattle.fz_strength.specs.Relations.{relation_of, reified_of}
 use Rattle.fz_strength.proofs.Differences.{line_of_differences}
+use Rattle.fz_strength.proofs.Elements.{line_of_selection, waits_selection}
 use Rattle.fz_strength.specs.Lines.{terms_among, RestsOnceFixed, RestsOfTwo, RestsReified, RestsOfSet, RestsOfSetReified, RestsOf, waits_of_two, waits_of_reified, waits_of_set, waits_of_set_reified, waits_of, HasOwnLine}
 
 line_of_two : (G : Type 0) (o : Option Relation) (d e : List (ℤ × ℤ)) → (IsSome o → ⊥) → G → RestsOfTwo G o d e
@@ -37,6 +38,8 @@ general_line name (One x ∷ One y ∷ One r ∷ []) ds none h =
 general_line name (One x ∷ Set set ∷ []) ds none h = line_of_set (RestsOnceFixed name (One x ∷ Set set ∷ []) ds) name (term_set ds x) set none h
 general_line name (One x ∷ Set set ∷ One r ∷ []) ds none h =
     line_of_set_reified (RestsOnceFixed name (One x ∷ Set set ∷ One r ∷ []) ds) name (term_set ds x) set (term_set ds r) none h
+general_line name (One k ∷ Numbers xs ∷ One c ∷ []) ds none h =
+    line_of_selection (RestsOnceFixed name (One k ∷ Numbers xs ∷ One c ∷ []) ds) name xs (term_set ds k) (term_set ds c) none h
 general_line name (Terms xs ∷ []) ds none h = line_of_differences (RestsOnceFixed name (Terms xs ∷ []) ds) name xs ds none h
 general_line name arguments ds none h = h
 
@@ -63,4 +66,5 @@ general_waits name (One x ∷ One y ∷ []) none = waits_two (waits_for Fixed (x
 general_waits name (One x ∷ One y ∷ One r ∷ []) none = waits_reified (waits_for Fixed (x ∷ y ∷ r ∷ [])) (reified_of name) x y r none
 general_waits name (One x ∷ Set set ∷ []) none = waits_set (waits_for Fixed (x ∷ [])) name x none
 general_waits name (One x ∷ Set set ∷ One r ∷ []) none = waits_set_reified (waits_for Fixed (x ∷ r ∷ [])) name x r none
+general_waits name (One k ∷ Numbers xs ∷ One c ∷ []) none = waits_selection (waits_for Fixed (k ∷ c ∷ [])) name k c none
 general_waits name arguments none = refl

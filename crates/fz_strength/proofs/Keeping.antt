@@ -5,8 +5,7 @@ use Rattle.fz_sets.specs.Sets.{IsInSet}
 use Rattle.fz_spec.specs.declared.builtin.Builtin.{Builtin}
 use Rattle.fz_spec.specs.declared.builtin.Builtin.TheVariants.{SetIn, SetInReif}
 use Rattle.fz_spec.specs.declared.term.Term.{Term}
-use Rattle.fz_spec.specs.declared.term.Term.TheVariants.{Num, Var}
-use Rattle.fz_spec.specs.Constraints.{Argument, One, Terms, Set}
+use Rattle.fz_spec.specs.Constraints.{Argument, One, Numbers, Terms, Set}
 use Rattle.fz_strength.specs.declared.relation.Relation.{Relation}
 use Rattle.fz_strength.specs.declared.relation.Relation.TheVariants.{Equal, NotEqual, AtMost, Below}
 use Rattle.fz_strength.specs.declared.event.Event.TheVariants.{Any, Fixed}
@@ -17,6 +16,7 @@ use Rattle.fz_strength.specs.Lines.{terms_among, RestsOnceFixed, RestsOfTwo, Res
 use Rattle.fz_strength.specs.Laws.{KeptWhereQuiet}
 use Rattle.fz_strength.proofs.Lists.{all_left, all_right}
 use Rattle.fz_strength.proofs.Differences.{kept_differences}
+use Rattle.fz_strength.proofs.Elements.{kept_selection}
 use Rattle.fz_strength.proofs.Terms.{term_narrower, term_quiet, terms_quiet, all_fixed_before, within_before}
 
 kept_as : (relation : Relation) (d e f g : List (ℤ × ℤ)) → ((x : ℤ) → IsInSet f x → IsInSet d x) → ((x : ℤ) → IsInSet g x → IsInSet e x)
@@ -95,6 +95,9 @@ arguments_kept name (One x ∷ Set set ∷ []) ds es narrower quiet h =
 arguments_kept name (One x ∷ Set set ∷ One r ∷ []) ds es narrower quiet h =
     let at = One x ∷ Set set ∷ One r ∷ [] in
     kept_set_reified (RestsOnceFixed name at ds) (RestsOnceFixed name at es) (waits_for Fixed (terms_among at)) name x r set ds es (kept_once_fixed name at ds es narrower) quiet h
+arguments_kept name (One k ∷ Numbers xs ∷ One c ∷ []) ds es narrower quiet h =
+    let at = One k ∷ Numbers xs ∷ One c ∷ [] in
+    kept_selection (RestsOnceFixed name at ds) (RestsOnceFixed name at es) (waits_for Fixed (terms_among at)) name xs k c ds es (kept_once_fixed name at ds es narrower) quiet h
 arguments_kept name (Terms xs ∷ []) ds es narrower quiet h =
     let at = Terms xs ∷ [] in kept_differences (RestsOnceFixed name at ds) (RestsOnceFixed name at es) name xs ds es narrower (kept_once_fixed name at ds es narrower) quiet h
 arguments_kept name arguments ds es narrower quiet h = kept_once_fixed name arguments ds es narrower quiet h

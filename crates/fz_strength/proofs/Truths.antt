@@ -7,7 +7,7 @@ use Rattle.fz_dom.specs.Shape.{least}
 use Rattle.fz_spec.specs.declared.builtin.Builtin.{Builtin}
 use Rattle.fz_spec.specs.declared.builtin.Builtin.TheVariants.{Bool2Int, BoolEq, BoolEqReif, BoolLe, BoolLeReif, BoolLt, BoolLtReif, BoolNot, BoolXor, IntEq, IntEqReif, IntLe, IntLeReif, IntLt, IntLtReif, IntNe, IntNeReif, SetIn, SetInReif}
 use Rattle.fz_spec.specs.declared.term.Term.{Term}
-use Rattle.fz_spec.specs.Constraints.{Argument, One, Terms, Set, term_value, Holds}
+use Rattle.fz_spec.specs.Constraints.{Argument, One, Numbers, Terms, Set, term_value, Holds}
 use Rattle.fz_spec.specs.Truth.{HoldsOfTwo, HoldsOfThree, HoldsOfSet, IsReifiedOf, IsReified, plain_of}
 use Rattle.fz_strength.specs.declared.relation.Relation.{Relation}
 use Rattle.fz_strength.specs.declared.relation.Relation.TheVariants.{Equal, NotEqual, AtMost, Below}
@@ -18,6 +18,7 @@ use Rattle.fz_strength.specs.Relations.{relation_of, reified_of, Relates, RestsA
 use Rattle.fz_strength.specs.Lines.{IsReifiedLine, terms_among, RestsOnceFixed, RestsOfTwo, RestsReified, LiesIn, LiesOutside, RestsOfSet, RestsOfSetReified, RestsOf, waits_of_two, waits_of_reified, waits_of_set, waits_of_set_reified, waits_of}
 use Rattle.fz_strength.specs.Laws.{TrueWhereAlone}
 use Rattle.fz_strength.proofs.Differences.{true_differences}
+use Rattle.fz_strength.proofs.Elements.{true_selection}
 use Rattle.fz_strength.proofs.Lists.{all_left, all_right}
 use Rattle.fz_strength.proofs.Terms.{terms_alone, all_fixed_alone, within_alone}
 pub use Rattle.fz_strength.proofs.Terms.{single, in_single, is_single, term_alone}
@@ -139,6 +140,9 @@ arguments_true name (One x ∷ Set s ∷ []) ds a below alone h =
     let at = One x ∷ Set s ∷ [] in set (RestsOnceFixed name at ds) (waits_for Fixed (terms_among at)) name x s ds a (once_fixed name at ds a alone) below alone h
 arguments_true name (One x ∷ Set s ∷ One r ∷ []) ds a below alone h =
     let at = One x ∷ Set s ∷ One r ∷ [] in set_reified (RestsOnceFixed name at ds) (waits_for Fixed (terms_among at)) name x r s ds a (once_fixed name at ds a alone) below alone h
+arguments_true name (One k ∷ Numbers xs ∷ One c ∷ []) ds a below alone h =
+    let at = One k ∷ Numbers xs ∷ One c ∷ [] in
+    true_selection (RestsOnceFixed name at ds) (waits_for Fixed (terms_among at)) name xs k c ds a (once_fixed name at ds a alone) below alone h
 arguments_true name (Terms xs ∷ []) ds a below alone h =
     let at = Terms xs ∷ [] in true_differences (RestsOnceFixed name at ds) name xs ds a (once_fixed name at ds a alone) below alone h
 arguments_true name arguments ds a below alone h = once_fixed name arguments ds a alone below h

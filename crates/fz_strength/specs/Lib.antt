@@ -2,6 +2,7 @@ pub mod Domains
 pub mod Events
 pub mod Relations
 pub mod Differences
+pub mod Elements
 pub mod Lines
 pub mod Laws
 pub mod Costs

@@ -11,6 +11,7 @@ use Rattle.fz_strength.specs.Domains.{term_set, Within}
 use Rattle.fz_strength.specs.Events.{IsOnly, AllFixed, Wait, wait_for, waits_for}
 use Rattle.fz_strength.specs.Relations.{relation_of, reified_of, RestsAs, RestsAgainst, IsShown, IsRefuted, event_of, reified_event}
 use Rattle.fz_strength.specs.Differences.{IsDifference, RestsOfDifferences}
+use Rattle.fz_strength.specs.Elements.{IsSelection, RestsOfSelection, waits_of_selection}
 
 -- Where what is left decides, r is fixed; where r is fixed, the line of that side holds.
 pub record IsReifiedLine (shown refuted line against : Type 0) (r : List (ℤ × ℤ)) : Type 0 where
@@ -70,6 +71,8 @@ RestsOf name (One x ∷ One y ∷ One r ∷ []) ds =
 RestsOf name (One x ∷ Set set ∷ []) ds = RestsOfSet (RestsOnceFixed name (One x ∷ Set set ∷ []) ds) name (term_set ds x) set
 RestsOf name (One x ∷ Set set ∷ One r ∷ []) ds =
     RestsOfSetReified (RestsOnceFixed name (One x ∷ Set set ∷ One r ∷ []) ds) name (term_set ds x) set (term_set ds r)
+RestsOf name (One k ∷ Numbers xs ∷ One c ∷ []) ds =
+    RestsOfSelection (RestsOnceFixed name (One k ∷ Numbers xs ∷ One c ∷ []) ds) name xs (term_set ds k) (term_set ds c)
 RestsOf name (Terms xs ∷ []) ds = RestsOfDifferences (RestsOnceFixed name (Terms xs ∷ []) ds) name xs ds
 RestsOf name arguments ds = RestsOnceFixed name arguments ds
 
@@ -79,6 +82,7 @@ HasOwnLine name (One x ∷ One y ∷ []) = IsSome (relation_of name)
 HasOwnLine name (One x ∷ One y ∷ One r ∷ []) = IsSome (reified_of name)
 HasOwnLine name (One x ∷ Set set ∷ []) = name ≡ SetIn
 HasOwnLine name (One x ∷ Set set ∷ One r ∷ []) = name ≡ SetInReif
+HasOwnLine name (One k ∷ Numbers xs ∷ One c ∷ []) = IsSelection name
 HasOwnLine name (Terms xs ∷ []) = IsDifference name
 HasOwnLine name arguments = ⊥
 
@@ -110,6 +114,7 @@ waits_of name (One x ∷ One y ∷ []) = waits_of_two (waits_for Fixed (x ∷ y 
 waits_of name (One x ∷ One y ∷ One r ∷ []) = waits_of_reified (waits_for Fixed (x ∷ y ∷ r ∷ [])) (reified_of name) x y r
 waits_of name (One x ∷ Set set ∷ []) = waits_of_set (waits_for Fixed (x ∷ [])) name x
 waits_of name (One x ∷ Set set ∷ One r ∷ []) = waits_of_set_reified (waits_for Fixed (x ∷ r ∷ [])) name x r
+waits_of name (One k ∷ Numbers xs ∷ One c ∷ []) = waits_of_selection (waits_for Fixed (k ∷ c ∷ [])) name k c
 waits_of name arguments = waits_for Fixed (terms_among arguments)
 
 abbrev pub waits : Constraint → List Wait
