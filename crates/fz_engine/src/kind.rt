@@ -5,6 +5,7 @@ ghost use Rattle.fz_spec.specs.declared.builtin.Builtin.TheVariants.{SetIn, SetI
 ghost use Rattle.fz_model.specs.Arguments.{argument_of};
 ghost use Rattle.fz_strength.specs.Costs.{cost_of};
 ghost use Rattle.fz_strength.specs.Differences.{IsDifference};
+ghost use Rattle.fz_strength.specs.Elements.{IsSelection};
 ghost use Rattle.fz_strength.specs.Events.{Wait, AreBelow};
 ghost use Rattle.fz_strength.specs.Lines.{waits, HasOwnLine};
 ghost use Rattle.fz_strength.specs.Promises.{IsCorrect, Suits};
@@ -15,6 +16,7 @@ ghost use Rattle.fz_engine.specs.Known.{IsOwn, HaveLimits, HasLimits};
 use fz_alldiff::AllDifferent;
 use fz_await::Awaiting;
 use fz_dom::Dom;
+use fz_element::Element;
 use fz_model::constraint::{Argument, Constraint};
 use fz_prop::{Answer, Cost, Event, Propagator, Store};
 use fz_rel::{Comparison, Membership, ReifiedComparison, ReifiedMembership};
@@ -37,6 +39,7 @@ enum Form {
     Membership(Membership),
     ReifiedMembership(ReifiedMembership),
     AllDifferent(AllDifferent),
+    Element(Element),
     Awaiting(Awaiting),
 }
 
@@ -75,6 +78,7 @@ impl Kind {
             Form::Membership(membership) => membership.vars(),
             Form::ReifiedMembership(membership) => membership.vars(),
             Form::AllDifferent(different) => different.vars(),
+            Form::Element(element) => element.vars(),
             Form::Awaiting(awaiting) => awaiting.vars(),
         }
     }
@@ -90,6 +94,7 @@ impl Kind {
             Form::Membership(membership) => membership.event(place),
             Form::ReifiedMembership(membership) => membership.event(place),
             Form::AllDifferent(different) => different.event(place),
+            Form::Element(element) => element.event(place),
             Form::Awaiting(awaiting) => awaiting.event(place),
         }
     }
@@ -104,6 +109,7 @@ impl Kind {
             Form::Membership(membership) => membership.cost(),
             Form::ReifiedMembership(membership) => membership.cost(),
             Form::AllDifferent(different) => different.cost(),
+            Form::Element(element) => element.cost(),
             Form::Awaiting(awaiting) => awaiting.cost(),
         }
     }
@@ -126,6 +132,7 @@ impl Kind {
             Form::Membership(membership) => membership.run(store),
             Form::ReifiedMembership(membership) => membership.run(store),
             Form::AllDifferent(different) => different.run(store),
+            Form::Element(element) => element.run(store),
             Form::Awaiting(awaiting) => awaiting.run(store),
         };
         let _ = store.doms();
@@ -170,6 +177,7 @@ fn of_term(
     match rest {
         [Argument::One(y), tail @ ..] => Ok(of_terms(name, x, *y, tail)),
         [Argument::Set(set), tail @ ..] => of_set(alloc, name, x, set, tail),
+        [Argument::Numbers(numbers), tail @ ..] => of_numbers(alloc, name, x, numbers, tail),
         _ => Ok(None),
     }
 }
@@ -202,6 +210,27 @@ fn of_set(
     match (name, rest) {
         (Builtin::SetIn, []) => Ok(Some(member(x, set.copy()?))),
         (Builtin::SetInReif, [Argument::One(r)]) => Ok(Some(reified_member(alloc, x, set, *r)?)),
+        _ => Ok(None),
+    }
+}
+
+/// The propagator of its own of a constraint whose first two arguments are a term and a list of numbers.
+fn of_numbers(
+    alloc: Global,
+    name: Builtin,
+    index: Term,
+    numbers: &[i32],
+    rest: &[Argument],
+) -> Result<Option<Kind>, AllocError>
+    requires index { FitsTerm index }
+    requires rest { HaveLimits (map argument_of rest.now) }
+    ensures { IfOk result (λ o. IsOwn o name
+        (meaning.One index ∷ meaning.Numbers numbers.now ∷ map argument_of rest.now)) }
+{
+    match (name, rest) {
+        (Builtin::ArrayIntElement | Builtin::ArrayBoolElement, [Argument::One(value)]) => {
+            Ok(Some(element(alloc, name, index, numbers, *value)?))
+        }
         _ => Ok(None),
     }
 }
@@ -251,6 +280,28 @@ fn different(alloc: Global, name: Builtin, terms: &[Term]) -> Result<Kind, Alloc
     let different = AllDifferent::new(alloc, name, terms)?;
     Ok(Kind {
         form: Form::AllDifferent(different),
+    })
+}
+
+/// The propagator of an index into a list of numbers.
+fn element(
+    alloc: Global,
+    name: Builtin,
+    index: Term,
+    numbers: &[i32],
+    value: Term,
+) -> Result<Kind, AllocError>
+    requires name { IsSelection name }
+    requires fits_index { FitsTerm index }
+    requires fits_value { FitsTerm value }
+    ensures { IfOk result (λ k. k ≡ record {
+      name = name;
+      arguments = meaning.One index ∷ meaning.Numbers numbers.now ∷ meaning.One value ∷ [];
+    }) }
+{
+    let element = Element::new(alloc, name, index, numbers, value)?;
+    Ok(Kind {
+        form: Form::Element(element),
     })
 }
 
