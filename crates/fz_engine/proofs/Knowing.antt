@@ -8,7 +8,7 @@ use Rattle.fz_sets.specs.Sets.{IsWithinLimits, IsInSet, IsInRange}
 use Rattle.fz_spec.specs.declared.kind.Kind.{Kind}
 use Rattle.fz_spec.specs.declared.kind.Kind.TheVariants as kinds
 use Rattle.fz_spec.specs.declared.builtin.Builtin.{Builtin}
-use Rattle.fz_spec.specs.declared.builtin.Builtin.TheVariants.{ArrayBoolAnd, ArrayBoolOr, BoolAnd, BoolClause, BoolClauseReif, BoolOr, BoolEqReif, BoolLeReif, BoolLtReif, IntEqReif, IntLeReif, IntLtReif, IntNeReif, SetIn, SetInReif}
+use Rattle.fz_spec.specs.declared.builtin.Builtin.TheVariants.{ArrayBoolAnd, ArrayBoolOr, BoolAnd, BoolClause, BoolClauseReif, BoolOr, BoolEqReif, BoolLeReif, BoolLtReif, IntEqReif, IntLeReif, IntLtReif, IntNeReif, SetIn, SetInReif, ArrayBoolElement, ArrayIntElement}
 use Rattle.fz_spec.specs.declared.term.Term.{Term}
 use Rattle.fz_spec.specs.declared.term.Term.TheVariants.{Num, Var}
 use Rattle.fz_spec.specs.declared.asked.Element.{Element}
@@ -22,6 +22,7 @@ use Rattle.fz_model.specs.Kept.{IsNumberOf, kind_at, FitsElement, FitsList, Fits
 use Rattle.fz_strength.specs.declared.event.Event.{Event}
 use Rattle.fz_strength.specs.declared.event.Event.TheVariants.{Any, Fixed}
 use Rattle.fz_strength.specs.declared.relation.Relation.{Relation}
+use Rattle.fz_strength.specs.Elements.{waits_of_selection}
 use Rattle.fz_strength.specs.Events.{Wait, wait_for, waits_for, AreBelow}
 use Rattle.fz_strength.specs.Relations.{relation_of, reified_of, event_of, reified_event}
 use Rattle.fz_strength.specs.Lines.{terms_among, waits, waits_of, waits_of_two, waits_of_reified, waits_of_set, waits_of_set_reified}
@@ -159,6 +160,11 @@ set_reified_below : (W : List Wait) (name : Builtin) (x r : Term) (n : ℕ) → 
 set_reified_below W SetInReif x r n general first third = all_both (λ (w : Wait). w.variable < n) (wait_for Any x) (wait_for Any r) (wait_below Any x n first) (wait_below Any r n third)
 set_reified_below W name x r n general first third = general
 
+selection_below : (W : List Wait) (name : Builtin) (k c : Term) (n : ℕ) → AreBelow W n → IsTermOf n k → IsTermOf n c → AreBelow (waits_of_selection W name k c) n
+selection_below W ArrayIntElement k c n general first third = all_both (λ (w : Wait). w.variable < n) (wait_for Any k) (wait_for Any c) (wait_below Any k n first) (wait_below Any c n third)
+selection_below W ArrayBoolElement k c n general first third = all_both (λ (w : Wait). w.variable < n) (wait_for Any k) (wait_for Any c) (wait_below Any k n first) (wait_below Any c n third)
+selection_below W name k c n general first third = general
+
 below_of : (name : Builtin) (arguments : List Argument) (n : ℕ) → AreAmong n arguments → AreBelow (waits_of name arguments) n
 below_of name (One x ∷ One y ∷ []) n among =
     two_below (waits_for Fixed (x ∷ y ∷ [])) (relation_of name) x y n (general_below (One x ∷ One y ∷ []) n among) among.0 among.1.0
@@ -167,6 +173,8 @@ below_of name (One x ∷ One y ∷ One r ∷ []) n among =
 below_of name (One x ∷ Set set ∷ []) n among = set_below (waits_for Fixed (x ∷ [])) name x n (general_below (One x ∷ Set set ∷ []) n among) among.0
 below_of name (One x ∷ Set set ∷ One r ∷ []) n among =
     set_reified_below (waits_for Fixed (x ∷ r ∷ [])) name x r n (general_below (One x ∷ Set set ∷ One r ∷ []) n among) among.0 among.1.1.0
+below_of name (One k ∷ Numbers xs ∷ One c ∷ []) n among =
+    selection_below (waits_for Fixed (k ∷ c ∷ [])) name k c n (general_below (One k ∷ Numbers xs ∷ One c ∷ []) n among) among.0 among.1.1.0
 below_of name arguments n among = general_below arguments n among
 
 pub below : (m : Instance) (i : ℕ) (c : Constraint) → IsModel m → slice_get m.constraints i ≡ Some c → AreBelow (waits c) (length m.variables)

@@ -5,6 +5,7 @@ ghost use Rattle.fz_spec.specs.declared.builtin.Builtin.TheVariants.{SetIn, SetI
 ghost use Rattle.fz_model.specs.Arguments.{argument_of};
 ghost use Rattle.fz_strength.specs.Costs.{cost_of};
 ghost use Rattle.fz_strength.specs.Differences.{IsDifference};
+ghost use Rattle.fz_strength.specs.Elements.{IsSelection};
 ghost use Rattle.fz_strength.specs.Events.{Wait, AreBelow};
 ghost use Rattle.fz_strength.specs.Lines.{waits, HasOwnLine, IsComparing};
 ghost use Rattle.fz_strength.specs.Promises.{IsCorrect, Suits};
@@ -16,6 +17,7 @@ use fz_alldiff::AllDifferent;
 use fz_await::Awaiting;
 use fz_bool::Clause;
 use fz_dom::Dom;
+use fz_element::Element;
 use fz_model::constraint::{Argument, Constraint};
 use fz_prop::{Answer, Cost, Event, Propagator, Store};
 use fz_rel::{Comparison, Membership, ReifiedComparison, ReifiedMembership};
@@ -39,6 +41,7 @@ enum Form {
     ReifiedMembership(ReifiedMembership),
     AllDifferent(AllDifferent),
     Clause(Clause),
+    Element(Element),
     Awaiting(Awaiting),
 }
 
@@ -78,6 +81,7 @@ impl Kind {
             Form::ReifiedMembership(membership) => membership.vars(),
             Form::AllDifferent(different) => different.vars(),
             Form::Clause(clause) => clause.vars(),
+            Form::Element(element) => element.vars(),
             Form::Awaiting(awaiting) => awaiting.vars(),
         }
     }
@@ -94,6 +98,7 @@ impl Kind {
             Form::ReifiedMembership(membership) => membership.event(place),
             Form::AllDifferent(different) => different.event(place),
             Form::Clause(clause) => clause.event(place),
+            Form::Element(element) => element.event(place),
             Form::Awaiting(awaiting) => awaiting.event(place),
         }
     }
@@ -109,6 +114,7 @@ impl Kind {
             Form::ReifiedMembership(membership) => membership.cost(),
             Form::AllDifferent(different) => different.cost(),
             Form::Clause(clause) => clause.cost(),
+            Form::Element(element) => element.cost(),
             Form::Awaiting(awaiting) => awaiting.cost(),
         }
     }
@@ -132,6 +138,7 @@ impl Kind {
             Form::ReifiedMembership(membership) => membership.run(store),
             Form::AllDifferent(different) => different.run(store),
             Form::Clause(clause) => clause.run(store),
+            Form::Element(element) => element.run(store),
             Form::Awaiting(awaiting) => awaiting.run(store),
         };
         let _ = store.doms();
@@ -200,6 +207,7 @@ fn of_term(
     match rest {
         [Argument::One(y), tail @ ..] => Ok(of_terms(name, x, *y, tail)),
         [Argument::Set(set), tail @ ..] => of_set(alloc, name, x, set, tail),
+        [Argument::Numbers(numbers), tail @ ..] => of_numbers(alloc, name, x, numbers, tail),
         _ => Ok(None),
     }
 }
@@ -236,7 +244,28 @@ fn of_set(
     }
 }
 
-/// The propagator of its own of a constraint whose only argument is a list of terms.
+/// The propagator of a constraint that compares whose first two arguments are a term and a list of numbers.
+fn of_numbers(
+    alloc: Global,
+    name: Builtin,
+    index: Term,
+    numbers: &[i32],
+    rest: &[Argument],
+) -> Result<Option<Kind>, AllocError>
+    requires index { FitsTerm index }
+    requires rest { HaveLimits (map argument_of rest.now) }
+    ensures { IfOk result (λ o. IsCompared o name
+        (meaning.One index ∷ meaning.Numbers numbers.now ∷ map argument_of rest.now)) }
+{
+    match (name, rest) {
+        (Builtin::ArrayIntElement | Builtin::ArrayBoolElement, [Argument::One(value)]) => {
+            Ok(Some(element(alloc, name, index, numbers, *value)?))
+        }
+        _ => Ok(None),
+    }
+}
+
+/// The propagator of a constraint that compares whose only argument is a list of terms.
 fn of_list(alloc: Global, name: Builtin, terms: &[Term]) -> Result<Option<Kind>, AllocError>
     ensures { IfOk result (λ o. IsCompared o name (meaning.Terms terms.now ∷ [])) }
 {
@@ -281,6 +310,28 @@ fn different(alloc: Global, name: Builtin, terms: &[Term]) -> Result<Kind, Alloc
     let different = AllDifferent::new(alloc, name, terms)?;
     Ok(Kind {
         form: Form::AllDifferent(different),
+    })
+}
+
+/// The propagator of an index into a list of numbers.
+fn element(
+    alloc: Global,
+    name: Builtin,
+    index: Term,
+    numbers: &[i32],
+    value: Term,
+) -> Result<Kind, AllocError>
+    requires name { IsSelection name }
+    requires fits_index { FitsTerm index }
+    requires fits_value { FitsTerm value }
+    ensures { IfOk result (λ k. k ≡ record {
+      name = name;
+      arguments = meaning.One index ∷ meaning.Numbers numbers.now ∷ meaning.One value ∷ [];
+    }) }
+{
+    let element = Element::new(alloc, name, index, numbers, value)?;
+    Ok(Kind {
+        form: Form::Element(element),
     })
 }
 

@@ -1,5 +1,5 @@
 -- Terms that are all different: their line lasts, and where all are fixed it says that they are.
-use Rattle.std.proofs.Common.{◌≡◌, ◌≢◌, ◌<◌, ℕ, zero, suc, List, [], ◌∷◌, ◌++◌, ◌∙◌, refl, sym, subst, ap, arith, length, inl, inr}
+use Rattle.std.proofs.Common.{◌≡◌, ◌≢◌, ℕ, suc, List, [], ◌∷◌, ◌++◌, ◌∙◌, refl, sym, subst, ap, arith, length, inl, inr}
 use Rattle.std.specs.Prelude.{ℤ, slice_get, Some}
 use Rattle.std.specs.List.{AllByRecursion}
 use Rattle.std.proofs.lemmas.List.{append-nil}
@@ -12,7 +12,6 @@ use Rattle.fz_spec.specs.Truth.{AreDifferent, HoldsOfList}
 use Rattle.fz_strength.specs.declared.event.Event.TheVariants.{Fixed}
 use Rattle.fz_strength.specs.Domains.{term_set, Alone, IsNarrower}
 use Rattle.fz_strength.specs.Events.{IsQuiet, waits_for, AreQuiet, AreBelow}
-use Rattle.fz_strength.specs.Relations.{IsApart}
 use Rattle.fz_strength.specs.Differences.{IsDifference, AreApart, RestsOfDifferences}
 use Rattle.fz_strength.specs.Lines.{waits_of}
 use Rattle.fz_strength.proofs.Lists.{all_left, all_at}

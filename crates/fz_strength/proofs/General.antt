@@ -15,6 +15,7 @@ use Rattle.fz_strength.specs.Relations.{relation_of, reified_of}
 use Rattle.fz_strength.proofs.Differences.{line_of_differences}
 use Rattle.fz_strength.specs.Lines.{terms_among, RestsOnceFixed, RestsOfTwo, RestsReified, RestsOfSet, RestsOfSetReified, RestsOf, waits_of_two, waits_of_reified, waits_of_set, waits_of_set_reified, waits_of, HasOwnLine, RestsOfSum, waits_of_sum, RestsOfClause, RestsOtherwise}
 use Rattle.fz_strength.specs.Sums.{sum_relation_of}
+use Rattle.fz_strength.proofs.Elements.{line_of_selection, waits_selection}
 
 line_of_two : (G : Type 0) (o : Option Relation) (d e : List (ℤ × ℤ)) → (IsSome o → ⊥) → G → RestsOfTwo G o d e
 line_of_two G None d e none h = h
@@ -53,6 +54,8 @@ general_line name (One x ∷ One y ∷ One r ∷ []) ds none h =
 general_line name (One x ∷ Set set ∷ []) ds none h = line_of_set (RestsOnceFixed name (One x ∷ Set set ∷ []) ds) name (term_set ds x) set (λ own. none (inl own)) h
 general_line name (One x ∷ Set set ∷ One r ∷ []) ds none h =
     line_of_set_reified (RestsOnceFixed name (One x ∷ Set set ∷ One r ∷ []) ds) name (term_set ds x) set (term_set ds r) (λ own. none (inl own)) h
+general_line name (One k ∷ Numbers xs ∷ One c ∷ []) ds none h =
+    line_of_selection (RestsOnceFixed name (One k ∷ Numbers xs ∷ One c ∷ []) ds) name xs (term_set ds k) (term_set ds c) (λ own. none (inl own)) h
 general_line name (Terms xs ∷ []) ds none h = line_of_differences (RestsOnceFixed name (Terms xs ∷ []) ds) name xs ds (λ own. none (inl own)) h
 general_line name (Numbers ks ∷ Terms ts ∷ One (Num c) ∷ []) ds none h =
     line_of_sum (RestsOnceFixed name (Numbers ks ∷ Terms ts ∷ One (Num c) ∷ []) ds) (sum_relation_of name) ds ks ts c (λ own. none (inl own)) h
@@ -87,4 +90,5 @@ general_waits name (One x ∷ Set set ∷ []) none = waits_set (waits_for Fixed 
 general_waits name (One x ∷ Set set ∷ One r ∷ []) none = waits_set_reified (waits_for Fixed (x ∷ r ∷ [])) name x r (λ own. none (inl own))
 general_waits name (Numbers ks ∷ Terms ts ∷ One (Num c) ∷ []) none =
     waits_sum (waits_for Fixed (terms_among (Numbers ks ∷ Terms ts ∷ One (Num c) ∷ []))) (sum_relation_of name) ts (λ own. none (inl own))
+general_waits name (One k ∷ Numbers xs ∷ One c ∷ []) none = waits_selection (waits_for Fixed (k ∷ c ∷ [])) name k c (λ own. none (inl own))
 general_waits name arguments none = refl

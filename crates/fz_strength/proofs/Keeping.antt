@@ -19,6 +19,7 @@ use Rattle.fz_strength.specs.Lines.{terms_among, RestsOnceFixed, RestsOfTwo, Res
 use Rattle.fz_strength.specs.Laws.{KeptWhereQuiet}
 use Rattle.fz_strength.proofs.Lists.{all_left, all_right}
 use Rattle.fz_strength.proofs.Differences.{kept_differences}
+use Rattle.fz_strength.proofs.Elements.{kept_selection}
 use Rattle.fz_strength.proofs.Terms.{term_narrower, term_quiet, terms_quiet, all_fixed_before, within_before}
 use Rattle.fz_strength.proofs.SumLaws.{kept_sum}
 use Rattle.fz_strength.proofs.Clauses.{clause_lasts}
@@ -110,6 +111,9 @@ arguments_kept name (One x ∷ Set set ∷ []) ds es domains narrower quiet h =
 arguments_kept name (One x ∷ Set set ∷ One r ∷ []) ds es domains narrower quiet h =
     let at = One x ∷ Set set ∷ One r ∷ [] in
     kept_set_reified (RestsOnceFixed name at ds) (RestsOnceFixed name at es) (waits_for Fixed (terms_among at)) name x r set ds es (kept_once_fixed name at ds es narrower) quiet h
+arguments_kept name (One k ∷ Numbers xs ∷ One c ∷ []) ds es domains narrower quiet h =
+    let at = One k ∷ Numbers xs ∷ One c ∷ [] in
+    kept_selection (RestsOnceFixed name at ds) (RestsOnceFixed name at es) (waits_for Fixed (terms_among at)) name xs k c ds es (kept_once_fixed name at ds es narrower) quiet h
 arguments_kept name (Terms xs ∷ []) ds es domains narrower quiet h =
     let at = Terms xs ∷ [] in kept_differences (RestsOnceFixed name at ds) (RestsOnceFixed name at es) name xs ds es narrower (kept_once_fixed name at ds es narrower) quiet h
 arguments_kept name (Numbers ks ∷ Terms ts ∷ One (Num c) ∷ []) ds es domains narrower quiet h =

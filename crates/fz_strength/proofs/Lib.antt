@@ -2,6 +2,7 @@ pub mod Lists
 pub mod Terms
 pub mod Differences
 pub mod SumLaws
+pub mod Elements
 pub mod Truths
 pub mod Clauses
 pub mod Keeping

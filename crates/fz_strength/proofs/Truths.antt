@@ -20,6 +20,7 @@ use Rattle.fz_strength.specs.Relations.{relation_of, reified_of, Relates, RestsA
 use Rattle.fz_strength.specs.Lines.{IsReifiedLine, terms_among, RestsOnceFixed, RestsOfTwo, RestsReified, LiesIn, LiesOutside, RestsOfSet, RestsOfSetReified, RestsOfClause, RestsOtherwise, RestsOf, waits_of_two, waits_of_reified, waits_of_set, waits_of_set_reified, waits_of}
 use Rattle.fz_strength.specs.Laws.{TrueWhereAlone}
 use Rattle.fz_strength.proofs.Differences.{true_differences}
+use Rattle.fz_strength.proofs.Elements.{true_selection}
 use Rattle.fz_strength.proofs.Lists.{all_left, all_right}
 use Rattle.fz_strength.proofs.SumLaws.{true_sum}
 use Rattle.fz_strength.proofs.Clauses.{clause_true}
@@ -153,6 +154,9 @@ arguments_true name (One x ∷ Set s ∷ []) ds a below alone h =
     let at = One x ∷ Set s ∷ [] in set (RestsOnceFixed name at ds) (waits_for Fixed (terms_among at)) name x s ds a (once_fixed name at ds a alone) below alone h
 arguments_true name (One x ∷ Set s ∷ One r ∷ []) ds a below alone h =
     let at = One x ∷ Set s ∷ One r ∷ [] in set_reified (RestsOnceFixed name at ds) (waits_for Fixed (terms_among at)) name x r s ds a (once_fixed name at ds a alone) below alone h
+arguments_true name (One k ∷ Numbers xs ∷ One c ∷ []) ds a below alone h =
+    let at = One k ∷ Numbers xs ∷ One c ∷ [] in
+    true_selection (RestsOnceFixed name at ds) (waits_for Fixed (terms_among at)) name xs k c ds a (once_fixed name at ds a alone) below alone h
 arguments_true name (Terms xs ∷ []) ds a below alone h =
     let at = Terms xs ∷ [] in true_differences (RestsOnceFixed name at ds) name xs ds a (once_fixed name at ds a alone) below alone h
 arguments_true name (Numbers ks ∷ Terms ts ∷ One (Num c) ∷ []) ds a below alone h =

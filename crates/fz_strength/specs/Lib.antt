@@ -4,6 +4,7 @@ pub mod Relations
 pub mod Differences
 pub mod Sums
 pub mod Clauses
+pub mod Elements
 pub mod Lines
 pub mod Laws
 pub mod Costs

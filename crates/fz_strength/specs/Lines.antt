@@ -14,6 +14,7 @@ use Rattle.fz_strength.specs.Clauses.{Clause, clause_of, IsClauseLine}
 use Rattle.fz_strength.specs.Relations.{relation_of, reified_of, RestsAs, RestsAgainst, IsShown, IsRefuted, event_of, reified_event}
 use Rattle.fz_strength.specs.Differences.{IsDifference, RestsOfDifferences}
 use Rattle.fz_strength.specs.Sums.{sum_relation_of, RestsSum, sum_event_of}
+use Rattle.fz_strength.specs.Elements.{IsSelection, RestsOfSelection, waits_of_selection}
 
 -- Where what is left decides, r is fixed; where r is fixed, the line of that side holds.
 pub record IsReifiedLine (shown refuted line against : Type 0) (r : List (ℤ × ℤ)) : Type 0 where
@@ -87,17 +88,20 @@ RestsOf name (One x ∷ One y ∷ One r ∷ []) ds =
 RestsOf name (One x ∷ Set set ∷ []) ds = RestsOfSet (RestsOnceFixed name (One x ∷ Set set ∷ []) ds) name (term_set ds x) set
 RestsOf name (One x ∷ Set set ∷ One r ∷ []) ds =
     RestsOfSetReified (RestsOnceFixed name (One x ∷ Set set ∷ One r ∷ []) ds) name (term_set ds x) set (term_set ds r)
+RestsOf name (One k ∷ Numbers xs ∷ One c ∷ []) ds =
+    RestsOfSelection (RestsOnceFixed name (One k ∷ Numbers xs ∷ One c ∷ []) ds) name xs (term_set ds k) (term_set ds c)
 RestsOf name (Terms xs ∷ []) ds = RestsOfDifferences (RestsOnceFixed name (Terms xs ∷ []) ds) name xs ds
 RestsOf name (Numbers ks ∷ Terms ts ∷ One (Num c) ∷ []) ds =
     RestsOfSum (RestsOnceFixed name (Numbers ks ∷ Terms ts ∷ One (Num c) ∷ []) ds) (sum_relation_of name) ds ks ts c
 RestsOf name arguments ds = RestsOtherwise name arguments ds
 
--- the constraints that compare terms, or a term with a set, all terms with one another, or a sum with a number
+-- the constraints that compare terms, or a term with a set or with an element of a list, all terms with one another, or a sum with a number
 abbrev pub IsComparing : Builtin → List Argument → Type 0
 IsComparing name (One x ∷ One y ∷ []) = IsSome (relation_of name)
 IsComparing name (One x ∷ One y ∷ One r ∷ []) = IsSome (reified_of name)
 IsComparing name (One x ∷ Set set ∷ []) = name ≡ SetIn
 IsComparing name (One x ∷ Set set ∷ One r ∷ []) = name ≡ SetInReif
+IsComparing name (One k ∷ Numbers xs ∷ One c ∷ []) = IsSelection name
 IsComparing name (Terms xs ∷ []) = IsDifference name
 IsComparing name (Numbers ks ∷ Terms ts ∷ One (Num c) ∷ []) = IsSome (sum_relation_of name)
 IsComparing name arguments = ⊥
@@ -139,6 +143,7 @@ waits_of name (One x ∷ One y ∷ One r ∷ []) = waits_of_reified (waits_for F
 waits_of name (One x ∷ Set set ∷ []) = waits_of_set (waits_for Fixed (x ∷ [])) name x
 waits_of name (One x ∷ Set set ∷ One r ∷ []) = waits_of_set_reified (waits_for Fixed (x ∷ r ∷ [])) name x r
 waits_of name (Numbers ks ∷ Terms ts ∷ One (Num c) ∷ []) = waits_of_sum (waits_for Fixed (terms_among (Numbers ks ∷ Terms ts ∷ One (Num c) ∷ []))) (sum_relation_of name) ts
+waits_of name (One k ∷ Numbers xs ∷ One c ∷ []) = waits_of_selection (waits_for Fixed (k ∷ c ∷ [])) name k c
 waits_of name arguments = waits_for Fixed (terms_among arguments)
 
 abbrev pub waits : Constraint → List Wait

@@ -1,0 +1,144 @@
+-- The indices whose number is left, index by index.
+use Rattle.std.proofs.Common.{◌≡◌, ◌≢◌, ℕ, List, [], ◌∷◌, ◌++◌, refl, sym, subst, arith, length, ◌⊎◌, inl, inr, true, false}
+use Rattle.std.specs.Prelude.{ℤ, pos, ◌≤ℤ◌, ◌<ℤ◌, ◌+ℤ◌, ◌↔◌, slice_get, Some}
+use Rattle.std.specs.Int.{int_min}
+use Rattle.std.specs.Ordering.{int_eq}
+use Rattle.std.proofs.lemmas.Bool.Decides.{Decides-int_eq}
+use Rattle.std.proofs.lemmas.Int.{ints, clamps}
+use Rattle.std.proofs.lemmas.Option.{slice_get_within}
+use Rattle.fz_sets.specs.Sets.{IsInSet, IsWithinLimits, AreOneSet, AreWithinLimits}
+use Rattle.fz_dom.proofs.Kept.{limits_of}
+use Rattle.fz_spec.specs.declared.term.Term.{Term}
+use Rattle.fz_spec.specs.declared.term.Term.TheVariants.{Num, Var}
+use Rattle.fz_spec.specs.Truth.{IsElement}
+use Rattle.fz_strength.specs.Domains.{dom_at, term_set, AreDomains}
+use Rattle.fz_strength.proofs.Truths.{is_single}
+use Rattle.fz_prop.specs.Stores.{IsTermOf, FitsTerm}
+use Rattle.fz_element.specs.Selecting.{IsPair, ArePairs}
+
+-- ---- elements
+
+pub element_from : (k : ℤ) (xs : List ℤ) (n : ℤ) → IsElement k xs n → pos 1 ≤ℤ k
+element_from k xs n is = let e = is.1 in omega (arith, ints, e)
+
+pub element_to : (k : ℤ) (xs : List ℤ) (n : ℤ) → IsElement k xs n → k ≤ℤ pos (length xs)
+element_to k xs n is = let e = is.1 in let below = slice_get_within xs is.0 n is.2 in omega (arith, ints, e, below)
+
+element_only : (k : ℤ) (xs : List ℤ) (n m : ℤ) → IsElement k xs n → IsElement k xs m → n ≡ m
+element_only k xs n m is_n is_m =
+    let e = is_n.1 in
+    let f = is_m.1 in
+    let same : is_n.0 ≡ is_m.0 = omega (arith, ints, e, f) in
+    let at_n : slice_get xs is_m.0 ≡ Some n = subst (λ (i : ℕ). slice_get xs i ≡ Some n) same is_n.2 in
+    cc (at_n, is_m.2)
+
+pub below_min : (k a b m : ℤ) → k ≤ℤ a → k ≤ℤ b → m ≡ int_min a b → k ≤ℤ m
+below_min k a b m to_a to_b is = omega (arith, ints, clamps, to_a, to_b, is)
+
+-- ---- a set with one number more
+
+in_more : (rs : List (ℤ × ℤ)) (x y : ℤ) → IsInSet (rs ++ (x, x) ∷ []) y → IsInSet rs y ⊎ (y ≡ x)
+in_more [] x y is = elim is [ inl h ↦ inr (omega (arith, ints, h.0, h.1)) | inr h ↦ absurd h ]
+in_more (r ∷ rs) x y is = elim is [
+  | inl h ↦ inl (inl h)
+  | inr h ↦ elim (in_more rs x y h) [ inl g ↦ inl (inr g) | inr e ↦ inr e ]
+]
+
+in_before : (rs : List (ℤ × ℤ)) (x y : ℤ) → IsInSet rs y → IsInSet (rs ++ (x, x) ∷ []) y
+in_before [] x y is = absurd is
+in_before (r ∷ rs) x y is = elim is [ inl h ↦ inl h | inr h ↦ inr (in_before rs x y h) ]
+
+in_last : (rs : List (ℤ × ℤ)) (x y : ℤ) → y ≡ x → IsInSet (rs ++ (x, x) ∷ []) y
+in_last [] x y e = inl (omega (arith, ints, e), omega (arith, ints, e))
+in_last (r ∷ rs) x y e = inr (in_last rs x y e)
+
+limits_more : (rs : List (ℤ × ℤ)) (x : ℤ) → AreWithinLimits rs → IsWithinLimits x → AreWithinLimits (rs ++ (x, x) ∷ [])
+limits_more [] x all within = (within, within, tt)
+limits_more (r ∷ rs) x all within = (all.0, all.1, limits_more rs x all.2 within)
+
+pub term_limits : (ds : List (List (ℤ × ℤ))) (t : Term) (x : ℤ) → IsTermOf (length ds) t → AreDomains ds → FitsTerm t → IsInSet (term_set ds t) x → IsWithinLimits x
+term_limits ds (Num n) x is domains fits member = subst IsWithinLimits (sym (is_single x n member)) fits
+term_limits ds (Var v) x is domains fits member = limits_of (dom_at ds v) x (domains v is).0 member
+
+same_or_other : (x y : ℤ) → (x ≡ y) ⊎ (x ≢ y)
+same_or_other x y = elim (int_eq x y) as (λ b. int_eq x y ≡ b → (x ≡ y) ⊎ (x ≢ y)) [
+  | true ↦ λ e. inl ((Decides-int_eq x y).0 e)
+  | false ↦ λ e. inr (λ same. let yes = (Decides-int_eq x y).1 same in absurd (cc (yes, e)))
+] refl
+
+-- ---- the loop
+
+-- the pairs whose index is below j
+pub record ArePairsBelow (xs : List ℤ) (d e indices numbers : List (ℤ × ℤ)) (j : ℤ) : Type 0 where
+  pub indices_are : (k : ℤ) → IsInSet indices k ↔ ((n : ℤ) × IsPair xs d e k n × (k <ℤ j))
+  pub numbers_are : (n : ℤ) → IsInSet numbers n ↔ ((k : ℤ) × IsPair xs d e k n × (k <ℤ j))
+  pub index_limits : AreWithinLimits indices
+  pub number_limits : AreWithinLimits numbers
+
+pub pairs_none : (xs : List ℤ) (d e : List (ℤ × ℤ)) (j : ℤ) → ((k n : ℤ) → IsPair xs d e k n → j ≤ℤ k) → ArePairsBelow xs d e [] [] j
+pairs_none xs d e j none = record {
+  indices_are = λ k. ((λ is. absurd is), (λ h. let from = none k h.0 h.1 in let below = h.2 in absurd (omega (arith, ints, from, below))));
+  numbers_are = λ n. ((λ is. absurd is), (λ h. let from = none h.0 n h.1 in let below = h.2 in absurd (omega (arith, ints, from, below))));
+  index_limits = tt;
+  number_limits = tt;
+}
+
+pub pairs_passed : (xs : List ℤ) (d e indices numbers : List (ℤ × ℤ)) (j : ℤ) → ((n : ℤ) → IsPair xs d e j n → ⊥) → ArePairsBelow xs d e indices numbers j
+    → ArePairsBelow xs d e indices numbers (j +ℤ pos 1)
+pairs_passed xs d e indices numbers j none h =
+    let before : (k n : ℤ) → IsPair xs d e k n → k <ℤ (j +ℤ pos 1) → k <ℤ j = λ k n pair below. elim (same_or_other k j) [
+      | inl same ↦ absurd (none n (subst (λ (i : ℤ). IsPair xs d e i n) same pair))
+      | inr other ↦ omega (arith, ints, below, other)
+    ] in
+    record {
+      indices_are = λ k. (
+        (λ is. let p = (h.indices_are k).0 is in let below = p.2 in (p.0, p.1, omega (arith, ints, below))),
+        (λ p. (h.indices_are k).1 (p.0, p.1, before k p.0 p.1 p.2)),
+      );
+      numbers_are = λ n. (
+        (λ is. let p = (h.numbers_are n).0 is in let below = p.2 in (p.0, p.1, omega (arith, ints, below))),
+        (λ p. (h.numbers_are n).1 (p.0, p.1, before p.0 n p.1 p.2)),
+      );
+      index_limits = h.index_limits;
+      number_limits = h.number_limits;
+    }
+
+pub pairs_more : (xs : List ℤ) (d e indices numbers : List (ℤ × ℤ)) (j m : ℤ) → IsPair xs d e j m → IsWithinLimits j → IsWithinLimits m → ArePairsBelow xs d e indices numbers j
+    → ArePairsBelow xs d e (indices ++ (j, j) ∷ []) (numbers ++ (m, m) ∷ []) (j +ℤ pos 1)
+pairs_more xs d e indices numbers j m pair within_j within_m h = record {
+  indices_are = λ k. (
+    (λ is. elim (in_more indices j k is) [
+      | inl i ↦ let p = (h.indices_are k).0 i in let below = p.2 in (p.0, p.1, omega (arith, ints, below))
+      | inr same ↦ (m, subst (λ (i : ℤ). IsPair xs d e i m) (sym same) pair, omega (arith, ints, same))
+    ]),
+    (λ p. elim (same_or_other k j) [
+      | inl same ↦ in_last indices j k same
+      | inr other ↦ let below = p.2 in in_before indices j k ((h.indices_are k).1 (p.0, p.1, omega (arith, ints, below, other)))
+    ]),
+  );
+  numbers_are = λ n. (
+    (λ is. elim (in_more numbers m n is) [
+      | inl i ↦ let p = (h.numbers_are n).0 i in let below = p.2 in (p.0, p.1, omega (arith, ints, below))
+      | inr same ↦ (j, subst (λ (i : ℤ). IsPair xs d e j i) (sym same) pair, omega (arith, ints))
+    ]),
+    (λ p. elim (same_or_other p.0 j) [
+      | inl same ↦ in_last numbers m n (element_only j xs n m (subst (λ (i : ℤ). IsElement i xs n) same p.1.stands) pair.stands)
+      | inr other ↦ let below = p.2 in in_before numbers m n ((h.numbers_are n).1 (p.0, p.1, omega (arith, ints, below, other)))
+    ]),
+  );
+  index_limits = limits_more indices j h.index_limits within_j;
+  number_limits = limits_more numbers m h.number_limits within_m;
+}
+
+pub pairs_all : (xs : List ℤ) (d e indices numbers s t : List (ℤ × ℤ)) (j : ℤ) → ((k n : ℤ) → IsPair xs d e k n → k <ℤ j) → ArePairsBelow xs d e indices numbers j
+    → AreOneSet s indices → AreOneSet t numbers → ArePairs xs d e s t
+pairs_all xs d e indices numbers s t j all h is_s is_t = record {
+  indices_are = λ k. (
+    (λ is. let p = (h.indices_are k).0 ((is_s k).0 is) in (p.0, p.1)),
+    (λ p. (is_s k).1 ((h.indices_are k).1 (p.0, p.1, all k p.0 p.1))),
+  );
+  numbers_are = λ n. (
+    (λ is. let p = (h.numbers_are n).0 ((is_t n).0 is) in (p.0, p.1)),
+    (λ p. (is_t n).1 ((h.numbers_are n).1 (p.0, p.1, all p.0 n p.1))),
+  );
+}

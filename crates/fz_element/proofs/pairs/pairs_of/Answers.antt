@@ -1,0 +1,49 @@
+use Rattle.std.proofs.Common.{◌≡◌, arith, rules}
+use Rattle.std.specs.Prelude.{ℤ, pos, ◌+ℤ◌, ◌<ℤ◌}
+use Rattle.std.proofs.lemmas.Int.{ints}
+use Rattle.std.proofs.Math.Facts.{to_z-of_z}
+use mir.Val.{SFits, to_z, of_z}
+use mir.Syntax.{w32}
+use Rattle.fz_dom.proofs.Kept.{fits_above}
+use Rattle.fz_strength.specs.Domains.{term_set}
+use Rattle.fz_element.specs.Selecting.{IsPair}
+use Rattle.fz_element.proofs.Pairing.{pairs_passed, pairs_more, pairs_all, term_limits, element_to}
+use Rattle.fz_element.proofs.pairs.pairs_of.Goals.{in-Some+in_ok-push+in_ok-push-2, in_default}
+use Rattle.fz_element.proofs.pairs.pairs_of.Goals as goal
+
+pub loop-place-preserved : goal.loop-place-preserved
+loop-place-preserved c =
+    let j = to_z w32 c.loop-place.place-bits in
+    let xs = c.args.numbers.now in
+    let ds = c.args.store.now.doms in
+    let d = term_set ds c.args.index in
+    let e = term_set ds c.args.value in
+    let fits_end : SFits w32 c.end_of-end.result = search rules in
+    let fits_j : SFits w32 j = search rules in
+    let test = rw (to_z-of_z fits_end) at c.loop-place-test.true in
+    let below : j <ℤ c.end_of-end.result = grind (arith, ints, test) in
+    let next : to_z w32 (of_z w32 (j +ℤ pos 1)) ≡ j +ℤ pos 1 = to_z-of_z (fits_above c.end_of-end.result j below fits_j fits_end) in
+    elim c.match-paired.branch [
+      | in-Some+in_ok-push+in_ok-push-2 w ↦
+          let pair = w.in-Some.ensures in
+          let fits_n : SFits w32 w.in-Some.number = search rules in
+          rw (w.indices-is, w.values-is, w.in_ok-push.ensures.items, w.in_ok-push-2.ensures.items, to_z-of_z fits_n, next)
+          (pairs_more xs d e c.loop-place.indices.items c.loop-place.values.items j w.in-Some.number pair
+          (term_limits ds c.args.index j c.requires.index c.doms.ensures.store.domains c.requires.fits_index pair.index)
+          (term_limits ds c.args.value w.in-Some.number c.requires.value c.doms.ensures.store.domains c.requires.fits_value pair.number) c.loop-place.invariant)
+      | in_default w ↦ rw (w.indices-is, w.values-is, next)
+          (pairs_passed xs d e c.loop-place.indices.items c.loop-place.values.items j w.in_default.ensures c.loop-place.invariant)
+    ]
+
+pub returns : goal.returns
+returns c =
+    let j = to_z w32 c.loop-place.place-bits in
+    let xs = c.args.numbers.now in
+    let d = term_set c.args.store.now.doms c.args.index in
+    let e = term_set c.args.store.now.doms c.args.value in
+    let fits_end : SFits w32 c.end_of-end.result = search rules in
+    let test = rw (to_z-of_z fits_end) at c.loop-place-test.false in
+    let all : (k n : ℤ) → IsPair xs d e k n → k <ℤ j = λ k n pair.
+    let below = c.end_of-end.ensures k (element_to k xs n pair.stands) pair.index in grind (arith, ints, test, below) in
+    pairs_all xs d e c.loop-place.indices.items c.loop-place.values.items c.in_ok-indices.indices c.in_ok-values.values j all c.loop-place.invariant
+    (rw c.deref.ensures.value at c.in_ok-indices.ensures.one_set) (rw c.deref-2.ensures.value at c.in_ok-values.ensures.one_set)

@@ -1,0 +1,118 @@
+//! The indices whose number is left.
+ghost use Rattle.std.specs.Prelude.{◌≡◌, ◌↔◌, ℤ, pos, ◌+ℤ◌, ◌≤ℤ◌, ◌<ℤ◌, List, length, IfOk, IsTrue, MatchOption};
+ghost use Rattle.fz_sets.specs.Sets.{IsInSet, GREATEST};
+ghost use Rattle.fz_spec.specs.Truth.{IsElement};
+ghost use Rattle.fz_strength.specs.Domains.{term_set};
+ghost use Rattle.fz_prop.specs.Stores.{IsTermOf, FitsTerm};
+ghost use Rattle.fz_element.specs.Selecting.{IsPair, ArePairs};
+
+use fz_dom::Dom;
+use fz_prop::Store;
+use fz_prop::terms::{greatest_of, least_of};
+use fz_spec::term::Term;
+use std::alloc::{AllocError, Global};
+
+/// The indices that are left and whose number is left, and these numbers.
+pub fn pairs_of(
+    alloc: Global,
+    store: &Store,
+    index: Term,
+    numbers: &[i32],
+    value: Term,
+) -> Result<(Dom, Dom), AllocError>
+    requires index { IsTermOf (length store.now.doms) index }
+    requires value { IsTermOf (length store.now.doms) value }
+    requires fits_index { FitsTerm index }
+    requires fits_value { FitsTerm value }
+    ensures { IfOk result (λ r. ArePairs numbers.now
+        (term_set store.now.doms index) (term_set store.now.doms value) r.0 r.1) }
+{
+    let _ = store.doms();
+    let (first, end) = (first_of(store, index), end_of(store, index, numbers));
+    let mut indices = Vec::new(alloc);
+    let mut values = Vec::new(alloc);
+    for place in first..end {
+        if let Some(number) = paired(store, index, numbers, value, place) {
+            indices.push((place, place))?;
+            values.push((number, number))?;
+        }
+    }
+    let indices = Dom::from_ranges(alloc, &indices)?;
+    let values = Dom::from_ranges(alloc, &values)?;
+    Ok((indices, values))
+}
+
+/// The first index from 1 that may be left.
+fn first_of(store: &Store, index: Term) -> i32
+    requires { IsTermOf (length store.now.doms) index }
+    ensures { (k : ℤ) → pos 1 ≤ℤ k → IsInSet (term_set store.now.doms index) k → result ≤ℤ k }
+{
+    least_of(store, index).max(1)
+}
+
+/// What is above each index of the list that is left.
+fn end_of(store: &Store, index: Term, numbers: &[i32]) -> i32
+    requires index { IsTermOf (length store.now.doms) index }
+    requires fits { FitsTerm index }
+    ensures { (k : ℤ) → k ≤ℤ pos (length numbers.now)
+        → IsInSet (term_set store.now.doms index) k → k <ℤ result }
+{
+    let last = greatest_of(store, index).min(last_index(numbers));
+    above(last)
+}
+
+fn above(value: i32) -> i32
+    requires { value ≤ℤ GREATEST }
+    ensures { result ≡ value +ℤ pos 1 }
+{
+    value + 1
+}
+
+/// The number at an index, if both are left.
+fn paired(store: &Store, index: Term, numbers: &[i32], value: Term, place: i32) -> Option<i32>
+    requires index { IsTermOf (length store.now.doms) index }
+    requires value { IsTermOf (length store.now.doms) value }
+    ensures { MatchOption result
+        ((n : ℤ) → IsPair numbers.now (term_set store.now.doms index)
+        (term_set store.now.doms value) place n → ⊥)
+        (λ n. IsPair numbers.now (term_set store.now.doms index)
+        (term_set store.now.doms value) place n) }
+{
+    let Some(number) = number_at(numbers, place) else {
+        return None;
+    };
+    if has(store, index, place) && has(store, value, number) {
+        Some(number)
+    } else {
+        None
+    }
+}
+
+/// Whether a number is left of a term.
+fn has(store: &Store, term: Term, number: i32) -> bool
+    requires { IsTermOf (length store.now.doms) term }
+    ensures { IsTrue result ↔ IsInSet (term_set store.now.doms term) number }
+{
+    match term {
+        Term::Var(variable) => store.dom(variable).contains(number),
+        Term::Num(only) => number == only,
+    }
+}
+
+/// The number at an index, counted from 1, if there is one.
+fn number_at(numbers: &[i32], index: i32) -> Option<i32>
+    ensures { MatchOption result
+        ((n : ℤ) → IsElement index numbers.now n → ⊥) (λ n. IsElement index numbers.now n) }
+{
+    if index < 1 {
+        return None;
+    }
+    numbers.get((index - 1) as usize).copied()
+}
+
+/// The last index of a list, or the greatest `i32` where the list is longer.
+fn last_index(numbers: &[i32]) -> i32
+    ensures { (k : ℤ) → k ≤ℤ pos 2147483647 → k ≤ℤ pos (length numbers.now) → k ≤ℤ result }
+{
+    i32::try_from(numbers.len()).unwrap_or(i32::MAX)
+}

@@ -1,0 +1,98 @@
+//! Keeping the indices whose number is left, and the numbers at these.
+ghost use Rattle.std.specs.Prelude.{◌≡◌, ◌↔◌, ◌⊎◌, ℤ, List, length, IfOk, IsTrue};
+ghost use Rattle.fz_dom.specs.declared.change.Change.TheVariants as changes;
+ghost use Rattle.fz_strength.specs.Domains.{term_set};
+ghost use Rattle.fz_prop.specs.Answers.{IsAnswerOf, IsCorrectOf, IsDecided};
+ghost use Rattle.fz_prop.specs.Stores.{Shrinks, IsTermOf, FitsTerm};
+ghost use Rattle.fz_rel.specs.Truths.{AreSingle};
+ghost use Rattle.fz_element.specs.Selecting.{ArePairs, IsSelected, SelectionLine, IsRested};
+
+use crate::pairs::pairs_of;
+use fz_dom::Dom;
+use fz_prop::terms::{keep_in, value_of};
+use fz_prop::{Answer, Change, Store};
+use fz_spec::term::Term;
+use std::alloc::{AllocError, Global};
+
+/// Narrows a store so that a value stands in a list of numbers at an index.
+pub fn keep_element(
+    alloc: Global,
+    store: &mut Store,
+    index: Term,
+    numbers: &[i32],
+    value: Term,
+) -> Result<Answer, AllocError>
+    requires index { IsTermOf (length store.old.doms) index }
+    requires value { IsTermOf (length store.old.doms) value }
+    requires fits_index { FitsTerm index }
+    requires fits_value { FitsTerm value }
+    ensures shrinks { Shrinks store.old store.new }
+    ensures correct { IsCorrectOf (IsSelected index numbers.now value)
+        store.old.doms store.new.doms }
+    ensures answer { IfOk result
+        (λ r. IsAnswerOf r (IsSelected index numbers.now value)
+        (SelectionLine index numbers.now value) store.old.doms store.new.doms) }
+    ensures checking { IfOk result
+        (λ r. AreSingle index value store.old.doms → IsDecided r) }
+{
+    let (indices, values) = pairs_of(alloc, store, index, numbers, value)?;
+    keep_pairs(store, index, numbers, value, &indices, &values)
+}
+
+/// Keeps the indices and the numbers of all pairs that are left.
+fn keep_pairs(
+    store: &mut Store,
+    index: Term,
+    numbers: &[i32],
+    value: Term,
+    indices: &Dom,
+    values: &Dom,
+) -> Result<Answer, AllocError>
+    requires index { IsTermOf (length store.old.doms) index }
+    requires value { IsTermOf (length store.old.doms) value }
+    requires pairs { ArePairs numbers.now (term_set store.old.doms index)
+        (term_set store.old.doms value) indices.now values.now }
+    ensures shrinks { Shrinks store.old store.new }
+    ensures correct { IsCorrectOf (IsSelected index numbers.now value)
+        store.old.doms store.new.doms }
+    ensures answer { IfOk result
+        (λ r. IsAnswerOf r (IsSelected index numbers.now value)
+        (SelectionLine index numbers.now value) store.old.doms store.new.doms) }
+    ensures checking { IfOk result
+        (λ r. AreSingle index value store.old.doms → IsDecided r) }
+{
+    let _ = numbers;
+    let first = keep_in(store, index, indices)?;
+    if let Change::Wiped = first {
+        return Ok(Answer::Failed);
+    }
+    let second = keep_in(store, value, values)?;
+    if let Change::Wiped = second {
+        return Ok(Answer::Failed);
+    }
+    let _ = store.doms();
+    if has_changed_both(index, value, first, second) {
+        return Ok(Answer::NoFix);
+    }
+    Ok(rested(store, value))
+}
+
+/// Whether both terms are one variable, and it changed.
+fn has_changed_both(index: Term, value: Term, first: Change, second: Change) -> bool
+    ensures { IsTrue result ↔ ((index ≡ value)
+        × ((first ≡ changes.Changed) ⊎ (second ≡ changes.Changed))) }
+{
+    index == value && (first == Change::Changed || second == Change::Changed)
+}
+
+/// What a run answers after which the line holds.
+fn rested(store: &Store, value: Term) -> Answer
+    requires { IsTermOf (length store.now.doms) value }
+    ensures { IsRested result (term_set store.now.doms value) }
+{
+    if value_of(store, value).is_some() {
+        Answer::Subsumed
+    } else {
+        Answer::Fix
+    }
+}
