@@ -11,4 +11,5 @@ constraint_of (forms.ReifiedMembership membership) = membership
 constraint_of (forms.AllDifferent different) = different
 constraint_of (forms.Clause clause) = clause
 constraint_of (forms.Element element) = element
+constraint_of (forms.Linear linear) = linear
 constraint_of (forms.Awaiting awaiting) = awaiting
