@@ -1,21 +1,23 @@
 -- What a model's constraints say of their arguments.
-use Rattle.std.proofs.Common.{◌≡◌, ℕ, zero, suc, ◌<◌, List, [], ◌∷◌, ◌++◌, inl, inr, refl, sym, subst, arith, length, true, false, Bool}
+use Rattle.std.proofs.Common.{tests, ◌≡◌, ℕ, zero, suc, ◌<◌, List, [], ◌∷◌, ◌++◌, inl, inr, refl, sym, subst, arith, length, true, false, Bool}
 use Rattle.std.proofs.lemmas.Int.{ints}
 use Rattle.std.proofs.lemmas.List.{length-map}
-use Rattle.std.specs.Prelude.{ℤ, pos, Option, Some, None, slice_get, MatchOption}
+use Rattle.std.specs.Prelude.{ℤ, pos, ◌≤◌, IsTrue, Option, Some, None, slice_get, MatchOption}
 use Rattle.std.specs.List.{AllByRecursion}
 use Rattle.fz_sets.specs.Sets.{IsWithinLimits, IsInSet, IsInRange}
 use Rattle.fz_spec.specs.declared.kind.Kind.{Kind}
 use Rattle.fz_spec.specs.declared.kind.Kind.TheVariants as kinds
 use Rattle.fz_spec.specs.declared.builtin.Builtin.{Builtin}
-use Rattle.fz_spec.specs.declared.builtin.Builtin.TheVariants.{BoolEqReif, BoolLeReif, BoolLtReif, IntEqReif, IntLeReif, IntLtReif, IntNeReif, SetIn, SetInReif}
+use Rattle.fz_spec.specs.declared.builtin.Builtin.TheVariants.{BoolEqReif, BoolLeReif, BoolLtReif, IntEqReif, IntLeReif, IntLinEq, IntLinLe, IntLinNe, IntLtReif, IntNeReif, SetIn, SetInReif}
 use Rattle.fz_spec.specs.declared.term.Term.{Term}
 use Rattle.fz_spec.specs.declared.term.Term.TheVariants.{Num, Var}
 use Rattle.fz_spec.specs.declared.asked.Element.{Element}
 use Rattle.fz_spec.specs.declared.asked.Asked.{Asked}
 use Rattle.fz_spec.specs.declared.asked.Asked.TheVariants as asked
 use Rattle.fz_spec.specs.Constraints.{Argument, One, Numbers, Terms, Set, Constraint}
-use Rattle.fz_spec.specs.Signatures.{Row, row_of, signature_of}
+use Rattle.fz_spec.specs.Signatures.{Row, row_of, signature_of, have_lengths}
+use Rattle.fz_spec.specs.declared.asked.Lengths.TheVariants.{Equal}
+use Rattle.fz_spec.specs.declared.limits.TheConstants.{ELEMENT_LIMIT}
 use Rattle.fz_spec.specs.Instance.{Instance, Variable}
 use Rattle.fz_model.specs.Kept as kept
 use Rattle.fz_model.specs.Kept.{IsNumberOf, kind_at, FitsElement, FitsList, FitsAsked, AllFit, FitsRow, HasSetOf, IsVariable, IsConstraint, IsModel}
@@ -24,13 +26,14 @@ use Rattle.fz_strength.specs.declared.event.Event.TheVariants.{Any, Fixed}
 use Rattle.fz_strength.specs.declared.relation.Relation.{Relation}
 use Rattle.fz_strength.specs.Events.{Wait, wait_for, waits_for, AreBelow}
 use Rattle.fz_strength.specs.Relations.{relation_of, reified_of, event_of, reified_event}
-use Rattle.fz_strength.specs.Lines.{terms_among, waits, waits_of, waits_of_two, waits_of_reified, waits_of_set, waits_of_set_reified}
+use Rattle.fz_strength.specs.Sums.{sum_relation_of, sum_event_of}
+use Rattle.fz_strength.specs.Lines.{terms_among, waits, waits_of, waits_of_two, waits_of_reified, waits_of_set, waits_of_set_reified, waits_of_sum, HasOwnLine}
 use Rattle.fz_strength.specs.Domains.{dom_at}
 use Rattle.fz_strength.specs.Promises.{truth_of_reified, truths_of, IsTruth}
 use Rattle.fz_strength.proofs.Truths.{is_single}
 use Rattle.fz_strength.proofs.Lists.{all_both}
 use Rattle.fz_prop.specs.Stores.{IsTermOf, FitsTerm, declared_sets}
-use Rattle.fz_engine.specs.Known.{IsLimited, HaveLimits, HasLimits, IsAmong, AreAmong}
+use Rattle.fz_engine.specs.Known.{IsLimited, HaveLimits, IsKept, IsAmong, AreAmong}
 use Rattle.fz_engine.specs.Runs.{AreOf}
 use Rattle.fz_engine.proofs.Lists.{each_of, same_some, none_some}
 
@@ -105,15 +108,59 @@ in_row : (vs : List Variable) (o : Option Row) (arguments : List Argument) → M
 in_row vs None arguments fits = absurd fits
 in_row vs (Some row) arguments fits = matched vs (signature_of row (length arguments)) arguments fits.fit
 
-pub fits_of : (vs : List Variable) (c : Constraint) → IsConstraint vs c → HasLimits c × AreAmong (length vs) c.arguments
+pub fits_of : (vs : List Variable) (c : Constraint) → IsConstraint vs c → HaveLimits c.arguments × AreAmong (length vs) c.arguments
 fits_of vs c is = in_row vs (row_of c.name) c.arguments is
 
-all_limits : (vs : List Variable) (cs : List Constraint) → AllByRecursion (IsConstraint vs) cs → AllByRecursion HasLimits cs
-all_limits vs [] is = tt
-all_limits vs (c ∷ cs) is = ((fits_of vs c is.0).0, all_limits vs cs is.1)
+pub limits_of : (c : Constraint) → IsKept c → HaveLimits c.arguments
+limits_of c kept = (fits_of kept.0 c kept.1).0
 
-pub limits_known : (m : Instance) → IsModel m → AllByRecursion HasLimits m.constraints
-limits_known m model = all_limits m.variables m.constraints model.constrained
+all_kept : (vs : List Variable) (cs : List Constraint) → AllByRecursion (IsConstraint vs) cs → AllByRecursion IsKept cs
+all_kept vs [] is = tt
+all_kept vs (c ∷ cs) is = ((vs, is.0), all_kept vs cs is.1)
+
+pub constraints_kept : (m : Instance) → IsModel m → AllByRecursion IsKept m.constraints
+constraints_kept m model = all_kept m.variables m.constraints model.constrained
+
+-- a kept constraint, by its parts
+pub kept_as : (c : Constraint) (name : Builtin) (arguments : List Argument) → name ≡ c.name → arguments ≡ c.arguments → IsKept c → IsKept (record { name = name; arguments = arguments })
+kept_as c name arguments e f kept = rw (e, f) kept
+
+-- ---- sums
+
+same_length : (ks : List ℤ) (ts : List Term) → IsTrue (have_lengths Equal (length ks ∷ length ts ∷ [])) → length ks ≡ length ts
+same_length ks ts h = grind (arith, tests)
+
+terms_limited : (vs : List Variable) (ts : List Term) → AllByRecursion (kept.IsTermOf vs kinds.Int) ts → AllByRecursion FitsTerm ts
+terms_limited vs [] all = tt
+terms_limited vs (Num n ∷ ts) all = (all.0, terms_limited vs ts all.1)
+terms_limited vs (Var v ∷ ts) all = (tt, terms_limited vs ts all.1)
+
+-- as many factors as terms, not too many, and the terms' numbers within the limits
+pub record IsSum (ks : List ℤ) (ts : List Term) : Type 0 where
+  pub same : length ks ≡ length ts
+  pub few : length ts ≤ ELEMENT_LIMIT
+  pub fits : AllByRecursion FitsTerm ts
+
+sum_of : (vs : List Variable) (name : Builtin) (ks : List ℤ) (ts : List Term) (c : ℤ) (relation : Relation) → sum_relation_of name ≡ Some relation
+    → MatchOption (row_of name) ⊥ (λ row. FitsRow vs row (Numbers ks ∷ Terms ts ∷ One (Num c) ∷ [])) → IsSum ks ts
+sum_of vs IntLinEq ks ts c relation is fits = record { same = same_length ks ts fits.lengths; few = fits.fit.1.0.0; fits = terms_limited vs ts fits.fit.1.0.1 }
+sum_of vs IntLinNe ks ts c relation is fits = record { same = same_length ks ts fits.lengths; few = fits.fit.1.0.0; fits = terms_limited vs ts fits.fit.1.0.1 }
+sum_of vs IntLinLe ks ts c relation is fits = record { same = same_length ks ts fits.lengths; few = fits.fit.1.0.0; fits = terms_limited vs ts fits.fit.1.0.1 }
+sum_of vs name ks ts c relation is fits = absurd (none_some None relation refl is)
+
+pub sum_kept : (name : Builtin) (ks : List ℤ) (ts : List Term) (c : ℤ) (relation : Relation) → sum_relation_of name ≡ Some relation
+    → IsKept (record { name = name; arguments = Numbers ks ∷ Terms ts ∷ One (Num c) ∷ [] }) → IsSum ks ts
+sum_kept name ks ts c relation is kept = sum_of kept.0 name ks ts c relation is kept.1
+
+-- a list of numbers and one of terms have no line of their own unless one argument stands behind them
+pub no_sum_line : (name : Builtin) (ks : List ℤ) (ts : List Term) (rest : List Argument) → (length rest ≡ 1 → ⊥) → HasOwnLine name (Numbers ks ∷ Terms ts ∷ rest) → ⊥
+no_sum_line name ks ts [] not h = h
+no_sum_line name ks ts (x ∷ []) not h = not refl
+no_sum_line name ks ts (One (Num c) ∷ y ∷ rest) not h = h
+no_sum_line name ks ts (One (Var v) ∷ y ∷ rest) not h = h
+no_sum_line name ks ts (Numbers ns ∷ y ∷ rest) not h = h
+no_sum_line name ks ts (Terms us ∷ y ∷ rest) not h = h
+no_sum_line name ks ts (Set set ∷ y ∷ rest) not h = h
 
 -- ---- what constraints wait for
 
@@ -156,6 +203,10 @@ set_reified_below : (W : List Wait) (name : Builtin) (x r : Term) (n : ℕ) → 
 set_reified_below W SetInReif x r n general first third = all_both (λ (w : Wait). w.variable < n) (wait_for Any x) (wait_for Any r) (wait_below Any x n first) (wait_below Any r n third)
 set_reified_below W name x r n general first third = general
 
+sum_below : (W : List Wait) (o : Option Relation) (ts : List Term) (n : ℕ) → AreBelow W n → AllByRecursion (IsTermOf n) ts → AreBelow (waits_of_sum W o ts) n
+sum_below W None ts n general all = general
+sum_below W (Some relation) ts n general all = waits_below (sum_event_of relation) ts n all
+
 below_of : (name : Builtin) (arguments : List Argument) (n : ℕ) → AreAmong n arguments → AreBelow (waits_of name arguments) n
 below_of name (One x ∷ One y ∷ []) n among =
     two_below (waits_for Fixed (x ∷ y ∷ [])) (relation_of name) x y n (general_below (One x ∷ One y ∷ []) n among) among.0 among.1.0
@@ -164,6 +215,9 @@ below_of name (One x ∷ One y ∷ One r ∷ []) n among =
 below_of name (One x ∷ Set set ∷ []) n among = set_below (waits_for Fixed (x ∷ [])) name x n (general_below (One x ∷ Set set ∷ []) n among) among.0
 below_of name (One x ∷ Set set ∷ One r ∷ []) n among =
     set_reified_below (waits_for Fixed (x ∷ r ∷ [])) name x r n (general_below (One x ∷ Set set ∷ One r ∷ []) n among) among.0 among.1.1.0
+below_of name (Numbers ks ∷ Terms ts ∷ One (Num c) ∷ []) n among =
+    let at = Numbers ks ∷ Terms ts ∷ One (Num c) ∷ [] in
+    sum_below (waits_for Fixed (terms_among at)) (sum_relation_of name) ts n (general_below at n among) among.1.0
 below_of name arguments n among = general_below arguments n among
 
 pub below : (m : Instance) (i : ℕ) (c : Constraint) → IsModel m → slice_get m.constraints i ≡ Some c → AreBelow (waits c) (length m.variables)

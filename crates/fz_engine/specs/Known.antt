@@ -3,6 +3,8 @@ use Rattle.std.specs.Prelude.{◌≡◌, ℕ, List, Option, MatchOption}
 use Rattle.std.specs.List.{AllByRecursion}
 use Rattle.fz_spec.specs.declared.builtin.Builtin.{Builtin}
 use Rattle.fz_spec.specs.Constraints.{Argument, One, Numbers, Terms, Set, Constraint}
+use Rattle.fz_spec.specs.Instance.{Variable}
+use Rattle.fz_model.specs.Kept.{IsConstraint}
 use Rattle.fz_strength.specs.Lines.{HasOwnLine}
 use Rattle.fz_prop.specs.Stores.{IsTermOf, FitsTerm}
 
@@ -20,8 +22,9 @@ IsLimited (Set set) = Unit {0}
 abbrev pub HaveLimits : List Argument → Type 0
 HaveLimits arguments = AllByRecursion IsLimited arguments
 
-abbrev pub HasLimits : Constraint → Type 0
-HasLimits c = HaveLimits c.arguments
+-- a model over some variables keeps it
+abbrev pub IsKept : Constraint → Type 0
+IsKept c = (vs : List Variable) × IsConstraint vs c
 
 -- the variables among arguments are among so many
 abbrev pub IsAmong : ℕ → Argument → Type 0

@@ -2,6 +2,7 @@
 ghost use Rattle.std.specs.Prelude.{◌≡◌, ◌<◌, List, [], ◌∷◌, length, map, IfOk, slice_get, Some};
 ghost use Rattle.fz_spec.specs.Constraints as meaning;
 ghost use Rattle.fz_spec.specs.declared.builtin.Builtin.TheVariants.{SetIn, SetInReif};
+ghost use Rattle.fz_spec.specs.declared.term.Term.TheVariants.{Num};
 ghost use Rattle.fz_model.specs.Arguments.{argument_of};
 ghost use Rattle.fz_strength.specs.Costs.{cost_of};
 ghost use Rattle.fz_strength.specs.Events.{Wait, AreBelow};
@@ -9,10 +10,11 @@ ghost use Rattle.fz_strength.specs.Lines.{waits, HasOwnLine};
 ghost use Rattle.fz_strength.specs.Promises.{IsCorrect, Suits};
 ghost use Rattle.fz_prop.specs.Answers.{IsAnswer};
 ghost use Rattle.fz_prop.specs.Stores.{Shrinks, IsStore, FitsTerm};
-ghost use Rattle.fz_engine.specs.Known.{IsOwn, HaveLimits, HasLimits};
+ghost use Rattle.fz_engine.specs.Known.{IsOwn, HaveLimits, IsKept};
 
 use fz_await::Awaiting;
 use fz_dom::Dom;
+use fz_linear::Linear;
 use fz_model::constraint::{Argument, Constraint};
 use fz_prop::{Answer, Cost, Event, Propagator, Store};
 use fz_rel::{Comparison, Membership, ReifiedComparison, ReifiedMembership};
@@ -34,6 +36,7 @@ enum Form {
     ReifiedComparison(ReifiedComparison),
     Membership(Membership),
     ReifiedMembership(ReifiedMembership),
+    Linear(Linear),
     Awaiting(Awaiting),
 }
 
@@ -53,7 +56,7 @@ impl Kind {
     /// # Errors
     /// `AllocError` where there is no memory.
     pub fn of(alloc: Global, constraint: &Constraint) -> Result<Kind, AllocError>
-        requires { HasLimits constraint.now }
+        requires { IsKept constraint.now }
         ensures { IfOk result (λ k. k ≡ constraint.now) }
     {
         match own(alloc, constraint)? {
@@ -71,6 +74,7 @@ impl Kind {
             Form::ReifiedComparison(comparison) => comparison.vars(),
             Form::Membership(membership) => membership.vars(),
             Form::ReifiedMembership(membership) => membership.vars(),
+            Form::Linear(linear) => linear.vars(),
             Form::Awaiting(awaiting) => awaiting.vars(),
         }
     }
@@ -85,6 +89,7 @@ impl Kind {
             Form::ReifiedComparison(comparison) => comparison.event(place),
             Form::Membership(membership) => membership.event(place),
             Form::ReifiedMembership(membership) => membership.event(place),
+            Form::Linear(linear) => linear.event(place),
             Form::Awaiting(awaiting) => awaiting.event(place),
         }
     }
@@ -98,6 +103,7 @@ impl Kind {
             Form::ReifiedComparison(comparison) => comparison.cost(),
             Form::Membership(membership) => membership.cost(),
             Form::ReifiedMembership(membership) => membership.cost(),
+            Form::Linear(linear) => linear.cost(),
             Form::Awaiting(awaiting) => awaiting.cost(),
         }
     }
@@ -119,6 +125,7 @@ impl Kind {
             Form::ReifiedComparison(comparison) => comparison.run(store),
             Form::Membership(membership) => membership.run(store),
             Form::ReifiedMembership(membership) => membership.run(store),
+            Form::Linear(linear) => linear.run(store),
             Form::Awaiting(awaiting) => awaiting.run(store),
         };
         let _ = store.doms();
@@ -139,11 +146,33 @@ fn awaiting(alloc: Global, constraint: &Constraint) -> Result<Kind, AllocError>
 
 /// The propagator of its own that a constraint has; `None` where it has none.
 fn own(alloc: Global, constraint: &Constraint) -> Result<Option<Kind>, AllocError>
-    requires { HasLimits constraint.now }
+    requires limits { HaveLimits constraint.now.arguments }
+    requires kept { IsKept constraint.now }
     ensures { IfOk result (λ o. IsOwn o constraint.now.name constraint.now.arguments) }
 {
     match constraint.arguments() {
-        [Argument::One(x), rest @ ..] => of_term(alloc, constraint.name(), *x, rest),
+        [first, rest @ ..] => of_first(alloc, constraint.name(), first, rest),
+        [] => Ok(None),
+    }
+}
+
+/// The propagator of its own of a constraint with arguments.
+fn of_first(
+    alloc: Global,
+    name: Builtin,
+    first: &Argument,
+    rest: &[Argument],
+) -> Result<Option<Kind>, AllocError>
+    requires limits { HaveLimits (argument_of first.now ∷ map argument_of rest.now) }
+    requires kept { IsKept (record {
+      name = name;
+      arguments = argument_of first.now ∷ map argument_of rest.now;
+    }) }
+    ensures { IfOk result (λ o. IsOwn o name (argument_of first.now ∷ map argument_of rest.now)) }
+{
+    match first {
+        Argument::One(x) => of_term(alloc, name, *x, rest),
+        Argument::Numbers(factors) => of_numbers(alloc, name, factors, rest),
         _ => Ok(None),
     }
 }
@@ -243,4 +272,113 @@ fn reified_member(alloc: Global, x: Term, set: &Dom, r: Term) -> Result<Kind, Al
     Ok(Kind {
         form: Form::ReifiedMembership(membership),
     })
+}
+
+/// The propagator of its own of a constraint whose first argument is a list of numbers.
+fn of_numbers(
+    alloc: Global,
+    name: Builtin,
+    factors: &[i32],
+    rest: &[Argument],
+) -> Result<Option<Kind>, AllocError>
+    requires { IsKept (record {
+      name = name;
+      arguments = meaning.Numbers factors.now ∷ map argument_of rest.now;
+    }) }
+    ensures { IfOk result (λ o. IsOwn o name (meaning.Numbers factors.now ∷ map argument_of rest.now)) }
+{
+    match rest {
+        [Argument::Terms(terms), tail @ ..] => of_sum(alloc, name, factors, terms, tail),
+        _ => Ok(None),
+    }
+}
+
+/// The propagator of its own of a constraint whose first two arguments are a list of numbers and a list of terms.
+fn of_sum(
+    alloc: Global,
+    name: Builtin,
+    factors: &[i32],
+    terms: &[Term],
+    rest: &[Argument],
+) -> Result<Option<Kind>, AllocError>
+    requires { IsKept (record {
+      name = name;
+      arguments = meaning.Numbers factors.now ∷ meaning.Terms terms.now ∷ map argument_of rest.now;
+    }) }
+    ensures { IfOk result (λ o. IsOwn o name
+        (meaning.Numbers factors.now ∷ meaning.Terms terms.now ∷ map argument_of rest.now)) }
+{
+    match rest {
+        [] => Ok(None),
+        [last] => of_last(alloc, name, factors, terms, last),
+        _ => Ok(None),
+    }
+}
+
+/// The same where one argument stands behind the two.
+fn of_last(
+    alloc: Global,
+    name: Builtin,
+    factors: &[i32],
+    terms: &[Term],
+    last: &Argument,
+) -> Result<Option<Kind>, AllocError>
+    requires { IsKept (record {
+      name = name;
+      arguments = meaning.Numbers factors.now ∷ meaning.Terms terms.now ∷ argument_of last.now ∷ [];
+    }) }
+    ensures { IfOk result (λ o. IsOwn o name
+        (meaning.Numbers factors.now ∷ meaning.Terms terms.now ∷ argument_of last.now ∷ [])) }
+{
+    match last {
+        Argument::One(number) => of_number(alloc, name, factors, terms, *number),
+        _ => Ok(None),
+    }
+}
+
+/// The propagator of its own of a sum of terms with factors and a term, which is a number where there is one.
+fn of_number(
+    alloc: Global,
+    name: Builtin,
+    factors: &[i32],
+    terms: &[Term],
+    number: Term,
+) -> Result<Option<Kind>, AllocError>
+    requires { IsKept (record {
+      name = name;
+      arguments = meaning.Numbers factors.now ∷ meaning.Terms terms.now ∷ meaning.One number ∷ [];
+    }) }
+    ensures { IfOk result (λ o. IsOwn o name
+        (meaning.Numbers factors.now ∷ meaning.Terms terms.now ∷ meaning.One number ∷ [])) }
+{
+    match number {
+        Term::Num(number) => summing(alloc, name, factors, terms, number),
+        Term::Var(_) => Ok(None),
+    }
+}
+
+/// The propagator of a sum of terms with factors and a number; `None` where the name is no linear constraint.
+fn summing(
+    alloc: Global,
+    name: Builtin,
+    factors: &[i32],
+    terms: &[Term],
+    number: i32,
+) -> Result<Option<Kind>, AllocError>
+    requires { IsKept (record {
+      name = name;
+      arguments = meaning.Numbers factors.now ∷ meaning.Terms terms.now ∷ meaning.One (Num number) ∷ [];
+    }) }
+    ensures { IfOk result (λ o. IsOwn o name
+        (meaning.Numbers factors.now ∷ meaning.Terms terms.now ∷ meaning.One (Num number) ∷ [])) }
+{
+    let Some(relation) = Relation::of_sum(name) else {
+        return Ok(None);
+    };
+    let factors = Vec::from_slice(alloc, factors)?;
+    let terms = Vec::from_slice(alloc, terms)?;
+    let linear = Linear::new(alloc, name, relation, factors, terms, number)?;
+    Ok(Some(Kind {
+        form: Form::Linear(linear),
+    }))
 }

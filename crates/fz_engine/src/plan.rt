@@ -9,7 +9,7 @@ ghost use Rattle.fz_strength.specs.Lines.{waits};
 ghost use Rattle.fz_prop.specs.Stores.{Stored, IsListed};
 ghost use Rattle.fz_agenda.specs.Agendas.{IsSettled};
 ghost use Rattle.fz_agenda.specs.Wakes.{waiting_at, IsListedAt, IsIndexOf, HaveSize, HasVariable, Extends};
-ghost use Rattle.fz_engine.specs.Known.{HasLimits};
+ghost use Rattle.fz_engine.specs.Known.{IsKept};
 ghost use Rattle.fz_engine.specs.Plans.{Planned, IsPlan};
 
 use crate::kind::Kind;
@@ -84,7 +84,7 @@ impl Plan {
 
 /// The propagators of constraints.
 fn kinds_of(alloc: Global, constraints: &[Constraint]) -> Result<Vec<Kind>, AllocError>
-    requires { AllByRecursion HasLimits constraints.now }
+    requires { AllByRecursion IsKept constraints.now }
     ensures { IfOk result (λ v. v.items ≡ constraints.now) }
 {
     let mut kinds = Vec::with_capacity(alloc, constraints.len())?;
