@@ -29,7 +29,8 @@ pub fn choose_among(plan: &Plan, doms: &[Dom]) -> Option<Choice>
 
 /// The choice of one part.
 fn choice_of(alloc: Global, part: &SearchPart, doms: &[Dom]) -> Option<Choice>
-    ensures { MatchOption result (IsDone doms.now part.now.variables) (IsChosenOf doms.now part.now) }
+    ensures { MatchOption result (IsDone doms.now part.now.variables)
+        (IsChosenOf doms.now part.now) }
 {
     let variables = part.variables();
     let Some(place) = picked(part.pick(), variables, doms) else {

@@ -9,7 +9,8 @@ use fz_spec::search::Pick;
 
 /// The place in a part of the variable that is picked.
 pub fn picked(pick: Pick, variables: &[u32], doms: &[Dom]) -> Option<usize>
-    ensures { MatchOption result (IsDone doms.now variables.now) (IsPicked pick doms.now variables.now) }
+    ensures { MatchOption result (IsDone doms.now variables.now)
+        (IsPicked pick doms.now variables.now) }
 {
     let Some(first) = first_open(variables, doms) else {
         return None;
@@ -22,7 +23,8 @@ pub fn picked(pick: Pick, variables: &[u32], doms: &[Dom]) -> Option<usize>
 
 /// The place of the first variable that has more than one value left.
 fn first_open(variables: &[u32], doms: &[Dom]) -> Option<usize>
-    ensures { MatchOption result (IsDone doms.now variables.now) (IsFirstOpen doms.now variables.now) }
+    ensures { MatchOption result (IsDone doms.now variables.now)
+        (IsFirstOpen doms.now variables.now) }
 {
     for (place, variable) in variables.iter().enumerate() {
         if is_open_at(*variable, doms) {

@@ -146,7 +146,13 @@ pub(crate) fn push_scalar(
 
 fn scalar(alloc: Global, name: Name<'_>, kind: Kind, number: u32) -> Result<Output, AllocError>
     ensures { IfOk result (λ o. o
-        ≡ record { name = name.entry.bytes.now; kind = kind; array = false; shape = []; terms = Var number ∷ [] }) }
+        ≡ record {
+          name = name.entry.bytes.now;
+          kind = kind;
+          array = false;
+          shape = [];
+          terms = Var number ∷ [];
+        }) }
 {
     let name = text(alloc, name.bytes)?;
     let terms = Vec::from_array(alloc, [Term::Var(number)])?;
@@ -248,7 +254,13 @@ fn array(
     terms: &[Term],
 ) -> Result<Output, AllocError>
     ensures { IfOk result (λ o. o
-        ≡ record { name = name.entry.bytes.now; kind = kind; array = true; shape = shape.items; terms = terms.now }) }
+        ≡ record {
+          name = name.entry.bytes.now;
+          kind = kind;
+          array = true;
+          shape = shape.items;
+          terms = terms.now;
+        }) }
 {
     let name = text(alloc, name.bytes)?;
     let terms = Vec::from_slice(alloc, terms)?;

@@ -24,7 +24,13 @@ impl Model for Output {
 
     ghost Value = { instance.Output };
 
-    ghost view = { λ o. record { name = o.name; kind = o.kind; array = o.array; shape = o.shape.items; terms = o.terms.items } };
+    ghost view = { λ o. record {
+      name = o.name;
+      kind = o.kind;
+      array = o.array;
+      shape = o.shape.items;
+      terms = o.terms.items;
+    } };
 }
 
 impl Output {
@@ -36,7 +42,13 @@ impl Output {
         shape: Vec<(i32, i32)>,
         terms: Vec<Term>,
     ) -> Output
-        ensures { result ≡ record { name = name; kind = kind; array = array; shape = shape.items; terms = terms.items } }
+        ensures { result ≡ record {
+          name = name;
+          kind = kind;
+          array = array;
+          shape = shape.items;
+          terms = terms.items;
+        } }
     {
         Output {
             name,

@@ -23,7 +23,11 @@ use std::thread::join;
 
 /// `int_lin_le([2,3],[x,7],bound)`, if x is the first variable
 fn weighted(alloc: Global, bound: i32) -> Result<Constraint, AllocError>
-    ensures { IfOk result (λ c. c ≡ record { name = Builtin.IntLinLe; arguments = Numbers (pos 2 ∷ pos 3 ∷ []) ∷ Terms (Term.Var 0 ∷ Term.Num (pos 7) ∷ []) ∷ One (Term.Num bound) ∷ [] }) }
+    ensures { IfOk result (λ c. c ≡ record {
+      name = Builtin.IntLinLe;
+      arguments = Numbers (pos 2 ∷ pos 3 ∷ [])
+          ∷ Terms (Term.Var 0 ∷ Term.Num (pos 7) ∷ []) ∷ One (Term.Num bound) ∷ [];
+    }) }
 {
     let mut arguments = Vec::new(alloc);
     arguments.push(Argument::Numbers(Vec::from_slice(alloc, &[2, 3])?))?;
@@ -34,7 +38,13 @@ fn weighted(alloc: Global, bound: i32) -> Result<Constraint, AllocError>
 
 /// `array [1..2] of var int: xs :: output_array([1..2]) = [x,7];`
 fn array_of_x(alloc: Global) -> Result<Output, AllocError>
-    ensures { IfOk result (λ o. o ≡ record { name = codes "xs"; kind = Kind.Int; array = true; shape = (pos 1, pos 2) ∷ []; terms = Term.Var 0 ∷ Term.Num (pos 7) ∷ [] }) }
+    ensures { IfOk result (λ o. o ≡ record {
+      name = codes "xs";
+      kind = Kind.Int;
+      array = true;
+      shape = (pos 1, pos 2) ∷ [];
+      terms = Term.Var 0 ∷ Term.Num (pos 7) ∷ [];
+    }) }
 {
     Ok(Output::new(
         Text::new(String::from_str(alloc, "xs")?),

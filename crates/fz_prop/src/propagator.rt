@@ -28,7 +28,8 @@ pub trait Propagator: Drop + Sized {
     /// The kind of change that it waits for, of the variable at this place.
     fn event(&self, place: usize) -> Event
         requires { place < length (waits (constraint self.now)) }
-        ensures { (w : Wait) → slice_get (waits (constraint self.now)) place ≡ Some w → result ≡ w.event };
+        ensures { (w : Wait) → slice_get (waits (constraint self.now)) place ≡ Some w
+            → result ≡ w.event };
 
     /// The class of its cost.
     fn cost(&self) -> Cost
@@ -44,7 +45,8 @@ pub trait Propagator: Drop + Sized {
         ensures same { constraint self.new ≡ constraint self.old }
         ensures shrinks { Shrinks store.old store.new }
         ensures correct { IsCorrect (constraint self.old) store.old.doms store.new.doms }
-        ensures answer { IfOk result (λ r. IsAnswer r (constraint self.old) store.old.doms store.new.doms) }
+        ensures answer { IfOk result
+            (λ r. IsAnswer r (constraint self.old) store.old.doms store.new.doms) }
         ensures checking { IfOk result
             (λ r. AreFixed (waits (constraint self.old)) store.old.doms → IsDecided r) };
 

@@ -49,7 +49,8 @@ impl Store {
     /// `AllocError` where there is no memory.
     pub fn new(alloc: Global, model: &fz_model::Model) -> Result<Option<Store>, AllocError>
         ensures none { IfOk result (λ o. IsNone o → HasEmpty (declared_sets model.now.variables)) }
-        ensures some { IfOk result (λ o. IfSome o (λ s. s ≡ fresh (declared_sets model.now.variables))) }
+        ensures some { IfOk result
+            (λ o. IfSome o (λ s. s ≡ fresh (declared_sets model.now.variables))) }
     {
         let Some(doms) = declared(alloc, model.variables())? else {
             return Ok(None);
@@ -272,7 +273,8 @@ impl Store {
     pub fn next_changed(&mut self) -> Option<u32>
         ensures none { IsNone result → (self.new ≡ self.old) × (self.old.changed ≡ []) }
         ensures some { IfSome result
-            (λ v. (rest : List ℕ) × (self.old.changed ≡ v ∷ rest) × (self.new ≡ without_first self.old v rest)) }
+            (λ v. (rest : List ℕ) × (self.old.changed ≡ v ∷ rest)
+            × (self.new ≡ without_first self.old v rest)) }
     {
         let first = self.first_changed()?;
         self.take_changed();
@@ -305,8 +307,8 @@ fn mark(marks: &mut Vec<u8>, changed: &mut Vec<u32>, variable: u32, level: u8)
     requires room { vec_len changed.old < vec_capacity changed.old }
     ensures marks { marks.new.items ≡ slice_set marks.old.items variable
         (max (slice_index marks.old.items variable) level) }
-    ensures changed { changed.new.items ≡ with_listed (slice_index marks.old.items variable) variable
-        changed.old.items }
+    ensures changed { changed.new.items
+        ≡ with_listed (slice_index marks.old.items variable) variable changed.old.items }
 {
     let place = variable as usize;
     let before = marks[place];

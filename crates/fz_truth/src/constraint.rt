@@ -170,7 +170,8 @@ fn is_true_of_set(name: Builtin, x: i32, set: &Dom) -> bool
 
 /// The same of a list of numbers and further arguments.
 fn is_true_of_numbers(name: Builtin, first: &[i32], rest: &[Argument], values: &[i32]) -> bool
-    ensures { IsTrue result ↔ Holds name (meaning.Numbers first.now ∷ map argument_of rest.now) values.now }
+    ensures { IsTrue result
+        ↔ Holds name (meaning.Numbers first.now ∷ map argument_of rest.now) values.now }
 {
     match rest {
         [Argument::Terms(terms), tail @ ..] => {
@@ -225,7 +226,8 @@ fn is_true_of_linear(
 
 /// The same of a list of terms and further arguments.
 fn is_true_of_terms(name: Builtin, first: &[Term], rest: &[Argument], values: &[i32]) -> bool
-    ensures { IsTrue result ↔ Holds name (meaning.Terms first.now ∷ map argument_of rest.now) values.now }
+    ensures { IsTrue result
+        ↔ Holds name (meaning.Terms first.now ∷ map argument_of rest.now) values.now }
 {
     match rest {
         [] => is_true_of_list(name, first, values),

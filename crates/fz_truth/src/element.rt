@@ -32,7 +32,8 @@ fn is_term_element(index: i32, terms: &[Term], number: i32, values: &[i32]) -> b
 
 /// The place from 0 of an index from 1.
 fn place_of(index: i32) -> Option<usize>
-    ensures { MatchOption result ((i : ℕ) → index ≡ pos (i + 1) → ⊥) (λ place. index ≡ pos (place + 1)) }
+    ensures { MatchOption result ((i : ℕ) → index ≡ pos (i + 1) → ⊥)
+        (λ place. index ≡ pos (place + 1)) }
 {
     if index < 1 {
         None
@@ -59,7 +60,8 @@ pub(crate) fn is_true_of_var_element(
     number: i32,
     values: &[i32],
 ) -> bool
-    ensures { IsTrue result ↔ HoldsOfVarElement name index (term_values values.now terms.now) number }
+    ensures { IsTrue result
+        ↔ HoldsOfVarElement name index (term_values values.now terms.now) number }
 {
     match name {
         Builtin::ArrayVarIntElement | Builtin::ArrayVarBoolElement => {

@@ -25,7 +25,8 @@ pub(crate) fn is_true_of_sum(name: Builtin, sum: i128, bound: i32) -> bool
 
 /// Whether r is 1 exactly where the constraint that this one speaks of is true of a weighted sum and a number.
 pub(crate) fn is_true_of_reified_sum(name: Builtin, sum: i128, bound: i32, r: i32) -> bool
-    ensures { IsTrue result ↔ IsReifiedOf (truth.plain_of name) (λ plain. HoldsOfSum plain sum bound) r }
+    ensures { IsTrue result
+        ↔ IsReifiedOf (truth.plain_of name) (λ plain. HoldsOfSum plain sum bound) r }
 {
     match plain_of(name) {
         Some(plain) => is_reified(is_true_of_sum(plain, sum, bound), r),

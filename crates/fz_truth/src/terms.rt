@@ -38,7 +38,8 @@ pub(crate) fn none_is_below(terms: &[Term], least: i32, values: &[i32]) -> bool
 
 /// Whether no value is above this one.
 pub(crate) fn none_is_above(terms: &[Term], greatest: i32, values: &[i32]) -> bool
-    ensures { IsTrue result ↔ AllByRecursion (λ x. x ≤ℤ greatest) (term_values values.now terms.now) }
+    ensures { IsTrue result
+        ↔ AllByRecursion (λ x. x ≤ℤ greatest) (term_values values.now terms.now) }
 {
     terms.iter().all(|term| value_of(*term, values) <= greatest)
 }

@@ -70,10 +70,12 @@ pub fn fzn<T, R: Source, S: Sink, G: Gate>(
         (S.faults sink.old) (S.faults sink.new) }
 
     // Where no count rose, an accepted text is Done and a refused one is Refused, unless memory is refused.
-    ensures accepted { R.faults source.new ≡ R.faults source.old → S.faults sink.new ≡ S.faults sink.old
+    ensures accepted { R.faults source.new ≡ R.faults source.old
+        → S.faults sink.new ≡ S.faults sink.old
         → IfSome (options_of (map string_bytes words.now)) (λ o.
         AnswersAccepted result (R.texts source.old o.file)) }
-    ensures refused { R.faults source.new ≡ R.faults source.old → S.faults sink.new ≡ S.faults sink.old
+    ensures refused { R.faults source.new ≡ R.faults source.old
+        → S.faults sink.new ≡ S.faults sink.old
         → IfSome (options_of (map string_bytes words.now)) (λ o.
         AnswersRefused result (R.texts source.old o.file)) }
 {
@@ -197,7 +199,8 @@ fn searched(alloc: Global, model: Model, options: &Options) -> Result<Book, Allo
 fn show<S: Sink>(alloc: Global, book: &Book, wanted: Option<u32>, sink: &mut S) -> Status
     requires searched { IsSearched book.now.book.model wanted book.now.book }
     requires faults { S.faults sink.old < 2 ^ 64 - 1 }
-    ensures printed { AnswersWanted result book.now.book.model wanted (S.taken sink.old) (S.taken sink.new) }
+    ensures printed { AnswersWanted result book.now.book.model wanted
+        (S.taken sink.old) (S.taken sink.new) }
     ensures flushed { IsFlushed result (S.taken sink.old) (S.taken sink.new) (S.flushed sink.new) }
     ensures cause { HasSinkCause result (S.faults sink.old) (S.faults sink.new) }
 {
@@ -212,7 +215,8 @@ fn show<S: Sink>(alloc: Global, book: &Book, wanted: Option<u32>, sink: &mut S) 
 /// Prints a refusal.
 fn refuse<S: Sink>(alloc: Global, refused: Refusal, sink: &mut S) -> Status
     requires { S.faults sink.old < 2 ^ 64 - 1 }
-    ensures printed { Answers result (Status.Refused refused) (text_of refused) (S.taken sink.old) (S.taken sink.new) }
+    ensures printed { Answers result (Status.Refused refused) (text_of refused)
+        (S.taken sink.old) (S.taken sink.new) }
     ensures flushed { IsFlushed result (S.taken sink.old) (S.taken sink.new) (S.flushed sink.new) }
     ensures cause { HasSinkCause result (S.faults sink.old) (S.faults sink.new) }
 {
@@ -227,7 +231,8 @@ fn refuse<S: Sink>(alloc: Global, refused: Refusal, sink: &mut S) -> Status
 fn flush<S: Sink>(sink: &mut S, status: Status) -> Status
     requires { S.faults sink.old < 2 ^ 64 - 1 }
     ensures taken { S.taken sink.new ≡ S.taken sink.old }
-    ensures cases { Flushes status result (S.taken sink.new) (S.flushed sink.new) (S.faults sink.old) (S.faults sink.new) }
+    ensures cases { Flushes status result (S.taken sink.new) (S.flushed sink.new)
+        (S.faults sink.old) (S.faults sink.new) }
 {
     match sink.flush() {
         Ok(()) => status,
