@@ -62,6 +62,13 @@ pub struct Parts {
     pub after: Frontier,
 }
 
+/// A part that was cut off, and the account that names it as given.
+#[derive(Drop)]
+pub struct Cut {
+    pub task: Frontier,
+    pub account: Account,
+}
+
 /// What an account was to be begun with.
 #[derive(Drop)]
 pub struct Unbegun {
@@ -287,6 +294,32 @@ impl Account {
         Ok(mem::replace(self, rest))
     }
 
+    /// Cuts a part off what is left, and hands out the part and the account as it then stands. Here an account of what is left
+    /// stays. `None` exactly where no edge has open alternatives after the taken one; the account is then as before.
+    ///
+    /// # Errors
+    /// `AllocError` where there is no memory; the account is as before.
+    pub fn cut(&mut self) -> Result<Option<Cut>, AllocError>
+        ensures task { IfOk result (λ o. IfSome o (λ cut. cut.task ≡ part_of self.old.after)) }
+        ensures stood { IfOk result (λ o. IfSome o (λ cut. cut.account ≡ with_given self.old)) }
+        ensures anew { IfOk result (λ o. OnSome o (self.new ≡ rest_begun (with_given self.old))) }
+        ensures some { IfOk result (λ o. is_some o ≡ can_cut self.old.after) }
+        ensures none { IfOk result (λ o. IfNone o (self.new ≡ self.old)) }
+        ensures err { OnErr result (self.new ≡ self.old) }
+    {
+        if !self.after.can_cut() {
+            return Ok(None);
+        }
+        let rest = self.rest_of_cut()?;
+        match self.give()? {
+            Some(task) => Ok(Some(Cut {
+                task,
+                account: mem::replace(self, rest),
+            })),
+            None => Ok(None),
+        }
+    }
+
     /// What it found, what it knows, what it gave and what is left. It takes no memory.
     pub fn into_parts(self) -> Parts
         ensures parts { AreParts self result }
@@ -298,6 +331,26 @@ impl Account {
             given: self.given,
             after: self.after,
         }
+    }
+
+    /// An account of what would be left if a part were cut off.
+    fn rest_of_cut(&self) -> Result<Account, AllocError>
+        requires { can_cut self.now.after ≡ true }
+        ensures { IfOk result (λ c. c ≡ rest_begun (with_given self.now)) }
+    {
+        let model = self.model.clone()?;
+        let witness = copy_of(&self.witness)?;
+        let mut after = self.after.copy()?;
+        after.drop_part();
+        Ok(Account {
+            found: Vec::new(*self.found.allocator()),
+            given: Vec::new(*self.given.allocator()),
+            model,
+            mode: self.mode,
+            before: after.copy()?,
+            witness,
+            after,
+        })
     }
 
     /// An account of what is left.

@@ -7,7 +7,7 @@
 
 pub mod account;
 
-pub use account::{Account, Learned, Parts, Unbegun};
+pub use account::{Account, Cut, Learned, Parts, Unbegun};
 pub use fz_tree::mode::Mode;
 
 #[cfg(test)]

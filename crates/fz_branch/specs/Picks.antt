@@ -26,6 +26,10 @@ domain_of ds vs k = domain_at ds (slice_index vs k)
 abbrev pub IsDone : List (List (ℤ × ℤ)) → List ℕ → Type 0
 IsDone ds vs = (k : ℕ) → k < length vs → is_open (domain_of ds vs k) ≡ false
 
+-- no variable before this one has more than one value left
+abbrev pub AreClosed : ℕ → List (List (ℤ × ℤ)) → Type 0
+AreClosed n ds = (v : ℕ) → v < n → is_open (domain_at ds v) ≡ false
+
 -- Of the variables with more than one value left the one at this place has the least rank, and is the first such in the part.
 pub record IsPicked (pick : Pick) (ds : List (List (ℤ × ℤ))) (vs : List ℕ) (place : ℕ) : Type 0 where
   pub within : place < length vs

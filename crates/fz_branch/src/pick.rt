@@ -1,18 +1,19 @@
 //! Which variable is picked.
 ghost use Rattle.std.specs.Prelude.{◌≡◌, MatchOption, true};
 ghost use Rattle.fz_branch.specs.Values.{is_open};
-ghost use Rattle.fz_branch.specs.Picks.{IsDone, IsFirstOpen, IsPicked, rank, domain_at};
+ghost use Rattle.fz_branch.specs.Picks.{AreClosed, IsDone, IsFirstOpen, IsPicked, rank, domain_at};
 
 use crate::value::is_open;
 use fz_dom::Dom;
 use fz_spec::search::Pick;
 
-/// The place in a part of the variable that is picked.
-pub fn picked(pick: Pick, variables: &[u32], doms: &[Dom]) -> Option<usize>
+/// The place in a part of the variable that is picked, where none before `closed` has more than one value left.
+pub fn picked(pick: Pick, variables: &[u32], doms: &[Dom], closed: usize) -> Option<usize>
+    requires { AreClosed closed doms.now }
     ensures { MatchOption result (IsDone doms.now variables.now)
         (IsPicked pick doms.now variables.now) }
 {
-    let Some(first) = first_open(variables, doms) else {
+    let Some(first) = first_open(variables, doms, closed) else {
         return None;
     };
     if pick == Pick::InputOrder {
@@ -22,12 +23,13 @@ pub fn picked(pick: Pick, variables: &[u32], doms: &[Dom]) -> Option<usize>
 }
 
 /// The place of the first variable that has more than one value left.
-fn first_open(variables: &[u32], doms: &[Dom]) -> Option<usize>
+fn first_open(variables: &[u32], doms: &[Dom], closed: usize) -> Option<usize>
+    requires { AreClosed closed doms.now }
     ensures { MatchOption result (IsDone doms.now variables.now)
         (IsFirstOpen doms.now variables.now) }
 {
     for (place, variable) in variables.iter().enumerate() {
-        if is_open_at(*variable, doms) {
+        if *variable as usize >= closed && is_open_at(*variable, doms) {
             return Some(place);
         }
     }

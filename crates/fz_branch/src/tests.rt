@@ -45,7 +45,7 @@ fn each_value_word_has_its_first_alternative(rt: HostRuntime) -> Result<(), Fail
     ];
     for (value, comparison, number) in rows {
         let plan = planned(alloc, Pick::InputOrder, value)?;
-        let choice = choose_among(&plan, &doms).expect(&rt, "a choice");
+        let choice = choose_among(&plan, &doms, 0).expect(&rt, "a choice");
         assert_eq!(rt; choice.len(), 2);
         let first = choice.decision(0);
         assert_eq!(rt; first.variable, 0);
@@ -69,7 +69,7 @@ fn each_pick_word_has_its_variable(rt: HostRuntime) -> Result<(), Fail> {
     ];
     for (pick, variable) in rows {
         let plan = planned(alloc, pick, Value::IndomainMin)?;
-        let choice = choose_among(&plan, &doms).expect(&rt, "a choice");
+        let choice = choose_among(&plan, &doms, 0).expect(&rt, "a choice");
         assert_eq!(rt; choice.len(), 2);
         assert_eq!(rt; choice.decision(0).variable, variable);
     }
@@ -83,6 +83,6 @@ fn where_all_are_fixed_nothing_is_chosen(rt: HostRuntime) -> Result<(), Fail> {
     let mut fixed = Vec::new(alloc);
     fixed.push(Dom::from_ranges(alloc, &[(5, 5)])?)?;
     fixed.push(Dom::from_ranges(alloc, &[(2, 2)])?)?;
-    assert!(rt; choose_among(&plan, &fixed).is_none());
+    assert!(rt; choose_among(&plan, &fixed, 1).is_none());
     Ok(())
 }

@@ -3,13 +3,11 @@ use Rattle.std.proofs.Common.{◌≡◌, ℕ, ◌+◌, ◌<◌, drop, length, ge
 use Rattle.std.specs.Prelude.{slice_get}
 use Rattle.std.proofs.lemmas.List.{drop_more}
 use Rattle.fz_spec.specs.declared.goal.Goal.{Goal}
-use Rattle.fz_spec.specs.declared.goal.Goal.TheVariants as goals
 use Rattle.fz_spec.specs.Instance.{Instance, SearchPart}
-use Rattle.fz_language.specs.declared.fault.RuleFault.TheVariants.{Unsupported}
-use Rattle.fz_language.specs.Trees.{Item, Method, Satisfy, Minimize, Maximize, Program}
+use Rattle.fz_language.specs.Trees.{Item, Program}
 use Rattle.fz_language.specs.Entries.{Environment}
-use Rattle.fz_language.specs.Rules.{Fault, none_yet, at_places, faults_of, all_counted, additions, solve_faults}
-use Rattle.fz_language.specs.Models.{Scope, empty_scope, behind, scope_behind, made, model_of, goal_of, goal_term, variables_of, constraints_of, outputs_of}
+use Rattle.fz_language.specs.Rules.{Fault, none_yet, faults_of, all_counted, additions, solve_faults}
+use Rattle.fz_language.specs.Models.{Scope, empty_scope, behind, scope_behind, made, model_of, goal_of, variables_of, constraints_of, outputs_of}
 use Rattle.fz_language.specs.Reads.{faults_from, program_faults, IsFirst, rule_code}
 use Rattle.fz_language.specs.Search.{search_of}
 use Rattle.fz_resolve.specs.declared.fault.Fault as found
@@ -48,25 +46,20 @@ first_of_solve p d f a e = is_first (program_faults p) f (ap (λ (fs : List Faul
 pub all_kept : (p : Program) (d : Draft) (a : IsAhead p d []) → IsFirstOf (solve_faults (environment_of d.names) p.solve) None → program_faults p ≡ []
 all_kept p d a e = a.faults ∙ no_first (solve_faults (environment_of d.names) p.solve) (sym e)
 
-satisfied : (env : Environment) (m : Method) → ◌≡◌ {A = List Fault} (elim m [ Satisfy at ↦ [] | Minimize at objective ↦ at_places Unsupported (at ∷ []) | Maximize at objective ↦ at_places Unsupported (at ∷ []) ]) []
-    → ◌≡◌ {A = Goal} (elim m [ Satisfy at ↦ goals.Satisfy | Minimize at objective ↦ goals.Minimize (goal_term env objective) | Maximize at objective ↦ goals.Maximize (goal_term env objective) ]) goals.Satisfy
-satisfied env (Satisfy at) e = refl
-satisfied env (Minimize at objective) e = cc
-satisfied env (Maximize at objective) e = cc
-
-abbrev pub instance_of : Draft → List SearchPart → Instance
-instance_of d parts = record { variables = d.variables.items; constraints = d.constraints.items; goal = goals.Satisfy; outputs = d.outputs.items; search = parts }
+abbrev pub instance_of : Draft → Goal → List SearchPart → Instance
+instance_of d goal parts = record { variables = d.variables.items; constraints = d.constraints.items; goal = goal; outputs = d.outputs.items; search = parts }
 
 -- the parts of a draft of all items make the model
-pub model_is : (p : Program) (d : Draft) (parts : List SearchPart) (a : IsAhead p d []) → program_faults p ≡ [] → parts ≡ search_of (environment_of d.names) p.solve.annotations → model_of p ≡ instance_of d parts
-model_is p d parts a keep s =
+pub model_is : (p : Program) (d : Draft) (goal : Goal) (parts : List SearchPart) (a : IsAhead p d []) → goal ≡ goal_of (environment_of d.names) p.solve → parts ≡ search_of (environment_of d.names) p.solve.annotations
+    → model_of p ≡ instance_of d goal parts
+model_is p d goal parts a g s =
     let env = ap (λ (x : Scope). x.entries) a.scope in
     let vs = a.variables ∙ append-nil d.variables.items in
     let cs = a.constraints ∙ append-nil d.constraints.items in
     let os = a.outputs ∙ append-nil d.outputs.items in
-    let goal : goal_of (scope_behind empty_scope p.items).entries p.solve ≡ goals.Satisfy = satisfied (scope_behind empty_scope p.items).entries p.solve.method (sym a.faults ∙ keep) in
+    let aim : goal_of (scope_behind empty_scope p.items).entries p.solve ≡ goal = ap (λ (e : Environment). goal_of e p.solve) env ∙ sym g in
     let search : search_of (scope_behind empty_scope p.items).entries p.solve.annotations ≡ parts = ap (λ (e : Environment). search_of e p.solve.annotations) env ∙ sym s in
-    λ i. record { variables = vs i; constraints = cs i; goal = goal i; outputs = os i; search = search i }
+    λ i. record { variables = vs i; constraints = cs i; goal = aim i; outputs = os i; search = search i }
 
 -- the items that are left, the first of them apart
 pub left_items : {X Y : Type 0} (f : X → Y) (xs : List X) (i : ℕ) (x : X) → i < length xs → x ≡ get_or xs i x → map f (drop i xs) ≡ f x ∷ map f (drop (i + 1) xs)

@@ -1,11 +1,13 @@
 -- The model of a program that keeps all rules is one.
-use Rattle.std.proofs.Common.{◌≡◌, ℕ, zero, suc, ◌+◌, ◌-◌, ◌≤◌, Bool, true, false, ◌&&◌, cond, Option, Some, None, List, [], ◌∷◌, ◌++◌, length, map, refl, sym, ap, ◌∙◌, append_assoc, length-append, arith}
-use Rattle.std.specs.Prelude.{ℤ, flat_map}
+use Rattle.std.proofs.Common.{◌≡◌, ℕ, zero, suc, ◌+◌, ◌-◌, ◌≤◌, Bool, true, false, ◌&&◌, cond, Option, Some, None, List, [], ◌∷◌, ◌++◌, length, map, refl, sym, ap, ◌∙◌, append_assoc, length-append, arith, rules}
+use Rattle.std.specs.Prelude.{ℤ, pos, flat_map}
+use Rattle.std.proofs.lemmas.Int.{ints}
 use Rattle.std.specs.List.{AllByRecursion}
 use Rattle.std.proofs.lemmas.List.{length-map}
 use Rattle.fz_spec.specs.declared.limits.TheConstants.{VARIABLE_LIMIT, CONSTRAINT_LIMIT, ELEMENT_LIMIT}
 use Rattle.fz_spec.specs.declared.term.Term.{Term}
-use Rattle.fz_spec.specs.declared.term.Term.TheVariants.{Var}
+use Rattle.fz_spec.specs.declared.term.Term.TheVariants.{Num, Var}
+use Rattle.fz_spec.specs.declared.kind.Kind.TheVariants as kinds
 use Rattle.fz_spec.specs.declared.asked.Asked.{Asked}
 use Rattle.fz_spec.specs.declared.goal.Goal.TheVariants as goals
 use Rattle.fz_spec.specs.Constraints as meaning
@@ -16,17 +18,18 @@ use Rattle.fz_language.specs.declared.fault.RuleFault.TheVariants.{Unsupported, 
 use Rattle.fz_language.specs.Trees.{Basic, Annotation, VariableItem, ParameterItem, ArrayItem, ConstraintItem, Item, Predicate, Variable, Parameter, Array, Constraint, SolveItem, Method, Satisfy, Minimize, Maximize}
 use Rattle.fz_language.specs.Entries.{Environment, nothing_declared, term_in, resolve}
 use Rattle.fz_language.specs.Entries as entries
-use Rattle.fz_language.specs.Rules.{Fault, AVariable, Counts, none_yet, all_counted, additions, over, at_places, faults_of, item_faults, solve_faults, kind_of, term_asked, is_bound, arguments_in, type_additions, value_additions, array_element_additions, members_in}
+use Rattle.fz_language.specs.Rules.{goal_asked, AVariable, Counts, none_yet, all_counted, additions, over, at_places, faults_of, item_faults, kind_of, term_asked, is_bound, arguments_in, type_additions, value_additions, array_element_additions, members_in}
 use Rattle.fz_language.specs.Models.{goal_term, Scope, empty_scope, behind, scope_behind, made, goal_of, type_set, variables_of, constraints_of, outputs_of, value_term, equal_to_value, call_constraints, terms_of, bound_to}
 use Rattle.fz_language.specs.Annotations.{output_var_of, shape_among}
 use Rattle.fz_language.specs.Reads.{faults_from}
-use Rattle.fz_language.specs.Within.{BasicFits, ItemFits}
-use Rattle.fz_model.specs.Kept.{IsVariable, IsConstraint, IsOutput, IsGoal, kind_at}
+use Rattle.fz_language.specs.Within.{BasicFits, ItemFits, MethodFits}
+use Rattle.fz_model.specs.Kept.{IsVariable, IsConstraint, IsOutput, IsGoal, IsTermOf, FitsElement, kind_at}
 use Rattle.fz_check.specs.Fits.{Sound, ModelsFit}
 use Rattle.fz_check.proofs.Counting.{nil_parts, variables_in, constraints_in, elements_in, Few, few, elements_both, constraints_both, variables_both, among_counted, array_counted, bound_counted, arguments_few}
 use Rattle.fz_check.proofs.Keeps.{no_places, variable_typed, array_keeps, array_placed}
 use Rattle.fz_check.proofs.ItemFits.{variable_fits, entered, parameter_fits, listing, array_entered, value_fits, elements_fit, call_fits, scalar_shown, array_shown}
 use Rattle.fz_check.proofs.SearchFits.{both_all, search_fits}
+use Rattle.fz_check.proofs.TermFits.{term_fits}
 
 -- what an item makes
 record Making (vs : List instance.Variable) (s : Scope) (item : Item) : Type 0 where
@@ -200,19 +203,26 @@ all_outputs_count : (s : Scope) (items : List Item) → length (made outputs_of 
 all_outputs_count s [] = omega arith
 all_outputs_count s (item ∷ items) = omega (arith, length-append (outputs_of s item) (made outputs_of (behind s item) items), outputs_count s item, all_outputs_count (behind s item) items)
 
--- the faults of the solve item come behind those of items
-solved : (s : Scope) (n : Counts) (items : List Item) (solve : SolveItem) → faults_from s n items solve ≡ [] → solve_faults (scope_behind s items).entries solve ≡ []
-solved s n [] solve e = e
-solved s n (item ∷ items) solve e = solved (behind s item) (all_counted n (additions item)) items solve (nil_parts (faults_of s.entries n item) (faults_from (behind s item) (all_counted n (additions item)) items solve) e).1
+goal_number : (vs : List instance.Variable) → IsTermOf vs kinds.Int (Num (pos 0))
+goal_number vs = search (rules, ints)
 
-goal_fits : (vs : List instance.Variable) (env : Environment) (solve : SolveItem) → solve_faults env solve ≡ [] → IsGoal vs (goal_of env solve)
-goal_fits vs env solve e = go solve.method e
+-- the term of a goal
+term_fits_goal : (vs : List instance.Variable) (t : Term) → FitsElement vs goal_asked t → IsTermOf vs kinds.Int t
+term_fits_goal vs (Num n) h = h
+term_fits_goal vs (Var v) h = h.1
+
+goal_term_fits : (vs : List instance.Variable) (env : Environment) (b : Basic) → Sound vs env → BasicFits b → IsTermOf vs kinds.Int (goal_term env b)
+goal_term_fits vs env b sound h = go (term_in env goal_asked b) refl
   where
-    go : (m : Method) → ◌≡◌ {A = List Fault} (elim m [ Satisfy at ↦ [] | Minimize at objective ↦ at_places Unsupported (at ∷ []) | Maximize at objective ↦ at_places Unsupported (at ∷ []) ]) []
-        → IsGoal vs (elim m [ Satisfy at ↦ goals.Satisfy | Minimize at objective ↦ goals.Minimize (goal_term env objective) | Maximize at objective ↦ goals.Maximize (goal_term env objective) ])
-    go (Satisfy at) i = tt
-    go (Minimize at objective) i = cc
-    go (Maximize at objective) i = cc
+    go : (o : Option Term) → term_in env goal_asked b ≡ o → IsTermOf vs kinds.Int (elim o [ Some t ↦ t | None ↦ Num (pos 0) ])
+    go None e = goal_number vs
+    go (Some t) e = term_fits_goal vs t (term_fits vs env goal_asked b t sound h e)
+
+goal_fits : (vs : List instance.Variable) (env : Environment) (m : Method) → Sound vs env → MethodFits m
+    → IsGoal vs (elim m [ Satisfy at ↦ goals.Satisfy | Minimize at objective ↦ goals.Minimize (goal_term env objective) | Maximize at objective ↦ goals.Maximize (goal_term env objective) ])
+goal_fits vs env (Satisfy at) sound h = tt
+goal_fits vs env (Minimize at objective) sound h = goal_term_fits vs env objective sound h
+goal_fits vs env (Maximize at objective) sound h = goal_term_fits vs env objective sound h
 
 empty_sound : (vs : List instance.Variable) → Sound vs nothing_declared
 empty_sound vs name entry e = cc
@@ -229,7 +239,7 @@ models_fit p h e =
       sets = a.sets;
       few_constraints = a.few_constraints;
       constrained = a.constrained;
-      goal = goal_fits vs env p.solve (solved empty_scope none_yet p.items p.solve e);
+      goal = goal_fits vs env p.solve.method a.sound h.1;
       few_outputs = omega (arith, size, all_outputs_count empty_scope p.items);
       shown = a.shown;
       few_parts = (let l = parts.0 in omega (arith, size, l));

@@ -66,7 +66,7 @@ fn wrong_value(names: &Names<'_>, value_type: &ValueType, value: &Option<Basic<'
 }
 
 /// The place of an expression that isn't the term that is asked.
-fn wrong_term(names: &Names<'_>, asked: Element, basic: &Basic<'_>) -> Option<u32>
+pub(crate) fn wrong_term(names: &Names<'_>, asked: Element, basic: &Basic<'_>) -> Option<u32>
     ensures { result ≡ slice_get (rules.wrong_place (entries.resolve (environment_of names.now)
         (Asked.One asked) (lang.Scalar (trees.basic_of basic.now)))) 0 }
 {

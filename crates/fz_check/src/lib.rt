@@ -9,6 +9,7 @@ mod declared;
 mod draft;
 mod entered;
 mod faults;
+mod goal;
 pub mod laws;
 mod parts;
 mod rows;

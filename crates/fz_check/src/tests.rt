@@ -6,8 +6,7 @@ ghost use Rattle.fz_syntax.specs.Trees.{method_of, program_of};
 use crate::check;
 use fz_language::fault::RuleFault;
 use fz_syntax::{
-    Annotation, Basic, Integer, Item, Method, Name, Number, Plain, Program, SolveItem, ValueType,
-    VariableItem,
+    Annotation, Basic, Item, Method, Name, Plain, Program, SolveItem, ValueType, VariableItem,
 };
 use std::alloc::{AllocError, Global};
 use std::test::Fail;
@@ -56,15 +55,18 @@ fn a_program_is_accepted(rt: HostRuntime) -> Result<(), Fail> {
 }
 
 #[test]
-fn a_goal_is_refused_at_its_word(rt: HostRuntime) -> Result<(), Fail> {
+fn a_goal_of_a_boolean_is_of_a_wrong_type(rt: HostRuntime) -> Result<(), Fail> {
     let alloc = rt.alloc();
-    let objective = Basic::Numeral(Number::Whole(Integer { value: 1, at: 42 }));
+    let objective = Basic::Named(Name {
+        bytes: b"b",
+        at: 42,
+    });
     let program = program(alloc, Method::Minimize { at: 33, objective })?;
     let Err(fault) = check(alloc, &program)? else {
         assert!(rt; false);
         return Ok(());
     };
-    assert!(rt; fault.rule == RuleFault::Unsupported);
-    assert!(rt; fault.at == 33);
+    assert!(rt; fault.rule == RuleFault::WrongType);
+    assert!(rt; fault.at == 42);
     Ok(())
 }

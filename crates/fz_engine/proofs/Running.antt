@@ -10,7 +10,7 @@ use Rattle.fz_strength.specs.Domains.{Within, IsNarrower, room}
 use Rattle.fz_strength.specs.Events.{AreBelow}
 use Rattle.fz_strength.specs.Lines.{Rests, waits}
 use Rattle.fz_strength.specs.Promises.{IsCorrect, IsNeverTrue, IsTruth, RestsForGood, truths_of}
-use Rattle.fz_strength.proofs.Keeping.{term_narrower}
+use Rattle.fz_strength.proofs.Terms.{term_narrower}
 use Rattle.fz_prop.specs.Stores.{Stored, IsStore, Shrinks}
 use Rattle.fz_prop.proofs.Twice.{narrower_twice}
 use Rattle.fz_agenda.specs.Agendas.{IsSettled}

@@ -8,4 +8,5 @@ constraint_of (forms.Comparison comparison) = comparison
 constraint_of (forms.ReifiedComparison comparison) = comparison
 constraint_of (forms.Membership membership) = membership
 constraint_of (forms.ReifiedMembership membership) = membership
+constraint_of (forms.AllDifferent different) = different
 constraint_of (forms.Awaiting awaiting) = awaiting

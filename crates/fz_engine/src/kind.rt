@@ -4,6 +4,7 @@ ghost use Rattle.fz_spec.specs.Constraints as meaning;
 ghost use Rattle.fz_spec.specs.declared.builtin.Builtin.TheVariants.{SetIn, SetInReif};
 ghost use Rattle.fz_model.specs.Arguments.{argument_of};
 ghost use Rattle.fz_strength.specs.Costs.{cost_of};
+ghost use Rattle.fz_strength.specs.Differences.{IsDifference};
 ghost use Rattle.fz_strength.specs.Events.{Wait, AreBelow};
 ghost use Rattle.fz_strength.specs.Lines.{waits, HasOwnLine};
 ghost use Rattle.fz_strength.specs.Promises.{IsCorrect, Suits};
@@ -11,6 +12,7 @@ ghost use Rattle.fz_prop.specs.Answers.{IsAnswer};
 ghost use Rattle.fz_prop.specs.Stores.{Shrinks, IsStore, FitsTerm};
 ghost use Rattle.fz_engine.specs.Known.{IsOwn, HaveLimits, HasLimits};
 
+use fz_alldiff::AllDifferent;
 use fz_await::Awaiting;
 use fz_dom::Dom;
 use fz_model::constraint::{Argument, Constraint};
@@ -34,6 +36,7 @@ enum Form {
     ReifiedComparison(ReifiedComparison),
     Membership(Membership),
     ReifiedMembership(ReifiedMembership),
+    AllDifferent(AllDifferent),
     Awaiting(Awaiting),
 }
 
@@ -71,6 +74,7 @@ impl Kind {
             Form::ReifiedComparison(comparison) => comparison.vars(),
             Form::Membership(membership) => membership.vars(),
             Form::ReifiedMembership(membership) => membership.vars(),
+            Form::AllDifferent(different) => different.vars(),
             Form::Awaiting(awaiting) => awaiting.vars(),
         }
     }
@@ -85,6 +89,7 @@ impl Kind {
             Form::ReifiedComparison(comparison) => comparison.event(place),
             Form::Membership(membership) => membership.event(place),
             Form::ReifiedMembership(membership) => membership.event(place),
+            Form::AllDifferent(different) => different.event(place),
             Form::Awaiting(awaiting) => awaiting.event(place),
         }
     }
@@ -98,6 +103,7 @@ impl Kind {
             Form::ReifiedComparison(comparison) => comparison.cost(),
             Form::Membership(membership) => membership.cost(),
             Form::ReifiedMembership(membership) => membership.cost(),
+            Form::AllDifferent(different) => different.cost(),
             Form::Awaiting(awaiting) => awaiting.cost(),
         }
     }
@@ -119,6 +125,7 @@ impl Kind {
             Form::ReifiedComparison(comparison) => comparison.run(store),
             Form::Membership(membership) => membership.run(store),
             Form::ReifiedMembership(membership) => membership.run(store),
+            Form::AllDifferent(different) => different.run(store),
             Form::Awaiting(awaiting) => awaiting.run(store),
         };
         let _ = store.doms();
@@ -144,6 +151,7 @@ fn own(alloc: Global, constraint: &Constraint) -> Result<Option<Kind>, AllocErro
 {
     match constraint.arguments() {
         [Argument::One(x), rest @ ..] => of_term(alloc, constraint.name(), *x, rest),
+        [Argument::Terms(terms)] => of_list(alloc, constraint.name(), terms),
         _ => Ok(None),
     }
 }
@@ -198,6 +206,18 @@ fn of_set(
     }
 }
 
+/// The propagator of its own of a constraint whose only argument is a list of terms.
+fn of_list(alloc: Global, name: Builtin, terms: &[Term]) -> Result<Option<Kind>, AllocError>
+    ensures { IfOk result (λ o. IsOwn o name (meaning.Terms terms.now ∷ [])) }
+{
+    match name {
+        Builtin::AllDifferentInt | Builtin::FznAllDifferentInt => {
+            Ok(Some(different(alloc, name, terms)?))
+        }
+        _ => Ok(None),
+    }
+}
+
 /// The propagator of a comparison of two terms; `None` where the name is no comparison.
 fn comparing(name: Builtin, x: Term, y: Term) -> Option<Kind>
     requires x { FitsTerm x }
@@ -219,6 +239,18 @@ fn reifying(name: Builtin, x: Term, y: Term, r: Term) -> Option<Kind>
     let relation = Relation::of_reified(name)?;
     Some(Kind {
         form: Form::ReifiedComparison(ReifiedComparison::new(name, relation, x, y, r)),
+    })
+}
+
+/// The propagator of terms that are all different.
+fn different(alloc: Global, name: Builtin, terms: &[Term]) -> Result<Kind, AllocError>
+    requires { IsDifference name }
+    ensures { IfOk result
+        (λ k. k ≡ record { name = name; arguments = meaning.Terms terms.now ∷ [] }) }
+{
+    let different = AllDifferent::new(alloc, name, terms)?;
+    Ok(Kind {
+        form: Form::AllDifferent(different),
     })
 }
 

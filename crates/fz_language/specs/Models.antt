@@ -19,7 +19,7 @@ use Rattle.fz_language.specs.Numerals.{set_in}
 use Rattle.fz_language.specs.Entries.{Environment, Entry, nothing_declared, with_entry, term_in, set_of, each_of, number_of}
 use Rattle.fz_language.specs.Entries as entries
 use Rattle.fz_language.specs.Annotations.{output_var_of, shape_among}
-use Rattle.fz_language.specs.Rules.{kind_of, term_asked, number_asked, arguments_in, is_bound}
+use Rattle.fz_language.specs.Rules.{kind_of, term_asked, number_asked, goal_asked, arguments_in, is_bound}
 use Rattle.fz_language.specs.Search.{search_of}
 
 -- ---- sets
@@ -145,7 +145,7 @@ outputs_of s (Constraint c) = []
 -- ---- the whole
 
 abbrev pub goal_term : Environment → Basic → Term
-goal_term env basic = elim (term_in env (record { kind = kinds.Int; may_vary = true }) basic) [ Some t ↦ t | None ↦ Num (pos 0) ]
+goal_term env basic = elim (term_in env goal_asked basic) [ Some t ↦ t | None ↦ Num (pos 0) ]
 
 abbrev pub goal_of : Environment → SolveItem → Goal
 goal_of env s = elim s.method [

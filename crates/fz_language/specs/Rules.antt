@@ -310,10 +310,18 @@ item_faults env (Constraint c) = call_faults env c
 abbrev pub faults_of : Environment → Counts → Item → List Fault
 faults_of env n item = item_faults env item ++ at_places OverLimit (over n (additions item))
 
--- Rules that the solve item breaks: its goal is unsupported where it isn't to satisfy.
+-- Rules that a goal breaks: it is of an integer, or of an integer variable.
+abbrev pub goal_asked : Element
+goal_asked = record { kind = kinds.Int; may_vary = true }
+
+abbrev pub goal_faults : Environment → Basic → List Fault
+goal_faults env objective =
+    at_places Unsupported (floats_in objective) ++ at_places UnknownName (unknown_in env objective) ++ at_places WrongType (wrong_place (resolve env (asked.One goal_asked) (Scalar objective)))
+
+-- Rules that the solve item breaks: those of its goal.
 abbrev pub solve_faults : Environment → SolveItem → List Fault
 solve_faults env s = elim s.method [
   | Satisfy at ↦ []
-  | Minimize at objective ↦ at_places Unsupported (at ∷ [])
-  | Maximize at objective ↦ at_places Unsupported (at ∷ [])
+  | Minimize at objective ↦ goal_faults env objective
+  | Maximize at objective ↦ goal_faults env objective
 ]

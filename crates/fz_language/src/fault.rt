@@ -22,7 +22,7 @@ pub enum SyntaxFault {
 #[derive(Clone, Copy, Debug, PartialEq, Eq)]
 pub enum RuleFault {
     /// What FlatZinc has and fzn has not: floats, sets that vary, parameters of other types, constraints over them, half reified ones
-    /// and powers, a seventh index range for output, and goals but to satisfy.
+    /// and powers, and a seventh index range for output.
     Unsupported,
     /// A constraint of a name that isn't known.
     UnknownConstraint,

@@ -5,3 +5,4 @@ pub mod Choosing
 pub mod Trails
 pub mod Paths
 pub mod Falls
+pub mod Cuts

@@ -4,3 +4,5 @@ pub mod Trails
 pub mod Steps
 pub mod Paths
 pub mod Starts
+pub mod Cuts
+pub mod Learns

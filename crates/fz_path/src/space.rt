@@ -1,9 +1,10 @@
 //! What a path asks of a space.
-ghost use Rattle.std.specs.Prelude.{◌≡◌, ◌<◌, ◌++◌, ◌∷◌, [], List, Some, length, IfOk, OnOk};
+ghost use Rattle.std.specs.Prelude.{◌≡◌, ◌<◌, ◌++◌, ◌∷◌, [], List, Some, false, length, IfOk, OnOk};
 ghost use Rattle.std.specs.List.{slice_get};
 ghost use Rattle.std.specs.Arc.{arc_value};
 ghost use Rattle.fz_spec.specs.Instance.{Instance};
 ghost use Rattle.fz_tree.specs.declared.decision.Decision.{Decision};
+ghost use Rattle.fz_branch.specs.Picks.{AreClosed};
 ghost use Rattle.fz_path.specs.Spaces.{Spaced, AreDomains, Covers, IsStatus};
 
 use fz_dom::Dom;
@@ -63,6 +64,10 @@ pub trait Space: Drop {
     fn doms(&self) -> &[Dom]
         ensures doms { result.now ≡ (spaced self.now).doms }
         ensures domains { AreDomains (spaced self.now).doms };
+
+    /// A variable before which none has more than one value left, where the space hasn't failed; the first one always is.
+    fn closed(&self) -> usize
+        ensures { (spaced self.now).failed ≡ false → AreClosed result (spaced self.now).doms };
 
     /// Another space that is the same.
     ///

@@ -1,5 +1,5 @@
 -- What holds of a space.
-use Rattle.std.specs.Prelude.{◌≡◌, ◌↔◌, ◌≢◌, ℕ, ◌<◌, ℤ, ◌≤ℤ◌, ◌<ℤ◌, Bool, true, false, IsTrue, List, [], ◌∷◌, length}
+use Rattle.std.specs.Prelude.{◌≡◌, ◌↔◌, ◌≢◌, ℕ, ◌<◌, ◌≤◌, ℤ, ◌≤ℤ◌, ◌<ℤ◌, Bool, true, false, IsTrue, List, [], ◌∷◌, length}
 use Rattle.fz_spec.specs.Instance.{Instance}
 use Rattle.fz_tree.specs.declared.decision.Comparison.{Comparison}
 use Rattle.fz_tree.specs.declared.decision.Comparison.TheVariants.{Equal, NotEqual, AtMost, Above}
@@ -22,6 +22,11 @@ pub record IsAlive (m : Instance) (states : List ℕ) (s : Stored) : Type 0 wher
   pub size : length s.doms ≡ length m.variables
   pub terms : AreOf m.constraints s.doms
   pub settled : IsSettled m.constraints states s
+
+-- of so many variables at the front one number is left each
+pub record FrontFixed (n : ℕ) (ds : List (List (ℤ × ℤ))) : Type 0 where
+  pub within : n ≤ length ds
+  pub single : (v : ℕ) → v < n → (x : ℤ) × (dom_at ds v ≡ (x, x) ∷ [])
 
 -- a number compares so with a value
 abbrev pub Compares : Comparison → ℤ → ℤ → Type 0

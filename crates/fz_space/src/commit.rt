@@ -6,7 +6,7 @@ ghost use Rattle.fz_sets.specs.Sets.{IsInSet, IsWithinLimits};
 ghost use Rattle.fz_strength.specs.Domains.{dom_at};
 ghost use Rattle.fz_prop.specs.Stores.{IsStore, Shrinks, IsChangeAt};
 ghost use Rattle.fz_path.specs.Spaces.{Covers};
-ghost use Rattle.fz_space.specs.Alive.{spaced, IsAlive, Compares, IsDecided};
+ghost use Rattle.fz_space.specs.Alive.{spaced, IsAlive, FrontFixed, Compares, IsDecided};
 
 use fz_prop::{Change, Store};
 use fz_tree::decision::{Comparison, Decision};
@@ -21,6 +21,8 @@ pub fn take(store: &mut Store, failed: &mut bool, decision: Decision) -> Result<
     ensures alive { (m : Instance) (states : List ℕ)
         → (failed.old ≡ false → IsAlive m states store.old)
         → failed.new ≡ false → IsAlive m states store.new }
+    ensures front { (n : ℕ) → (failed.old ≡ false → FrontFixed n store.old.doms)
+        → failed.new ≡ false → FrontFixed n store.new.doms }
     ensures covers { OnOk result ((m : Instance) (ds : List tree.Decision)
         → Covers ds (spaced m store.old failed.old)
         → Covers (ds ++ decision ∷ []) (spaced m store.new failed.new)) }

@@ -1,9 +1,10 @@
 //! What is known of a space at rest.
-ghost use Rattle.std.specs.Prelude.{◌≡◌, List, length, true, false, IfOk};
-ghost use Rattle.fz_strength.specs.Domains.{AreDomains};
+ghost use Rattle.std.specs.Prelude.{◌≡◌, ◌<◌, List, length, true, false, IfOk};
+ghost use Rattle.fz_sets.specs.Sets.{set_size};
+ghost use Rattle.fz_strength.specs.Domains.{AreDomains, dom_at};
 ghost use Rattle.fz_tree.specs.declared.decision.Decision.{Decision};
 ghost use Rattle.fz_path.specs.Spaces.{Covers, IsStatus};
-ghost use Rattle.fz_space.specs.Alive.{spaced, IsAlive, IsLeft, HaveLines};
+ghost use Rattle.fz_space.specs.Alive.{spaced, IsAlive, FrontFixed, IsLeft, HaveLines};
 
 use fz_agenda::Agenda;
 use fz_dom::Dom;
@@ -22,9 +23,12 @@ pub fn rest(
     store: &mut Store,
     agenda: &mut Agenda,
     failed: &mut bool,
+    front: &mut usize,
 ) -> Result<Status, AllocError>
     requires alive { failed.old ≡ false → IsAlive plan.now.model agenda.old store.old }
+    requires front { failed.old ≡ false → FrontFixed front.old store.old.doms }
     ensures alive { failed.new ≡ false → IsAlive plan.now.model agenda.new store.new }
+    ensures front { failed.new ≡ false → FrontFixed front.new store.new.doms }
     ensures covers { (ds : List Decision) → Covers ds (spaced plan.now.model store.old failed.old)
         → Covers ds (spaced plan.now.model store.new failed.new) }
     ensures answer { IfOk result (λ r. IsStatus r (spaced plan.now.model store.new failed.new)) }
@@ -39,18 +43,37 @@ pub fn rest(
         *failed = true;
         return Ok(Status::Failed);
     }
-    Ok(status_of(store.doms()))
+    let _ = store.doms();
+    *front = first_open(store.doms(), *front);
+    Ok(status_at(store.doms(), *front))
 }
 
-/// What is left of domains: one number of each variable, or more of some.
-fn status_of(doms: &[Dom]) -> Status
-    requires { AreDomains doms.now }
-    ensures { IsLeft result doms.now }
+/// The first variable that has more than one number left, where those before a front have one each; where there is none, the
+/// number of variables.
+fn first_open(doms: &[Dom], front: usize) -> usize
+    requires domains { AreDomains doms.now }
+    requires front { FrontFixed front doms.now }
+    ensures front { FrontFixed result doms.now }
+    ensures open { result < length doms.now → set_size (dom_at doms.now result) ≡ 1 → ⊥ }
 {
-    for dom in doms {
-        if !dom.is_fixed() {
-            return Status::Branch;
+    for place in front..doms.len() {
+        if !doms[place].is_fixed() {
+            return place;
         }
     }
-    Status::Solved
+    doms.len()
+}
+
+/// What is left of domains: one number of each variable, or more of the first that isn't in front.
+fn status_at(doms: &[Dom], front: usize) -> Status
+    requires domains { AreDomains doms.now }
+    requires front { FrontFixed front doms.now }
+    requires open { front < length doms.now → set_size (dom_at doms.now front) ≡ 1 → ⊥ }
+    ensures { IsLeft result doms.now }
+{
+    if front < doms.len() {
+        Status::Branch
+    } else {
+        Status::Solved
+    }
 }

@@ -26,19 +26,22 @@ pub struct Space {
     store: Store,
     agenda: Agenda,
     failed: bool,
+    /// Of so many variables at the front one number is left.
+    front: usize,
 }
 
 impl Model for Space {
     ghost use Rattle.std.specs.Prelude.{◌≡◌, false};
     ghost use Rattle.std.specs.Arc.{arc_value};
     ghost use Rattle.fz_path.specs.Spaces.{Spaced};
-    ghost use Rattle.fz_space.specs.Alive.{spaced, IsAlive};
+    ghost use Rattle.fz_space.specs.Alive.{spaced, IsAlive, FrontFixed};
 
     ghost Value = { Spaced };
 
     ghost view = { λ s. spaced (arc_value s.plan).model s.store s.failed };
 
-    ghost invariant = { λ s. s.failed ≡ false → IsAlive (arc_value s.plan).model s.agenda s.store };
+    ghost invariant = { λ s. s.failed ≡ false → IsAlive (arc_value s.plan).model s.agenda s.store
+        × FrontFixed s.front s.store.doms };
 }
 
 impl Space {
@@ -67,6 +70,7 @@ impl fz_path::Space for Space {
             store,
             agenda,
             failed,
+            front: 0,
         })
     }
 
@@ -109,11 +113,16 @@ impl fz_path::Space for Space {
             &mut self.store,
             &mut self.agenda,
             &mut self.failed,
+            &mut self.front,
         )
     }
 
     fn doms(&self) -> &[Dom] {
         self.store.doms()
+    }
+
+    fn closed(&self) -> usize {
+        self.front
     }
 
     fn copy(&self) -> Result<Space, AllocError> {
@@ -125,6 +134,7 @@ impl fz_path::Space for Space {
             store,
             agenda,
             failed: self.failed,
+            front: self.front,
         })
     }
 
@@ -133,6 +143,7 @@ impl fz_path::Space for Space {
         self.plan = other.plan.clone()?;
         write_store(&mut self.store, &other.store)?;
         write_agenda(&mut self.agenda, &other.agenda)?;
+        self.front = other.front;
         self.failed = other.failed;
         Ok(())
     }

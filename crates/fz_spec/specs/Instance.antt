@@ -94,6 +94,12 @@ pub record IsBetter (m : Instance) (a b : List ℤ) : Type 0 where
   pub other_whole : IsWhole m b
   pub less : score m a <ℤ score m b
 
+-- each is better than the one before it
+abbrev pub AreImproving : Instance → List (List ℤ) → Type 0
+AreImproving m [] = Unit {0}
+AreImproving m (x ∷ []) = Unit {0}
+AreImproving m (x ∷ y ∷ ys) = IsBetter m y x × AreImproving m (y ∷ ys)
+
 -- it satisfies, and nothing that satisfies is better
 pub record IsBest (m : Instance) (a : List ℤ) : Type 0 where
   pub satisfies : Satisfies m a

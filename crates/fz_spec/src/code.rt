@@ -22,7 +22,7 @@ pub enum Code {
     /// A constraint of a name that isn't known (E08).
     UnknownConstraint,
     /// What FlatZinc has and fzn has not: floats, sets that vary, parameters of other types, constraints over them, half reified ones
-    /// and powers, a seventh index range for output, and goals but to satisfy (E09).
+    /// and powers, and a seventh index range for output (E09).
     Unsupported,
     /// Lists whose lengths do not fit (E10).
     WrongLengths,

@@ -6,21 +6,20 @@ use Rattle.fz_spec.specs.declared.builtin.Builtin.{Builtin}
 use Rattle.fz_spec.specs.declared.builtin.Builtin.TheVariants.{SetIn, SetInReif}
 use Rattle.fz_spec.specs.declared.term.Term.{Term}
 use Rattle.fz_spec.specs.declared.term.Term.TheVariants.{Num, Var}
-use Rattle.fz_spec.specs.Constraints.{Argument, One, Set}
+use Rattle.fz_spec.specs.Constraints.{Argument, One, Terms, Set, Numbers}
 use Rattle.fz_strength.specs.declared.relation.Relation.{Relation}
 use Rattle.fz_strength.specs.declared.relation.Relation.TheVariants.{Equal, NotEqual, AtMost, Below}
 use Rattle.fz_strength.specs.declared.event.Event.TheVariants.{Any, Fixed}
 use Rattle.fz_strength.specs.Domains.{dom_at, term_set, IsNarrower}
 use Rattle.fz_strength.specs.Events.{IsQuiet, Wait, wait_for, waits_for, AreQuiet}
 use Rattle.fz_strength.specs.Relations.{relation_of, reified_of, RestsAs, event_of, reified_event}
+use Rattle.fz_strength.specs.Sums.{sum_relation_of}
 use Rattle.fz_strength.specs.Lines.{terms_among, RestsOnceFixed, RestsOfTwo, RestsReified, RestsOfSet, RestsOfSetReified, RestsOf, waits_of_two, waits_of_reified, waits_of_set, waits_of_set_reified, waits_of}
 use Rattle.fz_strength.specs.Laws.{KeptWhereQuiet}
 use Rattle.fz_strength.proofs.Lists.{all_left, all_right}
-use Rattle.fz_strength.proofs.Terms.{term_quiet, terms_quiet, all_fixed_before, within_before}
-
-pub term_narrower : (t : Term) (ds es : List (List (ℤ × ℤ))) → IsNarrower ds es → (x : ℤ) → IsInSet (term_set es t) x → IsInSet (term_set ds t) x
-term_narrower (Num n) ds es narrower x is = is
-term_narrower (Var v) ds es narrower x is = narrower.members v x is
+use Rattle.fz_strength.proofs.Differences.{kept_differences}
+use Rattle.fz_strength.proofs.Terms.{term_narrower, term_quiet, terms_quiet, all_fixed_before, within_before}
+use Rattle.fz_strength.proofs.SumLaws.{kept_sum}
 
 kept_as : (relation : Relation) (d e f g : List (ℤ × ℤ)) → ((x : ℤ) → IsInSet f x → IsInSet d x) → ((x : ℤ) → IsInSet g x → IsInSet e x)
     → IsQuiet (event_of relation) d f → IsQuiet (event_of relation) e g → RestsAs relation d e → RestsAs relation f g
@@ -98,6 +97,11 @@ arguments_kept name (One x ∷ Set set ∷ []) ds es narrower quiet h =
 arguments_kept name (One x ∷ Set set ∷ One r ∷ []) ds es narrower quiet h =
     let at = One x ∷ Set set ∷ One r ∷ [] in
     kept_set_reified (RestsOnceFixed name at ds) (RestsOnceFixed name at es) (waits_for Fixed (terms_among at)) name x r set ds es (kept_once_fixed name at ds es narrower) quiet h
+arguments_kept name (Terms xs ∷ []) ds es narrower quiet h =
+    let at = Terms xs ∷ [] in kept_differences (RestsOnceFixed name at ds) (RestsOnceFixed name at es) name xs ds es narrower (kept_once_fixed name at ds es narrower) quiet h
+arguments_kept name (Numbers ks ∷ Terms ts ∷ One (Num c) ∷ []) ds es narrower quiet h =
+    let at = Numbers ks ∷ Terms ts ∷ One (Num c) ∷ [] in
+    kept_sum (RestsOnceFixed name at ds) (RestsOnceFixed name at es) (waits_for Fixed (terms_among at)) (sum_relation_of name) ks ts c ds es narrower (kept_once_fixed name at ds es narrower) quiet h
 arguments_kept name arguments ds es narrower quiet h = kept_once_fixed name arguments ds es narrower quiet h
 
 pub kept_where_quiet : KeptWhereQuiet

@@ -22,6 +22,10 @@ pub term_quiet : (event : Event) (t : Term) (ds es : List (List (ℤ × ℤ))) �
 term_quiet event (Num n) ds es quiet = quiet_self event ((n, n) ∷ [])
 term_quiet event (Var v) ds es quiet = quiet.0
 
+pub term_narrower : (t : Term) (ds es : List (List (ℤ × ℤ))) → IsNarrower ds es → (x : ℤ) → IsInSet (term_set es t) x → IsInSet (term_set ds t) x
+term_narrower (Num n) ds es narrower x is = is
+term_narrower (Var v) ds es narrower x is = narrower.members v x is
+
 -- the set of one number
 abbrev pub single : ℤ → List (ℤ × ℤ)
 single x = (x, x) ∷ []

@@ -7,7 +7,8 @@ use Rattle.fz_dom.specs.Shape.{least}
 use Rattle.fz_spec.specs.declared.builtin.Builtin.{Builtin}
 use Rattle.fz_spec.specs.declared.builtin.Builtin.TheVariants.{Bool2Int, BoolEq, BoolEqReif, BoolLe, BoolLeReif, BoolLt, BoolLtReif, BoolNot, BoolXor, IntEq, IntEqReif, IntLe, IntLeReif, IntLt, IntLtReif, IntNe, IntNeReif, SetIn, SetInReif}
 use Rattle.fz_spec.specs.declared.term.Term.{Term}
-use Rattle.fz_spec.specs.Constraints.{Argument, One, Set, term_value, Holds}
+use Rattle.fz_spec.specs.Constraints.{Argument, One, Terms, Set, term_value, Holds, Numbers}
+use Rattle.fz_spec.specs.declared.term.Term.TheVariants.{Num}
 use Rattle.fz_spec.specs.Truth.{HoldsOfTwo, HoldsOfThree, HoldsOfSet, IsReifiedOf, IsReified, plain_of}
 use Rattle.fz_strength.specs.declared.relation.Relation.{Relation}
 use Rattle.fz_strength.specs.declared.relation.Relation.TheVariants.{Equal, NotEqual, AtMost, Below}
@@ -17,7 +18,9 @@ use Rattle.fz_strength.specs.Events.{Wait, wait_for, waits_for, AreBelow}
 use Rattle.fz_strength.specs.Relations.{relation_of, reified_of, Relates, RestsAs, RestsAgainst, IsShown, IsRefuted, event_of, reified_event}
 use Rattle.fz_strength.specs.Lines.{IsReifiedLine, terms_among, RestsOnceFixed, RestsOfTwo, RestsReified, LiesIn, LiesOutside, RestsOfSet, RestsOfSetReified, RestsOf, waits_of_two, waits_of_reified, waits_of_set, waits_of_set_reified, waits_of}
 use Rattle.fz_strength.specs.Laws.{TrueWhereAlone}
+use Rattle.fz_strength.proofs.Differences.{true_differences}
 use Rattle.fz_strength.proofs.Lists.{all_left, all_right}
+use Rattle.fz_strength.proofs.SumLaws.{true_sum}
 use Rattle.fz_strength.proofs.Terms.{terms_alone, all_fixed_alone, within_alone}
 pub use Rattle.fz_strength.proofs.Terms.{single, in_single, is_single, term_alone}
 
@@ -138,6 +141,11 @@ arguments_true name (One x ∷ Set s ∷ []) ds a below alone h =
     let at = One x ∷ Set s ∷ [] in set (RestsOnceFixed name at ds) (waits_for Fixed (terms_among at)) name x s ds a (once_fixed name at ds a alone) below alone h
 arguments_true name (One x ∷ Set s ∷ One r ∷ []) ds a below alone h =
     let at = One x ∷ Set s ∷ One r ∷ [] in set_reified (RestsOnceFixed name at ds) (waits_for Fixed (terms_among at)) name x r s ds a (once_fixed name at ds a alone) below alone h
+arguments_true name (Terms xs ∷ []) ds a below alone h =
+    let at = Terms xs ∷ [] in true_differences (RestsOnceFixed name at ds) name xs ds a (once_fixed name at ds a alone) below alone h
+arguments_true name (Numbers ks ∷ Terms ts ∷ One (Num c) ∷ []) ds a below alone h =
+    let at = Numbers ks ∷ Terms ts ∷ One (Num c) ∷ [] in
+    true_sum (RestsOnceFixed name at ds) (waits_for Fixed (terms_among at)) name ks ts c ds a (once_fixed name at ds a alone) below alone h
 arguments_true name arguments ds a below alone h = once_fixed name arguments ds a alone below h
 
 pub true_where_alone : TrueWhereAlone

@@ -1,6 +1,8 @@
 pub mod Domains
 pub mod Events
 pub mod Relations
+pub mod Differences
+pub mod Sums
 pub mod Lines
 pub mod Laws
 pub mod Costs

@@ -4,12 +4,15 @@ use Rattle.fz_sets.specs.Sets.{IsInSet}
 use Rattle.fz_spec.specs.declared.builtin.Builtin.{Builtin}
 use Rattle.fz_spec.specs.declared.builtin.Builtin.TheVariants.{SetIn, SetInReif}
 use Rattle.fz_spec.specs.declared.term.Term.{Term}
+use Rattle.fz_spec.specs.declared.term.Term.TheVariants.{Num}
 use Rattle.fz_spec.specs.Constraints.{Argument, One, Numbers, Terms, Set, Constraint, Holds}
 use Rattle.fz_strength.specs.declared.relation.Relation.{Relation}
 use Rattle.fz_strength.specs.declared.event.Event.TheVariants.{Any, Fixed}
 use Rattle.fz_strength.specs.Domains.{term_set, Within}
 use Rattle.fz_strength.specs.Events.{IsOnly, AllFixed, Wait, wait_for, waits_for}
 use Rattle.fz_strength.specs.Relations.{relation_of, reified_of, RestsAs, RestsAgainst, IsShown, IsRefuted, event_of, reified_event}
+use Rattle.fz_strength.specs.Differences.{IsDifference, RestsOfDifferences}
+use Rattle.fz_strength.specs.Sums.{sum_relation_of, RestsSum, sum_event_of}
 
 -- Where what is left decides, r is fixed; where r is fixed, the line of that side holds.
 pub record IsReifiedLine (shown refuted line against : Type 0) (r : List (ℤ × ℤ)) : Type 0 where
@@ -61,6 +64,11 @@ abbrev pub RestsOfSetReified : Type 0 → Builtin → List (ℤ × ℤ) → List
 RestsOfSetReified G SetInReif d set r = IsReifiedLine (LiesIn d set) (LiesOutside d set) (LiesIn d set) (LiesOutside d set) r
 RestsOfSetReified G name d set r = G
 
+-- of a weighted sum and a number
+abbrev pub RestsOfSum : Type 0 → Option Relation → List (List (ℤ × ℤ)) → List ℤ → List Term → ℤ → Type 0
+RestsOfSum G None ds ks ts c = G
+RestsOfSum G (Some relation) ds ks ts c = RestsSum relation ds ks ts c
+
 -- The line of a constraint.
 abbrev pub RestsOf : Builtin → List Argument → List (List (ℤ × ℤ)) → Type 0
 RestsOf name (One x ∷ One y ∷ []) ds = RestsOfTwo (RestsOnceFixed name (One x ∷ One y ∷ []) ds) (relation_of name) (term_set ds x) (term_set ds y)
@@ -69,6 +77,9 @@ RestsOf name (One x ∷ One y ∷ One r ∷ []) ds =
 RestsOf name (One x ∷ Set set ∷ []) ds = RestsOfSet (RestsOnceFixed name (One x ∷ Set set ∷ []) ds) name (term_set ds x) set
 RestsOf name (One x ∷ Set set ∷ One r ∷ []) ds =
     RestsOfSetReified (RestsOnceFixed name (One x ∷ Set set ∷ One r ∷ []) ds) name (term_set ds x) set (term_set ds r)
+RestsOf name (Terms xs ∷ []) ds = RestsOfDifferences (RestsOnceFixed name (Terms xs ∷ []) ds) name xs ds
+RestsOf name (Numbers ks ∷ Terms ts ∷ One (Num c) ∷ []) ds =
+    RestsOfSum (RestsOnceFixed name (Numbers ks ∷ Terms ts ∷ One (Num c) ∷ []) ds) (sum_relation_of name) ds ks ts c
 RestsOf name arguments ds = RestsOnceFixed name arguments ds
 
 -- the constraints that have a line of their own
@@ -77,6 +88,8 @@ HasOwnLine name (One x ∷ One y ∷ []) = IsSome (relation_of name)
 HasOwnLine name (One x ∷ One y ∷ One r ∷ []) = IsSome (reified_of name)
 HasOwnLine name (One x ∷ Set set ∷ []) = name ≡ SetIn
 HasOwnLine name (One x ∷ Set set ∷ One r ∷ []) = name ≡ SetInReif
+HasOwnLine name (Terms xs ∷ []) = IsDifference name
+HasOwnLine name (Numbers ks ∷ Terms ts ∷ One (Num c) ∷ []) = IsSome (sum_relation_of name)
 HasOwnLine name arguments = ⊥
 
 abbrev pub Rests : Constraint → List (List (ℤ × ℤ)) → Type 0
@@ -101,12 +114,17 @@ abbrev pub waits_of_set_reified : List Wait → Builtin → Term → Term → Li
 waits_of_set_reified W SetInReif x r = wait_for Any x ++ wait_for Any r
 waits_of_set_reified W name x r = W
 
+abbrev pub waits_of_sum : List Wait → Option Relation → List Term → List Wait
+waits_of_sum W None ts = W
+waits_of_sum W (Some relation) ts = waits_for (sum_event_of relation) ts
+
 -- Each variable of a constraint stands here, with the kind of its changes that may break the line.
 abbrev pub waits_of : Builtin → List Argument → List Wait
 waits_of name (One x ∷ One y ∷ []) = waits_of_two (waits_for Fixed (x ∷ y ∷ [])) (relation_of name) x y
 waits_of name (One x ∷ One y ∷ One r ∷ []) = waits_of_reified (waits_for Fixed (x ∷ y ∷ r ∷ [])) (reified_of name) x y r
 waits_of name (One x ∷ Set set ∷ []) = waits_of_set (waits_for Fixed (x ∷ [])) name x
 waits_of name (One x ∷ Set set ∷ One r ∷ []) = waits_of_set_reified (waits_for Fixed (x ∷ r ∷ [])) name x r
+waits_of name (Numbers ks ∷ Terms ts ∷ One (Num c) ∷ []) = waits_of_sum (waits_for Fixed (terms_among (Numbers ks ∷ Terms ts ∷ One (Num c) ∷ []))) (sum_relation_of name) ts
 waits_of name arguments = waits_for Fixed (terms_among arguments)
 
 abbrev pub waits : Constraint → List Wait

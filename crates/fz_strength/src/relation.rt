@@ -1,6 +1,7 @@
 //! Relations of two numbers.
 ghost use Rattle.std.specs.Prelude.{◌≡◌};
 ghost use Rattle.fz_strength.specs.Relations.{relation_of, reified_of};
+ghost use Rattle.fz_strength.specs.Sums.{sum_relation_of};
 
 use fz_spec::builtin::Builtin;
 
@@ -36,6 +37,18 @@ impl Relation {
             Builtin::IntNeReif => Some(Relation::NotEqual),
             Builtin::IntLeReif | Builtin::BoolLeReif => Some(Relation::AtMost),
             Builtin::IntLtReif | Builtin::BoolLtReif => Some(Relation::Below),
+            _ => None,
+        }
+    }
+
+    /// How a linear constraint relates its sum to its number, if the name is one.
+    pub fn of_sum(name: Builtin) -> Option<Relation>
+        ensures { result ≡ sum_relation_of name }
+    {
+        match name {
+            Builtin::IntLinEq => Some(Relation::Equal),
+            Builtin::IntLinNe => Some(Relation::NotEqual),
+            Builtin::IntLinLe => Some(Relation::AtMost),
             _ => None,
         }
     }

@@ -4,14 +4,14 @@ use Rattle.std.specs.Prelude.{ℤ, Option, Some, None, IfSome}
 use Rattle.std.specs.List.{AllByRecursion, remove, slice_get}
 use Rattle.std.proofs.lemmas.List.Sums.{sum_by-append, sum_by-cons, sum_by-remove, sum_by-set}
 use Rattle.std.proofs.lemmas.Bool.{or_parts}
-use Rattle.fz_spec.specs.Instance.{Instance, Satisfies, IsBetter, Lists, occurrences}
+use Rattle.fz_spec.specs.Instance.{Instance, Satisfies, IsBetter, Lists, occurrences, AreImproving}
 use Rattle.fz_tree.specs.declared.mode.Mode.{Mode}
 use Rattle.fz_tree.specs.declared.mode.Mode.TheVariants.{All, Best}
 use Rattle.fz_tree.specs.Frontier.{Frontier, AreEdges, times_in, times_in_all, times_below, can_cut, has_rest}
 use Rattle.fz_tree.specs.Proper.{IsProper}
 use Rattle.fz_tree.specs.Better.{mode_of, Betters}
 use Rattle.fz_tree.specs.Account.{Account, AccountLaw, SuitsMode, times_found}
-use Rattle.fz_tree.specs.Book.{Part, Book, BookLaw, SuitsRecord, AreImproving, incumbent_of, incumbent, times_recorded_in, times_recorded, times_open, claimed_part, opening, IsAt, Claims, Takes, AddsIn, AddsWitness, left_of, parts_after, taken, with_recorded}
+use Rattle.fz_tree.specs.Book.{Part, Book, BookLaw, SuitsRecord, incumbent_of, incumbent, times_recorded_in, times_recorded, times_open, claimed_part, opening, IsAt, Claims, Takes, AddsIn, AddsWitness, left_of, parts_after, taken, with_recorded}
 use Rattle.fz_tree.proofs.Times.{times_of_none}
 use Rattle.fz_tree.proofs.Orders.{better_than_others, betters_before}
 use Rattle.fz_tree.proofs.Same.{found_both, all_push, all_both}

@@ -11,7 +11,7 @@ use Rattle.fz_spec.specs.declared.limits.TheConstants.{TEXT_LIMIT}
 use Rattle.fz_language.specs.Reads as reads
 use Rattle.fz_spec.specs.Run.{refusal_text, blocks}
 use Rattle.fz_cmd.specs.Meaning.{Options}
-use Rattle.fzn.specs.Runs.{PrintsWanted, wanted}
+use Rattle.fzn.specs.Runs.{PrintsFor}
 use Rattle.fz_language.proofs.ReadProofs.{reading_is_one}
 use Rattle.fz_io.specs.Outside.{with_more}
 use Rattle.fz_print.specs.declared.refusal.Refusal.{Refusal}
@@ -19,9 +19,9 @@ use Rattle.fz_print.specs.Refusal.{text_of, code_digits}
 use Rattle.fzn.specs.declared.status.Status.{Status}
 use Rattle.fzn.specs.declared.status.Status.TheVariants.{Done, Refused, Usage, SourceFault, SinkFault, NoMemory}
 use Rattle.fzn.specs.Promises.{AnswersAccepted, AnswersRefused, HasItsCause, HasReadAll, IsDoneOrShort, IsFront, IsRefusedOrShort, IsRefusedRun, IsRun, IsStrictFront, IsWholeRun, Prints, Runs}
-use Rattle.fzn.specs.Steps.{Answers, AnswersWanted, Flushes, IsListing, IsReadOf, IsRefusal, LeavesNothing, PrintsOf, TakesFront, ending}
+use Rattle.fzn.specs.Steps.{Answers, AnswersShown, Flushes, IsShown, IsReadOf, IsRefusal, LeavesNothing, PrintsOf, TakesFront, ending}
 use Rattle.fzn.proofs.Readings.{read_of_front}
-use Rattle.fzn.proofs.Searches.{listing_text}
+use Rattle.fzn.proofs.Searches.{shown_text}
 
 pub no_more : (taken : Option (List ℕ)) → taken ≡ with_more taken []
 no_more None = refl
@@ -64,7 +64,7 @@ unflushed : (s : Status) (text whole : List ℕ) (o : Options) (before after : O
     → ((printed : List ℕ) → whole ≡ printed → IsWholeRun text o printed) → PrintsOf s text o before after
 unflushed s text whole o before after e t w = at_status s SinkFault text o before after e (whole, t, inr ([], w (whole ++ []) (sym (append-nil whole))))
 
-pub prints_wanted : (s : Status) (text : List ℕ) (m : Instance) (o : Options) (before after : Option (List ℕ)) → Reads text (reads.Accepted m) → AnswersWanted s m (wanted o) before after
+pub prints_wanted : (s : Status) (text : List ℕ) (m : Instance) (o : Options) (before after : Option (List ℕ)) → Reads text (reads.Accepted m) → AnswersShown s m o before after
     → PrintsOf s text o before after
 prints_wanted s text m o before after r a = elim a [
   | inl short ↦ at_status s NoMemory text o before after short.0 ([], short.1 ∙ no_more before, inl refl)
@@ -73,7 +73,7 @@ prints_wanted s text m o before after r a = elim a [
       let complete = found.1 in
       let whole = blocks m l ++ ending complete l in
       let run : (u : List ℕ) → whole ≡ u → IsRun text o u =
-      λ u e. record { model = m; listed = l; accepted = r; run = subst (λ (v : List ℕ). PrintsWanted (wanted o) m l v) e (listing_text m (wanted o) l complete found.2) } in
+      λ u e. record { model = m; listed = l; accepted = r; run = subst (λ (v : List ℕ). PrintsFor m.goal o m l v) e (shown_text m.goal m o l complete found.2) } in
       elim found.3 [
         | inl all ↦ elim all.0 [
           | inl done ↦ at_status s Done text o before after done (whole, all.1, run whole refl)
@@ -84,9 +84,9 @@ prints_wanted s text m o before after r a = elim a [
 ]
 
 -- all that is shown was taken
-pub shown : (s : Status) (m : Instance) (w : Option ℕ) (l : List (List ℤ)) (complete : Bool) (before middle after : Option (List ℕ)) (flushed c d : ℕ) → IsListing m w l complete
-    → middle ≡ with_more before (blocks m l ++ ending complete l) → after ≡ middle → Flushes Done s after flushed c d → AnswersWanted s m w before after
-shown s m w l complete before middle after flushed c d listing taken same cases =
+pub shown : (s : Status) (m : Instance) (o : Options) (l : List (List ℤ)) (complete : Bool) (before middle after : Option (List ℕ)) (flushed c d : ℕ) → IsShown m.goal o m l complete
+    → middle ≡ with_more before (blocks m l ++ ending complete l) → after ≡ middle → Flushes Done s after flushed c d → AnswersShown s m o before after
+shown s m o l complete before middle after flushed c d listing taken same cases =
     inr (l, complete, listing, inl (elim cases [ inl done ↦ inl done.0 | inr fault ↦ inr fault.0 ], same ∙ taken))
 
 pub prints_refusal : (s : Status) (text : List ℕ) (r : Refusal) (o : Options) (before after : Option (List ℕ)) → IsRefusal text r → Answers s (Refused r) (text_of r) before after

@@ -1,8 +1,10 @@
 -- What a run prints, by what is asked for.
-use Rattle.std.specs.Prelude.{◌≡◌, ◌⊎◌, ℕ, zero, suc, ◌<◌, ◌≤◌, ℤ, Bool, true, false, Option, Some, None, List, length}
+use Rattle.std.specs.Prelude.{◌≡◌, ◌⊎◌, ℕ, zero, suc, ◌<◌, ◌≤◌, ℤ, Bool, true, false, Option, Some, None, List, [], ◌∷◌, ◌++◌, length}
 use Rattle.std.specs.List.{AllByRecursion}
-use Rattle.fz_spec.specs.Instance.{Instance, Satisfies, occurrences}
-use Rattle.fz_spec.specs.Run.{PrintsAll, blocks}
+use Rattle.fz_spec.specs.declared.goal.Goal.{Goal}
+use Rattle.fz_spec.specs.declared.goal.Goal.TheVariants.{Satisfy, Minimize, Maximize}
+use Rattle.fz_spec.specs.Instance.{Instance, Satisfies, AreImproving, IsBest, occurrences}
+use Rattle.fz_spec.specs.Run.{PrintsAll, blocks, closing}
 use Rattle.fz_cmd.specs.Meaning.{Options}
 
 -- How many solutions are asked for, none where it is all of them. The number of `-n` decides where it is given, and 0 stands for
@@ -32,6 +34,30 @@ abbrev pub PrintsWanted : Option ℕ → Instance → List (List ℤ) → List �
 PrintsWanted None m l printed = PrintsAll m l printed
 PrintsWanted (Some n) m l printed = PrintsSome m n l printed ⊎ ((length l < n) × PrintsAll m l printed)
 
--- the text of a whole run that lists these assignments, by the options
+-- the last of a list is a best solution; a list of none says that nothing satisfies
+abbrev pub EndsBest : Instance → List (List ℤ) → Type 0
+EndsBest m [] = (a : List ℤ) → Satisfies m a → ⊥
+EndsBest m (x ∷ []) = IsBest m x
+EndsBest m (x ∷ y ∷ ys) = EndsBest m (y ∷ ys)
+
+-- Satisfying assignments, each better than the one before it, and the last one best. It stands alone unless all are to be shown.
+pub record AreBest (all : Bool) (m : Instance) (l : List (List ℤ)) : Type 0 where
+  pub sound : AllByRecursion (Satisfies m) l
+  pub improving : AreImproving m l
+  pub alone : all ≡ false → length l ≤ 1
+  pub last : EndsBest m l
+
+-- these in order, and the closing line
+pub record PrintsBest (all : Bool) (m : Instance) (l : List (List ℤ)) (printed : List ℕ) : Type 0 where
+  pub are : AreBest all m l
+  pub text : printed ≡ blocks m l ++ closing l
+
+-- By the goal: solutions, as many as are asked for; or a best one, where `-n` says nothing.
+abbrev pub PrintsFor : Goal → Options → Instance → List (List ℤ) → List ℕ → Type 0
+PrintsFor Satisfy o m l printed = PrintsWanted (wanted o) m l printed
+PrintsFor (Minimize term) o m l printed = PrintsBest o.all m l printed
+PrintsFor (Maximize term) o m l printed = PrintsBest o.all m l printed
+
+-- the text of a whole run that lists these assignments, by the goal and the options
 abbrev pub IsRunText : Instance → Options → List (List ℤ) → List ℕ → Type 0
-IsRunText m o l printed = PrintsWanted (wanted o) m l printed
+IsRunText m o l printed = PrintsFor m.goal o m l printed

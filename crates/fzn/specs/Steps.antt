@@ -5,10 +5,11 @@ use Rattle.fz_spec.specs.declared.limits.TheConstants.{TEXT_LIMIT}
 use Rattle.fz_spec.specs.Codes.{code_number}
 use Rattle.fz_spec.specs.Instance.{Instance, Lists}
 use Rattle.fz_spec.specs.Run.{blocks, closing}
-use Rattle.fz_tree.specs.declared.mode.Mode.TheVariants as modes
+use Rattle.fz_spec.specs.declared.goal.Goal.{Goal}
+use Rattle.fz_spec.specs.declared.goal.Goal.TheVariants.{Satisfy, Minimize, Maximize}
 use Rattle.fz_tree.specs.Book.{Book, BookLaw}
 use Rattle.fz_cmd.specs.Meaning.{Options}
-use Rattle.fzn.specs.Runs.{AreSome}
+use Rattle.fzn.specs.Runs.{AreSome, AreBest, wanted}
 use Rattle.fz_language.specs.Grammar.{Spells}
 use Rattle.fz_language.specs.Reads.{Reads, IsRefusedAt}
 use Rattle.fz_language.specs.Reads as reads
@@ -92,6 +93,12 @@ Answers status whole_status whole before after =
 
 -- ---- the search
 
+-- how many recorded solutions are enough: where a best one is sought, no number is
+abbrev pub enough_for : Goal → Options → Option ℕ
+enough_for Satisfy o = wanted o
+enough_for (Minimize term) o = None
+enough_for (Maximize term) o = None
+
 -- the book of a search that has ended: it is closed, or has as many as are asked for
 abbrev pub HasEnded : Option ℕ → Book → Type 0
 HasEnded None b = b.parts ≡ []
@@ -99,7 +106,6 @@ HasEnded (Some n) b = (n ≤ length b.recorded) ⊎ (b.parts ≡ [])
 
 pub record IsSearched (m : Instance) (w : Option ℕ) (b : Book) : Type 0 where
   pub model : b.model ≡ m
-  pub mode : b.mode ≡ modes.All
   pub law : BookLaw b
   pub ended : HasEnded w b
 
@@ -110,15 +116,21 @@ IsListing m None l false = ⊥
 IsListing m (Some n) l true = (length l < n) × Lists m l
 IsListing m (Some n) l false = AreSome m n l
 
+-- the same by the goal: a best one comes with a closing line always
+abbrev pub IsShown : Goal → Options → Instance → List (List ℤ) → Bool → Type 0
+IsShown Satisfy o m l complete = IsListing m (wanted o) l complete
+IsShown (Minimize term) o m l complete = (complete ≡ true) × AreBest o.all m l
+IsShown (Maximize term) o m l complete = (complete ≡ true) × AreBest o.all m l
+
 -- the closing line, where there is one
 abbrev pub ending : Bool → List (List ℤ) → List ℕ
 ending complete l = if complete then closing l else []
 
--- the same of what is shown of a model's search, by how many solutions are asked for
-abbrev pub AnswersWanted : Status → Instance → Option ℕ → Option (List ℕ) → Option (List ℕ) → Type 0
-AnswersWanted status m w before after =
+-- the same of what is shown of a model's search, by its goal and the options
+abbrev pub AnswersShown : Status → Instance → Options → Option (List ℕ) → Option (List ℕ) → Type 0
+AnswersShown status m o before after =
     ((status ≡ NoMemory) × (after ≡ before))
-    ⊎ ((l : List (List ℤ)) × (complete : Bool) × IsListing m w l complete × Answers status Done (blocks m l ++ ending complete l) before after)
+    ⊎ ((l : List (List ℤ)) × (complete : Bool) × IsShown m.goal o m l complete × Answers status Done (blocks m l ++ ending complete l) before after)
 
 -- all is flushed and the answer is as it was to be, or the sink failed
 abbrev pub Flushes : Status → Status → Option (List ℕ) → ℕ → ℕ → ℕ → Type 0

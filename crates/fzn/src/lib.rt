@@ -7,7 +7,7 @@
 pub mod command;
 pub mod complaint;
 mod printer;
-mod reader;
+pub mod reader;
 pub mod run;
 mod search;
 pub mod status;
@@ -16,5 +16,6 @@ mod tests;
 
 pub use command::program;
 pub use complaint::complaint_of;
+pub use reader::model_of;
 pub use run::fzn;
 pub use status::Status;

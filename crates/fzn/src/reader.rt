@@ -29,7 +29,10 @@ pub(crate) struct Cause {
 
 /// The model of a text that is accepted, or its refusal. Of a text that is too long, the first bytes are enough, one more than a
 /// text may have.
-pub(crate) fn model_of(alloc: Global, text: &[u8]) -> Result<Result<Model, Refusal>, AllocError>
+///
+/// # Errors
+/// `AllocError` where there is no memory.
+pub fn model_of(alloc: Global, text: &[u8]) -> Result<Result<Model, Refusal>, AllocError>
     ensures { IfOk result (λ reading. MatchResult reading (λ model. Reads text.now (Accepted model))
         (IsRefusal text.now)) }
 {

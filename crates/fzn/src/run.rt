@@ -2,15 +2,13 @@
 ghost use Rattle.std.specs.Prelude.{◌≡◌, ◌≢◌, ◌⊎◌, ℕ, ◌-◌, ◌^◌, ◌<◌, None, IfSome, IfOk, length, map, string_bytes};
 ghost use Rattle.fz_io.specs.Outside.{one_more};
 ghost use Rattle.fz_print.specs.Refusal.{text_of};
-ghost use Rattle.fz_spec.specs.declared.goal.Goal.TheVariants as goals;
 ghost use Rattle.fz_cmd.specs.Meaning.{options_of};
-ghost use Rattle.fzn.specs.Runs as runs;
 ghost use Rattle.fzn.specs.Promises.{AnswersAccepted, AnswersRefused, HasItsCause, HasReadAll, HasSelected, IsFlushed, Runs, SelectsOnce};
-ghost use Rattle.fzn.specs.Steps.{Answers, AnswersWanted, Flushes, HasSinkCause, HasStopCause, IsReadOf, IsSearched, LeavesNothing, PrintsOf, SelectsAt};
+ghost use Rattle.fzn.specs.Steps.{enough_for, Answers, AnswersShown, Flushes, HasSinkCause, HasStopCause, IsReadOf, IsSearched, LeavesNothing, PrintsOf, SelectsAt};
 
 use crate::printer::{Stop, print_listing, print_refusal};
 use crate::reader::model_of;
-use crate::search::{listing_of, search, wanted};
+use crate::search::{listing_of, search};
 use crate::status::Status;
 use fz_book::Book;
 use fz_cmd::Options;
@@ -171,23 +169,20 @@ fn run_text<S: Sink>(alloc: Global, text: &[u8], options: &Options, sink: &mut S
 
 /// Searches a model, and prints what is asked for.
 fn run_model<S: Sink>(alloc: Global, model: Model, options: &Options, sink: &mut S) -> Status
-    requires goal { model.goal ≡ goals.Satisfy }
-    requires faults { S.faults sink.old < 2 ^ 64 - 1 }
-    ensures printed { AnswersWanted result model (runs.wanted options.now)
-        (S.taken sink.old) (S.taken sink.new) }
+    requires { S.faults sink.old < 2 ^ 64 - 1 }
+    ensures printed { AnswersShown result model options.now (S.taken sink.old) (S.taken sink.new) }
     ensures flushed { IsFlushed result (S.taken sink.old) (S.taken sink.new) (S.flushed sink.new) }
     ensures cause { HasSinkCause result (S.faults sink.old) (S.faults sink.new) }
 {
     match searched(alloc, model, options) {
-        Ok(book) => show(alloc, &book, wanted(options), sink),
+        Ok(book) => show(alloc, &book, options, sink),
         Err(_) => Status::NoMemory,
     }
 }
 
 /// The book of a model's search.
 fn searched(alloc: Global, model: Model, options: &Options) -> Result<Book, AllocError>
-    requires { model.goal ≡ goals.Satisfy }
-    ensures { IfOk result (λ b. IsSearched model (runs.wanted options.now) b.book) }
+    ensures { IfOk result (λ b. IsSearched model (enough_for model.goal options.now) b.book) }
 {
     match Arc::new(alloc, model) {
         Ok(model) => search::<Space>(alloc, &model, options),
@@ -196,15 +191,16 @@ fn searched(alloc: Global, model: Model, options: &Options) -> Result<Book, Allo
 }
 
 /// Prints what is asked for of a search.
-fn show<S: Sink>(alloc: Global, book: &Book, wanted: Option<u32>, sink: &mut S) -> Status
-    requires searched { IsSearched book.now.book.model wanted book.now.book }
+fn show<S: Sink>(alloc: Global, book: &Book, options: &Options, sink: &mut S) -> Status
+    requires searched { IsSearched book.now.book.model
+        (enough_for book.now.book.model.goal options.now) book.now.book }
     requires faults { S.faults sink.old < 2 ^ 64 - 1 }
-    ensures printed { AnswersWanted result book.now.book.model wanted
+    ensures printed { AnswersShown result book.now.book.model options.now
         (S.taken sink.old) (S.taken sink.new) }
     ensures flushed { IsFlushed result (S.taken sink.old) (S.taken sink.new) (S.flushed sink.new) }
     ensures cause { HasSinkCause result (S.faults sink.old) (S.faults sink.new) }
 {
-    let listing = listing_of(book, wanted);
+    let listing = listing_of(book, options);
     match print_listing(alloc, sink, book.model(), listing.found, listing.complete) {
         Ok(()) => flush(sink, Status::Done),
         Err(Stop::Memory) => flush(sink, Status::NoMemory),

@@ -1,11 +1,12 @@
 //! The search of a model, and what is shown of it.
-ghost use Rattle.std.specs.Prelude.{◌≡◌, IfOk};
+ghost use Rattle.std.specs.Prelude.{◌≡◌, None, true, IfOk};
 ghost use Rattle.std.specs.Arc.{arc_value};
-ghost use Rattle.fz_spec.specs.declared.goal.Goal.TheVariants as goals;
 ghost use Rattle.fz_tree.specs.declared.mode.Mode.TheVariants as modes;
+ghost use Rattle.fz_tree.specs.Better.{mode_of};
 ghost use Rattle.fz_tree.specs.Book.{opening};
 ghost use Rattle.fzn.specs.Runs as runs;
-ghost use Rattle.fzn.specs.Steps.{IsSearched, IsListing};
+ghost use Rattle.fzn.specs.Runs.{AreBest};
+ghost use Rattle.fzn.specs.Steps.{enough_for, IsSearched, IsListing, IsShown};
 
 use fz_account::Mode;
 use fz_book::Book;
@@ -14,6 +15,7 @@ use fz_model::assignment::Assignment;
 use fz_model::model::Model;
 use fz_path::{Path, Space};
 use fz_solo::finish;
+use fz_spec::goal::Goal;
 use std::alloc::{AllocError, Global};
 use std::sync::Arc;
 
@@ -27,7 +29,7 @@ pub(crate) struct Listing<'a> {
     pub complete: bool,
 }
 
-/// Searches a model for as many solutions as are asked for, over spaces of this kind.
+/// Searches a model for as many solutions as are asked for, or for a best one, over spaces of this kind.
 ///
 /// # Errors
 /// `AllocError` where there is no memory.
@@ -37,30 +39,45 @@ pub(crate) fn search<S: Space>(
     options: &Options,
 ) -> Result<Book, AllocError>
     requires accepts { S.accepts (arc_value model.now) }
-    requires goal { (arc_value model.now).goal ≡ goals.Satisfy }
-    ensures { IfOk result (λ b. IsSearched (arc_value model.now) (runs.wanted options.now) b.book) }
+    ensures { IfOk result (λ b. IsSearched (arc_value model.now)
+        (enough_for (arc_value model.now).goal options.now) b.book) }
 {
     let distance = options.commit_distance();
-    let mut book = begin(alloc, model)?;
-    let mut path: Path<S> = Path::idle(
-        alloc,
-        model.clone()?,
-        Mode::All,
-        distance,
-        ADAPTIVE_DISTANCE,
-    )?;
-    finish(&mut book, &mut path, wanted(options))?;
+    let mode = mode_of(model.goal());
+    let mut book = begin(alloc, model, mode)?;
+    let mut path: Path<S> = Path::idle(alloc, model.clone()?, mode, distance, ADAPTIVE_DISTANCE)?;
+    finish(&mut book, &mut path, enough_for(model.goal(), options))?;
     Ok(book)
 }
 
-/// A book of all solutions of a model.
-fn begin(alloc: Global, model: &Arc<Model>) -> Result<Book, AllocError>
-    requires { (arc_value model.now).goal ≡ goals.Satisfy }
-    ensures { IfOk result (λ b. b.book ≡ opening (arc_value model.now) modes.All) }
+/// Whether all solutions of a goal are sought, or a best one.
+fn mode_of(goal: &Goal) -> Mode
+    ensures { result ≡ mode_of goal.now }
 {
-    match Book::begin(alloc, model.clone()?, Mode::All) {
+    match goal {
+        Goal::Satisfy => Mode::All,
+        Goal::Minimize(_) | Goal::Maximize(_) => Mode::Best,
+    }
+}
+
+/// A book of a model.
+fn begin(alloc: Global, model: &Arc<Model>, mode: Mode) -> Result<Book, AllocError>
+    requires { mode ≡ mode_of (arc_value model.now).goal }
+    ensures { IfOk result (λ b. b.book ≡ opening (arc_value model.now) mode) }
+{
+    match Book::begin(alloc, model.clone()?, mode) {
         Ok(book) => Ok(book),
         Err(_) => Err(AllocError),
+    }
+}
+
+/// How many recorded solutions are enough; where a best one is sought, no number is.
+fn enough_for(goal: &Goal, options: &Options) -> Option<u32>
+    ensures { result ≡ enough_for goal.now options.now }
+{
+    match goal {
+        Goal::Satisfy => wanted(options),
+        Goal::Minimize(_) | Goal::Maximize(_) => None,
     }
 }
 
@@ -77,8 +94,23 @@ pub(crate) fn wanted(options: &Options) -> Option<u32>
 }
 
 /// What is shown of a search that has ended.
-pub(crate) fn listing_of(book: &Book, wanted: Option<u32>) -> Listing<'_>
-    requires { IsSearched book.now.book.model wanted book.now.book }
+pub(crate) fn listing_of<'a>(book: &'a Book, options: &Options) -> Listing<'a>
+    requires { IsSearched book.now.book.model
+        (enough_for book.now.book.model.goal options.now) book.now.book }
+    ensures { IsShown book.now.book.model.goal options.entry book.now.book.model
+        result.found.now result.complete }
+{
+    match book.model().goal() {
+        Goal::Satisfy => solutions_of(book, wanted(options)),
+        Goal::Minimize(_) => best_of(book, options.all()),
+        Goal::Maximize(_) => best_of(book, options.all()),
+    }
+}
+
+/// The solutions that were asked for.
+fn solutions_of(book: &Book, wanted: Option<u32>) -> Listing<'_>
+    requires searched { IsSearched book.now.book.model wanted book.now.book }
+    requires mode { book.now.book.mode ≡ modes.All }
     ensures { IsListing book.now.book.model wanted result.found.now result.complete }
 {
     let found = book.recorded();
@@ -91,5 +123,24 @@ pub(crate) fn listing_of(book: &Book, wanted: Option<u32>) -> Listing<'_>
             found,
             complete: true,
         },
+    }
+}
+
+/// A best solution, and where all are to be shown the ones before it.
+fn best_of(book: &Book, all: bool) -> Listing<'_>
+    requires searched { IsSearched book.now.book.model None book.now.book }
+    requires mode { book.now.book.mode ≡ modes.Best }
+    ensures best { AreBest all book.now.book.model result.found.now }
+    ensures complete { result.complete ≡ true }
+{
+    let found = book.recorded();
+    let front = if all {
+        0
+    } else {
+        found.len().saturating_sub(1)
+    };
+    Listing {
+        found: &found[front..],
+        complete: true,
     }
 }

@@ -205,6 +205,36 @@ fn as_many_blocks_are_printed_as_are_asked_for(rt: HostRuntime) -> Result<(), Fa
 }
 
 #[test]
+fn a_best_solution_is_printed_last(rt: HostRuntime) -> Result<(), Fail> {
+    let alloc = rt.alloc();
+    // A text, and what is printed of it where not all are to be shown.
+    let rows = [
+        (
+            "var 0..10: x :: output_var; var 0..10: y :: output_var; constraint int_lin_le([3,2],[x,y],12); solve maximize x;",
+            "x = 4;\ny = 0;\n----------\n==========\n",
+        ),
+        ("var 1..2: x; solve minimize 3;", "----------\n==========\n"),
+        (
+            "var 1..2: x; constraint int_le(3,x); solve minimize x;",
+            "=====UNSATISFIABLE=====\n",
+        ),
+        (
+            "var 2..5: x :: output_var; constraint int_lt(3,x); solve :: int_search([x],input_order,indomain_max) minimize x;",
+            "x = 4;\n----------\n==========\n",
+        ),
+    ];
+    for (text, printed) in rows {
+        let outcome = run(alloc, text, &["-n", "5"])?;
+        assert_eq!(rt; outcome.status, Status::Done);
+        assert_eq!(rt; outcome.printed.as_slice(), printed.as_bytes());
+        let outcome = run(alloc, text, &["-a"])?;
+        assert_eq!(rt; outcome.status, Status::Done);
+        assert!(rt; outcome.printed.ends_with(printed.as_bytes()));
+    }
+    Ok(())
+}
+
+#[test]
 fn each_answer_but_done_has_a_line_for_standard_error(rt: HostRuntime) -> Result<(), Fail> {
     let alloc = rt.alloc();
     let refusal = |code, line, column| { Status::Refused(Refusal { code, line, column }) };

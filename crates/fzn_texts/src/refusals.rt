@@ -171,11 +171,18 @@ const ROWS: [Row; 101] = [
         75,
         9,
     ),
-    ("solve minimize 1;", 7, 9),
+    ("solve minimize 1.5;", 16, 9),
+    ("solve maximize x;", 16, 5),
+    ("solve minimize true;", 16, 6),
     (
-        "var 1..2: x; solve :: int_search([x],input_order,indomain_min) maximize x;",
-        64,
-        9,
+        "array [1..1] of var int: a = [1]; solve minimize a;",
+        50,
+        6,
+    ),
+    (
+        "var 1..2: x; solve :: int_search([x],input_order,indomain_min) maximize y;",
+        73,
+        5,
     ),
     (
         "var 1..2: x :: output_array([1..1,1..1,1..1,1..1,1..1,1..1,1..1]); solve satisfy;",

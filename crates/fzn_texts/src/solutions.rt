@@ -5,7 +5,7 @@ use std::test::Fail;
 /// A text, and what is printed of it.
 type Row = (&'static str, &'static str);
 
-const ROWS: [Row; 14] = [
+const ROWS: [Row; 15] = [
     ("solve satisfy;", "----------\n==========\n"),
     ("var 3..1: x; solve satisfy;", "=====UNSATISFIABLE=====\n"),
     (
@@ -55,6 +55,10 @@ const ROWS: [Row; 14] = [
     (
         "set of int: S = {2,4}; array [1..2] of bool: t = [false,true]; var 1..5: x :: output_var; var bool: r :: output_var; constraint set_in(x,S); constraint array_bool_element(x,t,r); solve satisfy;",
         "x = 2;\nr = true;\n----------\n==========\n",
+    ),
+    (
+        "var int: y :: output_var; var 2147483646..2147483646: x :: output_var; constraint int_lin_eq([2147483646,2147483646],[x,y],0); solve satisfy;",
+        "y = -2147483646;\nx = 2147483646;\n----------\n==========\n",
     ),
 ];
 

@@ -5,7 +5,6 @@ use Rattle.fz_language.specs.Trees as lang
 use Rattle.fz_language.specs.Within.{ItemFits}
 use Rattle.fz_syntax.specs.Trees.{program_of, item_of}
 use Rattle.fz_syntax.specs.declared.item.Item.{Item}
-use Rattle.fz_resolve.specs.Meant.{environment_of}
 use Rattle.fz_resolve.specs.declared.fault.Fault.{Fault}
 use Rattle.fz_check.specs.Drafts.{IsAhead, IsAdded}
 use Rattle.fz_check.proofs.EntryLaws.{at_item}
@@ -45,7 +44,7 @@ pub model_of-requires-clause-keeps : goal.model_of-requires-clause-keeps
 model_of-requires-clause-keeps c =
     let p = program_of c.args.program.now in
     let a = subst (λ (l : List Item). IsAhead p c.loop-item.draft (map item_of l)) (drop_all c.loop-item.item-index c.deref-item-items.result.now c.loop-item-test.false) c.loop-item.invariant in
-    all_kept p c.loop-item.draft a (c.in-None.ensures (environment_of c.loop-item.draft.names))
+    all_kept p c.loop-item.draft a c.in-None.ensures
 
 pub model_of-requires-clause-draft : goal.model_of-requires-clause-draft
 model_of-requires-clause-draft c =
@@ -55,10 +54,10 @@ pub returns-in-Some-solve_fault : goal.returns-in-Some-solve_fault
 returns-in-Some-solve_fault c =
     let p = program_of c.args.program.now in
     let a = subst (λ (l : List Item). IsAhead p c.loop-item.draft (map item_of l)) (drop_all c.loop-item.item-index c.deref-item-items.result.now c.loop-item-test.false) c.loop-item.invariant in
-    first_of_solve p c.loop-item.draft c.in-Some-solve_fault.fault a (c.in-Some-solve_fault.ensures (environment_of c.loop-item.draft.names))
+    first_of_solve p c.loop-item.draft c.in-Some-solve_fault.fault a c.in-Some-solve_fault.ensures
 
 pub returns-in_ok-model_of-in-None : goal.returns-in_ok-model_of-in-None
 returns-in_ok-model_of-in-None c =
     let p = program_of c.args.program.now in
     let a = subst (λ (l : List Item). IsAhead p c.loop-item.draft (map item_of l)) (drop_all c.loop-item.item-index c.deref-item-items.result.now c.loop-item-test.false) c.loop-item.invariant in
-    (all_kept p c.loop-item.draft a (c.in-None.ensures (environment_of c.loop-item.draft.names)), c.in_ok-model_of-in-None.ensures)
+    (all_kept p c.loop-item.draft a c.in-None.ensures, c.in_ok-model_of-in-None.ensures)

@@ -1,4 +1,5 @@
 use Rattle.fz_space.proofs.Deciding.{alive_lasts, covers_failed, covers_taken}
+use Rattle.fz_space.proofs.Fronts.{front_lasts}
 use Rattle.fz_space.proofs.commit.take.Goals as goal
 
 pub returns-then-failed-clause-covers : goal.returns-then-failed-clause-covers
@@ -9,3 +10,6 @@ returns-clause-alive c = λ m states alive not_failed. alive_lasts m states c.ar
 
 pub returns-clause-covers : goal.returns-clause-covers
 returns-clause-covers c = λ m ds covers. covers_taken m c.args.store.now c.decide.new.store c.args.failed.now ds c.args.decision c.in_ok-left.left c.if-failed.false c.in_ok-left.ensures.decided covers
+
+pub returns-clause-front : goal.returns-clause-front
+returns-clause-front c = λ n front not_failed. front_lasts n c.args.store.now.doms c.decide.new.store.doms c.decide.ensures.store.domains c.decide.ensures.shrinks.narrower (front c.if-failed.false)

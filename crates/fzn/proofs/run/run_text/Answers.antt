@@ -1,9 +1,5 @@
 use Rattle.fzn.proofs.Outcomes.{prints_refusal, prints_wanted}
-use Rattle.fzn.proofs.Searches.{accepted_satisfies}
 use Rattle.fzn.proofs.run.run_text.Goals as goal
-
-pub run_model-requires : goal.run_model-requires
-run_model-requires g c = record { goal = accepted_satisfies _ _ (rw c.in-Ok-Ok.field-0-is at c.in-Ok-Ok.ensures); faults = c.requires }
 
 pub returns-in-Ok-Ok-clause-printed : goal.returns-in-Ok-Ok-clause-printed
 returns-in-Ok-Ok-clause-printed g c =

@@ -1,0 +1,4 @@
+pub mod Clearing
+pub mod Removing
+pub mod Resting
+pub mod Names

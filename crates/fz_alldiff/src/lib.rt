@@ -1,0 +1,10 @@
+//! The propagator of terms that are all different.
+#![tactic(auto)]
+
+pub mod all_different;
+mod differ;
+
+pub use all_different::AllDifferent;
+
+#[cfg(test)]
+mod tests;

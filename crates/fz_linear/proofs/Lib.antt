@@ -1,0 +1,9 @@
+pub mod Spans
+pub mod Slacks
+pub mod Summing
+pub mod Tight
+pub mod Passing
+pub mod Bounds
+pub mod Names
+pub mod Factors
+pub mod Gaps

@@ -1,0 +1,131 @@
+-- The steps of a pass.
+use Rattle.std.proofs.Common.{◌≡◌, ℕ, suc, ◌<◌, ◌≤◌, List, [], ◌∷◌, refl, ap, subst, ◌∙◌, arith, length, drop, Bool, true, false, inl, inr, ◌⊎◌}
+use Rattle.std.specs.Prelude.{ℤ, ◌+ℤ◌, ◌≤ℤ◌, ◌↔◌, ◌||◌}
+use Rattle.std.proofs.lemmas.Int.{ints}
+use Rattle.fz_dom.specs.declared.change.Change.{Change}
+use Rattle.fz_dom.specs.declared.change.Change.TheVariants.{Same, Changed, Wiped}
+use Rattle.fz_spec.specs.declared.term.Term.{Term}
+use Rattle.fz_strength.specs.declared.event.Event.{Event}
+use Rattle.fz_strength.specs.declared.event.Event.TheVariants.{Any, Bound, Fixed}
+use Rattle.fz_strength.specs.Domains.{dom_at, term_set, AreDomains, IsNarrower, room}
+use Rattle.fz_strength.specs.Events.{IsQuiet}
+use Rattle.fz_strength.specs.Sums.{least_product, greatest_product, AreNear, negated}
+use Rattle.fz_prop.specs.Stores.{Stored, Shrinks}
+use Rattle.fz_prop.proofs.Steps.{same_shrinks}
+use Rattle.fz_prop.proofs.TermChanges.{narrower_term}
+use Rattle.fz_linear.specs.Terms.{AreTermsOf}
+use Rattle.fz_linear.specs.Passes.{IsStep, IsTightened, KeepsNear, IsPassed, KeepsBetween, ArePassed}
+use Rattle.fz_linear.proofs.Spans.{spanned, least_rises}
+use Rattle.fz_linear.proofs.Slacks.{IsAt, near_at, near_from, term_at, least_sum_rises}
+
+-- ---- one change after another
+
+quiet_both : (event : Event) (d e f : List (ℤ × ℤ)) → IsQuiet event d e → IsQuiet event e f → IsQuiet event d f
+quiet_both Any d e f p q = p ∙ q
+quiet_both Bound d e f p q = (p.0 ∙ q.0, p.1 ∙ q.1)
+quiet_both Fixed d e f p q = λ x only. p x (q x only ∙ only) ∙ q x only
+
+pub narrower_both : (ds es fs : List (List (ℤ × ℤ))) → IsNarrower ds es → IsNarrower es fs → IsNarrower ds fs
+narrower_both ds es fs p q = record { size = q.size ∙ p.size; members = λ v x is. p.members v x (q.members v x is) }
+
+pub room_after : (r s : Stored) → Shrinks r s → room s.doms ≤ room r.doms
+room_after r s h = elim h.falls [ inl e ↦ (let f = ap (λ (t : Stored). room t.doms) e in omega (arith, f)) | inr less ↦ omega (arith, less) ]
+
+fall_both : (r s t : Stored) → Shrinks r s → Shrinks s t → (t ≡ r) ⊎ (room t.doms < room r.doms)
+fall_both r s t p q = elim p.falls [
+  | inl e ↦ elim q.falls [ inl f ↦ inl (f ∙ e) | inr less ↦ inr (let g = ap (λ (u : Stored). room u.doms) e in omega (arith, less, g)) ]
+  | inr less ↦ inr (let g = room_after s t q in omega (arith, less, g))
+]
+
+pub shrinks_both : (r s t : Stored) → Shrinks r s → Shrinks s t → Shrinks r t
+shrinks_both r s t p q = record {
+  narrower = narrower_both r.doms s.doms t.doms p.narrower q.narrower;
+  marks_grow = λ v. (let a = p.marks_grow v in let b = q.marks_grow v in omega (arith, a, b));
+  marks_tell = λ v event h. (let b = q.marks_grow v in
+      quiet_both event (dom_at r.doms v) (dom_at s.doms v) (dom_at t.doms v) (p.marks_tell v event (omega (arith, h, b))) (q.marks_tell v event h));
+  falls = fall_both r s t p q;
+}
+
+-- ---- a pass so far: the terms before a place are tightened
+
+pub record IsPass (ks : List ℤ) (ts : List Term) (slack : ℤ) (r s : Stored) (i : ℕ) (changed : Bool) : Type 0 where
+  pub shrinks : Shrinks r s
+  pub kept : KeepsNear ks ts slack r.doms s.doms
+  pub still : changed ≡ false → (s ≡ r) × (AreNear r.doms slack (drop i ks) (drop i ts) → AreNear r.doms slack ks ts)
+  pub moved : changed ≡ true → room s.doms < room r.doms
+
+pub pass_start : (ks : List ℤ) (ts : List Term) (slack : ℤ) (r : Stored) → IsPass ks ts slack r r 0 false
+pass_start ks ts slack r = record {
+  shrinks = same_shrinks r;
+  kept = λ a within near. within;
+  still = λ e. (refl, λ near. near);
+  moved = λ e. absurd (cc (e));
+}
+
+still_after : (ks : List ℤ) (ts : List Term) (slack : ℤ) (r s u : Stored) (i : ℕ) (changed now : Bool) (change : Change) (k : ℤ) (t : Term) → IsAt ks ts i k t
+    → IsPass ks ts slack r s i changed → IsStep change k t slack s u → ((now ≡ true) ↔ (change ≡ Changed)) → (changed || now) ≡ false
+    → (u ≡ r) × (AreNear r.doms slack (drop (suc i) ks) (drop (suc i) ts) → AreNear r.doms slack ks ts)
+still_after ks ts slack r s u i true now change k t at pass step told none = absurd (cc (none))
+still_after ks ts slack r s u i false true change k t at pass step told none = absurd (cc (none))
+still_after ks ts slack r s u i false false Same k t at pass step told none =
+    let before = pass.still refl in (
+      step.0 ∙ before.0,
+      (λ near. before.1 (near_from ks ts i k t r.doms slack at
+          (subst (λ (v : Stored). greatest_product k (term_set v.doms t) ≤ℤ (least_product k (term_set v.doms t) +ℤ slack)) before.0 step.1) near)),
+    )
+still_after ks ts slack r s u i false false Changed k t at pass step told none = let e : false ≡ true = told.1 refl in absurd (cc (e))
+still_after ks ts slack r s u i false false Wiped k t at pass step told none = absurd step
+
+moved_after : (ks : List ℤ) (ts : List Term) (slack : ℤ) (r s u : Stored) (i : ℕ) (changed now : Bool) (change : Change) (k : ℤ) (t : Term)
+    → IsPass ks ts slack r s i changed → Shrinks s u → IsStep change k t slack s u → ((now ≡ true) ↔ (change ≡ Changed)) → (changed || now) ≡ true → room u.doms < room r.doms
+moved_after ks ts slack r s u i true now change k t pass shrinks step told some =
+    let before = pass.moved refl in let after = room_after s u shrinks in omega (arith, before, after)
+moved_after ks ts slack r s u i false true Changed k t pass shrinks step told some = let before = room_after r s pass.shrinks in omega (arith, before, step)
+moved_after ks ts slack r s u i false true Same k t pass shrinks step told some = let e = told.0 refl in absurd (cc (e))
+moved_after ks ts slack r s u i false true Wiped k t pass shrinks step told some = absurd step
+moved_after ks ts slack r s u i false false change k t pass shrinks step told some = absurd (cc (some))
+
+kept_after : (ks : List ℤ) (ts : List Term) (slack : ℤ) (r s u : Stored) (i : ℕ) (changed : Bool) (change : Change) (k : ℤ) (t : Term) → AreDomains r.doms → AreTermsOf (length r.doms) ts
+    → IsAt ks ts i k t → IsPass ks ts slack r s i changed → IsTightened change k t slack s u → KeepsNear ks ts slack r.doms u.doms
+kept_after ks ts slack r s u i changed change k t domains are at pass tightened = λ a within near.
+    let here = near_at ks ts i k t r.doms a slack domains are within at near in
+    let rises = least_rises k (term_set r.doms t) (term_set s.doms t) (spanned r.doms t domains (term_at ks ts i (length r.doms) k t at are)) tightened.spanned
+    (narrower_term r.doms s.doms t pass.shrinks.narrower) in
+    tightened.kept a (pass.kept a within near) (omega (arith, ints, here, rises))
+
+pub pass_step : (ks : List ℤ) (ts : List Term) (slack : ℤ) (r s u : Stored) (i : ℕ) (changed now : Bool) (change : Change) (k : ℤ) (t : Term) → AreDomains r.doms
+    → AreTermsOf (length r.doms) ts → IsAt ks ts i k t → IsPass ks ts slack r s i changed → IsTightened change k t slack s u → Shrinks s u → ((now ≡ true) ↔ (change ≡ Changed))
+    → IsPass ks ts slack r u (suc i) (changed || now)
+pass_step ks ts slack r s u i changed now change k t domains are at pass tightened shrinks told = record {
+  shrinks = shrinks_both r s u pass.shrinks shrinks;
+  kept = kept_after ks ts slack r s u i changed change k t domains are at pass tightened;
+  still = still_after ks ts slack r s u i changed now change k t at pass tightened.step told;
+  moved = moved_after ks ts slack r s u i changed now change k t pass shrinks tightened.step told;
+}
+
+nil_near : (ds : List (List (ℤ × ℤ))) (slack : ℤ) (ks : List ℤ) (ts : List Term) → length ks ≡ 0 → AreNear ds slack ks ts
+nil_near ds slack [] ts none = tt
+nil_near ds slack (k ∷ ks) ts none = absurd (omega (arith, none))
+
+pub passed : (ks : List ℤ) (ts : List Term) (slack : ℤ) (r s : Stored) (i : ℕ) (changed : Bool) → IsPass ks ts slack r s i changed → drop i ks ≡ [] → IsPassed changed ks ts slack r s
+passed ks ts slack r s i true pass none = pass.moved refl
+passed ks ts slack r s i false pass none =
+    let still = pass.still refl in (still.0, still.1 (nil_near r.doms slack (drop i ks) (drop i ts) (ap length none)))
+
+-- ---- two passes, the second over the negated sum
+
+pub kept_between : (ks : List ℤ) (ts : List Term) (above below : ℤ) (r s u : Stored) → AreDomains r.doms → AreDomains s.doms → AreTermsOf (length r.doms) ts → Shrinks r s
+    → KeepsNear ks ts above r.doms s.doms → KeepsNear (negated ks) ts below s.doms u.doms → KeepsBetween ks ts above below r.doms u.doms
+kept_between ks ts above below r s u domains now are shrinks first second = λ a within high low.
+    let rises = least_sum_rises (negated ks) ts r.doms s.doms domains now are shrinks.narrower in
+    second a (first a within high) (omega (arith, ints, low, rises))
+
+pub kept_first : (ks : List ℤ) (ts : List Term) (above below : ℤ) (r s : Stored) → KeepsNear ks ts above r.doms s.doms → KeepsBetween ks ts above below r.doms s.doms
+kept_first ks ts above below r s first = λ a within high low. first a within high
+
+pub passed_between : (ks : List ℤ) (ts : List Term) (above below : ℤ) (r s u : Stored) (first second : Bool) → Shrinks r s → Shrinks s u
+    → IsPassed first ks ts above r s → IsPassed second (negated ks) ts below s u → ArePassed (first || second) ks ts above below r u
+passed_between ks ts above below r s u true second p q f g = let after = room_after s u q in omega (arith, f, after)
+passed_between ks ts above below r s u false true p q f g = let before = room_after r s p in omega (arith, g, before)
+passed_between ks ts above below r s u false false p q f g =
+    (g.0 ∙ f.0, f.1, subst (λ (t : Stored). AreNear t.doms below (negated ks) ts) f.0 g.1)

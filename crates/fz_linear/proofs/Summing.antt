@@ -1,0 +1,51 @@
+-- The steps of a sum.
+use Rattle.std.proofs.Common.{◌≡◌, ℕ, ◌<◌, ◌≤◌, ◌+◌, ◌*◌, ◌^◌, List, [], refl, arith, length, drop, drop-cons, add-one}
+use Rattle.std.specs.Prelude.{ℤ, pos, ◌+ℤ◌, unsigned_abs, slice_index_or}
+use Rattle.std.proofs.lemmas.Int.{ints}
+use Rattle.fz_spec.specs.declared.term.Term.{Term}
+use Rattle.fz_spec.specs.declared.term.Term.TheVariants.{Num}
+use Rattle.fz_strength.specs.Domains.{term_set}
+use Rattle.fz_strength.specs.Sums.{least_product, greatest_product, least_sum, greatest_sum}
+use Rattle.fz_linear.proofs.Slacks.{IsAt}
+
+-- a sum of so many products, and what is left of the whole
+pub record IsSummed (sum rest whole : ℤ) (n : ℕ) : Type 0 where
+  pub is : (sum +ℤ rest) ≡ whole
+  pub near : unsigned_abs sum ≤ n * 2 ^ 63
+
+pub summed_none : (whole : ℤ) → IsSummed (pos 0) whole whole 0
+summed_none whole = record { is = omega (arith, ints); near = omega arith }
+
+pub summed_more : (sum rest whole product behind total : ℤ) (n : ℕ) → IsSummed sum rest whole n → rest ≡ (product +ℤ behind) → total ≡ (sum +ℤ product)
+    → unsigned_abs total ≤ (n + 1) * 2 ^ 63 → IsSummed total behind whole (n + 1)
+summed_more sum rest whole product behind total n so_far e f near = record { is = (let g = so_far.is in omega (arith, ints, e, f, g)); near = near }
+
+pub summed : (sum rest whole : ℤ) (n : ℕ) → IsSummed sum rest whole n → rest ≡ pos 0 → sum ≡ whole
+summed sum rest whole n so_far none = let e = so_far.is in omega (arith, ints, e, none)
+
+-- ---- at a place
+
+pub at_place : (ks : List ℤ) (ts : List Term) (i : ℕ) → length ks ≡ length ts → i < length ks → IsAt ks ts i (slice_index_or ks i (pos 0)) (slice_index_or ts i (Num (pos 0)))
+at_place ks ts i same within = record { factor = drop-cons ks i (pos 0) within; term = drop-cons ts i (Num (pos 0)) (omega (arith, same, within)) }
+
+pub least_more : (ds : List (List (ℤ × ℤ))) (ks : List ℤ) (ts : List Term) (i : ℕ) (k : ℤ) (t : Term) → IsAt ks ts i k t
+    → least_sum ds (drop i ks) (drop i ts) ≡ (least_product k (term_set ds t) +ℤ least_sum ds (drop (i + 1) ks) (drop (i + 1) ts))
+least_more ds ks ts i k t at = rw (at.factor, at.term, add-one i) refl
+
+pub greatest_more : (ds : List (List (ℤ × ℤ))) (ks : List ℤ) (ts : List Term) (i : ℕ) (k : ℤ) (t : Term) → IsAt ks ts i k t
+    → greatest_sum ds (drop i ks) (drop i ts) ≡ (greatest_product k (term_set ds t) +ℤ greatest_sum ds (drop (i + 1) ks) (drop (i + 1) ts))
+greatest_more ds ks ts i k t at = rw (at.factor, at.term, add-one i) refl
+
+pub least_none : (ds : List (List (ℤ × ℤ))) (ks : List ℤ) (ts : List Term) → ks ≡ [] → least_sum ds ks ts ≡ pos 0
+least_none ds ks ts none = rw none refl
+
+pub greatest_none : (ds : List (List (ℤ × ℤ))) (ks : List ℤ) (ts : List Term) → ks ≡ [] → greatest_sum ds ks ts ≡ pos 0
+greatest_none ds ks ts none = rw none refl
+
+-- ---- sizes
+
+abs_of_sum : (a b : ℤ) → unsigned_abs (a +ℤ b) ≤ unsigned_abs a + unsigned_abs b
+abs_of_sum a b = grind (arith, ints)
+
+pub add_near : (sum product : ℤ) (n : ℕ) → unsigned_abs sum ≤ n * 2 ^ 63 → unsigned_abs product ≤ 2 ^ 63 → unsigned_abs (sum +ℤ product) ≤ (n + 1) * 2 ^ 63
+add_near sum product n f g = let h = abs_of_sum sum product in omega (arith, f, g, h)

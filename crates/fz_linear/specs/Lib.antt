@@ -1,0 +1,6 @@
+pub mod Terms
+pub mod Sides
+pub mod Passes
+pub mod Sums
+pub mod Gaps
+pub mod Linears

@@ -1,0 +1,16 @@
+//! Propagators of linear equations, disequations and orders (Schulte, Stuckey: "When do bounds and domain propagation lead to the
+//! same search space?"). Sums are in 128 bits, where none of so many terms overflows.
+#![tactic(auto)]
+
+mod apart;
+mod bounded;
+pub mod linear;
+mod pass;
+mod reach;
+mod side;
+mod sums;
+
+pub use linear::Linear;
+
+#[cfg(test)]
+mod tests;

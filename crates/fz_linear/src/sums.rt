@@ -1,0 +1,73 @@
+//! The ends of products and sums.
+ghost use Rattle.std.specs.Prelude.{◌≡◌, ◌+◌, ◌*◌, ◌^◌, ◌≤◌, pos, ◌+ℤ◌, ◌-ℤ◌, ◌*ℤ◌, ◌≤ℤ◌, length, unsigned_abs};
+ghost use Rattle.fz_spec.specs.declared.limits.TheConstants.{ELEMENT_LIMIT};
+ghost use Rattle.fz_strength.specs.Domains.{term_set, AreDomains};
+ghost use Rattle.fz_strength.specs.Sums.{least_product, greatest_product, least_sum, greatest_sum};
+ghost use Rattle.fz_prop.specs.Stores.{IsTermOf};
+ghost use Rattle.fz_linear.specs.Terms.{AreTermsOf};
+
+use fz_prop::Store;
+use fz_prop::terms::{greatest_of, least_of};
+use fz_spec::term::Term;
+
+/// A product, which fits.
+pub fn product(factor: i32, number: i32) -> i64
+    ensures { result ≡ factor *ℤ number }
+{
+    i64::from(factor) * i64::from(number)
+}
+
+/// The least and the greatest that a term is with its factor.
+pub fn product_ends(store: &Store, factor: i32, term: Term) -> (i64, i64)
+    requires { IsTermOf (length store.now.doms) term }
+    ensures least { result.0 ≡ least_product factor (term_set store.now.doms term) }
+    ensures greatest { result.1 ≡ greatest_product factor (term_set store.now.doms term) }
+{
+    let (low, high) = (least_of(store, term), greatest_of(store, term));
+    if factor < 0 {
+        (product(factor, high), product(factor, low))
+    } else {
+        (product(factor, low), product(factor, high))
+    }
+}
+
+/// A sum of so many products, and one more.
+fn add(sum: i128, product: i64, count: usize) -> i128
+    requires near { unsigned_abs sum ≤ count * 2 ^ 63 }
+    requires few { count ≤ ELEMENT_LIMIT }
+    ensures sum { result ≡ sum +ℤ product }
+    ensures near { unsigned_abs result ≤ (count + 1) * 2 ^ 63 }
+{
+    sum + i128::from(product)
+}
+
+/// The least and the greatest that the sum of terms is with their factors.
+pub fn sum_ends(store: &Store, factors: &[i32], terms: &[Term]) -> (i128, i128)
+    requires same { length factors.now ≡ length terms.now }
+    requires few { length terms.now ≤ ELEMENT_LIMIT }
+    requires inside { AreTermsOf (length store.now.doms) terms.now }
+    ensures least { result.0 ≡ least_sum store.now.doms factors.now terms.now }
+    ensures greatest { result.1 ≡ greatest_sum store.now.doms factors.now terms.now }
+    ensures near { unsigned_abs result.0 ≤ 2 ^ 90 }
+    ensures near_greatest { unsigned_abs result.1 ≤ 2 ^ 90 }
+    ensures domains { AreDomains store.now.doms }
+{
+    let _ = store.doms();
+    let (mut least, mut greatest) = (0, 0);
+    for i in 0..factors.len() {
+        let (low, high) = product_ends(store, factors[i], terms[i]);
+        least = add(least, low, i);
+        greatest = add(greatest, high, i);
+    }
+    (least, greatest)
+}
+
+/// How far a number is above another.
+pub fn gap(low: i128, high: i128) -> u128
+    requires rising { low ≤ℤ high }
+    requires low { unsigned_abs low ≤ 2 ^ 100 }
+    requires high { unsigned_abs high ≤ 2 ^ 100 }
+    ensures { pos result ≡ high -ℤ low }
+{
+    (high - low) as u128
+}

@@ -1,0 +1,79 @@
+-- The variables at the front that have one number left.
+use Rattle.std.proofs.Common.{◌≡◌, ℕ, zero, suc, get_or, Bool, true, Some, ◌+◌, ◌<◌, ◌≤◌, ◌⊎◌, inl, inr, List, [], ◌∷◌, refl, sym, ◌∙◌, ap, subst, arith, length, false}
+use Rattle.std.specs.Prelude.{ℤ, slice_get}
+use Rattle.std.proofs.lemmas.Int.{ints}
+use Rattle.fz_sets.specs.Sets.{AreRanges, IsInSet, set_size}
+use Rattle.fz_dom.proofs.Lists.{same_or_less}
+use Rattle.fz_branch.specs.Values.{is_open}
+use Rattle.fz_branch.specs.Picks.{AreClosed}
+use Rattle.fz_strength.specs.Domains.{AreDomains, IsNarrower, dom_at}
+use Rattle.fz_strength.proofs.Truths.{single}
+use Rattle.fz_spec.specs.Instance.{Instance}
+use Rattle.fz_tree.specs.declared.decision.Decision.{Decision}
+use Rattle.fz_path.specs.Spaces.{Spaced}
+use Rattle.fz_prop.specs.Stores.{Stored}
+use Rattle.fz_space.specs.Alive.{spaced, IsAlive, FrontFixed}
+use Rattle.fz_space.proofs.Living.{single_more}
+
+size_one : (x : ℤ) → set_size (single x) ≡ 1
+size_one x = omega (arith, ints)
+
+pub none_fixed : (ds : List (List (ℤ × ℤ))) → FrontFixed 0 ds
+none_fixed ds = record { within = omega arith; single = λ v h. absurd (omega (arith, h)) }
+
+some_left : (e : List (ℤ × ℤ)) → 0 < length e → 0 < set_size e
+some_left [] some = absurd (omega (arith, some))
+some_left (r ∷ e) some = omega arith
+
+narrowed : (e : List (ℤ × ℤ)) (x : ℤ) → (e ≡ single x) ⊎ (set_size e < set_size (single x)) → 0 < length e → e ≡ single x
+narrowed e x (inl same) some = same
+narrowed e x (inr less) some = let one = size_one x in let left = some_left e some in absurd (omega (arith, one, left, less))
+
+single_ranges : (x : ℤ) → AreRanges (single x)
+single_ranges x = omega (arith, ints)
+
+fixed_at : (ds es : List (List (ℤ × ℤ))) (v : ℕ) (x : ℤ) → AreDomains es → IsNarrower ds es → v < length ds → dom_at ds v ≡ single x → dom_at es v ≡ single x
+fixed_at ds es v x narrow narrower within is =
+    let inside : v < length es = omega (arith, within, narrower.size) in
+    let members : (y : ℤ) → IsInSet (dom_at es v) y → IsInSet (single x) y = λ y h. subst (λ (d : List (ℤ × ℤ)). IsInSet d y) is (narrower.members v y h) in
+    narrowed (dom_at es v) x (same_or_less (single x) (dom_at es v) (single_ranges x) (narrow v inside).0.0 members) (narrow v inside).1
+
+-- they stay so in narrower domains
+pub front_lasts : (n : ℕ) (ds es : List (List (ℤ × ℤ))) → AreDomains es → IsNarrower ds es → FrontFixed n ds → FrontFixed n es
+front_lasts n ds es narrow narrower front = record {
+  within = omega (arith, front.within, narrower.size);
+  single = λ v h.
+      let at = front.single v h in
+      let inside : v < length ds = omega (arith, h, front.within) in
+      (at.0, fixed_at ds es v at.0 narrow narrower inside at.1);
+}
+
+-- none of them has more than one value left
+pub front_closed : (n : ℕ) (ds : List (List (ℤ × ℤ))) → FrontFixed n ds → AreClosed n ds
+front_closed n ds front = λ v h. let at = front.single v h in subst (λ (d : List (ℤ × ℤ)). is_open d ≡ false) (sym at.1) (let one = size_one at.0 in rw one refl)
+
+-- one more, where one number is left of the next
+pub front_more : (ds : List (List (ℤ × ℤ))) (n : ℕ) (x : ℤ) → n < length ds → dom_at ds n ≡ single x → FrontFixed n ds → FrontFixed (n + 1) ds
+front_more ds n x within is front = record {
+  within = omega (arith, within);
+  single = single_more ds n (dom_at ds n) x refl is front.single;
+}
+
+-- ---- the decision of an alternative
+
+pub at_some : (xs : List Decision) (i : ℕ) (d e : Decision) → slice_get xs i ≡ Some d → e ≡ get_or xs i e → e ≡ d
+at_some [] i d e at is = cc
+at_some (x ∷ xs) zero d e at is = let same : x ≡ d = cc in is ∙ same
+at_some (x ∷ xs) (suc i) d e at is = at_some xs i d e at is
+
+lacking_by : (b : Bool) (m : Instance) (states : List ℕ) (s : Stored) (failed after : Bool) (d : Decision) → failed ≡ b → (failed ≡ false → IsAlive m states s) → (failed ≡ true → after ≡ true)
+    → (length s.doms ≤ d.variable → after ≡ true) → length m.variables ≤ d.variable → after ≡ true
+lacking_by true m states s failed after d is alive stays lacking beyond = stays is
+lacking_by false m states s failed after d is alive stays lacking beyond = let size = (alive is).size in lacking (omega (arith, size, beyond))
+
+-- a decision on a variable that the model lacks fails
+pub lacking_now : (m : Instance) (states : List ℕ) (s : Stored) (failed after : Bool) (now : Spaced) (e d : Decision) → spaced m s failed ≡ now → e ≡ d → (failed ≡ false → IsAlive m states s) → (failed ≡ true → after ≡ true)
+    → (length s.doms ≤ e.variable → after ≡ true) → length now.model.variables ≤ d.variable → after ≡ true
+lacking_now m states s failed after now e d view is alive stays lacking beyond =
+    let of_model : length m.variables ≤ d.variable = subst (λ (t : Spaced). length t.model.variables ≤ d.variable) (sym view) beyond in
+    lacking_by failed m states s failed after e refl alive stays lacking (subst (λ (x : Decision). length m.variables ≤ x.variable) (sym is) of_model)
