@@ -108,7 +108,7 @@ shown_about P s r ds is sides all lines = record {
       (sides.one es domains narrower) (lines es domains narrower);
 }
 
-zero_of : (x : ℤ) → IsInRange (pos 0, pos 1) x → (x ≡ pos 1 → ⊥) → x ≡ pos 0
+pub zero_of : (x : ℤ) → IsInRange (pos 0, pos 1) x → (x ≡ pos 1 → ⊥) → x ≡ pos 0
 zero_of x truth not =
     let low = truth.0 in
     let high = truth.1 in
