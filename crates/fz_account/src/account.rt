@@ -176,7 +176,8 @@ impl Account {
     /// `AllocError` where there is no memory; the account is as before.
     pub fn branch(&mut self, choice: Choice) -> Result<(), AllocError>
         requires current { self.old.after.current_open ≡ true }
-        requires reachable { AllByRecursion (IsReachable self.old.model.variables self.old.after.edges) choice }
+        requires reachable { AllByRecursion
+            (IsReachable self.old.model.variables self.old.after.edges) choice }
         requires fits { Fits self.old.model self.old.after.edges self.old.witness choice }
         ensures ok { OnOk result (self.new ≡ with_after self.old (branched self.old.after choice)) }
         ensures err { OnErr result (self.new ≡ self.old) }

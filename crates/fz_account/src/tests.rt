@@ -16,7 +16,14 @@ use std::test::Fail;
 
 /// `var 1..2: x; solve satisfy;`
 fn one_or_two(alloc: Global) -> Result<Arc<Model>, AllocError>
-    ensures { IfOk result (λ m. arc_value m ≡ record { variables = record { kind = Kind.Int; set = (pos 1, pos 2) ∷ [] } ∷ []; constraints = []; goal = Goal.Satisfy; outputs = []; search = [] }) }
+    ensures { IfOk result (λ m. arc_value m
+        ≡ record {
+          variables = record { kind = Kind.Int; set = (pos 1, pos 2) ∷ [] } ∷ [];
+          constraints = [];
+          goal = Goal.Satisfy;
+          outputs = [];
+          search = [];
+        }) }
 {
     let mut variables = Vec::new(alloc);
     variables.push(Variable::new(Kind::Int, Dom::from_ranges(alloc, &[(1, 2)])?))?;
@@ -43,7 +50,8 @@ fn of_the_root(alloc: Global, model: Arc<Model>) -> Result<Account, AllocError>
 
 /// `x = 1`, then `x != 1`
 fn one_or_not(alloc: Global) -> Choice
-    ensures { result ≡ pair_of (record { variable = 0; comparison = Comparison.Equal; value = pos 1 }) }
+    ensures { result
+        ≡ pair_of (record { variable = 0; comparison = Comparison.Equal; value = pos 1 }) }
 {
     Choice::two(
         alloc,

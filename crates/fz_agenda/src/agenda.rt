@@ -189,7 +189,8 @@ fn is_queued(states: &[u8], place: u32) -> bool
 
 /// The first of a queue that is queued; those before it leave the queue.
 fn first_in(queue: &mut Queue, states: &[u8]) -> Option<u32>
-    ensures kept { (i : ℕ) → slice_index states.now i ≡ 1 → IsListed queue.old i → IsListed queue.new i }
+    ensures kept { (i : ℕ) → slice_index states.now i ≡ 1 → IsListed queue.old i
+        → IsListed queue.new i }
     ensures none { IsNone result → queue.new ≡ [] }
     ensures some { IfSome result (λ i. slice_index states.now i ≡ 1) }
 {
@@ -228,7 +229,8 @@ fn enqueue(
     requires agenda { IsAgenda states.old.items queues.old.items }
     ensures agenda { IsAgenda states.new.items queues.new.items }
     ensures woken { IsWoken states.old.items states.new.items }
-    ensures awake { OnOk result (place < length states.new.items → slice_index states.new.items place ≡ 0 → ⊥) }
+    ensures awake { OnOk result
+        (place < length states.new.items → slice_index states.new.items place ≡ 0 → ⊥) }
 {
     if !is_idle(states, place) {
         return Ok(());

@@ -31,7 +31,8 @@ impl Queue {
 
     /// The first.
     pub fn first(&self) -> Option<u32>
-        ensures { MatchOption result (self.now ≡ []) (λ i. (rest : List ℕ) × (self.now ≡ i ∷ rest)) }
+        ensures { MatchOption result (self.now ≡ [])
+            (λ i. (rest : List ℕ) × (self.now ≡ i ∷ rest)) }
     {
         self.places.front().copied()
     }

@@ -65,7 +65,11 @@ impl Model for Wakes {
 
     ghost Value = { Waking };
 
-    ghost view = { λ w. record { any = w.any.items; bound = w.bound.items; fixed = w.fixed.items } };
+    ghost view = { λ w. record {
+      any = w.any.items;
+      bound = w.bound.items;
+      fixed = w.fixed.items;
+    } };
 }
 
 impl Wakes {
@@ -179,7 +183,8 @@ fn empty_lists(alloc: Global, count: usize) -> Result<Vec<Waiters>, AllocError>
 fn list_at(lists: &mut Vec<Waiters>, variable: u32, place: u32) -> Result<(), AllocError>
     requires { variable < length lists.old.items }
     ensures size { length lists.new.items ≡ length lists.old.items }
-    ensures extends { (v i : ℕ) → IsListed (slice_index_or lists.old.items v []) i → IsListed (slice_index_or lists.new.items v []) i }
+    ensures extends { (v i : ℕ) → IsListed (slice_index_or lists.old.items v []) i
+        → IsListed (slice_index_or lists.new.items v []) i }
     ensures listed { OnOk result (IsListed (slice_index_or lists.new.items variable []) place) }
 {
     lists[variable as usize].push(place)

@@ -104,7 +104,8 @@ fn variables_in(alloc: Global, arguments: &[Argument]) -> Result<Vec<u32>, Alloc
 }
 
 fn add_variables(variables: &mut Vec<u32>, argument: &Argument) -> Result<(), AllocError>
-    ensures { OnOk result (variables.new.items ≡ variables.old.items ++ variables_of (argument_of argument.now)) }
+    ensures { OnOk result
+        (variables.new.items ≡ variables.old.items ++ variables_of (argument_of argument.now)) }
 {
     match argument {
         Argument::One(term) => add_variable(variables, *term),
@@ -114,7 +115,8 @@ fn add_variables(variables: &mut Vec<u32>, argument: &Argument) -> Result<(), Al
 }
 
 fn add_each(variables: &mut Vec<u32>, terms: &[Term]) -> Result<(), AllocError>
-    ensures { OnOk result (variables.new.items ≡ variables.old.items ++ flat_map variable_of terms.now) }
+    ensures { OnOk result
+        (variables.new.items ≡ variables.old.items ++ flat_map variable_of terms.now) }
 {
     for term in terms {
         add_variable(variables, *term)?;

@@ -120,7 +120,8 @@ impl Book {
 
     /// The first open frontier.
     pub fn first_open(&self) -> Option<&Frontier>
-        ensures { option_copied result ≡ option_map (λ p. p.frontier) (slice_get self.now.book.parts 0) }
+        ensures { option_copied result
+            ≡ option_map (λ p. p.frontier) (slice_get self.now.book.parts 0) }
     {
         match self.parts.first() {
             Some(part) => Some(&part.frontier),
@@ -143,7 +144,8 @@ impl Book {
     /// `AllocError` where there is no memory; the book is as before.
     pub fn claim(&mut self) -> Result<Option<Frontier>, AllocError>
         ensures some { IfOk result (λ o. IfSome o (λ f. Claims self.old.book f self.new.book)) }
-        ensures none { IfOk result (λ o. IfNone o (list_all is_claimed self.old.book.parts ≡ true)) }
+        ensures none { IfOk result
+            (λ o. IfNone o (list_all is_claimed self.old.book.parts ≡ true)) }
         ensures same { IfOk result (λ o. IfNone o (self.new ≡ self.old)) }
         ensures err { OnErr result (self.new ≡ self.old) }
     {
@@ -247,7 +249,8 @@ impl Book {
 
     /// Whether an assignment betters the incumbent.
     fn is_topped_by(&self, assignment: &Assignment) -> bool
-        ensures { IsTrue result ↔ Betters self.now.book.model assignment.now (incumbent self.now.book) }
+        ensures { IsTrue result
+            ↔ Betters self.now.book.model assignment.now (incumbent self.now.book) }
     {
         match self.incumbent() {
             Some(incumbent) => better(&self.model, assignment, incumbent),

@@ -36,7 +36,8 @@ pub fn unclaimed_place(parts: &[OpenPart]) -> Option<usize>
 
 /// The place of a part that is this frontier. It looks among the claimed ones first, since what workers hold is claimed.
 pub fn place_of(parts: &[OpenPart], frontier: &Frontier) -> Option<usize>
-    ensures place { MatchOption result (IsNowhere parts.now frontier.now) (IsAt parts.now frontier.now) }
+    ensures place { MatchOption result (IsNowhere parts.now frontier.now)
+        (IsAt parts.now frontier.now) }
     ensures prefers { IfSome result (PrefersClaimed parts.now frontier.now) }
 {
     if let Some(i) = claimed_place(parts, frontier) {
@@ -49,7 +50,8 @@ pub fn place_of(parts: &[OpenPart], frontier: &Frontier) -> Option<usize>
 }
 
 fn claimed_place(parts: &[OpenPart], frontier: &Frontier) -> Option<usize>
-    ensures { MatchOption result (HasNoClaimed parts.now frontier.now) (IsClaimedAt parts.now frontier.now) }
+    ensures { MatchOption result (HasNoClaimed parts.now frontier.now)
+        (IsClaimedAt parts.now frontier.now) }
 {
     for (i, part) in parts.iter().enumerate() {
         if part.claimed && part.frontier.same(frontier) {

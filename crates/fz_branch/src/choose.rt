@@ -32,7 +32,8 @@ pub fn choose_among(plan: &Plan, doms: &[Dom], closed: usize) -> Option<Choice>
 /// The choice of one part.
 fn choice_of(alloc: Global, part: &SearchPart, doms: &[Dom], closed: usize) -> Option<Choice>
     requires { AreClosed closed doms.now }
-    ensures { MatchOption result (IsDone doms.now part.now.variables) (IsChosenOf doms.now part.now) }
+    ensures { MatchOption result (IsDone doms.now part.now.variables)
+        (IsChosenOf doms.now part.now) }
 {
     let variables = part.variables();
     let Some(place) = picked(part.pick(), variables, doms, closed) else {

@@ -10,7 +10,8 @@ use fz_spec::search::Pick;
 /// The place in a part of the variable that is picked, where none before `closed` has more than one value left.
 pub fn picked(pick: Pick, variables: &[u32], doms: &[Dom], closed: usize) -> Option<usize>
     requires { AreClosed closed doms.now }
-    ensures { MatchOption result (IsDone doms.now variables.now) (IsPicked pick doms.now variables.now) }
+    ensures { MatchOption result (IsDone doms.now variables.now)
+        (IsPicked pick doms.now variables.now) }
 {
     let Some(first) = first_open(variables, doms, closed) else {
         return None;
@@ -24,7 +25,8 @@ pub fn picked(pick: Pick, variables: &[u32], doms: &[Dom], closed: usize) -> Opt
 /// The place of the first variable that has more than one value left.
 fn first_open(variables: &[u32], doms: &[Dom], closed: usize) -> Option<usize>
     requires { AreClosed closed doms.now }
-    ensures { MatchOption result (IsDone doms.now variables.now) (IsFirstOpen doms.now variables.now) }
+    ensures { MatchOption result (IsDone doms.now variables.now)
+        (IsFirstOpen doms.now variables.now) }
 {
     for (place, variable) in variables.iter().enumerate() {
         if *variable as usize >= closed && is_open_at(*variable, doms) {

@@ -3,17 +3,16 @@ use Rattle.std.proofs.Common.{◌≡◌, ℕ, Bool, true, false, ◌&&◌, Optio
 use Rattle.std.specs.Prelude.{ℤ, flat_map}
 use Rattle.fz_language.specs.declared.fault.RuleFault.TheVariants.{OverLimit}
 use Rattle.fz_language.specs.Trees.{Number, SetLiteral, Range, Braces, Basic, Truth, Numeral, Literal, Named, AnyBool, AnyInt, AnyFloat, Within, ValueType, One, SetOf, Expression, Scalar, Listed, Annotation, VariableItem, ArrayItem, Item, Predicate, Variable, Parameter, Array, Constraint, Program, number_at}
-use Rattle.fz_language.specs.Rules.{AVariable, AnElement, Counts, all_counted, additions, over, at_places, item_faults, kind_of, term_asked, is_bound, members_of, members_in, element_additions, expression_additions, type_additions, value_additions, array_element_additions}
+use Rattle.fz_language.specs.Rules.{AVariable, AnElement, Counts, all_counted, additions, over, at_places, item_faults, kind_of, is_bound, members_of, members_in, element_additions, expression_additions, type_additions, value_additions, array_element_additions}
 use Rattle.fz_language.specs.Within.{VariableFits}
 use Rattle.fz_model.specs.Kept.{IsVariable}
 use Rattle.fz_language.specs.Annotations.{output_array_of, shape_in, shape_among}
-use Rattle.fz_language.specs.Entries.{Environment, term_in}
-use Rattle.fz_language.specs.Models.{Scope, empty_scope, behind, scope_behind, made, variables_of, constraints_of, outputs_of, value_constraints, type_set}
+use Rattle.fz_language.specs.Entries.{Environment}
+use Rattle.fz_language.specs.Models.{Scope, empty_scope, behind, scope_behind, made, variables_of, constraints_of, outputs_of, type_set}
 use Rattle.fz_language.specs.Reads.{faults_from}
 use Rattle.fz_resolve.specs.Meant.{environment_of}
 use Rattle.fz_resolve.specs.Rooms.{IsRoom}
 use Rattle.fz_check.specs.Drafts.{scope_of, IsCounted, Adds, IsGrown, IsAhead}
-use Rattle.fz_check.specs.Parts.{equal_to_value}
 use Rattle.fz_check.specs.declared.draft.Draft.{Draft}
 use Rattle.fz_check.proofs.Counting.{variables_in, variables_both, elements_both, few}
 use Rattle.fz_check.proofs.ItemFits.{variable_fits}
@@ -113,10 +112,6 @@ no_annotation (Some a) e = cc
 -- an array of no variables has no index ranges for output
 pub unplaced : (env : Environment) (a : ArrayItem) → item_faults env (Array a) ≡ [] → a.variable ≡ false → shape_among a.annotations ≡ None
 unplaced env a e f = no_annotation (output_array_of a.annotations) (array_placed a (array_keeps env a e).placed f)
-
-pub value_are : (s : Scope) (v : VariableItem) (value : Option Basic) → equal_to_value (kind_of v.value_type) s.variables (elim value [ Some basic ↦ term_in s.entries (term_asked v.value_type) basic | None ↦ None ]) ≡ value_constraints s v value
-value_are s v None = refl
-value_are s v (Some b) = refl
 
 -- ---- all items
 

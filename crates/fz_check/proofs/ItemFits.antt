@@ -22,7 +22,7 @@ use Rattle.fz_language.specs.Entries.{Environment, Entry, with_entry, term_in, s
 use Rattle.fz_language.specs.Entries as entries
 use Rattle.fz_language.specs.Annotations.{OUTPUT_ARRAY, output_var_of, output_array_of, list_of, arguments_of, shape_in, bracketed, range_of, place_of, seventh}
 use Rattle.fz_language.specs.Rules.{number_asked, kind_of, term_asked, is_bound, bad_variable_type, type_additions, at_places, named_unsupported, floats_of, unknown_of, wrong_arguments, arguments_in, signature_faults, row_faults, call_faults, wrong_place, wrong_element, seventh_ranges, wrong_shape, output_array_places}
-use Rattle.fz_language.specs.Models.{type_set, plain_set, terms_of, parameter_entry, array_entry, declare, Scope, equal_to, value_constraints, bound_to, element_constraints, call_constraints, scalar_outputs, array_outputs}
+use Rattle.fz_language.specs.Models.{type_set, plain_set, terms_of, parameter_entry, array_entry, declare, Scope, equal_to, value_term, equal_to_value, bound_to, element_constraints, call_constraints, scalar_outputs, array_outputs}
 use Rattle.fz_language.specs.Within.{SetFits, ValueFits, TypeFits, BasicFits, ExpressionFits, NameFits, ArgumentFits, ArgumentsFit, CalledFits, AnnotationFits, ArrayFits}
 use Rattle.fz_model.specs.Kept.{IsSet, IsVariable, IsTermOf, FitsElement, IsConstraint, FitsRow, AllFit, IsIndexRange, IsOutput, kind_at}
 use Rattle.fz_check.proofs.Mapped.{mapped}
@@ -111,11 +111,11 @@ equal_fits : (vs : List Variable) (kind : Kind) (n : ℕ) (t : Term) → kind_at
 equal_fits vs kinds.Bool n t k h = record { fit = ((refl, k), (h, tt)); lengths = refl }
 equal_fits vs kinds.Int n t k h = record { fit = ((refl, k), (h, tt)); lengths = refl }
 
-pub value_fits : (vs : List Variable) (s : Scope) (v : VariableItem) (value : Option Basic) → Sound vs s.entries → kind_at vs s.variables ≡ Some (kind_of v.value_type) → ValueFits value → AllByRecursion (IsConstraint vs) (value_constraints s v value)
+pub value_fits : (vs : List Variable) (s : Scope) (v : VariableItem) (value : Option Basic) → Sound vs s.entries → kind_at vs s.variables ≡ Some (kind_of v.value_type) → ValueFits value → AllByRecursion (IsConstraint vs) (equal_to_value (kind_of v.value_type) s.variables (value_term s.entries v.value_type value))
 value_fits vs s v None sound k h = tt
 value_fits vs s v (Some b) sound k h = go (term_in s.entries (term_asked v.value_type) b) refl
   where
-    go : (o : Option Term) → term_in s.entries (term_asked v.value_type) b ≡ o → AllByRecursion (IsConstraint vs) (elim o [ Some t ↦ equal_to (kind_of v.value_type) (Var s.variables) t ∷ [] | None ↦ [] ])
+    go : (o : Option Term) → term_in s.entries (term_asked v.value_type) b ≡ o → AllByRecursion (IsConstraint vs) (equal_to_value (kind_of v.value_type) s.variables o)
     go None e = tt
     go (Some t) e = (equal_fits vs (kind_of v.value_type) s.variables t k (term_fits vs s.entries (term_asked v.value_type) b t sound h e), tt)
 

@@ -19,7 +19,7 @@ use Rattle.fz_language.specs.Trees.{Basic, Annotation, VariableItem, ParameterIt
 use Rattle.fz_language.specs.Entries.{Environment, nothing_declared, term_in, resolve}
 use Rattle.fz_language.specs.Entries as entries
 use Rattle.fz_language.specs.Rules.{goal_asked, AVariable, Counts, none_yet, all_counted, additions, over, at_places, faults_of, item_faults, kind_of, term_asked, is_bound, arguments_in, type_additions, value_additions, array_element_additions, members_in}
-use Rattle.fz_language.specs.Models.{equal_to, goal_term, Scope, empty_scope, behind, scope_behind, made, goal_of, type_set, variables_of, constraints_of, outputs_of, value_constraints, call_constraints, terms_of, bound_to}
+use Rattle.fz_language.specs.Models.{goal_term, Scope, empty_scope, behind, scope_behind, made, goal_of, type_set, variables_of, constraints_of, outputs_of, value_term, equal_to_value, call_constraints, terms_of, bound_to}
 use Rattle.fz_language.specs.Annotations.{output_var_of, shape_among}
 use Rattle.fz_language.specs.Reads.{faults_from}
 use Rattle.fz_language.specs.Within.{BasicFits, ItemFits, MethodFits}
@@ -45,11 +45,11 @@ record Making (vs : List instance.Variable) (s : Scope) (item : Item) : Type 0 w
 abbrev IsNumbered : List instance.Variable → Scope → Item → Type 0
 IsNumbered vs s item = (u : instance.Variable) → variables_of s item ≡ u ∷ [] → kind_at vs s.variables ≡ Some u.kind
 
-value_count : (s : Scope) (v : VariableItem) (value : Option Basic) → length (value_constraints s v value) ≤ constraints_in (value_additions value)
+value_count : (s : Scope) (v : VariableItem) (value : Option Basic) → length (equal_to_value (kind_of v.value_type) s.variables (value_term s.entries v.value_type value)) ≤ constraints_in (value_additions value)
 value_count s v None = omega arith
 value_count s v (Some b) = go (term_in s.entries (term_asked v.value_type) b)
   where
-    go : (o : Option Term) → length {A = meaning.Constraint} (elim o [ Some t ↦ equal_to (kind_of v.value_type) (Var s.variables) t ∷ [] | None ↦ [] ]) ≤ constraints_in (value_additions (Some b))
+    go : (o : Option Term) → length (equal_to_value (kind_of v.value_type) s.variables o) ≤ constraints_in (value_additions (Some b))
     go None = omega arith
     go (Some t) = omega arith
 

@@ -11,7 +11,7 @@ ghost use Rattle.fz_model.specs.Kept.{IsVariable};
 ghost use Rattle.fz_syntax.specs.Trees as trees;
 ghost use Rattle.fz_resolve.specs.Meant.{environment_of, meant};
 ghost use Rattle.fz_language.specs.Annotations.{shape_among};
-ghost use Rattle.fz_check.specs.Parts.{scope, value_term, equal_to_value};
+ghost use Rattle.fz_check.specs.Parts.{scope};
 
 use fz_dom::Dom;
 use fz_model::{Argument, Constraint, Kind, Output, Term, Text, Variable};
@@ -84,7 +84,8 @@ pub(crate) fn variable_of(alloc: Global, value_type: &ValueType) -> Result<Varia
 
 /// The term that the value of a variable is, if it has one.
 pub(crate) fn value_of(names: &Names<'_>, item: &VariableItem<'_>) -> Option<Term>
-    ensures { result ≡ value_term (environment_of names.now) (trees.variable_item_of item.now) }
+    ensures { let v = trees.variable_item_of item.now in
+        result ≡ models.value_term (environment_of names.now) v.value_type v.value }
 {
     match &item.value {
         Some(basic) => term(names, term_asked(&item.value_type), basic),
@@ -101,7 +102,7 @@ pub(crate) fn push_value(
     value: Option<Term>,
 ) -> Result<(), AllocError>
     ensures { OnOk result (constraints.new.items ≡ constraints.old.items
-        ++ equal_to_value kind number value) }
+        ++ models.equal_to_value kind number value) }
 {
     let Some(value) = value else {
         return Ok(());
@@ -146,7 +147,13 @@ pub(crate) fn push_scalar(
 
 fn scalar(alloc: Global, name: Name<'_>, kind: Kind, number: u32) -> Result<Output, AllocError>
     ensures { IfOk result (λ o. o
-        ≡ record { name = name.entry.bytes.now; kind = kind; array = false; shape = []; terms = Var number ∷ [] }) }
+        ≡ record {
+          name = name.entry.bytes.now;
+          kind = kind;
+          array = false;
+          shape = [];
+          terms = Var number ∷ [];
+        }) }
 {
     let name = text(alloc, name.bytes)?;
     let terms = Vec::from_array(alloc, [Term::Var(number)])?;
@@ -248,7 +255,13 @@ fn array(
     terms: &[Term],
 ) -> Result<Output, AllocError>
     ensures { IfOk result (λ o. o
-        ≡ record { name = name.entry.bytes.now; kind = kind; array = true; shape = shape.items; terms = terms.now }) }
+        ≡ record {
+          name = name.entry.bytes.now;
+          kind = kind;
+          array = true;
+          shape = shape.items;
+          terms = terms.now;
+        }) }
 {
     let name = text(alloc, name.bytes)?;
     let terms = Vec::from_slice(alloc, terms)?;

@@ -107,7 +107,8 @@ fn wakes_in(alloc: Global, kinds: &[Kind], model: &fz_model::Model) -> Result<Wa
 /// Lists in which each propagator stands at each change that it waits for.
 fn wakes_of(alloc: Global, kinds: &[Kind], variables: usize) -> Result<Wakes, AllocError>
     requires few { length kinds.now ≤ 1000000 }
-    requires inside { (i : ℕ) (c : meaning.Constraint) → slice_get kinds.now i ≡ Some c → AreBelow (waits c) variables }
+    requires inside { (i : ℕ) (c : meaning.Constraint) → slice_get kinds.now i ≡ Some c
+        → AreBelow (waits c) variables }
     ensures index { IfOk result (λ w. IsIndexOf kinds.now w) }
     ensures size { IfOk result (λ w. HaveSize w variables) }
 {
@@ -148,7 +149,8 @@ fn list_all(wakes: &mut Wakes, kind: &Kind, place: u32, variables: usize) -> Res
 /// Lists a propagator at one change that it waits for.
 fn list_one(wakes: &mut Wakes, kind: &Kind, place: u32, i: usize) -> Result<(), AllocError>
     requires i { i < length (waits kind.now) }
-    requires variables { (w : Wait) → slice_get (waits kind.now) i ≡ Some w → HasVariable wakes.old w.variable }
+    requires variables { (w : Wait) → slice_get (waits kind.now) i ≡ Some w
+        → HasVariable wakes.old w.variable }
     ensures size { (n : ℕ) → HaveSize wakes.old n → HaveSize wakes.new n }
     ensures extends { Extends wakes.old wakes.new }
     ensures listed { OnOk result ((w : Wait) → slice_get (waits kind.now) i ≡ Some w

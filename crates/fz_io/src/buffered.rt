@@ -91,12 +91,16 @@ impl<S: Sink + Drop> Sink for BufferedSink<S> {
         ensures some { IfOk result (λ n. 0 < length piece.now → 0 < n) }
         ensures taken { IfOk result (λ n. buffered_taken S.taken self.new
             ≡ with_more (buffered_taken S.taken self.old) (take n piece.now)) }
-        ensures stays { OnErr result (buffered_taken S.taken self.new ≡ buffered_taken S.taken self.old) }
-        ensures flushed { S.flushed (buffered_inner self.old) ≤ S.flushed (buffered_inner self.new) }
-        ensures cause { HasCause (buffered_faults S.faults self.old) (buffered_faults S.faults self.new) result }
+        ensures stays { OnErr result
+            (buffered_taken S.taken self.new ≡ buffered_taken S.taken self.old) }
+        ensures flushed { S.flushed (buffered_inner self.old)
+            ≤ S.flushed (buffered_inner self.new) }
+        ensures cause { HasCause (buffered_faults S.faults self.old)
+            (buffered_faults S.faults self.new) result }
         ensures fails { OnErr result (IsTrue (has_failed self.new)) }
         ensures refuses { IsTrue (has_failed self.old) → IsErr result }
-        ensures quiet { IsTrue (has_failed self.old) → buffered_inner self.new ≡ buffered_inner self.old }
+        ensures quiet { IsTrue (has_failed self.old)
+            → buffered_inner self.new ≡ buffered_inner self.old }
     {
         if self.has_failed {
             return Err(self.refuse());
@@ -112,13 +116,17 @@ impl<S: Sink + Drop> Sink for BufferedSink<S> {
     fn flush(&mut self) -> Result<(), Failed>
         requires { buffered_faults S.faults self.old < 2 ^ 64 - 1 }
         ensures taken { buffered_taken S.taken self.new ≡ buffered_taken S.taken self.old }
-        ensures all { OnOk result (AllFlushed (buffered_taken S.taken self.new) (S.flushed (buffered_inner self.new))) }
+        ensures all { OnOk result
+            (AllFlushed (buffered_taken S.taken self.new) (S.flushed (buffered_inner self.new))) }
         ensures kept { OnOk result (buffered_kept self.new ≡ []) }
-        ensures flushed { S.flushed (buffered_inner self.old) ≤ S.flushed (buffered_inner self.new) }
-        ensures cause { HasCause (buffered_faults S.faults self.old) (buffered_faults S.faults self.new) result }
+        ensures flushed { S.flushed (buffered_inner self.old)
+            ≤ S.flushed (buffered_inner self.new) }
+        ensures cause { HasCause (buffered_faults S.faults self.old)
+            (buffered_faults S.faults self.new) result }
         ensures fails { OnErr result (IsTrue (has_failed self.new)) }
         ensures refuses { IsTrue (has_failed self.old) → IsErr result }
-        ensures quiet { IsTrue (has_failed self.old) → buffered_inner self.new ≡ buffered_inner self.old }
+        ensures quiet { IsTrue (has_failed self.old)
+            → buffered_inner self.new ≡ buffered_inner self.old }
     {
         if self.has_failed {
             return Err(self.refuse());

@@ -140,7 +140,8 @@ impl<R: Files + Input> Source for FileSource<R> {
         requires faults { file_faults self.old < 2 ^ 64 - 1 }
         requires room { 0 < length buf.old }
         ensures within { IfOk result (λ n. n ≤ length buf.old) }
-        ensures selected { is_opened_for (file_opened self.new) ≡ is_opened_for (file_opened self.old) }
+        ensures selected { is_opened_for (file_opened self.new)
+            ≡ is_opened_for (file_opened self.old) }
         ensures counted { file_selections self.new ≡ file_selections self.old }
         ensures nothing { IsTrue (is_nothing (file_opened self.old)) → result ≡ Ok 0 }
         ensures cause { HasCause (file_faults self.old) (file_faults self.new) result }

@@ -67,7 +67,8 @@ impl Sink for MemSink {
         requires { sink_faults self.old < 2 ^ 64 - 1 }
         ensures within { IfOk result (λ n. n ≤ length piece.now) }
         ensures some { IfOk result (λ n. 0 < length piece.now → 0 < n) }
-        ensures taken { IfOk result (λ n. sink_taken self.new ≡ with_more (sink_taken self.old) (take n piece.now)) }
+        ensures taken { IfOk result
+            (λ n. sink_taken self.new ≡ with_more (sink_taken self.old) (take n piece.now)) }
         ensures stays { OnErr result (sink_taken self.new ≡ sink_taken self.old) }
         ensures flushed { sink_flushed self.old ≤ sink_flushed self.new }
         ensures cause { HasCause (sink_faults self.old) (sink_faults self.new) result }

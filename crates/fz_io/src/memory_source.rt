@@ -62,7 +62,8 @@ impl Source for MemSource {
         ensures stays { OnErr result (source_left self.new ≡ source_left self.old) }
         ensures texts { source_texts self.new ≡ source_texts self.old }
         ensures cause { HasCause (source_faults self.old) (source_faults self.new) result }
-        ensures fails { IsErr result ↔ (FailsNext (source_calls self.old) ⊎ (source_texts self.old name.now ≡ None)) }
+        ensures fails { IsErr result
+            ↔ (FailsNext (source_calls self.old) ⊎ (source_texts self.old name.now ≡ None)) }
         ensures counts { Counts (source_calls self.old) (source_calls self.new) }
     {
         self.selections = self.selections.saturating_add(1);
@@ -78,7 +79,8 @@ impl Source for MemSource {
         requires faults { source_faults self.old < 2 ^ 64 - 1 }
         requires room { 0 < length buf.old }
         ensures within { IfOk result (λ n. n ≤ length buf.old) }
-        ensures moves { IfOk result (λ n. Reads n (source_left self.old) (source_left self.new) buf.new) }
+        ensures moves { IfOk result
+            (λ n. Reads n (source_left self.old) (source_left self.new) buf.new) }
         ensures selected { source_selected self.new ≡ source_selected self.old }
         ensures counted { source_selections self.new ≡ source_selections self.old }
         ensures stays { OnErr result (source_left self.new ≡ source_left self.old) }

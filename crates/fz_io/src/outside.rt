@@ -58,7 +58,8 @@ pub trait Sink {
         requires { faults self.old < 2 ^ 64 - 1 }
         ensures within { IfOk result (λ n. n ≤ length piece.now) }
         ensures some { IfOk result (λ n. 0 < length piece.now → 0 < n) }
-        ensures taken { IfOk result (λ n. taken self.new ≡ with_more (taken self.old) (take n piece.now)) }
+        ensures taken { IfOk result
+            (λ n. taken self.new ≡ with_more (taken self.old) (take n piece.now)) }
         ensures stays { OnErr result (taken self.new ≡ taken self.old) }
         ensures flushed { flushed self.old ≤ flushed self.new }
         ensures cause { HasCause (faults self.old) (faults self.new) result };

@@ -48,7 +48,8 @@ impl Texts {
     /// Selects the first text of this name, from its start, and says whether there is one. If not, nothing changes.
     pub(crate) fn select(&mut self, name: &str) -> bool
         ensures found { IsTrue result ↔ IsSome (text_of self.old.all.items name.now) }
-        ensures left { IsTrue result → Some (bytes_left self.new) ≡ text_of self.old.all.items name.now }
+        ensures left { IsTrue result
+            → Some (bytes_left self.new) ≡ text_of self.old.all.items name.now }
         ensures selected { IsTrue result → IsTrue (is_chosen self.new name.now) }
         ensures stays { IsFalse result → bytes_left self.new ≡ bytes_left self.old }
         ensures texts { self.new.all ≡ self.old.all }

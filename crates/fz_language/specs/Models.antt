@@ -87,14 +87,17 @@ variables_of s (Parameter p) = []
 variables_of s (Array a) = []
 variables_of s (Constraint c) = []
 
--- a variable equals its value
 abbrev pub equal_to : Kind → Term → Term → meaning.Constraint
 equal_to kinds.Bool x y = record { name = BoolEq; arguments = meaning.One x ∷ meaning.One y ∷ [] }
 equal_to kinds.Int x y = record { name = IntEq; arguments = meaning.One x ∷ meaning.One y ∷ [] }
 
-abbrev pub value_constraints : Scope → VariableItem → Option Basic → List meaning.Constraint
-value_constraints s v (Some basic) = elim (term_in s.entries (term_asked v.value_type) basic) [ Some t ↦ equal_to (kind_of v.value_type) (Var s.variables) t ∷ [] | None ↦ [] ]
-value_constraints s v None = []
+-- the term that the value of a variable is, if it has one
+abbrev pub value_term : Environment → ValueType → Option Basic → Option Term
+value_term env t value = elim value [ Some basic ↦ term_in env (term_asked t) basic | None ↦ None ]
+
+-- that a variable equals its value, if it has one
+abbrev pub equal_to_value : Kind → ℕ → Option Term → List meaning.Constraint
+equal_to_value kind number value = elim value [ Some t ↦ equal_to kind (Var number) t ∷ [] | None ↦ [] ]
 
 -- an element lies in the set of its type
 abbrev pub bound_to : List (ℤ × ℤ) → Term → meaning.Constraint
@@ -110,7 +113,7 @@ call_constraints s c = elim (row_named c.name.bytes) [
 ]
 
 abbrev pub constraints_of : Scope → Item → List meaning.Constraint
-constraints_of s (Variable v) = value_constraints s v v.value
+constraints_of s (Variable v) = equal_to_value (kind_of v.value_type) s.variables (value_term s.entries v.value_type v.value)
 constraints_of s (Array a) = element_constraints s a
 constraints_of s (Constraint c) = call_constraints s c
 constraints_of s (Predicate p) = []

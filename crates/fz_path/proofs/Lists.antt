@@ -30,7 +30,7 @@ same_numbers (x ∷ a) (y ∷ b) size same = ap₂ (λ z c. z ∷ c) (same zero 
 pub same_alone : (ds : List (List (ℤ × ℤ))) (a b : List ℤ) → Alone ds a → Alone ds b → a ≡ b
 same_alone ds a b one other = same_numbers a b (one.size ∙ sym other.size) (λ v h.
     let within : v < length ds = rw (← one.size) h in
-    ap least (sym (one.members v within) ∙ other.members v within))
+    ap least (sym (one.alone v within) ∙ other.alone v within))
 
 pub some_at : (xs : List ℤ) (v : ℕ) → v < length xs → slice_get xs v ≡ Some (number_at xs v)
 some_at [] v h = absurd (omega (arith, h))

@@ -159,7 +159,8 @@ impl<S: Space> Trail<S> {
 
     /// Whether no copy is within the commit distance above the node below so many edges.
     fn is_due(&self, depth: usize) -> bool
-        ensures { IsTrue result → IfSome (last_of self.now.copies.items) (λ kept. kept.depth < depth) }
+        ensures { IsTrue result
+            → IfSome (last_of self.now.copies.items) (λ kept. kept.depth < depth) }
     {
         match self.copies.last() {
             Some(kept) => { kept.depth < depth && depth - kept.depth >= self.distance as usize }

@@ -57,7 +57,8 @@ fn push_shape(text: &mut Vec<u8>, shape: &[(i32, i32)]) -> Result<(), AllocError
 }
 
 fn push_ranges(text: &mut Vec<u8>, ranges: &[(i32, i32)]) -> Result<(), AllocError>
-    ensures { OnOk result (text.new.items ≡ text.old.items ++ flat_map (λ r. range_text r ++ codes ", ") ranges.now) }
+    ensures { OnOk result
+        (text.new.items ≡ text.old.items ++ flat_map (λ r. range_text r ++ codes ", ") ranges.now) }
 {
     for range in ranges {
         push_range(text, *range)?;
@@ -111,7 +112,8 @@ fn push_further(
 }
 
 fn push_term(text: &mut Vec<u8>, values: &[i32], kind: Kind, term: Term) -> Result<(), AllocError>
-    ensures { OnOk result (text.new.items ≡ text.old.items ++ value_text kind (term_value values.now term)) }
+    ensures { OnOk result
+        (text.new.items ≡ text.old.items ++ value_text kind (term_value values.now term)) }
 {
     push_value(text, kind, value_of(term, values))
 }

@@ -1,6 +1,6 @@
 -- Answers of a run by one truth and line, and by another that say the same.
 use Rattle.std.proofs.Common.{◌<◌, List, inl, inr, subst, arith}
-use Rattle.std.specs.Prelude.{ℤ, ◌↔◌}
+use Rattle.std.specs.Prelude.{ℤ}
 use Rattle.fz_spec.specs.Constraints.{Constraint, IsTrueOf}
 use Rattle.fz_strength.specs.Domains.{room}
 use Rattle.fz_strength.specs.Lines.{Rests}
@@ -9,11 +9,7 @@ use Rattle.fz_prop.specs.declared.answer.Answer.{Answer}
 use Rattle.fz_prop.specs.declared.answer.Answer.TheVariants.{Fix, NoFix, Subsumed, Failed}
 use Rattle.fz_prop.specs.Answers.{IsAnswer, IsAnswerOf, IsCorrectOf}
 use Rattle.fz_prop.specs.Stores.{Stored, Shrinks}
-
--- This truth is the same as that one, and that line follows from this one.
-pub record IsSame (T U : List ℤ → Type 0) (R Q : List (List (ℤ × ℤ)) → Type 0) : Type 0 where
-  pub truth : (a : List ℤ) → T a ↔ U a
-  pub line : (ds : List (List (ℤ × ℤ))) → R ds → Q ds
+pub use Rattle.fz_prop.specs.Truths.{IsSame}
 
 pub same_answer : (answer : Answer) (T U : List ℤ → Type 0) (R Q : List (List (ℤ × ℤ)) → Type 0) (ds es : List (List (ℤ × ℤ)))
     → IsSame T U R Q → IsAnswerOf answer T R ds es → IsAnswerOf answer U Q ds es

@@ -1,8 +1,8 @@
 -- What is left of a term has ranges and a number.
-use Rattle.std.proofs.Common.{◌≡◌, ℕ, ◌<◌, List, [], ◌∷◌, sym, subst, ◌∙◌, arith, length}
+use Rattle.std.proofs.Common.{◌≡◌, ℕ, List, [], ◌∷◌, sym, subst, ◌∙◌, arith, length}
 use Rattle.std.specs.Prelude.{ℤ}
 use Rattle.std.proofs.lemmas.Int.{ints}
-use Rattle.fz_sets.specs.Sets.{IsInSet, AreRanges}
+use Rattle.fz_sets.specs.Sets.{IsInSet}
 use Rattle.fz_dom.specs.Shape.{least}
 use Rattle.fz_dom.proofs.Ranges.{same_ranges, least_member}
 use Rattle.fz_spec.specs.declared.term.Term.{Term}
@@ -11,11 +11,8 @@ use Rattle.fz_strength.specs.Domains.{term_set, AreDomains, IsNarrower}
 use Rattle.fz_strength.specs.Events.{IsOnly}
 use Rattle.fz_strength.proofs.Truths.{in_single, is_single}
 use Rattle.fz_prop.specs.Stores.{IsTermOf}
+pub use Rattle.fz_prop.specs.Truths.{HasRanges}
 use Rattle.fz_prop.proofs.TermChanges.{narrower_term, only_in}
-
-pub record HasRanges (d : List (ℤ × ℤ)) : Type 0 where
-  pub ranges : AreRanges d
-  pub some : 0 < length d
 
 pub term_ranges : (ds : List (List (ℤ × ℤ))) (t : Term) → IsTermOf (length ds) t → AreDomains ds → HasRanges (term_set ds t)
 term_ranges ds (Num n) is domains = record { ranges = omega (arith, ints); some = omega arith }

@@ -6,7 +6,6 @@ use Rattle.fz_sets.specs.Sets.{IsInRange}
 use Rattle.fz_dom.specs.Shape.{least}
 use Rattle.fz_spec.specs.declared.term.Term.{Term}
 use Rattle.fz_spec.specs.Constraints.{term_value}
-use Rattle.fz_spec.specs.Truth.{IsReified}
 use Rattle.fz_strength.specs.Domains.{term_set, AreDomains, Within, IsNarrower}
 use Rattle.fz_strength.specs.Events.{IsOnly, IsFixedIn}
 use Rattle.fz_strength.specs.Lines.{IsReifiedLine}
@@ -15,28 +14,11 @@ use Rattle.fz_prop.specs.declared.answer.Answer.{Answer}
 use Rattle.fz_prop.specs.declared.answer.Answer.TheVariants.{Fix, NoFix, Subsumed, Failed}
 use Rattle.fz_prop.specs.Answers.{IsAnswerOf, IsCorrectOf}
 use Rattle.fz_prop.specs.Stores.{IsTermOf}
+pub use Rattle.fz_prop.specs.Truths.{Sides, AreSides, TruthWith, LineWith}
 use Rattle.fz_prop.proofs.Filled.{narrower_ranges, one_left, still_only}
-use Rattle.fz_prop.proofs.Settling.{IsAbout}
+use Rattle.fz_prop.specs.Truths.{IsAbout}
 use Rattle.fz_prop.proofs.TermChanges.{term_within, only_in}
 use Rattle.fz_prop.proofs.Twice.{narrower_twice}
-
--- what shows a constraint, what refutes it, its line, and the line where it is to be false, of what is left
-pub record Sides : Type 1 where
-  pub shown : List (List (ℤ × ℤ)) → Type 0
-  pub refuted : List (List (ℤ × ℤ)) → Type 0
-  pub line : List (List (ℤ × ℤ)) → Type 0
-  pub against : List (List (ℤ × ℤ)) → Type 0
-
--- no domains that are narrower have a line, and what speaks against it
-pub record AreSides (s : Sides) (ds : List (List (ℤ × ℤ))) : Type 0 where
-  pub one : (es : List (List (ℤ × ℤ))) → AreDomains es → IsNarrower ds es → s.line es → s.refuted es → ⊥
-  pub zero : (es : List (List (ℤ × ℤ))) → AreDomains es → IsNarrower ds es → s.against es → s.shown es → ⊥
-
-abbrev pub TruthWith : (List ℤ → Type 0) → Term → List ℤ → Type 0
-TruthWith P r a = IsReified (P a) (term_value a r)
-
-abbrev pub LineWith : Sides → Term → List (List (ℤ × ℤ)) → Type 0
-LineWith s r ds = IsReifiedLine (s.shown ds) (s.refuted ds) (s.line ds) (s.against ds) (term_set ds r)
 
 -- ---- the line
 
@@ -126,7 +108,7 @@ shown_about P s r ds is sides all lines = record {
       (sides.one es domains narrower) (lines es domains narrower);
 }
 
-zero_of : (x : ℤ) → IsInRange (pos 0, pos 1) x → (x ≡ pos 1 → ⊥) → x ≡ pos 0
+pub zero_of : (x : ℤ) → IsInRange (pos 0, pos 1) x → (x ≡ pos 1 → ⊥) → x ≡ pos 0
 zero_of x truth not =
     let low = truth.0 in
     let high = truth.1 in

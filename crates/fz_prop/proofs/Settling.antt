@@ -6,30 +6,19 @@ use Rattle.fz_dom.specs.declared.change.Change.{Change}
 use Rattle.fz_dom.specs.declared.change.Change.TheVariants.{Same, Changed, Wiped}
 use Rattle.fz_spec.specs.declared.term.Term.{Term}
 use Rattle.fz_spec.specs.Constraints.{term_value}
-use Rattle.fz_strength.specs.Domains.{term_set, number_at, AreDomains, Within, IsNarrower}
+use Rattle.fz_strength.specs.Domains.{term_set}
+use Rattle.fz_strength.proofs.Terms.{within_before}
 use Rattle.fz_prop.specs.declared.answer.Answer.TheVariants.{Subsumed}
 use Rattle.fz_prop.specs.Answers.{IsAnswerOf, IsCorrectOf, IsDecided}
 use Rattle.fz_prop.specs.Outcomes.{settled_by}
 use Rattle.fz_prop.specs.Stores.{Stored, Shrinks, IsTermOf, IsTermChange}
+pub use Rattle.fz_prop.specs.Truths.{IsAbout}
 use Rattle.fz_prop.proofs.TermChanges.{term_within, narrower_term, within_kept, kept_term, none_kept}
 use Rattle.fz_prop.proofs.Twice.{narrower_twice}
-
--- What makes a constraint with this truth and this line one about the numbers of a term: an assignment makes it true exactly
--- where the term's number has the property, and the line holds where all numbers of the term have it.
-pub record IsAbout (t : Term) (P : ℤ → Type 0) (T : List ℤ → Type 0) (R : List (List (ℤ × ℤ)) → Type 0) (ds : List (List (ℤ × ℤ))) : Type 0 where
-  pub needs : (a : List ℤ) → Within ds a → T a → P (term_value a t)
-  pub enough : (a : List ℤ) → Within ds a → P (term_value a t) → T a
-  pub line : (es : List (List (ℤ × ℤ))) → AreDomains es → IsNarrower ds es → ((x : ℤ) → IsInSet (term_set es t) x → P x) → R es
 
 pub settled_correct : (change : Change) (t : Term) (P : ℤ → Type 0) (T : List ℤ → Type 0) (R : List (List (ℤ × ℤ)) → Type 0) (r s : Stored)
     → IsTermChange change t P r s → Shrinks r s → IsAbout t P T R r.doms → IsCorrectOf T r.doms s.doms
 settled_correct change t P T R r s h shrinks about a holds within = within_kept change t P r s a h shrinks within (about.needs a within holds)
-
-within_before : (ds es : List (List (ℤ × ℤ))) (a : List ℤ) → IsNarrower ds es → Within es a → Within ds a
-within_before ds es a narrower within = record {
-  size = subst (λ (n : ℕ). length a ≡ n) narrower.size within.size;
-  members = λ v inside. narrower.members v (number_at a v) (within.members v (rw narrower.size inside));
-}
 
 subsumed : (change : Change) (t : Term) (P : ℤ → Type 0) (T : List ℤ → Type 0) (R : List (List (ℤ × ℤ)) → Type 0) (r s : Stored)
     → IsTermOf (length r.doms) t → IsTermChange change t P r s → Shrinks r s → IsAbout t P T R r.doms → (change ≡ Wiped → ⊥) → IsAnswerOf Subsumed T R r.doms s.doms

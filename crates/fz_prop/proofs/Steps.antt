@@ -17,7 +17,7 @@ use Rattle.fz_strength.specs.Domains.{dom_at, room}
 use Rattle.fz_strength.specs.Events.{level, IsQuiet}
 use Rattle.fz_strength.proofs.Lists.{all_both}
 use Rattle.fz_prop.specs.Cuts.{change_level}
-use Rattle.fz_prop.specs.Stores.{Stored, IsStore, Shrinks, Narrows, IsChangeAt, mark_at, IsListed, with_listed, with_dom}
+use Rattle.fz_prop.specs.Stores.{Stored, IsStore, Shrinks, Narrows, IsChangeAt, IsCut, IsNoted, mark_at, IsListed, with_listed, with_dom}
 use Rattle.fz_prop.proofs.Levels.{tells}
 
 pub quiet_self : (event : Event) (d : List (ℤ × ℤ)) → IsQuiet event d d
@@ -129,11 +129,11 @@ put_back ds v e same = rw same (set-get_or ds v [])
 
 -- ---- the step of a store that is kept as lists, with the changed variables behind a place
 
-pub record IsKeptStep (ds es : List (List (ℤ × ℤ))) (ms ns cs gs : List ℕ) (h v : ℕ) (P : ℤ → Type 0) : Type 0 where
-  pub step : IsStep (record { doms = ds; marks = ms; changed = drop h cs }) v P (record { doms = es; marks = ns; changed = drop h gs })
-  pub head : h ≤ length gs
+record IsKeptStep (ds es : List (List (ℤ × ℤ))) (ms ns cs gs : List ℕ) (h v : ℕ) (P : ℤ → Type 0) : Type 0 where
+  step : IsStep (record { doms = ds; marks = ms; changed = drop h cs }) v P (record { doms = es; marks = ns; changed = drop h gs })
+  head : h ≤ length gs
 
-pub kept_step : (ds : List (List (ℤ × ℤ))) (ms ns cs bs gs : List ℕ) (h v n : ℕ) (e : List (ℤ × ℤ)) (P : ℤ → Type 0)
+kept_step : (ds : List (List (ℤ × ℤ))) (ms ns cs bs gs : List ℕ) (h v n : ℕ) (e : List (ℤ × ℤ)) (P : ℤ → Type 0)
     → IsStore (record { doms = ds; marks = ms; changed = drop h cs }) → h ≤ length cs → v < length ds → n ≡ change_level (least (dom_at ds v)) (greatest (dom_at ds v)) e
     → IsKeeping P (dom_at ds v) e → set_size e < set_size (dom_at ds v) → 0 < length e → IsDomain e
     → bs ≡ cs → ns ≡ slice_set ms v (max (slice_index ms v) n) → gs ≡ with_listed (slice_index ms v) v bs
@@ -144,6 +144,42 @@ kept_step ds ms ns cs bs gs h v n e P is head within level_is keeping smaller fi
     record {
       step = rw (at_marks, moved) (step s v P e n is within level_is keeping smaller filled domain);
       head = rw (at_changed, same_bs) (omega (arith, head, length_listed (slice_index ms v) v cs));
+    }
+
+abbrev kept : List (List (ℤ × ℤ)) → List ℕ → List ℕ → ℕ → Stored
+kept ds ms cs h = record { doms = ds; marks = ms; changed = drop h cs }
+
+-- the same of every change
+pub record IsKeptChange (change : Change) (ds es : List (List (ℤ × ℤ))) (ms ns cs gs : List ℕ) (h v : ℕ) (P : ℤ → Type 0) : Type 0 where
+  pub store : IsStore (kept es ns gs h)
+  pub head : h ≤ length gs
+  pub shrinks : Shrinks (kept ds ms cs h) (kept es ns gs h)
+  pub is : IsChangeAt change v P (kept ds ms cs h) (kept es ns gs h)
+
+kept_same : (ds es : List (List (ℤ × ℤ))) (ms ns cs gs : List ℕ) (h : ℕ) → es ≡ ds → ns ≡ ms → gs ≡ cs → kept es ns gs h ≡ kept ds ms cs h
+kept_same ds es ms ns cs gs h same_doms same_marks same_changed = rw (same_doms, same_marks, same_changed) refl
+
+pub kept_change : (change : Change) (ds : List (List (ℤ × ℤ))) (ms ns cs bs gs : List ℕ) (h v n : ℕ) (e : List (ℤ × ℤ)) (P : ℤ → Type 0)
+    → IsStore (kept ds ms cs h) → h ≤ length cs → v < length ds → IsCut change n P (dom_at ds v) e → IsDomain e → bs ≡ cs → IsNoted change n v ms ns bs gs
+    → IsKeptChange change ds (slice_set ds v e) ms ns cs gs h v P
+kept_change Changed ds ms ns cs bs gs h v n e P is head within cut domain same_bs noted =
+    let s = kept_step ds ms ns cs bs gs h v n e P is head within cut.1 cut.0.0 cut.0.1 cut.0.2 domain same_bs noted.0 noted.1 in
+    record { store = s.step.store; head = s.head; shrinks = s.step.shrinks; is = s.step.narrows }
+kept_change Same ds ms ns cs bs gs h v n e P is head within cut domain same_bs noted =
+    let same = kept_same ds (slice_set ds v e) ms ns cs gs h (put_back ds v e cut.0.0) noted.0 (noted.1 ∙ same_bs) in
+    record {
+      store = subst IsStore (sym same) is;
+      head = rw (noted.1, same_bs) head;
+      shrinks = subst (Shrinks (kept ds ms cs h)) (sym same) (same_shrinks (kept ds ms cs h));
+      is = (same, cut.0.1);
+    }
+kept_change Wiped ds ms ns cs bs gs h v n e P is head within cut domain same_bs noted =
+    let same = kept_same ds (slice_set ds v e) ms ns cs gs h (put_back ds v e cut.0.0) noted.0 (noted.1 ∙ same_bs) in
+    record {
+      store = subst IsStore (sym same) is;
+      head = rw (noted.1, same_bs) head;
+      shrinks = subst (Shrinks (kept ds ms cs h)) (sym same) (same_shrinks (kept ds ms cs h));
+      is = (same, cut.0.1);
     }
 
 pub same_at : {X : Type 0} (xs : List X) (v : ℕ) (d e : X) → v < length xs → get_or xs v d ≡ get_or xs v e

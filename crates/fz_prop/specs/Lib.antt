@@ -2,3 +2,4 @@ pub mod Cuts
 pub mod Stores
 pub mod Answers
 pub mod Outcomes
+pub mod Truths

@@ -51,6 +51,11 @@ IsCut change n P d e = IsChange change P d e × (n ≡ 0)
 abbrev pub with_listed : ℕ → ℕ → List ℕ → List ℕ
 with_listed mark v changed = if nat_eq mark 0 then changed ++ v ∷ [] else changed
 
+-- what becomes of marks and of a list where the domain of v has a change of this level
+abbrev pub IsNoted : Change → ℕ → ℕ → List ℕ → List ℕ → List ℕ → List ℕ → Type 0
+IsNoted Changed n v ms ns cs gs = (ns ≡ slice_set ms v (max (slice_index ms v) n)) × (gs ≡ with_listed (slice_index ms v) v cs)
+IsNoted _ n v ms ns cs gs = (ns ≡ ms) × (gs ≡ cs)
+
 -- v has another domain, to which a change of this level led
 abbrev pub with_dom : Stored → ℕ → List (ℤ × ℤ) → ℕ → Stored
 with_dom s v e n = record {

@@ -4,7 +4,7 @@ ghost use Rattle.fz_sets.specs.Sets.{IsInSet};
 ghost use Rattle.fz_dom.specs.Changes.{IsFromTo};
 ghost use Rattle.fz_strength.specs.Domains.{dom_at, AreDomains};
 ghost use Rattle.fz_prop.specs.Cuts.{Keeps, change_level};
-ghost use Rattle.fz_prop.specs.Stores.{Stored, IsStore, Shrinks, IsChangeAt, IsCut, mark_at, with_listed, without_first, declared_sets, IsTaken, HasEmpty, fresh};
+ghost use Rattle.fz_prop.specs.Stores.{Stored, IsStore, Shrinks, IsChangeAt, IsCut, IsNoted, mark_at, with_listed, without_first, declared_sets, IsTaken, HasEmpty, fresh};
 
 use crate::cut::{Cut, cut_one, cut_to};
 use fz_dom::{Change, Dom};
@@ -226,14 +226,8 @@ impl Store {
         let place = variable as usize;
         self.changed.reserve(1)?;
         let (change, level) = cut_to(&mut self.doms[place], other, shift)?;
-        match change {
-            Change::Same => Ok(Change::Same),
-            Change::Wiped => Ok(Change::Wiped),
-            Change::Changed => {
-                mark(&mut self.marks, &mut self.changed, variable, level);
-                Ok(Change::Changed)
-            }
-        }
+        note(&mut self.marks, &mut self.changed, variable, change, level);
+        Ok(change)
     }
 
     /// The first of the changed variables, if one changed.
@@ -290,14 +284,21 @@ impl Store {
         let place = variable as usize;
         self.changed.reserve(1)?;
         let (change, level) = cut_one(&mut self.doms[place], cut)?;
-        match change {
-            Change::Same => Ok(Change::Same),
-            Change::Wiped => Ok(Change::Wiped),
-            Change::Changed => {
-                mark(&mut self.marks, &mut self.changed, variable, level);
-                Ok(Change::Changed)
-            }
-        }
+        note(&mut self.marks, &mut self.changed, variable, change, level);
+        Ok(change)
+    }
+}
+
+/// Marks and lists a variable if something left its domain.
+fn note(marks: &mut Vec<u8>, changed: &mut Vec<u32>, variable: u32, change: Change, level: u8)
+    requires place { variable < length marks.old.items }
+    requires room { vec_len changed.old < vec_capacity changed.old }
+    ensures { IsNoted change level variable marks.old.items marks.new.items
+        changed.old.items changed.new.items }
+{
+    match change {
+        Change::Same | Change::Wiped => {}
+        Change::Changed => mark(marks, changed, variable, level),
     }
 }
 

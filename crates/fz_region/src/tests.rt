@@ -9,7 +9,8 @@ use std::test::Fail;
 
 /// `x = 1`, then `x != 1`, of the first variable
 fn one_or_not(alloc: Global) -> Choice
-    ensures { result ≡ pair_of (record { variable = 0; comparison = Comparison.Equal; value = pos 1 }) }
+    ensures { result
+        ≡ pair_of (record { variable = 0; comparison = Comparison.Equal; value = pos 1 }) }
 {
     Choice::two(
         alloc,

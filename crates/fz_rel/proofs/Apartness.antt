@@ -9,7 +9,7 @@ use Rattle.fz_strength.specs.Domains.{term_set, Within}
 use Rattle.fz_strength.specs.Events.{IsOnly}
 use Rattle.fz_strength.proofs.Truths.{in_single}
 use Rattle.fz_prop.specs.Stores.{IsTermOf}
-use Rattle.fz_prop.proofs.Settling.{IsAbout}
+use Rattle.fz_prop.specs.Truths.{IsAbout}
 use Rattle.fz_prop.proofs.TermChanges.{term_within, narrower_term, only_in}
 use Rattle.fz_rel.specs.Truths.{TruthOf, LineOf}
 

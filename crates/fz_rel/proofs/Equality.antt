@@ -17,7 +17,7 @@ use Rattle.fz_prop.specs.declared.answer.Answer.TheVariants.{Fix, NoFix, Subsume
 use Rattle.fz_prop.specs.Answers.{IsCorrectOf}
 use Rattle.fz_prop.specs.Stores.{Stored, Shrinks, IsTermOf, IsChangeAt}
 use Rattle.fz_prop.proofs.Filled.{narrower_ranges, one_left, still_only}
-use Rattle.fz_prop.proofs.Settling.{IsAbout}
+use Rattle.fz_prop.specs.Truths.{IsAbout}
 use Rattle.fz_prop.proofs.TermChanges.{term_within, narrower_term, only_in, within_kept, kept_term, none_kept}
 use Rattle.fz_rel.specs.Truths.{TruthOf, LineOf, IsAnswerAs}
 

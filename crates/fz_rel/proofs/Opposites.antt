@@ -5,7 +5,7 @@ use Rattle.std.proofs.lemmas.Int.{ints, by_lt_z}
 use Rattle.fz_spec.specs.declared.term.Term.{Term}
 use Rattle.fz_spec.specs.Constraints.{term_value}
 use Rattle.fz_strength.specs.declared.relation.Relation.TheVariants.{Equal, NotEqual, AtMost, Below}
-use Rattle.fz_prop.proofs.Answering.{IsSame}
+use Rattle.fz_prop.specs.Truths.{IsSame}
 use Rattle.fz_rel.specs.Truths.{TruthOf, FalseOf, LineOf, AgainstOf}
 
 same_of_not : (x y : ℤ) → ((x ≡ y → ⊥) → ⊥) → x ≡ y

@@ -24,9 +24,10 @@ use Rattle.fz_strength.proofs.Lists.{all_left, all_right}
 use Rattle.fz_prop.specs.declared.answer.Answer.{Answer}
 use Rattle.fz_prop.specs.Answers.{IsAnswer, IsAnswerOf, IsCorrectOf}
 use Rattle.fz_prop.specs.Stores.{IsTermOf}
-use Rattle.fz_prop.proofs.Answering.{IsSame, answer_of, correct_of}
+use Rattle.fz_prop.specs.Truths.{IsSame, TruthWith}
+use Rattle.fz_prop.proofs.Answering.{answer_of, correct_of}
 use Rattle.fz_rel.specs.Truths.{TruthOf, AreSingle}
-use Rattle.fz_rel.specs.Reified.{ReifiedTruth, ReifiedLine}
+use Rattle.fz_rel.specs.Reified.{ReifiedLine}
 use Rattle.fz_rel.specs.Comparisons.{variables_of, variable_of}
 use Rattle.fz_rel.proofs.Waiting.{term_of, single_of, variable_waited}
 
@@ -53,21 +54,21 @@ line_is G o relation d e r is h = rw is h
 
 -- the truth and the line of the reified relation are those of the name
 named : (name : Builtin) (relation : Relation) (x y r : Term) → reified_of name ≡ Some relation
-    → IsSame (ReifiedTruth (TruthOf relation x y) r) (λ a. IsTrueOf a (reifying name x y r)) (ReifiedLine relation x y r) (Rests (reifying name x y r))
+    → IsSame (TruthWith (TruthOf relation x y) r) (λ a. IsTrueOf a (reifying name x y r)) (ReifiedLine relation x y r) (Rests (reifying name x y r))
 named name relation x y r is = record {
   truth = λ a. truth_is name relation (term_value a x) (term_value a y) (term_value a r) is;
   line = λ ds h. line_is (RestsOtherwise name (One x ∷ One y ∷ One r ∷ []) ds) (reified_of name) relation (term_set ds x) (term_set ds y) (term_set ds r) is h;
 }
 
 pub reified_answer : (name : Builtin) (relation : Relation) (x y r : Term) (answer : Answer) (ds es : List (List (ℤ × ℤ))) → reified_of name ≡ Some relation
-    → IsAnswerOf answer (ReifiedTruth (TruthOf relation x y) r) (ReifiedLine relation x y r) ds es → IsAnswer answer (reifying name x y r) ds es
+    → IsAnswerOf answer (TruthWith (TruthOf relation x y) r) (ReifiedLine relation x y r) ds es → IsAnswer answer (reifying name x y r) ds es
 reified_answer name relation x y r answer ds es is h =
-    answer_of answer (reifying name x y r) (ReifiedTruth (TruthOf relation x y) r) (ReifiedLine relation x y r) ds es (named name relation x y r is) h
+    answer_of answer (reifying name x y r) (TruthWith (TruthOf relation x y) r) (ReifiedLine relation x y r) ds es (named name relation x y r is) h
 
 pub reified_correct : (name : Builtin) (relation : Relation) (x y r : Term) (ds es : List (List (ℤ × ℤ))) → reified_of name ≡ Some relation
-    → IsCorrectOf (ReifiedTruth (TruthOf relation x y) r) ds es → IsCorrect (reifying name x y r) ds es
+    → IsCorrectOf (TruthWith (TruthOf relation x y) r) ds es → IsCorrect (reifying name x y r) ds es
 reified_correct name relation x y r ds es is h =
-    correct_of (reifying name x y r) (ReifiedTruth (TruthOf relation x y) r) (ReifiedLine relation x y r) ds es (named name relation x y r is) h
+    correct_of (reifying name x y r) (TruthWith (TruthOf relation x y) r) (ReifiedLine relation x y r) ds es (named name relation x y r is) h
 
 -- ---- its terms and variables
 

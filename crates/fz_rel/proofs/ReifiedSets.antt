@@ -23,25 +23,17 @@ use Rattle.fz_prop.specs.Answers.{IsAnswer, IsAnswerOf, IsCorrectOf}
 use Rattle.fz_prop.specs.Stores.{IsTermOf, FitsTerm}
 use Rattle.fz_prop.proofs.Answering.{answer_of}
 use Rattle.fz_prop.proofs.Filled.{narrower_ranges}
-use Rattle.fz_prop.proofs.Reifying.{Sides, AreSides, one_answer, zero_answer, zero_correct, shown_about, refuted_about}
-use Rattle.fz_prop.proofs.Settling.{IsAbout}
+use Rattle.fz_prop.specs.Truths.{AreSides, IsAbout, TruthWith}
+use Rattle.fz_prop.proofs.Reifying.{one_answer, zero_answer, zero_correct, shown_about, refuted_about}
 use Rattle.fz_prop.proofs.TermChanges.{term_within, narrower_term}
 use Rattle.fz_rel.specs.Comparisons.{variables_of}
 use Rattle.fz_rel.specs.Members.{IsMember, MemberLine, IsOverlap}
-use Rattle.fz_rel.specs.Reified.{ReifiedTruth, ReifiedMemberLine, AreOthers}
+use Rattle.fz_rel.specs.Reified.{member_sides, ReifiedMemberLine, AreOthers}
 use Rattle.fz_rel.proofs.Waiting.{term_of, single_of, variable_waited}
 
 -- the constraint of a term, a set and a Boolean
 abbrev pub reified_member : Term → List (ℤ × ℤ) → Term → Constraint
 reified_member x set r = record { name = SetInReif; arguments = One x ∷ Set set ∷ One r ∷ [] }
-
-abbrev pub member_sides : Term → List (ℤ × ℤ) → Sides
-member_sides x set = record {
-  shown = λ ds. LiesIn (term_set ds x) set;
-  refuted = λ ds. LiesOutside (term_set ds x) set;
-  line = λ ds. LiesIn (term_set ds x) set;
-  against = λ ds. LiesOutside (term_set ds x) set;
-}
 
 not_both : (ds es : List (List (ℤ × ℤ))) (x : Term) (set : List (ℤ × ℤ)) → IsTermOf (length ds) x → AreDomains es → IsNarrower ds es → LiesIn (term_set es x) set → LiesOutside (term_set es x) set → ⊥
 not_both ds es x set is domains narrower inside outside =
@@ -58,7 +50,7 @@ are_member_sides x set ds is = record {
 -- ---- the Boolean is 1, or 0
 
 pub inside_answer : (answer : Answer) (x : Term) (set : List (ℤ × ℤ)) (r : Term) (ds es : List (List (ℤ × ℤ))) → IsTermOf (length ds) x → IsTermOf (length ds) r → IsOnly (term_set ds r) (pos 1)
-    → AreDomains es → IsNarrower ds es → IsAnswerOf answer (IsMember x set) (MemberLine x set) ds es → IsAnswerOf answer (ReifiedTruth (IsMember x set) r) (ReifiedMemberLine x set r) ds es
+    → AreDomains es → IsNarrower ds es → IsAnswerOf answer (IsMember x set) (MemberLine x set) ds es → IsAnswerOf answer (TruthWith (IsMember x set) r) (ReifiedMemberLine x set r) ds es
 inside_answer answer x set r ds es is_x is_r one domains narrower h =
     one_answer answer (IsMember x set) (member_sides x set) r ds es is_r one (are_member_sides x set ds is_x) domains narrower h
 
@@ -68,7 +60,7 @@ value_limits (Num n) ds a is fits domains within = fits
 value_limits (Var v) ds a is fits domains within = within_limits (dom_at ds v) (number_at a v) (domains v is).0.1 (within.members v is)
 
 pub outside_correct : (x : Term) (set others : List (ℤ × ℤ)) (r : Term) (ds es : List (List (ℤ × ℤ))) → AreOthers set others → IsTermOf (length ds) x → FitsTerm x → AreDomains ds
-    → IsTermOf (length ds) r → IsOnly (term_set ds r) (pos 0) → IsCorrectOf (IsMember x others) ds es → IsCorrectOf (ReifiedTruth (IsMember x set) r) ds es
+    → IsTermOf (length ds) r → IsOnly (term_set ds r) (pos 0) → IsCorrectOf (IsMember x others) ds es → IsCorrectOf (TruthWith (IsMember x set) r) ds es
 outside_correct x set others r ds es are is_x fits filled is_r zero h =
     zero_correct (IsMember x set) r ds es is_r zero (λ a out within. h a ((are (term_value a x)).1 (value_limits x ds a is_x fits filled within, out)) within)
 
@@ -84,20 +76,20 @@ turned Failed x set others ds es are is_x fits filled h = λ a within out. h a w
 
 pub outside_answer : (answer : Answer) (x : Term) (set others : List (ℤ × ℤ)) (r : Term) (ds es : List (List (ℤ × ℤ))) → AreOthers set others → IsTermOf (length ds) x → FitsTerm x → AreDomains ds
     → IsTermOf (length ds) r → IsOnly (term_set ds r) (pos 0) → AreDomains es → IsNarrower ds es → IsAnswerOf answer (IsMember x others) (MemberLine x others) ds es
-    → IsAnswerOf answer (ReifiedTruth (IsMember x set) r) (ReifiedMemberLine x set r) ds es
+    → IsAnswerOf answer (TruthWith (IsMember x set) r) (ReifiedMemberLine x set r) ds es
 outside_answer answer x set others r ds es are is_x fits filled is_r zero domains narrower h =
     zero_answer answer (IsMember x set) (member_sides x set) r ds es is_r zero (are_member_sides x set ds is_x) domains narrower (turned answer x set others ds es are is_x fits filled h)
 
 -- ---- what is left decides
 
 pub inside_about : (x : Term) (set : List (ℤ × ℤ)) (r : Term) (ds : List (List (ℤ × ℤ))) → IsTermOf (length ds) x → IsTermOf (length ds) r → LiesIn (term_set ds x) set
-    → IsAbout r (λ u. u ≡ pos 1) (ReifiedTruth (IsMember x set) r) (ReifiedMemberLine x set r) ds
+    → IsAbout r (λ u. u ≡ pos 1) (TruthWith (IsMember x set) r) (ReifiedMemberLine x set r) ds
 inside_about x set r ds is_x is_r inside =
     shown_about (IsMember x set) (member_sides x set) r ds is_r (are_member_sides x set ds is_x) (λ a within. inside (term_value a x) (term_within ds a x is_x within))
     (λ es domains narrower u i. inside u (narrower_term ds es x narrower u i))
 
 pub outside_about : (x : Term) (set : List (ℤ × ℤ)) (r : Term) (ds : List (List (ℤ × ℤ))) → IsTermOf (length ds) x → IsTermOf (length ds) r → IsTruth ds r → LiesOutside (term_set ds x) set
-    → IsAbout r (λ u. u ≡ pos 0) (ReifiedTruth (IsMember x set) r) (ReifiedMemberLine x set r) ds
+    → IsAbout r (λ u. u ≡ pos 0) (TruthWith (IsMember x set) r) (ReifiedMemberLine x set r) ds
 outside_about x set r ds is_x is_r truth outside =
     refuted_about (IsMember x set) (member_sides x set) r ds is_r truth (are_member_sides x set ds is_x) (λ a within. outside (term_value a x) (term_within ds a x is_x within))
     (λ es domains narrower u i. outside u (narrower_term ds es x narrower u i))
@@ -117,9 +109,9 @@ overlap_is Changed d e set domain_d domain_e h =
 -- ---- its name
 
 pub member_named : (answer : Answer) (x : Term) (set : List (ℤ × ℤ)) (r : Term) (ds es : List (List (ℤ × ℤ)))
-    → IsAnswerOf answer (ReifiedTruth (IsMember x set) r) (ReifiedMemberLine x set r) ds es → IsAnswer answer (reified_member x set r) ds es
+    → IsAnswerOf answer (TruthWith (IsMember x set) r) (ReifiedMemberLine x set r) ds es → IsAnswer answer (reified_member x set r) ds es
 member_named answer x set r ds es h =
-    answer_of answer (reified_member x set r) (ReifiedTruth (IsMember x set) r) (ReifiedMemberLine x set r) ds es (record { truth = λ a. ((λ k. k), (λ k. k)); line = λ fs k. k }) h
+    answer_of answer (reified_member x set r) (TruthWith (IsMember x set) r) (ReifiedMemberLine x set r) ds es (record { truth = λ a. ((λ k. k), (λ k. k)); line = λ fs k. k }) h
 
 pub member_terms : (x : Term) (set : List (ℤ × ℤ)) (r : Term) (n : ℕ) → AreBelow (waits (reified_member x set r)) n → IsTermOf n x × IsTermOf n r
 member_terms x set r n below =

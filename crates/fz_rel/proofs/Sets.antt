@@ -10,8 +10,8 @@ use Rattle.fz_strength.specs.Lines.{Rests, waits}
 use Rattle.fz_strength.specs.declared.event.Event.TheVariants.{Fixed}
 use Rattle.fz_prop.specs.declared.answer.Answer.{Answer}
 use Rattle.fz_prop.specs.Answers.{IsAnswer, IsAnswerOf}
-use Rattle.fz_prop.proofs.Answering.{IsSame, answer_of}
-use Rattle.fz_prop.proofs.Settling.{IsAbout}
+use Rattle.fz_prop.specs.Truths.{IsSame, IsAbout}
+use Rattle.fz_prop.proofs.Answering.{answer_of}
 use Rattle.fz_rel.specs.Comparisons.{variable_of}
 use Rattle.fz_rel.specs.Members.{IsMember, MemberLine}
 use Rattle.fz_rel.proofs.Waiting.{variable_waited}

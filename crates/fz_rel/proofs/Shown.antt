@@ -1,8 +1,8 @@
 -- What the ends of two terms show of a relation.
 use Rattle.std.proofs.Common.{◌≡◌, List, refl, sym, ap, subst, ◌∙◌, inl, inr, arith, length}
 use Rattle.std.specs.Prelude.{ℤ, pos, ◌≤ℤ◌}
-use Rattle.std.proofs.lemmas.Int.{ints}
-use Rattle.fz_sets.specs.Sets.{IsInSet}
+use Rattle.std.proofs.lemmas.Int.{ints, by_lt_z}
+use Rattle.fz_sets.specs.Sets.{IsInSet, IsInRange}
 use Rattle.fz_dom.specs.Shape.{least, greatest}
 use Rattle.fz_dom.proofs.Ranges.{least_member, greatest_member}
 use Rattle.fz_spec.specs.declared.term.Term.{Term}
@@ -15,11 +15,12 @@ use Rattle.fz_strength.specs.Promises.{IsTruth}
 use Rattle.fz_strength.specs.Relations.{Relates, RestsAs, RestsAgainst, IsShown, IsRefuted}
 use Rattle.fz_strength.proofs.Truths.{in_single}
 use Rattle.fz_prop.specs.Stores.{IsTermOf}
-use Rattle.fz_prop.proofs.Filled.{HasRanges, term_ranges, narrower_ranges, one_left}
-use Rattle.fz_prop.proofs.Reifying.{Sides, AreSides, TruthWith, LineWith, shown_about, refuted_about}
-use Rattle.fz_prop.proofs.Settling.{IsAbout}
+use Rattle.fz_prop.specs.Truths.{HasRanges, AreSides, TruthWith, LineWith, IsAbout}
+use Rattle.fz_prop.proofs.Filled.{term_ranges, narrower_ranges, one_left}
+use Rattle.fz_prop.proofs.Reifying.{shown_about, refuted_about}
 use Rattle.fz_prop.proofs.TermChanges.{term_within, narrower_term}
-use Rattle.fz_rel.specs.Truths.{TruthOf, LineOf, AgainstOf}
+use Rattle.fz_rel.specs.Truths.{TruthOf}
+use Rattle.fz_rel.specs.Reified.{sides_of}
 
 in_order : (d : List (ℤ × ℤ)) → HasRanges d → least d ≤ℤ greatest d
 in_order d has = (greatest_member d has.some has.ranges).1 (least d) (least_member d has.some has.ranges).0
@@ -149,14 +150,6 @@ refuted_still Below d e f g part_d part_e refuted = shown_still AtMost e d g f p
 
 -- ---- the sides of a relation of two terms
 
-abbrev pub sides_of : Relation → Term → Term → Sides
-sides_of relation x y = record {
-  shown = λ ds. IsShown relation (term_set ds x) (term_set ds y);
-  refuted = λ ds. IsRefuted relation (term_set ds x) (term_set ds y);
-  line = LineOf relation x y;
-  against = AgainstOf relation x y;
-}
-
 pub are_sides : (relation : Relation) (x y : Term) (ds : List (List (ℤ × ℤ))) → IsTermOf (length ds) x → IsTermOf (length ds) y → AreSides (sides_of relation x y) ds
 are_sides relation x y ds is_x is_y = record {
   one = λ es domains narrower line refuted. not_both relation (term_set es x) (term_set es y) (narrower_ranges ds es x is_x domains narrower) (narrower_ranges ds es y is_y domains narrower) line refuted;
@@ -191,3 +184,14 @@ refuted_zero relation x y r ds is_x is_y is_r truth filled refuted =
     refuted_rests relation (term_set es x) (term_set es y) in_x in_y
     (refuted_still relation (term_set ds x) (term_set ds y) (term_set es x) (term_set es y) (part_of (term_set ds x) (term_set es x) has_x in_x (narrower_term ds es x narrower))
     (part_of (term_set ds y) (term_set es y) has_y in_y (narrower_term ds es y narrower)) refuted))
+
+-- ---- a Boolean that is fixed
+
+zero_of : (x : ℤ) → IsInRange (pos 0, pos 1) x → (x ≡ pos 1 → ⊥) → x ≡ pos 0
+zero_of x truth not =
+    let low = truth.0 in
+    let high = truth.1 in
+    by_lt_z x (pos 1) (λ below. omega (arith, ints, low, below)) (λ above. absurd (not (omega (arith, ints, high, above))))
+
+pub zero_left : (ds : List (List (ℤ × ℤ))) (r : Term) (v : ℤ) → IsTruth ds r → IsOnly (term_set ds r) v → (v ≡ pos 1 → ⊥) → IsOnly (term_set ds r) (pos 0)
+zero_left ds r v truth only not = subst (IsOnly (term_set ds r)) (zero_of v (truth v (rw only (in_single v v refl))) not) only

@@ -1,30 +1,39 @@
--- When an assignment makes a reified relation, or a reified set, true; its line; and what its propagator keeps.
+-- The line of a reified relation and of a reified set, and what their propagators keep.
 use Rattle.std.specs.Prelude.{◌≡◌, ◌≤◌, ◌↔◌, ℕ, ℤ, List, ◌++◌, length, take, Some}
 use Rattle.fz_sets.specs.Sets.{IsInSet, IsWithinLimits}
 use Rattle.fz_spec.specs.declared.builtin.Builtin.{Builtin}
 use Rattle.fz_spec.specs.declared.term.Term.{Term}
-use Rattle.fz_spec.specs.Constraints.{term_value}
-use Rattle.fz_spec.specs.Truth.{IsReified}
 use Rattle.fz_strength.specs.declared.relation.Relation.{Relation}
 use Rattle.fz_strength.specs.Domains.{term_set}
-use Rattle.fz_strength.specs.Lines.{IsReifiedLine, LiesIn, LiesOutside}
-use Rattle.fz_strength.specs.Relations.{reified_of, IsShown, IsRefuted, RestsAs, RestsAgainst}
+use Rattle.fz_strength.specs.Lines.{LiesIn, LiesOutside}
+use Rattle.fz_strength.specs.Relations.{reified_of, IsShown, IsRefuted}
 use Rattle.fz_prop.specs.Stores.{FitsTerm}
+use Rattle.fz_prop.specs.Truths.{Sides, LineWith}
+use Rattle.fz_rel.specs.Truths.{LineOf, AgainstOf}
+use Rattle.fz_rel.specs.Members.{MemberLine}
 use Rattle.fz_rel.specs.Comparisons.{variable_of, variables_of}
 
--- r is 1 exactly where the assignment makes this true
-abbrev pub ReifiedTruth : (List ℤ → Type 0) → Term → List ℤ → Type 0
-ReifiedTruth T r a = IsReified (T a) (term_value a r)
+abbrev pub sides_of : Relation → Term → Term → Sides
+sides_of relation x y = record {
+  shown = λ ds. IsShown relation (term_set ds x) (term_set ds y);
+  refuted = λ ds. IsRefuted relation (term_set ds x) (term_set ds y);
+  line = LineOf relation x y;
+  against = AgainstOf relation x y;
+}
 
 abbrev pub ReifiedLine : Relation → Term → Term → Term → List (List (ℤ × ℤ)) → Type 0
-ReifiedLine relation x y r ds =
-    let d : List (ℤ × ℤ) = term_set ds x in
-    let e : List (ℤ × ℤ) = term_set ds y in
-    IsReifiedLine (IsShown relation d e) (IsRefuted relation d e) (RestsAs relation d e) (RestsAgainst relation d e) (term_set ds r)
+ReifiedLine relation x y r ds = LineWith (sides_of relation x y) r ds
+
+abbrev pub member_sides : Term → List (ℤ × ℤ) → Sides
+member_sides x set = record {
+  shown = λ ds. LiesIn (term_set ds x) set;
+  refuted = λ ds. LiesOutside (term_set ds x) set;
+  line = MemberLine x set;
+  against = λ ds. LiesOutside (term_set ds x) set;
+}
 
 abbrev pub ReifiedMemberLine : Term → List (ℤ × ℤ) → Term → List (List (ℤ × ℤ)) → Type 0
-ReifiedMemberLine x set r ds =
-    IsReifiedLine (LiesIn (term_set ds x) set) (LiesOutside (term_set ds x) set) (LiesIn (term_set ds x) set) (LiesOutside (term_set ds x) set) (term_set ds r)
+ReifiedMemberLine x set r ds = LineWith (member_sides x set) r ds
 
 -- its relation is that of its name; its numbers are within the limits; its variables stand first in a list, those that are
 -- compared before the Boolean

@@ -60,9 +60,7 @@ impl Comparison {
             count,
         }
     }
-}
 
-impl Comparison {
     /// Narrows a store, as `propagate` does: nothing is kept between runs.
     ///
     /// # Errors

@@ -1,16 +1,16 @@
 //! Relations of two terms, and a Boolean that says whether they hold.
-ghost use Rattle.std.specs.Prelude.{◌≡◌, ◌≤◌, ◌++◌, ℕ, ℤ, pos, List, [], ◌∷◌, length, map, take, IfOk, Some};
+ghost use Rattle.std.specs.Prelude.{◌≡◌, ◌≤◌, ◌++◌, ℕ, ℤ, List, [], ◌∷◌, length, map, take, IfOk, Some};
 ghost use Rattle.fz_spec.specs.Constraints.{One};
-ghost use Rattle.fz_strength.specs.Domains.{term_set};
-ghost use Rattle.fz_strength.specs.Events.{IsOnly, IsFixedIn, AreBelow, AreFixed};
+ghost use Rattle.fz_strength.specs.Events.{IsFixedIn, AreBelow, AreFixed};
 ghost use Rattle.fz_strength.specs.Lines.{waits};
 ghost use Rattle.fz_strength.specs.Promises.{IsCorrect, IsTruth, Suits};
 ghost use Rattle.fz_strength.specs.Relations.{reified_of};
 ghost use Rattle.fz_prop.specs.Answers.{IsAnswer, IsAnswerOf, IsCorrectOf, IsDecided};
 ghost use Rattle.fz_prop.specs.Stores.{Shrinks, IsStore, IsTermOf, FitsTerm};
+ghost use Rattle.fz_prop.specs.Truths.{TruthWith};
 ghost use Rattle.fz_rel.specs.Comparisons.{variable_of, variables_of};
 ghost use Rattle.fz_rel.specs.Truths.{TruthOf, AreSingle};
-ghost use Rattle.fz_rel.specs.Reified.{ReifiedTruth, ReifiedLine, IsReifiedComparison};
+ghost use Rattle.fz_rel.specs.Reified.{ReifiedLine, IsReifiedComparison};
 
 use crate::comparison::variables_of;
 use crate::ends::{ends_of, is_refuted, is_shown};
@@ -119,68 +119,18 @@ fn keep_reified(
     requires fits_y { FitsTerm y }
     requires truth { IsTruth store.old.doms r }
     ensures shrinks { Shrinks store.old store.new }
-    ensures correct { IsCorrectOf (ReifiedTruth (TruthOf relation x y) r)
+    ensures correct { IsCorrectOf (TruthWith (TruthOf relation x y) r)
         store.old.doms store.new.doms }
-    ensures answer { IfOk result (λ a. IsAnswerOf a (ReifiedTruth (TruthOf relation x y) r)
+    ensures answer { IfOk result (λ a. IsAnswerOf a (TruthWith (TruthOf relation x y) r)
         (ReifiedLine relation x y r) store.old.doms store.new.doms) }
     ensures checking { IfOk result
         (λ a. AreSingle x y store.old.doms → IsFixedIn store.old.doms r → IsDecided a) }
 {
-    match value_of(store, r) {
-        Some(1) => keep_true(store, relation, x, y, r),
-        Some(_) => keep_false(store, relation, x, y, r),
-        None => decide(store, relation, x, y, r),
-    }
-}
-
-/// The same where the Boolean is 1.
-fn keep_true(
-    store: &mut Store,
-    relation: Relation,
-    x: Term,
-    y: Term,
-    r: Term,
-) -> Result<Answer, AllocError>
-    requires x { IsTermOf (length store.old.doms) x }
-    requires y { IsTermOf (length store.old.doms) y }
-    requires r { IsTermOf (length store.old.doms) r }
-    requires fits_x { FitsTerm x }
-    requires fits_y { FitsTerm y }
-    requires one { IsOnly (term_set store.old.doms r) (pos 1) }
-    ensures shrinks { Shrinks store.old store.new }
-    ensures correct { IsCorrectOf (ReifiedTruth (TruthOf relation x y) r)
-        store.old.doms store.new.doms }
-    ensures answer { IfOk result (λ a. IsAnswerOf a (ReifiedTruth (TruthOf relation x y) r)
-        (ReifiedLine relation x y r) store.old.doms store.new.doms) }
-    ensures checking { IfOk result (λ a. AreSingle x y store.old.doms → IsDecided a) }
-{
-    let answer = relate(store, relation, x, y)?;
-    let _ = store.doms();
-    Ok(answer)
-}
-
-/// The same where the Boolean is 0.
-fn keep_false(
-    store: &mut Store,
-    relation: Relation,
-    x: Term,
-    y: Term,
-    r: Term,
-) -> Result<Answer, AllocError>
-    requires x { IsTermOf (length store.old.doms) x }
-    requires y { IsTermOf (length store.old.doms) y }
-    requires r { IsTermOf (length store.old.doms) r }
-    requires fits_x { FitsTerm x }
-    requires fits_y { FitsTerm y }
-    requires zero { IsOnly (term_set store.old.doms r) (pos 0) }
-    ensures shrinks { Shrinks store.old store.new }
-    ensures correct { IsCorrectOf (ReifiedTruth (TruthOf relation x y) r)
-        store.old.doms store.new.doms }
-    ensures answer { IfOk result (λ a. IsAnswerOf a (ReifiedTruth (TruthOf relation x y) r)
-        (ReifiedLine relation x y r) store.old.doms store.new.doms) }
-    ensures checking { IfOk result (λ a. AreSingle x y store.old.doms → IsDecided a) }
-{
-    let answer = relate_against(store, relation, x, y)?;
+    let answer = match value_of(store, r) {
+        Some(1) => relate(store, relation, x, y)?,
+        Some(_) => relate_against(store, relation, x, y)?,
+        None => decide(store, relation, x, y, r)?,
+    };
     let _ = store.doms();
     Ok(answer)
 }
@@ -199,9 +149,9 @@ fn decide(
     requires truth { IsTruth store.old.doms r }
     requires unfixed { IsFixedIn store.old.doms r → ⊥ }
     ensures shrinks { Shrinks store.old store.new }
-    ensures correct { IsCorrectOf (ReifiedTruth (TruthOf relation x y) r)
+    ensures correct { IsCorrectOf (TruthWith (TruthOf relation x y) r)
         store.old.doms store.new.doms }
-    ensures answer { IfOk result (λ a. IsAnswerOf a (ReifiedTruth (TruthOf relation x y) r)
+    ensures answer { IfOk result (λ a. IsAnswerOf a (TruthWith (TruthOf relation x y) r)
         (ReifiedLine relation x y r) store.old.doms store.new.doms) }
 {
     let _ = store.doms();

@@ -8,9 +8,10 @@ ghost use Rattle.fz_strength.specs.Lines.{waits};
 ghost use Rattle.fz_strength.specs.Promises.{IsCorrect, IsTruth, Suits};
 ghost use Rattle.fz_prop.specs.Answers.{IsAnswer, IsAnswerOf, IsCorrectOf, IsDecided};
 ghost use Rattle.fz_prop.specs.Stores.{Shrinks, IsStore, IsTermOf, FitsTerm};
+ghost use Rattle.fz_prop.specs.Truths.{TruthWith};
 ghost use Rattle.fz_rel.specs.Comparisons.{variables_of};
 ghost use Rattle.fz_rel.specs.Members.{IsMember, IsOverlap};
-ghost use Rattle.fz_rel.specs.Reified.{ReifiedTruth, ReifiedMemberLine, AreOthers, IsReifiedMembership};
+ghost use Rattle.fz_rel.specs.Reified.{ReifiedMemberLine, AreOthers, IsReifiedMembership};
 
 use crate::comparison::variables_of;
 use crate::member::keep_member;
@@ -100,9 +101,9 @@ fn keep_inside(store: &mut Store, x: Term, set: &Dom, r: Term) -> Result<Answer,
     requires r { IsTermOf (length store.old.doms) r }
     requires one { IsOnly (term_set store.old.doms r) (pos 1) }
     ensures shrinks { Shrinks store.old store.new }
-    ensures correct { IsCorrectOf (ReifiedTruth (IsMember x set.now) r)
+    ensures correct { IsCorrectOf (TruthWith (IsMember x set.now) r)
         store.old.doms store.new.doms }
-    ensures answer { IfOk result (λ a. IsAnswerOf a (ReifiedTruth (IsMember x set.now) r)
+    ensures answer { IfOk result (λ a. IsAnswerOf a (TruthWith (IsMember x set.now) r)
         (ReifiedMemberLine x set.now r) store.old.doms store.new.doms) }
     ensures decided { IfOk result (λ a. IsDecided a) }
 {
@@ -120,9 +121,9 @@ fn keep_outside(store: &mut Store, x: Term, others: &Dom, r: Term) -> Result<Ans
     requires zero { IsOnly (term_set store.old.doms r) (pos 0) }
     ensures shrinks { Shrinks store.old store.new }
     ensures correct { (set : List (ℤ × ℤ)) → AreOthers set others.now
-        → IsCorrectOf (ReifiedTruth (IsMember x set) r) store.old.doms store.new.doms }
+        → IsCorrectOf (TruthWith (IsMember x set) r) store.old.doms store.new.doms }
     ensures answer { IfOk result (λ a. (set : List (ℤ × ℤ)) → AreOthers set others.now
-        → IsAnswerOf a (ReifiedTruth (IsMember x set) r) (ReifiedMemberLine x set r)
+        → IsAnswerOf a (TruthWith (IsMember x set) r) (ReifiedMemberLine x set r)
         store.old.doms store.new.doms) }
     ensures decided { IfOk result (λ a. IsDecided a) }
 {
@@ -140,9 +141,9 @@ fn decide(store: &mut Store, x: Term, set: &Dom, r: Term) -> Result<Answer, Allo
     requires truth { IsTruth store.old.doms r }
     requires unfixed { IsFixedIn store.old.doms r → ⊥ }
     ensures shrinks { Shrinks store.old store.new }
-    ensures correct { IsCorrectOf (ReifiedTruth (IsMember x set.now) r)
+    ensures correct { IsCorrectOf (TruthWith (IsMember x set.now) r)
         store.old.doms store.new.doms }
-    ensures answer { IfOk result (λ a. IsAnswerOf a (ReifiedTruth (IsMember x set.now) r)
+    ensures answer { IfOk result (λ a. IsAnswerOf a (TruthWith (IsMember x set.now) r)
         (ReifiedMemberLine x set.now r) store.old.doms store.new.doms) }
 {
     match overlap(store, x, set)? {

@@ -1,11 +1,10 @@
 -- Taking a decision leaves exactly the assignments that meet it.
-use Rattle.std.proofs.Common.{◌≡◌, ℕ, zero, suc, ◌<◌, ◌≤◌, List, [], ◌∷◌, ◌++◌, refl, sym, ◌∙◌, subst, arith, length, true, false, Bool, not}
+use Rattle.std.proofs.Common.{◌≡◌, ℕ, ◌<◌, ◌≤◌, List, [], ◌∷◌, ◌++◌, refl, sym, ◌∙◌, subst, arith, length, true, false, Bool, not}
 use Rattle.std.proofs.lemmas.Int.{ints}
-use Rattle.std.specs.Prelude.{ℤ, pos, ◌+ℤ◌, ◌≤ℤ◌, ◌<ℤ◌, Option, Some, None, slice_get, IsTrue, int_le}
+use Rattle.std.specs.Prelude.{ℤ, pos, ◌+ℤ◌, ◌≤ℤ◌, ◌<ℤ◌, Option, None, slice_get, IsTrue, int_le}
 use Rattle.std.specs.Ordering.{int_eq}
 use Rattle.std.proofs.lemmas.Bool.Decides.{Decides-int_eq}
 use Rattle.std.proofs.lemmas.Option.{slice_get_past}
-use Rattle.fz_sets.specs.Sets.{IsInSet}
 use Rattle.fz_spec.specs.declared.term.Term.TheVariants.{Var}
 use Rattle.fz_spec.specs.Instance.{Instance}
 use Rattle.fz_dom.specs.declared.change.Change.{Change}
@@ -14,15 +13,14 @@ use Rattle.fz_tree.specs.declared.decision.Comparison.{Comparison}
 use Rattle.fz_tree.specs.declared.decision.Comparison.TheVariants.{Equal, NotEqual, AtMost, Above}
 use Rattle.fz_tree.specs.declared.decision.Decision.{Decision}
 use Rattle.fz_tree.specs.Choice.{meets, compares, compares_if_there}
-use Rattle.fz_strength.specs.Domains.{Within, IsNarrower, dom_at, number_at}
+use Rattle.fz_strength.specs.Domains.{Within, number_at}
 use Rattle.fz_strength.proofs.Terms.{within_before}
 use Rattle.fz_strength.proofs.Lists.{all_left, all_right, all_both}
 use Rattle.fz_prop.specs.Stores.{Stored, IsStore, Shrinks, IsChangeAt}
 use Rattle.fz_prop.proofs.TermChanges.{within_kept}
 use Rattle.fz_agenda.proofs.Settled.{settled_lasts}
-use Rattle.fz_agenda.proofs.Places.{by_place}
-use Rattle.fz_path.specs.Spaces as path
-use Rattle.fz_path.specs.Spaces.{Spaced, Covers, MeetsAll}
+use Rattle.fz_path.specs.Spaces.{Covers}
+use Rattle.fz_path.proofs.Lists.{some_at}
 use Rattle.fz_space.specs.Alive.{spaced, IsAlive, Compares, IsDecided}
 use Rattle.fz_engine.proofs.Running.{terms_last}
 
@@ -53,11 +51,6 @@ tests Equal x v = Decides-int_eq x v
 tests NotEqual x v = by_not (int_eq x v) (x ≡ v) (Decides-int_eq x v)
 tests AtMost x v = (le_of x v, of_le x v)
 tests Above x v = (above_of x v, of_above x v)
-
-some_at : (a : List ℤ) (v : ℕ) → v < length a → slice_get a v ≡ Some (number_at a v)
-some_at [] v within = absurd (omega (arith, within))
-some_at (x ∷ a) zero within = refl
-some_at (x ∷ a) (suc v) within = some_at a v (omega (arith, within))
 
 meets_is : (a : List ℤ) (d : Decision) → d.variable < length a → Tests (meets a d) (Compares d.comparison d.value (number_at a d.variable))
 meets_is a d within =
@@ -110,12 +103,6 @@ decided_beyond d ds es beyond a inside met =
 
 -- ---- spaces
 
-pub to_path : (ds : List (List (ℤ × ℤ))) (a : List ℤ) → Within ds a → path.Within ds a
-to_path ds a within = record { size = within.size; members = within.members }
-
-pub from_path : (ds : List (List (ℤ × ℤ))) (a : List ℤ) → path.Within ds a → Within ds a
-from_path ds a within = record { size = within.size; members = within.members }
-
 not_both : (b : Bool) → b ≡ true → b ≡ false → ⊥
 not_both b p q = let e : true ≡ false = sym p ∙ q in cc
 
@@ -130,11 +117,11 @@ covers_decided m s t ds d decided covers = record {
   all = λ a satisfies met.
       let is_met : Decision → Type 0 = λ (x : Decision). IsTrue (meets a x) in
       let before = covers.all a satisfies (all_left is_met ds (d ∷ []) met) in
-      (refl, to_path t.doms a ((decided a).1 (from_path s.doms a before.1, (all_right is_met ds (d ∷ []) met).0)));
+      (refl, (decided a).1 (before.1, (all_right is_met ds (d ∷ []) met).0));
   only = λ a alive within.
       let is_met : Decision → Type 0 = λ (x : Decision). IsTrue (meets a x) in
-      let before = (decided a).0 (from_path t.doms a within) in
-      let both = covers.only a refl (to_path s.doms a before.0) in
+      let before = (decided a).0 within in
+      let both = covers.only a refl before.0 in
       (both.0, all_both is_met ds (d ∷ []) both.1 (before.1, tt));
 }
 
@@ -143,7 +130,7 @@ covers_none m s t ds d decided covers = record {
   all = λ a satisfies met.
       let is_met : Decision → Type 0 = λ (x : Decision). IsTrue (meets a x) in
       let before = covers.all a satisfies (all_left is_met ds (d ∷ []) met) in
-      absurd (decided a (from_path s.doms a before.1) (all_right is_met ds (d ∷ []) met).0);
+      absurd (decided a before.1 (all_right is_met ds (d ∷ []) met).0);
   only = λ a alive within. let e : true ≡ false = alive in absurd (not_both true refl e);
 }
 

@@ -12,8 +12,7 @@ use Rattle.fz_strength.proofs.Truths.{single, is_single, true_where_alone}
 use Rattle.fz_prop.specs.Stores.{Stored, HasEmpty, declared_sets}
 use Rattle.fz_agenda.specs.Agendas.{IsSettled}
 use Rattle.fz_agenda.proofs.Places.{below_or_same}
-use Rattle.fz_path.specs.Spaces as path
-use Rattle.fz_path.specs.Spaces.{Spaced, Covers, IsUndecided, IsStatus}
+use Rattle.fz_path.specs.Spaces.{Covers, MeetsAll, IsUndecided, IsStatus}
 use Rattle.fz_path.specs.declared.space.Status.{Status}
 use Rattle.fz_path.specs.declared.space.Status.TheVariants as status
 use Rattle.fz_engine.specs.Runs.{AreOf, IsRun, AreNeverTrue, AllRest}
@@ -21,7 +20,6 @@ use Rattle.fz_space.specs.Alive.{spaced, IsAlive, IsLeft}
 use Rattle.fz_engine.proofs.Knowing.{declared_length}
 use Rattle.fz_engine.proofs.Lists.{all_of}
 use Rattle.fz_engine.proofs.Running.{terms_last}
-use Rattle.fz_space.proofs.Deciding.{to_path, from_path}
 
 -- ---- the root
 
@@ -49,8 +47,8 @@ within_declared (v ∷ vs) (x ∷ a) within = (
 
 pub covers_root : (m : Instance) (s : Stored) → s.doms ≡ declared_sets m.variables → Covers [] (spaced m s false)
 covers_root m s is = record {
-  all = λ a satisfies met. (refl, subst (λ (ds : List (List (ℤ × ℤ))). path.Within ds a) (sym is) (to_path (declared_sets m.variables) a (declared_within m.variables a satisfies.declared)));
-  only = λ a alive within. (within_declared m.variables a (from_path (declared_sets m.variables) a (subst (λ (ds : List (List (ℤ × ℤ))). path.Within ds a) is within)), tt);
+  all = λ a satisfies met. (refl, subst (λ (ds : List (List (ℤ × ℤ))). Within ds a) (sym is) (declared_within m.variables a satisfies.declared));
+  only = λ a alive within. (within_declared m.variables a (subst (λ (ds : List (List (ℤ × ℤ))). Within ds a) is within), tt);
 }
 
 true_is_false : (P : Type 0) → true ≡ false → P
@@ -61,7 +59,7 @@ covers_empty m s empty = record {
   all = λ a satisfies met.
       let within : Within (declared_sets m.variables) a = declared_within m.variables a satisfies.declared in
       absurd (subst (λ (d : List (ℤ × ℤ)). IsInSet d (number_at a empty.variable)) empty.empty (within.members empty.variable empty.within));
-  only = λ a alive within. true_is_false (AreDeclared m.variables a × path.MeetsAll [] a) alive;
+  only = λ a alive within. true_is_false (AreDeclared m.variables a × MeetsAll [] a) alive;
 }
 
 pub alive_root : (m : Instance) (states : List ℕ) (s : Stored) → s.doms ≡ declared_sets m.variables → AreOf m.constraints (declared_sets m.variables) → IsSettled m.constraints states s → IsAlive m states s
@@ -86,14 +84,14 @@ alive_settled m cs states after s t is alive run = alive_run m states after s t 
 
 pub covers_run : (m : Instance) (s t : Stored) (after : List ℕ) (ds : List Decision) → IsRun m.constraints s t after → Covers ds (spaced m s false) → Covers ds (spaced m t false)
 covers_run m s t after ds run covers = record {
-  all = λ a satisfies met. (refl, to_path t.doms a (run.correct a satisfies.constraints (from_path s.doms a (covers.all a satisfies met).1)));
-  only = λ a alive within. covers.only a refl (to_path s.doms a (within_before s.doms t.doms a run.narrower (from_path t.doms a within)));
+  all = λ a satisfies met. (refl, run.correct a satisfies.constraints (covers.all a satisfies met).1);
+  only = λ a alive within. covers.only a refl (within_before s.doms t.doms a run.narrower within);
 }
 
 pub covers_never : (m : Instance) (s t : Stored) (ds : List Decision) → AreNeverTrue m.constraints s.doms → Covers ds (spaced m s false) → Covers ds (spaced m t true)
 covers_never m s t ds never covers = record {
-  all = λ a satisfies met. absurd (never a satisfies.constraints (from_path s.doms a (covers.all a satisfies met).1));
-  only = λ a alive within. true_is_false (AreDeclared m.variables a × path.MeetsAll ds a) alive;
+  all = λ a satisfies met. absurd (never a satisfies.constraints (covers.all a satisfies met).1);
+  only = λ a alive within. true_is_false (AreDeclared m.variables a × MeetsAll ds a) alive;
 }
 
 some_size : (d : List (ℤ × ℤ)) → 0 < length d → 0 < set_size d
@@ -127,10 +125,9 @@ alone_of ds a all within = record {
 pub solved : (m : Instance) (after : List ℕ) (t : Stored) → IsAlive m after t → AllRest m.constraints t.doms → AllSingle t.doms → IsStatus status.Solved (spaced m t false)
 solved m after t alive rests all = (
   refl,
-  λ a inside.
-      let within : Within t.doms a = from_path t.doms a inside in
+  λ a within.
       let alone : Alone t.doms a = alone_of t.doms a all within in (
-        record { size = alone.size; members = alone.alone },
+        alone,
         all_of (IsTrueOf a) m.constraints (λ i c is. true_where_alone c t.doms a (alive.terms i c is).0 alone (rests i c is)),
       ),
 )

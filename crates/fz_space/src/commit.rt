@@ -18,7 +18,8 @@ use std::alloc::AllocError;
 /// # Errors
 /// `AllocError` where there is no memory; all is left as it was.
 pub fn take(store: &mut Store, failed: &mut bool, decision: Decision) -> Result<(), AllocError>
-    ensures alive { (m : Instance) (states : List ℕ) → (failed.old ≡ false → IsAlive m states store.old)
+    ensures alive { (m : Instance) (states : List ℕ)
+        → (failed.old ≡ false → IsAlive m states store.old)
         → failed.new ≡ false → IsAlive m states store.new }
     ensures front { (n : ℕ) → (failed.old ≡ false → FrontFixed n store.old.doms)
         → failed.new ≡ false → FrontFixed n store.new.doms }
@@ -91,7 +92,8 @@ fn keep_above(store: &mut Store, variable: u32, value: i32) -> Result<Change, Al
     requires { variable < length store.old.doms }
     ensures shrinks { Shrinks store.old store.new }
     ensures err { OnErr result (store.new ≡ store.old) }
-    ensures change { IfOk result (λ r. IsChangeAt r variable (λ x. value <ℤ x) store.old store.new) }
+    ensures change { IfOk result
+        (λ r. IsChangeAt r variable (λ x. value <ℤ x) store.old store.new) }
 {
     let greatest = greatest_at(store, variable);
     if greatest <= value {

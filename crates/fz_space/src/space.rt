@@ -104,7 +104,8 @@ impl fz_path::Space for Space {
         ensures model { self.new.model ≡ self.old.model }
         ensures covers { (ds : List Decision) → Covers ds self.old → Covers ds self.new }
         ensures answer { IfOk result (λ status. IsStatus status self.new) }
-        ensures lines { IfOk result (λ status. HaveLines status self.new.model.constraints self.new.doms) }
+        ensures lines { IfOk result
+            (λ status. HaveLines status self.new.model.constraints self.new.doms) }
         ensures stays { self.old.failed ≡ true → self.new.failed ≡ true }
     {
         rest(

@@ -24,7 +24,10 @@ impl<'a> Model for Tokens<'a> {
 
     ghost Value = { LexedText };
 
-    ghost view = { λ t. record { text = t.text.now; tokens = map (token_of t.text.now) t.tokens.items } };
+    ghost view = { λ t. record {
+      text = t.text.now;
+      tokens = map (token_of t.text.now) t.tokens.items;
+    } };
 
     ghost invariant = { λ t. IsWhole t.text.now t.tokens.items };
 }

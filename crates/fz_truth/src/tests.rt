@@ -22,7 +22,7 @@ type Row = (Builtin, &'static [Shown], bool);
 
 const GREATEST: i32 = 2_147_483_646;
 
-const OF_NUMBERS: [Row; 75] = [
+const OF_NUMBERS: [Row; 60] = [
     (Builtin::IntEq, &[Shown::One(3), Shown::One(3)], true),
     (Builtin::IntEq, &[Shown::One(3), Shown::One(-3)], false),
     (Builtin::IntEq, &[Shown::One(3)], false),
@@ -65,81 +65,6 @@ const OF_NUMBERS: [Row; 75] = [
         Builtin::IntAbs,
         &[Shown::One(-GREATEST), Shown::One(GREATEST)],
         true,
-    ),
-    (
-        Builtin::IntEqReif,
-        &[Shown::One(2), Shown::One(2), Shown::One(1)],
-        true,
-    ),
-    (
-        Builtin::IntEqReif,
-        &[Shown::One(2), Shown::One(2), Shown::One(0)],
-        false,
-    ),
-    (
-        Builtin::IntEqReif,
-        &[Shown::One(2), Shown::One(3), Shown::One(0)],
-        true,
-    ),
-    (
-        Builtin::IntNeReif,
-        &[Shown::One(2), Shown::One(3), Shown::One(1)],
-        true,
-    ),
-    (
-        Builtin::IntNeReif,
-        &[Shown::One(2), Shown::One(3), Shown::One(0)],
-        false,
-    ),
-    (
-        Builtin::IntLeReif,
-        &[Shown::One(2), Shown::One(2), Shown::One(1)],
-        true,
-    ),
-    (
-        Builtin::IntLeReif,
-        &[Shown::One(3), Shown::One(2), Shown::One(1)],
-        false,
-    ),
-    (
-        Builtin::IntLtReif,
-        &[Shown::One(2), Shown::One(2), Shown::One(0)],
-        true,
-    ),
-    (
-        Builtin::IntLtReif,
-        &[Shown::One(2), Shown::One(2), Shown::One(1)],
-        false,
-    ),
-    (
-        Builtin::BoolEqReif,
-        &[Shown::One(0), Shown::One(0), Shown::One(1)],
-        true,
-    ),
-    (
-        Builtin::BoolEqReif,
-        &[Shown::One(0), Shown::One(1), Shown::One(1)],
-        false,
-    ),
-    (
-        Builtin::BoolLeReif,
-        &[Shown::One(1), Shown::One(0), Shown::One(0)],
-        true,
-    ),
-    (
-        Builtin::BoolLeReif,
-        &[Shown::One(1), Shown::One(0), Shown::One(1)],
-        false,
-    ),
-    (
-        Builtin::BoolLtReif,
-        &[Shown::One(0), Shown::One(1), Shown::One(1)],
-        true,
-    ),
-    (
-        Builtin::BoolLtReif,
-        &[Shown::One(0), Shown::One(1), Shown::One(0)],
-        false,
     ),
     (
         Builtin::IntPlus,
@@ -340,67 +265,7 @@ const OF_NUMBERS: [Row; 75] = [
     ),
 ];
 
-const OF_LISTS: [Row; 64] = [
-    (
-        Builtin::IntLinEqReif,
-        &[
-            Shown::Numbers(&[2]),
-            Shown::Terms(&[5]),
-            Shown::One(10),
-            Shown::One(1),
-        ],
-        true,
-    ),
-    (
-        Builtin::IntLinEqReif,
-        &[
-            Shown::Numbers(&[2]),
-            Shown::Terms(&[5]),
-            Shown::One(10),
-            Shown::One(0),
-        ],
-        false,
-    ),
-    (
-        Builtin::IntLinNeReif,
-        &[
-            Shown::Numbers(&[2]),
-            Shown::Terms(&[5]),
-            Shown::One(9),
-            Shown::One(1),
-        ],
-        true,
-    ),
-    (
-        Builtin::IntLinNeReif,
-        &[
-            Shown::Numbers(&[2]),
-            Shown::Terms(&[5]),
-            Shown::One(9),
-            Shown::One(0),
-        ],
-        false,
-    ),
-    (
-        Builtin::IntLinLeReif,
-        &[
-            Shown::Numbers(&[2]),
-            Shown::Terms(&[5]),
-            Shown::One(9),
-            Shown::One(0),
-        ],
-        true,
-    ),
-    (
-        Builtin::IntLinLeReif,
-        &[
-            Shown::Numbers(&[2]),
-            Shown::Terms(&[5]),
-            Shown::One(9),
-            Shown::One(1),
-        ],
-        false,
-    ),
+const OF_LISTS: [Row; 56] = [
     (
         Builtin::ArrayIntMinimum,
         &[Shown::One(-2), Shown::Terms(&[4, -2, 0])],
@@ -547,16 +412,6 @@ const OF_LISTS: [Row; 64] = [
     (
         Builtin::BoolClause,
         &[Shown::Terms(&[]), Shown::Terms(&[])],
-        false,
-    ),
-    (
-        Builtin::BoolClauseReif,
-        &[Shown::Terms(&[0]), Shown::Terms(&[1]), Shown::One(0)],
-        true,
-    ),
-    (
-        Builtin::BoolClauseReif,
-        &[Shown::Terms(&[0]), Shown::Terms(&[1]), Shown::One(1)],
         false,
     ),
     (
@@ -715,6 +570,40 @@ const OF_LISTS: [Row; 64] = [
     (Builtin::IntEq, &[Shown::Terms(&[1]), Shown::One(1)], false),
 ];
 
+/// Reified forms without their last argument, which is to be 1 exactly where this says so.
+const REIFIED: [Row; 14] = [
+    (Builtin::IntEqReif, &[Shown::One(2), Shown::One(2)], true),
+    (Builtin::IntEqReif, &[Shown::One(2), Shown::One(3)], false),
+    (Builtin::IntNeReif, &[Shown::One(2), Shown::One(3)], true),
+    (Builtin::IntLeReif, &[Shown::One(2), Shown::One(2)], true),
+    (Builtin::IntLeReif, &[Shown::One(3), Shown::One(2)], false),
+    (Builtin::IntLtReif, &[Shown::One(2), Shown::One(2)], false),
+    (Builtin::BoolEqReif, &[Shown::One(0), Shown::One(0)], true),
+    (Builtin::BoolEqReif, &[Shown::One(0), Shown::One(1)], false),
+    (Builtin::BoolLeReif, &[Shown::One(1), Shown::One(0)], false),
+    (Builtin::BoolLtReif, &[Shown::One(0), Shown::One(1)], true),
+    (
+        Builtin::IntLinEqReif,
+        &[Shown::Numbers(&[2]), Shown::Terms(&[5]), Shown::One(10)],
+        true,
+    ),
+    (
+        Builtin::IntLinNeReif,
+        &[Shown::Numbers(&[2]), Shown::Terms(&[5]), Shown::One(9)],
+        true,
+    ),
+    (
+        Builtin::IntLinLeReif,
+        &[Shown::Numbers(&[2]), Shown::Terms(&[5]), Shown::One(9)],
+        false,
+    ),
+    (
+        Builtin::BoolClauseReif,
+        &[Shown::Terms(&[0]), Shown::Terms(&[1])],
+        false,
+    ),
+];
+
 fn terms(alloc: Global, numbers: &[i32]) -> Result<Vec<Term>, AllocError> {
     let mut terms = Vec::new(alloc);
     for number in numbers {
@@ -723,7 +612,7 @@ fn terms(alloc: Global, numbers: &[i32]) -> Result<Vec<Term>, AllocError> {
     Ok(terms)
 }
 
-fn constraint(alloc: Global, name: Builtin, shown: &[Shown]) -> Result<Constraint, AllocError> {
+fn arguments(alloc: Global, shown: &[Shown]) -> Result<Vec<Argument>, AllocError> {
     let mut arguments = Vec::new(alloc);
     for argument in shown {
         arguments.push(match argument {
@@ -732,7 +621,11 @@ fn constraint(alloc: Global, name: Builtin, shown: &[Shown]) -> Result<Constrain
             Shown::Terms(numbers) => Argument::Terms(terms(alloc, numbers)?),
         })?;
     }
-    Ok(Constraint::new(name, arguments))
+    Ok(arguments)
+}
+
+fn constraint(alloc: Global, name: Builtin, shown: &[Shown]) -> Result<Constraint, AllocError> {
+    Ok(Constraint::new(name, arguments(alloc, shown)?))
 }
 
 #[test]
@@ -749,6 +642,18 @@ fn constraints_over_lists(rt: HostRuntime) -> Result<(), Fail> {
     for (name, shown, expected) in OF_LISTS {
         let constraint = constraint(rt.alloc(), name, shown)?;
         assert_eq!(rt; (name, is_true(&constraint, &[])), (name, expected));
+    }
+    Ok(())
+}
+
+#[test]
+fn reified_constraints(rt: HostRuntime) -> Result<(), Fail> {
+    for (name, shown, expected) in REIFIED {
+        let mut arguments = arguments(rt.alloc(), shown)?;
+        arguments.push(Argument::One(Term::Var(0)))?;
+        let constraint = Constraint::new(name, arguments);
+        assert_eq!(rt; (name, is_true(&constraint, &[1])), (name, expected));
+        assert_eq!(rt; (name, is_true(&constraint, &[0])), (name, !expected));
     }
     Ok(())
 }
@@ -779,7 +684,8 @@ fn constraints_over_sets(rt: HostRuntime) -> Result<(), Fail> {
 fn division(alloc: Global) -> Result<Constraint, AllocError>
     ensures { IfOk result (λ c. c ≡ record {
       name = Builtin.IntDiv;
-      arguments = meaning.One (Term.Num (negsuc 6)) ∷ meaning.One (Term.Var 0) ∷ meaning.One (Term.Var 1) ∷ [];
+      arguments = meaning.One (Term.Num (negsuc 6)) ∷ meaning.One (Term.Var 0)
+          ∷ meaning.One (Term.Var 1) ∷ [];
     }) }
 {
     let mut arguments = Vec::new(alloc);

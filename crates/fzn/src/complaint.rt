@@ -66,7 +66,8 @@ fn shown_name(options: Option<&Options>) -> &str
 
 /// A line as `model.fzn:1:19: unknown name`.
 fn refusal_line(alloc: Global, name: &str, refusal: &Refusal) -> Result<String, AllocError>
-    ensures { IfOk result (λ line. string_bytes line ≡ complaints.refusal_line name.now refusal.now) }
+    ensures { IfOk result
+        (λ line. string_bytes line ≡ complaints.refusal_line name.now refusal.now) }
 {
     let mut number = Buffer::new();
     let mut text = String::from_str(alloc, name)?;

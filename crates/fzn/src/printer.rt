@@ -36,7 +36,8 @@ pub(crate) fn print_listing<S: Sink>(
     requires declared { AllByRecursion (AreDeclared model.now.variables) found.now }
     ensures taken { OnOk result (S.taken sink.new
         ≡ with_more (S.taken sink.old) (blocks model.now found.now ++ ending complete found.now)) }
-    ensures front { OnErr result (TakesFront (blocks model.now found.now ++ ending complete found.now)
+    ensures front { OnErr result
+        (TakesFront (blocks model.now found.now ++ ending complete found.now)
         (S.taken sink.old) (S.taken sink.new)) }
     ensures cause { HasStopCause (S.faults sink.old) (S.faults sink.new) result }
 {
@@ -52,8 +53,10 @@ fn put_ending<S: Sink>(
     complete: bool,
 ) -> Result<(), Stop>
     requires { S.faults sink.old < 2 ^ 64 - 1 }
-    ensures taken { OnOk result (S.taken sink.new ≡ with_more (S.taken sink.old) (ending complete found.now)) }
-    ensures front { OnErr result (TakesFront (ending complete found.now) (S.taken sink.old) (S.taken sink.new)) }
+    ensures taken { OnOk result
+        (S.taken sink.new ≡ with_more (S.taken sink.old) (ending complete found.now)) }
+    ensures front { OnErr result
+        (TakesFront (ending complete found.now) (S.taken sink.old) (S.taken sink.new)) }
     ensures cause { HasStopCause (S.faults sink.old) (S.faults sink.new) result }
 {
     if complete {
@@ -71,8 +74,10 @@ fn put_blocks<S: Sink>(
 ) -> Result<(), Stop>
     requires faults { S.faults sink.old < 2 ^ 64 - 1 }
     requires declared { AllByRecursion (AreDeclared model.now.variables) found.now }
-    ensures taken { OnOk result (S.taken sink.new ≡ with_more (S.taken sink.old) (blocks model.now found.now)) }
-    ensures front { OnErr result (TakesFront (blocks model.now found.now) (S.taken sink.old) (S.taken sink.new)) }
+    ensures taken { OnOk result
+        (S.taken sink.new ≡ with_more (S.taken sink.old) (blocks model.now found.now)) }
+    ensures front { OnErr result
+        (TakesFront (blocks model.now found.now) (S.taken sink.old) (S.taken sink.new)) }
     ensures cause { HasStopCause (S.faults sink.old) (S.faults sink.new) result }
 {
     for assignment in found {
@@ -89,8 +94,10 @@ fn put_block<S: Sink>(
 ) -> Result<(), Stop>
     requires faults { S.faults sink.old < 2 ^ 64 - 1 }
     requires declared { AreDeclared model.now.variables assignment.now }
-    ensures taken { OnOk result (S.taken sink.new ≡ with_more (S.taken sink.old) (block model.now assignment.now)) }
-    ensures front { OnErr result (TakesFront (block model.now assignment.now) (S.taken sink.old) (S.taken sink.new)) }
+    ensures taken { OnOk result
+        (S.taken sink.new ≡ with_more (S.taken sink.old) (block model.now assignment.now)) }
+    ensures front { OnErr result
+        (TakesFront (block model.now assignment.now) (S.taken sink.old) (S.taken sink.new)) }
     ensures cause { HasStopCause (S.faults sink.old) (S.faults sink.new) result }
 {
     match block(alloc, model, assignment) {
@@ -101,8 +108,10 @@ fn put_block<S: Sink>(
 
 fn put_closing<S: Sink>(alloc: Global, sink: &mut S, found: &[Assignment]) -> Result<(), Stop>
     requires { S.faults sink.old < 2 ^ 64 - 1 }
-    ensures taken { OnOk result (S.taken sink.new ≡ with_more (S.taken sink.old) (closing found.now)) }
-    ensures front { OnErr result (TakesFront (closing found.now) (S.taken sink.old) (S.taken sink.new)) }
+    ensures taken { OnOk result
+        (S.taken sink.new ≡ with_more (S.taken sink.old) (closing found.now)) }
+    ensures front { OnErr result
+        (TakesFront (closing found.now) (S.taken sink.old) (S.taken sink.new)) }
     ensures cause { HasStopCause (S.faults sink.old) (S.faults sink.new) result }
 {
     let ending = if found.is_empty() {
@@ -123,8 +132,10 @@ pub(crate) fn print_refusal<S: Sink>(
     refused: &Refusal,
 ) -> Result<(), Stop>
     requires { S.faults sink.old < 2 ^ 64 - 1 }
-    ensures taken { OnOk result (S.taken sink.new ≡ with_more (S.taken sink.old) (text_of refused.now)) }
-    ensures front { OnErr result (TakesFront (text_of refused.now) (S.taken sink.old) (S.taken sink.new)) }
+    ensures taken { OnOk result
+        (S.taken sink.new ≡ with_more (S.taken sink.old) (text_of refused.now)) }
+    ensures front { OnErr result
+        (TakesFront (text_of refused.now) (S.taken sink.old) (S.taken sink.new)) }
     ensures cause { HasStopCause (S.faults sink.old) (S.faults sink.new) result }
 {
     match refusal(alloc, refused) {

@@ -33,7 +33,8 @@ pub(crate) struct Cause {
 /// # Errors
 /// `AllocError` where there is no memory.
 pub fn model_of(alloc: Global, text: &[u8]) -> Result<Result<Model, Refusal>, AllocError>
-    ensures { IfOk result (λ reading. MatchResult reading (λ model. Reads text.now (Accepted model)) (IsRefusal text.now)) }
+    ensures { IfOk result (λ reading. MatchResult reading (λ model. Reads text.now (Accepted model))
+        (IsRefusal text.now)) }
 {
     if text.len() > TEXT_LIMIT {
         return Ok(Err(too_long(text)));
@@ -77,7 +78,8 @@ fn refusal_of(text: &[u8], cause: Cause) -> Refusal
 /// The model of a text that is accepted, or the cause of its refusal.
 fn read(alloc: Global, text: &[u8]) -> Result<Result<Model, Cause>, AllocError>
     requires short { length text.now ≤ TEXT_LIMIT }
-    ensures { IfOk result (λ reading. MatchResult reading (λ model. Reads text.now (Accepted model)) (IsCause text.now)) }
+    ensures { IfOk result (λ reading. MatchResult reading (λ model. Reads text.now (Accepted model))
+        (IsCause text.now)) }
 {
     match tokens(alloc, text) {
         Ok(Ok(tokens)) => read_tokens(alloc, &tokens),

@@ -68,10 +68,12 @@ pub fn fzn<T, R: Source, S: Sink, G: Gate>(
         (S.faults sink.old) (S.faults sink.new) }
 
     // Where no count rose, an accepted text is Done and a refused one is Refused, unless memory is refused.
-    ensures accepted { R.faults source.new ≡ R.faults source.old → S.faults sink.new ≡ S.faults sink.old
+    ensures accepted { R.faults source.new ≡ R.faults source.old
+        → S.faults sink.new ≡ S.faults sink.old
         → IfSome (options_of (map string_bytes words.now)) (λ o.
         AnswersAccepted result (R.texts source.old o.file)) }
-    ensures refused { R.faults source.new ≡ R.faults source.old → S.faults sink.new ≡ S.faults sink.old
+    ensures refused { R.faults source.new ≡ R.faults source.old
+        → S.faults sink.new ≡ S.faults sink.old
         → IfSome (options_of (map string_bytes words.now)) (λ o.
         AnswersRefused result (R.texts source.old o.file)) }
 {
@@ -209,7 +211,8 @@ fn show<S: Sink>(alloc: Global, book: &Book, options: &Options, sink: &mut S) ->
 /// Prints a refusal.
 fn refuse<S: Sink>(alloc: Global, refused: Refusal, sink: &mut S) -> Status
     requires { S.faults sink.old < 2 ^ 64 - 1 }
-    ensures printed { Answers result (Status.Refused refused) (text_of refused) (S.taken sink.old) (S.taken sink.new) }
+    ensures printed { Answers result (Status.Refused refused) (text_of refused)
+        (S.taken sink.old) (S.taken sink.new) }
     ensures flushed { IsFlushed result (S.taken sink.old) (S.taken sink.new) (S.flushed sink.new) }
     ensures cause { HasSinkCause result (S.faults sink.old) (S.faults sink.new) }
 {
@@ -224,7 +227,8 @@ fn refuse<S: Sink>(alloc: Global, refused: Refusal, sink: &mut S) -> Status
 fn flush<S: Sink>(sink: &mut S, status: Status) -> Status
     requires { S.faults sink.old < 2 ^ 64 - 1 }
     ensures taken { S.taken sink.new ≡ S.taken sink.old }
-    ensures cases { Flushes status result (S.taken sink.new) (S.flushed sink.new) (S.faults sink.old) (S.faults sink.new) }
+    ensures cases { Flushes status result (S.taken sink.new) (S.flushed sink.new)
+        (S.faults sink.old) (S.faults sink.new) }
 {
     match sink.flush() {
         Ok(()) => status,

@@ -13,9 +13,9 @@ use fz_book::Book;
 use fz_cmd::Options;
 use fz_model::assignment::Assignment;
 use fz_model::model::Model;
-use fz_spec::goal::Goal;
 use fz_path::{Path, Space};
 use fz_solo::finish;
+use fz_spec::goal::Goal;
 use std::alloc::{AllocError, Global};
 use std::sync::Arc;
 
@@ -45,8 +45,7 @@ pub(crate) fn search<S: Space>(
     let distance = options.commit_distance();
     let mode = mode_of(model.goal());
     let mut book = begin(alloc, model, mode)?;
-    let mut path: Path<S> =
-        Path::idle(alloc, model.clone()?, mode, distance, ADAPTIVE_DISTANCE)?;
+    let mut path: Path<S> = Path::idle(alloc, model.clone()?, mode, distance, ADAPTIVE_DISTANCE)?;
     finish(&mut book, &mut path, enough_for(model.goal(), options))?;
     Ok(book)
 }

@@ -1,10 +1,11 @@
 use Rattle.std.proofs.Common.{◌≡◌}
 use Rattle.std.specs.Prelude.{pos}
 use Rattle.fz_strength.specs.Domains.{term_set}
-use Rattle.fz_prop.proofs.Reifying.{TruthWith, LineWith}
-use Rattle.fz_prop.proofs.Settling.{IsAbout, settled_correct, settled_answer}
+use Rattle.fz_prop.specs.Truths.{TruthWith, LineWith, IsAbout}
+use Rattle.fz_prop.proofs.Settling.{settled_correct, settled_answer}
 use Rattle.fz_rel.specs.Truths.{TruthOf}
-use Rattle.fz_rel.proofs.Shown.{sides_of, shown_one, refuted_zero}
+use Rattle.fz_rel.specs.Reified.{sides_of}
+use Rattle.fz_rel.proofs.Shown.{shown_one, refuted_zero}
 use Rattle.fz_rel.proofs.reified.decide.Goals as goal
 
 about_one : (c : goal.After-settled) → IsAbout c.args.r (λ u. u ≡ pos 1) (TruthWith (TruthOf c.args.relation c.args.x c.args.y) c.args.r) (LineWith (sides_of c.args.relation c.args.x c.args.y) c.args.r) c.args.store.now.doms

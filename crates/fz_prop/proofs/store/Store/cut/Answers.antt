@@ -1,30 +1,28 @@
 use Rattle.std.proofs.Common.{◌≡◌, ◌<◌, ◌∙◌, [], length}
 use Rattle.std.specs.Prelude.{slice_set}
 use Rattle.fz_strength.specs.Domains.{dom_at}
-use Rattle.fz_dom.specs.declared.change.Change.TheVariants.{Changed}
 use Rattle.fz_prop.specs.Cuts.{Keeps}
 use Rattle.fz_prop.specs.Stores.{IsCut}
-use Rattle.fz_prop.proofs.Steps.{IsKeptStep, kept_step, same_at}
+use Rattle.fz_prop.proofs.Steps.{IsKeptChange, kept_change, same_at}
 use Rattle.fz_prop.proofs.store.Store.cut.Goals as goal
 
-stepped : (c : goal.After-mark)
-    → IsKeptStep c.self.inside.doms.items (slice_set c.self.inside.doms.items c.args.variable c.cut_one.new.dom) c.self.inside.marks.items c.mark.new.marks.items
-    c.self.inside.changed.items c.mark.new.changed.items c.self.inside.head c.args.variable (Keeps c.args.cut)
+stepped : (c : goal.After-note)
+    → IsKeptChange c.in_ok-change.change c.self.inside.doms.items (slice_set c.self.inside.doms.items c.args.variable c.cut_one.new.dom) c.self.inside.marks.items c.note.new.marks.items
+    c.self.inside.changed.items c.note.new.changed.items c.self.inside.head c.args.variable (Keeps c.args.cut)
 stepped c =
     let within : c.args.variable < length c.self.inside.doms.items = rw (← c.self.view_is) at c.requires in
     let at : c.index_mut.result.now ≡ dom_at c.self.inside.doms.items c.args.variable =
     c.index_mut.ensures.value ∙ same_at c.self.inside.doms.items c.args.variable c.index_mut.result.now [] within in
-    let cut : IsCut Changed c.in_ok-change.level (Keeps c.args.cut) (dom_at c.self.inside.doms.items c.args.variable) c.cut_one.new.dom =
-    rw (c.in-Changed.is, at) at c.in_ok-change.ensures.cut in
-    kept_step c.self.inside.doms.items c.self.inside.marks.items c.mark.new.marks.items c.self.inside.changed.items c.reserve.new.self.items c.mark.new.changed.items c.self.inside.head
-    c.args.variable c.in_ok-change.level c.cut_one.new.dom (Keeps c.args.cut) c.self.invariant.0 c.self.invariant.1 within cut.1 cut.0.0 cut.0.1 cut.0.2 c.cut_one.ensures.domain
-    c.reserve.ensures.items c.mark.ensures.marks c.mark.ensures.changed
+    let cut : IsCut c.in_ok-change.change c.in_ok-change.level (Keeps c.args.cut) (dom_at c.self.inside.doms.items c.args.variable) c.cut_one.new.dom =
+    rw at at c.in_ok-change.ensures.cut in
+    kept_change c.in_ok-change.change c.self.inside.doms.items c.self.inside.marks.items c.note.new.marks.items c.self.inside.changed.items c.reserve.new.self.items c.note.new.changed.items c.self.inside.head
+    c.args.variable c.in_ok-change.level c.cut_one.new.dom (Keeps c.args.cut) c.self.invariant.0 c.self.invariant.1 within cut c.cut_one.ensures.domain c.reserve.ensures.items c.note.ensures
 
-pub invariant_of-self-in-Changed : goal.invariant_of-self-in-Changed
-invariant_of-self-in-Changed c = ((stepped c).step.store, (stepped c).head)
+pub invariant_of-self-2 : goal.invariant_of-self-2
+invariant_of-self-2 c = ((stepped c).store, (stepped c).head)
 
-pub returns-in-Changed-clause-shrinks : goal.returns-in-Changed-clause-shrinks
-returns-in-Changed-clause-shrinks c = rw (← c.self.view_is) (stepped c).step.shrinks
+pub returns-clause-shrinks : goal.returns-clause-shrinks
+returns-clause-shrinks c = rw (← c.self.view_is) (stepped c).shrinks
 
-pub returns-in-Changed-clause-change : goal.returns-in-Changed-clause-change
-returns-in-Changed-clause-change c = rw (← c.self.view_is) (stepped c).step.narrows
+pub returns-clause-change : goal.returns-clause-change
+returns-clause-change c = rw (← c.self.view_is) (stepped c).is

@@ -3,8 +3,9 @@ use Rattle.fz_strength.specs.Events.{IsFixedIn, AreFixed}
 use Rattle.fz_strength.specs.Lines.{waits}
 use Rattle.fz_prop.specs.declared.answer.Answer.{Answer}
 use Rattle.fz_prop.specs.Answers.{IsAnswer, IsAnswerOf, IsDecided}
+use Rattle.fz_prop.specs.Truths.{TruthWith}
 use Rattle.fz_rel.specs.Truths.{TruthOf, AreSingle}
-use Rattle.fz_rel.specs.Reified.{ReifiedTruth, ReifiedLine}
+use Rattle.fz_rel.specs.Reified.{ReifiedLine}
 use Rattle.fz_rel.proofs.ReifiedNames.{reifying, reified_answer, reified_correct, reified_fixed}
 use Rattle.fz_rel.proofs.reified.ReifiedComparison.run.Goals as goal
 
@@ -19,7 +20,7 @@ returns-clause-answer c =
     let before = c.args.store.now.doms in
     let after = c.keep_reified.new.store.doms in
     rw (← c.self.view_is)
-    (IfOk-weaker c.keep_reified.result (λ (a : Answer). IsAnswerOf a (ReifiedTruth (TruthOf p.relation p.x p.y) p.r) (ReifiedLine p.relation p.x p.y p.r) before after)
+    (IfOk-weaker c.keep_reified.result (λ (a : Answer). IsAnswerOf a (TruthWith (TruthOf p.relation p.x p.y) p.r) (ReifiedLine p.relation p.x p.y p.r) before after)
     (λ (a : Answer). IsAnswer a (reifying p.name p.x p.y p.r) before after)
     (λ a h. reified_answer p.name p.relation p.x p.y p.r a before after c.self.invariant.relation_is h) c.keep_reified.ensures.answer)
 

@@ -19,15 +19,15 @@ returns-clause-covers c =
     let after = spaced m c.take.new.store c.take.new.failed in
     on_ok_weaker c.take.result
     (λ covers ds d at before.
-        let is = at_some c.args.choice.now c.args.alternative d c.decision.result at c.decision.ensures in
-        subst (λ (e : Decision). Covers (ds ++ e ∷ []) after) is (covers m ds (subst (λ (s : Spaced). Covers ds s) (sym c.self.view_is) before)))
+    let is = at_some c.args.choice.now c.args.alternative d c.decision.result at c.decision.ensures in
+    subst (λ (e : Decision). Covers (ds ++ e ∷ []) after) is (covers m ds (subst (λ (s : Spaced). Covers ds s) (sym c.self.view_is) before)))
     c.take.ensures.covers
 
 pub returns-clause-lacking : goal.returns-clause-lacking
 returns-clause-lacking c =
     on_ok_weaker c.take.result
     (λ lacking d at beyond.
-        let is = at_some c.args.choice.now c.args.alternative d c.decision.result at c.decision.ensures in
-        lacking_now (arc_value c.self.inside.plan).model c.self.inside.agenda c.self.inside.store c.self.inside.failed c.take.new.failed c.args.self.now c.decision.result d c.self.view_is is
-        (λ alive. (c.self.invariant alive).0) c.take.ensures.stays lacking beyond)
+    let is = at_some c.args.choice.now c.args.alternative d c.decision.result at c.decision.ensures in
+    lacking_now (arc_value c.self.inside.plan).model c.self.inside.agenda c.self.inside.store c.self.inside.failed c.take.new.failed c.args.self.now c.decision.result d c.self.view_is is
+    (λ alive. (c.self.invariant alive).0) c.take.ensures.stays lacking beyond)
     c.take.ensures.lacking
