@@ -48,7 +48,8 @@ impl Clause {
     /// `AllocError` where there is no memory.
     pub fn of(alloc: Global, constraint: &Constraint) -> Result<Option<Clause>, AllocError>
         ensures { IfOk result (λ o. MatchOption o
-            (clause_of constraint.now.name constraint.now.arguments ≡ None) (λ p. p ≡ constraint.now)) }
+            (clause_of constraint.now.name constraint.now.arguments ≡ None)
+            (λ p. p ≡ constraint.now)) }
     {
         let Some(parts) = parts_of(alloc, constraint.name(), constraint.arguments())? else {
             return Ok(None);

@@ -40,7 +40,8 @@ fn satisfy(alloc: Global, variables: Vec<Variable>) -> Model
 fn clause(alloc: Global) -> Result<Option<Clause>, AllocError>
     ensures below { IfOk result (λ o. IfSome o (λ p. AreBelow (waits p) 3)) }
     ensures suits { IfOk result (λ o. IfSome o (λ p. (ds : List (List (ℤ × ℤ)))
-        → IsTruth ds (Term.Var 0) → IsTruth ds (Term.Var 1) → IsTruth ds (Term.Var 2) → Suits p ds)) }
+        → IsTruth ds (Term.Var 0) → IsTruth ds (Term.Var 1) → IsTruth ds (Term.Var 2)
+        → Suits p ds)) }
 {
     let mut arguments = Vec::new(alloc);
     arguments.push(Argument::Terms(Vec::from_slice(alloc, &[Term::Var(0)])?))?;

@@ -489,7 +489,8 @@ fn summing(
 ) -> Result<Option<Kind>, AllocError>
     requires { IsKept (record {
       name = name;
-      arguments = meaning.Numbers factors.now ∷ meaning.Terms terms.now ∷ meaning.One (Num number) ∷ [];
+      arguments = meaning.Numbers factors.now ∷ meaning.Terms terms.now
+        ∷ meaning.One (Num number) ∷ [];
     }) }
     ensures { IfOk result (λ o. IsCompared o name
         (meaning.Numbers factors.now ∷ meaning.Terms terms.now ∷ meaning.One (Num number) ∷ [])) }
