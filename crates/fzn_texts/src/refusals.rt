@@ -5,7 +5,7 @@ use std::test::Fail;
 /// A text of one line, the column of its fault and the number of the code. The rows are in the order of the codes.
 type Row = (&'static str, u32, u8);
 
-const ROWS: [Row; 101] = [
+const ROWS: [Row; 104] = [
     ("var 1..2: x; #", 14, 1),
     ("$ solve satisfy;", 1, 1),
     ("var 1..2: x = - 1; solve satisfy;", 15, 1),
