@@ -156,6 +156,15 @@ pub sum_kept : (name : Builtin) (ks : List ℤ) (ts : List Term) (c : ℤ) (rela
     → IsKept (record { name = name; arguments = Numbers ks ∷ Terms ts ∷ One (Num c) ∷ [] }) → IsSum ks ts
 sum_kept name ks ts c relation is kept = sum_of kept.0 name ks ts c relation is kept.1
 
+-- a term and a list of numbers don't compare unless one argument stands behind them
+pub no_selection : (name : Builtin) (k : Term) (xs : List ℤ) (rest : List Argument) → (length rest ≡ 1 → ⊥) → IsComparing name (One k ∷ Numbers xs ∷ rest) → ⊥
+no_selection name k xs [] not h = h
+no_selection name k xs (x ∷ []) not h = not refl
+no_selection name k xs (One c ∷ y ∷ rest) not h = h
+no_selection name k xs (Numbers ns ∷ y ∷ rest) not h = h
+no_selection name k xs (Terms us ∷ y ∷ rest) not h = h
+no_selection name k xs (Set set ∷ y ∷ rest) not h = h
+
 -- a list of numbers and one of terms have no line of their own unless one argument stands behind them
 pub no_sum_line : (name : Builtin) (ks : List ℤ) (ts : List Term) (rest : List Argument) → (length rest ≡ 1 → ⊥) → IsComparing name (Numbers ks ∷ Terms ts ∷ rest) → ⊥
 no_sum_line name ks ts [] not h = h

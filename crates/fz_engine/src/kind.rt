@@ -288,9 +288,48 @@ fn of_numbers(
     ensures { IfOk result (λ o. IsCompared o name
         (meaning.One index ∷ meaning.Numbers numbers.now ∷ map argument_of rest.now)) }
 {
-    match (name, rest) {
-        (Builtin::ArrayIntElement | Builtin::ArrayBoolElement, [Argument::One(value)]) => {
-            Ok(Some(element(alloc, name, index, numbers, *value)?))
+    match rest {
+        [] => Ok(None),
+        [last] => of_element(alloc, name, index, numbers, last),
+        _ => Ok(None),
+    }
+}
+
+/// The same where one argument stands behind the two.
+fn of_element(
+    alloc: Global,
+    name: Builtin,
+    index: Term,
+    numbers: &[i32],
+    last: &Argument,
+) -> Result<Option<Kind>, AllocError>
+    requires index { FitsTerm index }
+    requires last { HaveLimits (argument_of last.now ∷ []) }
+    ensures { IfOk result (λ o. IsCompared o name
+        (meaning.One index ∷ meaning.Numbers numbers.now ∷ argument_of last.now ∷ [])) }
+{
+    match last {
+        Argument::One(value) => of_value(alloc, name, index, numbers, *value),
+        _ => Ok(None),
+    }
+}
+
+/// The propagator of a constraint that compares a term with an element of a list of numbers.
+fn of_value(
+    alloc: Global,
+    name: Builtin,
+    index: Term,
+    numbers: &[i32],
+    value: Term,
+) -> Result<Option<Kind>, AllocError>
+    requires index { FitsTerm index }
+    requires value { FitsTerm value }
+    ensures { IfOk result (λ o. IsCompared o name
+        (meaning.One index ∷ meaning.Numbers numbers.now ∷ meaning.One value ∷ [])) }
+{
+    match name {
+        Builtin::ArrayIntElement | Builtin::ArrayBoolElement => {
+            Ok(Some(element(alloc, name, index, numbers, value)?))
         }
         _ => Ok(None),
     }

@@ -1,0 +1,10 @@
+use Rattle.std.proofs.Common.{map, arith}
+use Rattle.std.proofs.lemmas.List.{length-map}
+use Rattle.fz_model.specs.Arguments.{argument_of}
+use Rattle.fz_engine.proofs.Knowing.{no_selection}
+use Rattle.fz_engine.proofs.kind.of_numbers.Goals as goal
+
+pub returns-in_default : goal.returns-in_default
+returns-in_default c =
+    let size = length-map c.args.rest.now argument_of in
+    no_selection c.args.name c.args.index c.args.numbers.now (map argument_of c.args.rest.now) (λ e. omega (arith, e, size, c.in_default.len_at_least))
