@@ -1,8 +1,8 @@
 -- What the ends of two terms show of a relation.
 use Rattle.std.proofs.Common.{◌≡◌, List, refl, sym, ap, subst, ◌∙◌, inl, inr, arith, length}
 use Rattle.std.specs.Prelude.{ℤ, pos, ◌≤ℤ◌}
-use Rattle.std.proofs.lemmas.Int.{ints, by_lt_z}
-use Rattle.fz_sets.specs.Sets.{IsInSet, IsInRange}
+use Rattle.std.proofs.lemmas.Int.{ints}
+use Rattle.fz_sets.specs.Sets.{IsInSet}
 use Rattle.fz_dom.specs.Shape.{least, greatest}
 use Rattle.fz_dom.proofs.Ranges.{least_member, greatest_member}
 use Rattle.fz_spec.specs.declared.term.Term.{Term}
@@ -17,7 +17,7 @@ use Rattle.fz_strength.proofs.Truths.{in_single}
 use Rattle.fz_prop.specs.Stores.{IsTermOf}
 use Rattle.fz_prop.specs.Truths.{HasRanges, AreSides, TruthWith, LineWith, IsAbout}
 use Rattle.fz_prop.proofs.Filled.{term_ranges, narrower_ranges, one_left}
-use Rattle.fz_prop.proofs.Reifying.{shown_about, refuted_about}
+use Rattle.fz_prop.proofs.Reifying.{shown_about, refuted_about, zero_of}
 use Rattle.fz_prop.proofs.TermChanges.{term_within, narrower_term}
 use Rattle.fz_rel.specs.Truths.{TruthOf}
 use Rattle.fz_rel.specs.Reified.{sides_of}
@@ -186,12 +186,6 @@ refuted_zero relation x y r ds is_x is_y is_r truth filled refuted =
     (part_of (term_set ds y) (term_set es y) has_y in_y (narrower_term ds es y narrower)) refuted))
 
 -- ---- a Boolean that is fixed
-
-zero_of : (x : ℤ) → IsInRange (pos 0, pos 1) x → (x ≡ pos 1 → ⊥) → x ≡ pos 0
-zero_of x truth not =
-    let low = truth.0 in
-    let high = truth.1 in
-    by_lt_z x (pos 1) (λ below. omega (arith, ints, low, below)) (λ above. absurd (not (omega (arith, ints, high, above))))
 
 pub zero_left : (ds : List (List (ℤ × ℤ))) (r : Term) (v : ℤ) → IsTruth ds r → IsOnly (term_set ds r) v → (v ≡ pos 1 → ⊥) → IsOnly (term_set ds r) (pos 0)
 zero_left ds r v truth only not = subst (IsOnly (term_set ds r)) (zero_of v (truth v (rw only (in_single v v refl))) not) only
