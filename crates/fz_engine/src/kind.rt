@@ -529,7 +529,7 @@ fn summing(
     requires { IsKept (record {
       name = name;
       arguments = meaning.Numbers factors.now ∷ meaning.Terms terms.now
-        ∷ meaning.One (Num number) ∷ [];
+          ∷ meaning.One (Num number) ∷ [];
     }) }
     ensures { IfOk result (λ o. IsCompared o name
         (meaning.Numbers factors.now ∷ meaning.Terms terms.now ∷ meaning.One (Num number) ∷ [])) }

@@ -3,8 +3,8 @@ use crate::models::{book, path, read};
 use fz_account::Account;
 use fz_book::{Book, Taken};
 use fz_path::{Path, Start};
-use fz_space::Space;
 use fz_solo::finish;
+use fz_space::Space;
 use std::alloc::AllocError;
 
 /// What becomes of an account.

@@ -45,5 +45,9 @@ fn two_that_differ(rt: &HostRuntime) -> Result<(), AllocError> {
 
 pub fn all(rt: &HostRuntime) -> Result<(), AllocError> {
     two_that_differ(rt)?;
-    show(rt, "an empty domain", &mut root(rt, "var 3..1: x; solve satisfy;")?)
+    show(
+        rt,
+        "an empty domain",
+        &mut root(rt, "var 3..1: x; solve satisfy;")?,
+    )
 }

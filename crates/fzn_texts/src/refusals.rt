@@ -174,11 +174,7 @@ const ROWS: [Row; 104] = [
     ("solve minimize 1.5;", 16, 9),
     ("solve maximize x;", 16, 5),
     ("solve minimize true;", 16, 6),
-    (
-        "array [1..1] of var int: a = [1]; solve minimize a;",
-        50,
-        6,
-    ),
+    ("array [1..1] of var int: a = [1]; solve minimize a;", 50, 6),
     (
         "var 1..2: x; solve :: int_search([x],input_order,indomain_min) maximize y;",
         73,
