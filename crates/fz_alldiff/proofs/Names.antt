@@ -17,7 +17,8 @@ use Rattle.fz_strength.proofs.Differences.{difference_line, difference_truth, di
 use Rattle.fz_prop.specs.declared.answer.Answer.{Answer}
 use Rattle.fz_prop.specs.Answers.{IsAnswer, IsAnswerOf, IsCorrectOf}
 use Rattle.fz_prop.specs.Stores.{IsTermOf}
-use Rattle.fz_prop.proofs.Answering.{IsSame, answer_of, correct_of}
+use Rattle.fz_prop.specs.Truths.{IsSame}
+use Rattle.fz_prop.proofs.Answering.{answer_of, correct_of}
 use Rattle.fz_alldiff.specs.Differing.{IsDifferent, variable_of, variables_of}
 
 -- the constraint of a name over terms

@@ -13,7 +13,7 @@ use Rattle.fz_strength.specs.Domains.{term_set, AreDomains, Within, IsNarrower}
 use Rattle.fz_strength.specs.Events.{IsOnly, IsFixedIn, AllFixed}
 use Rattle.fz_strength.proofs.Differences.{different}
 use Rattle.fz_strength.proofs.Lists.{all_at}
-use Rattle.fz_strength.proofs.Terms.{AreSingle}
+use Rattle.fz_strength.specs.Events.{AreSingle}
 use Rattle.fz_prop.specs.declared.answer.Answer.{Answer}
 use Rattle.fz_prop.specs.declared.answer.Answer.TheVariants.{Fix, NoFix, Subsumed, Failed}
 use Rattle.fz_prop.specs.Answers.{IsAnswerOf, IsCorrectOf, IsDecided}

@@ -13,7 +13,7 @@ use Rattle.fz_strength.proofs.Clauses.{only_still, all_with, all_at, apart}
 use Rattle.fz_prop.specs.declared.answer.Answer.TheVariants.{Subsumed, Failed}
 use Rattle.fz_prop.specs.Answers.{IsAnswerOf}
 use Rattle.fz_prop.proofs.Filled.{narrower_ranges, one_left}
-use Rattle.fz_prop.proofs.Settling.{IsAbout}
+use Rattle.fz_prop.specs.Truths.{IsAbout}
 use Rattle.fz_bool.specs.Looks.{IsOpen, IsLiteralOf, AreLiteralsOf, IsLastOf, HasTwoOpen, IsTruthAmong}
 use Rattle.fz_bool.specs.declared.literals.State.TheVariants.{Open}
 use Rattle.fz_bool.specs.Clausal.{TruthOf, LineOf, AreMadeFalse, AreFalseIn, AreFixedLiterals}

@@ -15,8 +15,8 @@ use Rattle.fz_strength.specs.Domains.{AreDomains, Within, IsNarrower}
 use Rattle.fz_strength.specs.Events.{IsFixedIn, Wait, waits_for, AreBelow, AreFixed}
 use Rattle.fz_strength.specs.Lines.{terms_among, waits, waits_of, Rests, RestsOf}
 use Rattle.fz_strength.specs.Promises.{IsCorrect, IsTruth, Suits, truths_of}
-use Rattle.fz_strength.specs.Clauses.{Clause, clause_of, clause_terms, positive, negative, clause, disjunction, conjunction, MakesTrue, MakesFalse, IsClauseLine}
-use Rattle.fz_strength.proofs.Clauses.{clause_all, clause_truth, AllTruth, some_or_none, same_or_not, apart, all_with, all_unmap}
+use Rattle.fz_strength.specs.Clauses.{Clause, clause_of, clause_terms, positive, negative, clause, disjunction, conjunction, MakesTrue, MakesFalse, IsClauseLine, AllTruth}
+use Rattle.fz_strength.proofs.Clauses.{clause_all, clause_truth, some_or_none, same_or_not, apart, all_with, all_unmap}
 use Rattle.fz_strength.specs.Clauses.{true_number}
 use Rattle.fz_prop.specs.declared.answer.Answer.{Answer}
 use Rattle.fz_prop.specs.Answers.{IsAnswer, IsAnswerOf, IsCorrectOf}

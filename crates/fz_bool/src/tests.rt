@@ -1,5 +1,5 @@
 //! Runs on what is left of three Booleans, worked out by hand.
-ghost use Rattle.std.specs.Prelude.{◌≤◌, ◌<◌, ℕ, ℤ, List, length, IfOk, IfSome, IsTrue};
+ghost use Rattle.std.specs.Prelude.{◌≤◌, ◌<◌, ℤ, List, [], ◌∷◌, length, IfOk, IfSome, IsTrue};
 ghost use Rattle.std.specs.List.{AllByRecursion};
 ghost use Rattle.fz_model.specs.Kept.{IsVariable};
 ghost use Rattle.fz_strength.specs.Events.{AreBelow};
@@ -40,8 +40,7 @@ fn satisfy(alloc: Global, variables: Vec<Variable>) -> Model
 fn clause(alloc: Global) -> Result<Option<Clause>, AllocError>
     ensures below { IfOk result (λ o. IfSome o (λ p. AreBelow (waits p) 3)) }
     ensures suits { IfOk result (λ o. IfSome o (λ p. (ds : List (List (ℤ × ℤ)))
-        → IsTruth ds (Term.Var 0) → IsTruth ds (Term.Var 1) → IsTruth ds (Term.Var 2)
-        → Suits p ds)) }
+        → AllByRecursion (IsTruth ds) (Term.Var 2 ∷ Term.Var 0 ∷ Term.Var 1 ∷ []) → Suits p ds)) }
 {
     let mut arguments = Vec::new(alloc);
     arguments.push(Argument::Terms(Vec::from_slice(alloc, &[Term::Var(0)])?))?;
@@ -52,10 +51,7 @@ fn clause(alloc: Global) -> Result<Option<Clause>, AllocError>
 
 /// Runs a copy of that clause.
 fn run(alloc: Global, store: &mut Store) -> Result<Option<Answer>, AllocError> {
-    if store.doms().len() != 3 {
-        return Ok(None);
-    }
-    if !is_truth(store, 0) || !is_truth(store, 1) || !is_truth(store, 2) {
+    if store.doms().len() != 3 || !are_truths(store) {
         return Ok(None);
     }
     let Some(first) = clause(alloc)? else {
@@ -63,6 +59,15 @@ fn run(alloc: Global, store: &mut Store) -> Result<Option<Answer>, AllocError> {
     };
     let mut copy = first.copy()?;
     Ok(Some(copy.propagate(store)?))
+}
+
+/// Whether only 0 and 1 are left of the three variables.
+fn are_truths(store: &Store) -> bool
+    requires { 2 < length store.now.doms }
+    ensures { IsTrue result → AllByRecursion (IsTruth store.now.doms)
+        (Term.Var 2 ∷ Term.Var 0 ∷ Term.Var 1 ∷ []) }
+{
+    is_truth(store, 2) && is_truth(store, 0) && is_truth(store, 1)
 }
 
 /// Whether only 0 and 1 are left of a variable.

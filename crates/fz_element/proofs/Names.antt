@@ -18,7 +18,8 @@ use Rattle.fz_strength.proofs.Lists.{all_left, all_right}
 use Rattle.fz_prop.specs.declared.answer.Answer.{Answer}
 use Rattle.fz_prop.specs.Answers.{IsAnswer, IsAnswerOf, IsCorrectOf}
 use Rattle.fz_prop.specs.Stores.{IsTermOf}
-use Rattle.fz_prop.proofs.Answering.{IsSame, answer_of, correct_of}
+use Rattle.fz_prop.specs.Truths.{IsSame}
+use Rattle.fz_prop.proofs.Answering.{answer_of, correct_of}
 use Rattle.fz_rel.specs.Comparisons.{variables_of}
 use Rattle.fz_rel.specs.Truths.{AreSingle}
 use Rattle.fz_rel.proofs.Waiting.{term_of, single_of}

@@ -19,7 +19,7 @@ use Rattle.fz_strength.specs.declared.event.Event.TheVariants.{Fixed}
 use Rattle.fz_strength.specs.Domains.{dom_at, term_set, AreDomains, IsNarrower}
 use Rattle.fz_strength.specs.Events.{IsOnly, IsQuiet}
 use Rattle.fz_strength.specs.Lines.{terms_among}
-use Rattle.fz_strength.specs.Clauses.{Clause, positive, negative, true_number, false_number, disjunction, conjunction, clause, clause_of, MakesTrue, MakesFalse, ClauseTruth, IsTrueIn, IsFalseIn, IsUntrueIn, IsClauseLine}
+use Rattle.fz_strength.specs.Clauses.{Clause, positive, negative, true_number, false_number, disjunction, conjunction, clause, clause_of, MakesTrue, MakesFalse, ClauseTruth, IsTrueIn, IsFalseIn, IsUntrueIn, IsClauseLine, AllTruth}
 use Rattle.fz_strength.proofs.Lists.{all_left, all_right, all_both}
 use Rattle.fz_strength.proofs.Terms.{quiet_self, in_single, is_single}
 
@@ -147,10 +147,6 @@ clause_kept c ds es domains narrower calm line =
 -- an assignment whose numbers alone are left
 abbrev IsAlone : List (List (ℤ × ℤ)) → List ℤ → Term → Type 0
 IsAlone ds a t = IsOnly (term_set ds t) (term_value a t)
-
--- the result is false exactly where all literals are
-abbrev pub AllTruth : Clause → List ℤ → Type 0
-AllTruth c a = MakesFalse a c.result ↔ AllByRecursion (MakesFalse a) c.literals
 
 only_number : (d : List (ℤ × ℤ)) (x y : ℤ) → IsOnly d x → IsOnly d y → x ≡ y
 only_number d x y of_x of_y = ap least (sym of_x ∙ of_y)

@@ -11,11 +11,11 @@ use Rattle.fz_spec.specs.Constraints.{Terms, term_value, term_values}
 use Rattle.fz_spec.specs.Truth.{AreDifferent, HoldsOfList}
 use Rattle.fz_strength.specs.declared.event.Event.TheVariants.{Fixed}
 use Rattle.fz_strength.specs.Domains.{term_set, Alone, IsNarrower}
-use Rattle.fz_strength.specs.Events.{IsQuiet, waits_for, AreQuiet, AreBelow}
+use Rattle.fz_strength.specs.Events.{IsQuiet, waits_for, AreQuiet, AreBelow, AreSingle}
 use Rattle.fz_strength.specs.Differences.{IsDifference, AreApart, RestsOfDifferences}
 use Rattle.fz_strength.specs.Lines.{waits_of}
 use Rattle.fz_strength.proofs.Lists.{all_left, all_at}
-use Rattle.fz_strength.proofs.Terms.{AreSingle, in_single, term_narrower, terms_quiet, terms_alone}
+use Rattle.fz_strength.proofs.Terms.{in_single, term_narrower, terms_quiet, terms_alone}
 
 -- ---- it lasts
 

@@ -14,11 +14,11 @@ use Rattle.fz_strength.specs.declared.relation.Relation.TheVariants.{Equal, NotE
 use Rattle.fz_strength.specs.declared.event.Event.{Event}
 use Rattle.fz_strength.specs.declared.event.Event.TheVariants.{Bound, Fixed}
 use Rattle.fz_strength.specs.Domains.{dom_at, term_set, Within, Alone, IsNarrower, number_at}
-use Rattle.fz_strength.specs.Events.{IsQuiet, AllFixed, Wait, waits_for, AreQuiet, AreBelow}
+use Rattle.fz_strength.specs.Events.{IsQuiet, AllFixed, Wait, waits_for, AreQuiet, AreBelow, AreSingle}
 use Rattle.fz_strength.specs.Relations.{Relates}
 use Rattle.fz_strength.specs.Sums.{sum_relation_of, least_product, greatest_product, least_sum, greatest_sum, AreNear, RestsAtMost, negated, AllButOneFixed, RestsApart, RestsSum, sum_event_of}
 use Rattle.fz_strength.specs.Lines.{RestsOfSum, waits_of_sum}
-use Rattle.fz_strength.proofs.Terms.{AreQuietAt, terms_quiet, fixed_before, all_fixed_before, AreSingle, terms_alone, all_fixed_alone, within_alone, within_before, single}
+use Rattle.fz_strength.proofs.Terms.{AreQuietAt, terms_quiet, fixed_before, all_fixed_before, terms_alone, all_fixed_alone, within_alone, within_before, single}
 
 -- ---- the same ends give the same sums
 

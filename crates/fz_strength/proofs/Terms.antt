@@ -10,7 +10,7 @@ use Rattle.fz_spec.specs.Constraints.{term_value}
 use Rattle.fz_strength.specs.declared.event.Event.{Event}
 use Rattle.fz_strength.specs.declared.event.Event.TheVariants.{Any, Bound, Fixed}
 use Rattle.fz_strength.specs.Domains.{dom_at, term_set, Within, Alone, IsNarrower, number_at}
-use Rattle.fz_strength.specs.Events.{IsQuiet, IsOnly, IsFixedIn, AllFixed, Wait, wait_for, waits_for, AreQuiet, AreBelow}
+use Rattle.fz_strength.specs.Events.{IsQuiet, IsOnly, IsFixedIn, AllFixed, Wait, wait_for, waits_for, AreQuiet, AreBelow, AreSingle}
 use Rattle.fz_strength.proofs.Lists.{all_left, all_right}
 
 pub quiet_self : (event : Event) (d : List (ℤ × ℤ)) → IsQuiet event d d
@@ -69,9 +69,6 @@ within_before ds es a narrower within = record {
 }
 
 -- ---- where one number is left
-
-abbrev pub AreSingle : List (List (ℤ × ℤ)) → List ℤ → List Term → Type 0
-AreSingle ds a ts = AllByRecursion (λ (t : Term). IsOnly (term_set ds t) (term_value a t)) ts
 
 pub terms_alone : (event : Event) (ts : List Term) (ds : List (List (ℤ × ℤ))) (a : List ℤ) → AreBelow (waits_for event ts) (length ds) → Alone ds a → AreSingle ds a ts
 terms_alone event [] ds a below alone = tt

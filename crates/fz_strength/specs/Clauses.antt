@@ -91,3 +91,7 @@ pub record IsClauseLine (c : Clause) (ds : List (List (ℤ × ℤ))) : Type 0 wh
   pub all_false : IsUntrueIn ds c.result → AllByRecursion (IsFalseIn ds) c.literals
   pub true_if_some : SomeByRecursion (IsTrueIn ds) c.literals → IsTrueIn ds c.result
   pub false_if_none : AllByRecursion (IsUntrueIn ds) c.literals → IsFalseIn ds c.result
+
+-- the result is false exactly where all literals are
+abbrev pub AllTruth : Clause → List ℤ → Type 0
+AllTruth c a = MakesFalse a c.result ↔ AllByRecursion (MakesFalse a) c.literals

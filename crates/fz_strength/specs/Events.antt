@@ -4,6 +4,7 @@ use Rattle.std.specs.List.{AllByRecursion}
 use Rattle.fz_dom.specs.Shape.{least, greatest}
 use Rattle.fz_spec.specs.declared.term.Term.{Term}
 use Rattle.fz_spec.specs.declared.term.Term.TheVariants.{Num, Var}
+use Rattle.fz_spec.specs.Constraints.{term_value}
 use Rattle.fz_strength.specs.declared.event.Event.{Event}
 use Rattle.fz_strength.specs.declared.event.Event.TheVariants.{Any, Bound, Fixed}
 use Rattle.fz_strength.specs.Domains.{dom_at, term_set}
@@ -23,6 +24,10 @@ IsFixedIn ds t = (x : ℤ) × IsOnly (term_set ds t) x
 
 abbrev pub AllFixed : List (List (ℤ × ℤ)) → List Term → Type 0
 AllFixed ds ts = AllByRecursion (IsFixedIn ds) ts
+
+-- one number is left of each of these, that of the assignment
+abbrev pub AreSingle : List (List (ℤ × ℤ)) → List ℤ → List Term → Type 0
+AreSingle ds a ts = AllByRecursion (λ (t : Term). IsOnly (term_set ds t) (term_value a t)) ts
 
 -- from d to e there was no change of this kind
 abbrev pub IsQuiet : Event → List (ℤ × ℤ) → List (ℤ × ℤ) → Type 0

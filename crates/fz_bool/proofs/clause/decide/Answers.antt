@@ -1,6 +1,7 @@
 use Rattle.std.proofs.Common.{◌≡◌}
 use Rattle.fz_strength.specs.Clauses.{true_number, false_number}
-use Rattle.fz_prop.proofs.Settling.{IsAbout, settled_correct, settled_answer}
+use Rattle.fz_prop.specs.Truths.{IsAbout}
+use Rattle.fz_prop.proofs.Settling.{settled_correct, settled_answer}
 use Rattle.fz_bool.specs.Clausal.{TruthOf, LineOf}
 use Rattle.fz_bool.proofs.Clausal.{true_about, false_about, open_line}
 use Rattle.fz_bool.proofs.clause.decide.Goals as goal

@@ -1,5 +1,6 @@
 use Rattle.std.proofs.Common.{◌≡◌}
-use Rattle.fz_prop.proofs.Settling.{IsAbout, settled_correct, settled_answer}
+use Rattle.fz_prop.specs.Truths.{IsAbout}
+use Rattle.fz_prop.proofs.Settling.{settled_correct, settled_answer}
 use Rattle.fz_bool.specs.Looks.{IsLiteralOf}
 use Rattle.fz_strength.specs.Clauses.{true_number}
 use Rattle.fz_strength.proofs.Clauses.{all_at}
