@@ -17,7 +17,7 @@ returns-in-Wiped-clause-failed c = λ left.
     subst (λ (n : ℤ). IsRemoving c.args.terms.now c.args.done.now n c.args.place c.args.store.now c.loop-other.store c.loop-other.other) (to_z-of_z fits) c.loop-other.invariant in
     let y = get_or c.args.terms.now c.loop-other.other (Num (pos 0)) in
     never_different c.args.terms.now c.args.done.now c.args.value c.args.place c.args.store.now c.loop-other.store c.remove.new.store c.loop-other.other y
-    c.requires.terms c.requires.only (λ same. c.if-other-place.false (sym same)) (slice_get-get_or c.args.terms.now c.loop-other.other (Num (pos 0)) c.loop-other-test.true)
+    c.requires.terms c.requires.only (λ same. let test = c.if-other-place.false in omega (arith, test, same)) (slice_get-get_or c.args.terms.now c.loop-other.other (Num (pos 0)) c.loop-other-test.true)
     (subst (λ (n : ℤ). IsTermChange Wiped y (λ x. x ≢ n) c.loop-other.store c.remove.new.store) (to_z-of_z fits) (rw c.in-Wiped.is at c.in_ok-remove.ensures.change))
     so_far
 
@@ -29,7 +29,7 @@ loop-other-preserved c =
     let y = get_or c.args.terms.now c.loop-other.other (Num (pos 0)) in
     subst (λ (n : ℤ). IsRemoving c.args.terms.now c.args.done.now n c.args.place c.args.store.now c.remove.new.store (c.loop-other.other + 1)) (sym (to_z-of_z fits))
     (removing_more c.in_ok-remove.field-0 c.args.terms.now c.args.done.now c.args.value c.args.place c.args.store.now c.loop-other.store c.remove.new.store c.loop-other.other y
-    c.requires.terms c.requires.only (λ same. c.if-other-place.false (sym same)) (slice_get-get_or c.args.terms.now c.loop-other.other (Num (pos 0)) c.loop-other-test.true)
+    c.requires.terms c.requires.only (λ same. let test = c.if-other-place.false in omega (arith, test, same)) (slice_get-get_or c.args.terms.now c.loop-other.other (Num (pos 0)) c.loop-other-test.true)
     (subst (λ (n : ℤ). IsTermChange c.in_ok-remove.field-0 y (λ x. x ≢ n) c.loop-other.store c.remove.new.store) (to_z-of_z fits) c.in_ok-remove.ensures.change)
     c.in_default.not-Wiped c.in_ok-remove.ensures.shrinks so_far)
 
