@@ -57,8 +57,16 @@ fn run(alloc: Global, store: &mut Store) -> Result<Option<Answer>, AllocError> {
     let Some(first) = clause(alloc)? else {
         return Ok(None);
     };
-    let mut copy = first.copy()?;
-    Ok(Some(copy.propagate(store)?))
+    Ok(Some(run_copy(&first, store)?))
+}
+
+/// Runs a copy of a clause.
+fn run_copy(clause: &Clause, store: &mut Store) -> Result<Answer, AllocError>
+    requires below { AreBelow (waits clause.now) (length store.old.doms) }
+    requires suits { Suits clause.now store.old.doms }
+{
+    let mut copy = clause.copy()?;
+    copy.propagate(store)
 }
 
 /// Whether only 0 and 1 are left of the three variables.
