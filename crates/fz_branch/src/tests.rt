@@ -83,6 +83,6 @@ fn where_all_are_fixed_nothing_is_chosen(rt: HostRuntime) -> Result<(), Fail> {
     let mut fixed = Vec::new(alloc);
     fixed.push(Dom::from_ranges(alloc, &[(5, 5)])?)?;
     fixed.push(Dom::from_ranges(alloc, &[(2, 2)])?)?;
-    assert!(rt; choose_among(&plan, &fixed, 1).is_none());
+    assert!(rt; choose_among(&plan, &fixed, 0).is_none());
     Ok(())
 }
