@@ -28,8 +28,9 @@ use Rattle.fz_check.specs.Fits.{Sound, ModelsFit}
 use Rattle.fz_check.proofs.Counting.{nil_parts, variables_in, constraints_in, elements_in, Few, few, elements_both, constraints_both, variables_both, among_counted, array_counted, bound_counted, arguments_few}
 use Rattle.fz_check.proofs.Keeps.{no_places, variable_typed, array_keeps, array_placed}
 use Rattle.fz_check.proofs.ItemFits.{variable_fits, entered, parameter_fits, listing, array_entered, value_fits, elements_fit, call_fits, scalar_shown, array_shown}
-use Rattle.fz_check.proofs.SearchFits.{both_all, search_fits}
+use Rattle.fz_check.proofs.SearchFits.{search_fits}
 use Rattle.fz_check.proofs.TermFits.{term_fits}
+use Rattle.fz_sets.proofs.Lists.{all_both}
 
 -- what an item makes
 record Making (vs : List instance.Variable) (s : Scope) (item : Item) : Type 0 where
@@ -170,9 +171,9 @@ all_made vs front s n (item ∷ items) solve is count sound h e =
     let rest = all_made vs (front ++ variables_of s item) (behind s item) (all_counted n (additions item)) items solve (is ∙ sym (append_assoc front (variables_of s item) others))
     (length-append front (variables_of s item) ∙ omega (arith, count, here.count)) here.sound h.1 p.1 in
     record {
-      sets = both_all IsVariable (variables_of s item) others here.sets rest.sets;
-      constrained = both_all (IsConstraint vs) (constraints_of s item) (made constraints_of (behind s item) items) here.constrained rest.constrained;
-      shown = both_all (IsOutput vs) (outputs_of s item) (made outputs_of (behind s item) items) here.shown rest.shown;
+      sets = all_both IsVariable (variables_of s item) others here.sets rest.sets;
+      constrained = all_both (IsConstraint vs) (constraints_of s item) (made constraints_of (behind s item) items) here.constrained rest.constrained;
+      shown = all_both (IsOutput vs) (outputs_of s item) (made outputs_of (behind s item) items) here.shown rest.shown;
       sound = rest.sound;
       few_variables = omega (arith, length-append (variables_of s item) others, here.few_variables, rest.few_variables, w.variables_are, w.variables);
       few_constraints = omega (arith, length-append (constraints_of s item) (made constraints_of (behind s item) items), here.few_constraints, rest.few_constraints, w.constraints_are, w.constraints);

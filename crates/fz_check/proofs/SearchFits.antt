@@ -18,10 +18,7 @@ use Rattle.fz_model.specs.Kept.{IsTermOf, IsSearchPart, kind_at}
 use Rattle.fz_check.specs.Fits.{EntryFits, Sound}
 use Rattle.fz_check.proofs.Mapped.{mapped}
 use Rattle.fz_check.proofs.TermFits.{found_named}
-
-pub both_all : {X : Type 0} (P : X → Type 0) (xs ys : List X) → AllByRecursion P xs → AllByRecursion P ys → AllByRecursion P (xs ++ ys)
-both_all P [] ys g h = h
-both_all P (x ∷ xs) ys g h = (g.0, both_all P xs ys g.1 h)
+use Rattle.fz_sets.proofs.Lists.{all_both}
 
 -- ---- the variables of one part
 
@@ -74,7 +71,7 @@ members_fit vs env (a ∷ args) lists s e = go (λ ls k. members_fit vs env args
         let here = member_fits vs env a numbers s k in
         let rest = f w.x w.o_is in
         subst (λ (ls : List (List ℕ)). Variables vs (length (a ∷ args)) (joined ls)) w.is
-        (let l = here.0 in let m = rest.0 in omega (arith, l, m, length-append numbers (joined w.x)), both_all (λ v. v < length vs) numbers (joined w.x) here.1 rest.1)
+        (let l = here.0 in let m = rest.0 in omega (arith, l, m, length-append numbers (joined w.x)), all_both (λ v. v < length vs) numbers (joined w.x) here.1 rest.1)
 
 variables_of_entry : (vs : List Variable) (entry : Entry) (numbers : List ℕ) → EntryFits vs entry → entry_variables entry ≡ Some numbers → Variables vs TEXT_LIMIT numbers
 variables_of_entry vs (entries.Terms kind ts) numbers h e =
@@ -121,7 +118,7 @@ no_parts : (vs : List Variable) (n : ℕ) → Parts vs n []
 no_parts vs n = (omega arith, tt)
 
 both_parts : (vs : List Variable) (n m : ℕ) (xs ys : List SearchPart) → Parts vs n xs → Parts vs m ys → Parts vs (n + m) (xs ++ ys)
-both_parts vs n m xs ys g h = (let l = g.0 in let k = h.0 in omega (arith, l, k, length-append xs ys), both_all (IsSearchPart vs) xs ys g.1 h.1)
+both_parts vs n m xs ys g h = (let l = g.0 in let k = h.0 in omega (arith, l, k, length-append xs ys), all_both (IsSearchPart vs) xs ys g.1 h.1)
 
 more_parts : (vs : List Variable) (n m : ℕ) (xs : List SearchPart) → n ≤ m → Parts vs n xs → Parts vs m xs
 more_parts vs n m xs l h = (let k = h.0 in omega (arith, l, k), h.1)

@@ -22,6 +22,7 @@ use Rattle.fz_dom.proofs.Places.{bits_read}
 use Rattle.fz_dom.proofs.Runs.{offset_in}
 use Rattle.fz_dom.proofs.Words.{positive}
 use Rattle.fz_dom.proofs.Lists.{same_or_less, outside}
+use Rattle.fz_sets.proofs.Sizes.{size_of_one}
 
 -- ---- which form it is
 
@@ -217,11 +218,8 @@ single [] k e = absurd (omega (arith, e))
 single (r ∷ []) k e = let le : r.0 ≤ℤ r.1 = k in (r.0, same_one r r.0 r.0 refl (omega (arith, ints, e)))
 single (r ∷ s ∷ rs) k e = absurd (omega (arith, e))
 
-alone : (x : ℤ) → set_size ((x, x) ∷ []) ≡ 1
-alone x = omega (arith, ints)
-
 pub fixed_is : (h : Head) (d : List (ℤ × ℤ)) → IsHeadOf h d → (h.size ≡ 1 → (x : ℤ) × (d ≡ (x, x) ∷ [])) × ((x : ℤ) × (d ≡ (x, x) ∷ []) → h.size ≡ 1)
-fixed_is h d k = (λ e. single d k.are_ranges (sym k.size_is ∙ e), λ p. k.size_is ∙ ap set_size p.1 ∙ alone p.0)
+fixed_is h d k = (λ e. single d k.are_ranges (sym k.size_is ∙ e), λ p. k.size_is ∙ ap set_size p.1 ∙ size_of_one p.0)
 
 pub narrow_small : (h : Head) (rest d : List (ℤ × ℤ)) → IsKept h rest → kept_ranges h rest ≡ d → greatest d ≤ℤ (least d +ℤ pos 63) → length rest ≡ 0
 narrow_small h rest d k e n = elim k.wide [

@@ -16,6 +16,7 @@ use Rattle.fz_sets.specs.Sets.{AreRanges, AreWithinLimits, IsInRange, IsInSet, s
 use Rattle.fz_dom.specs.Wide.{below, above, cut_ranges, IsPart}
 use Rattle.fz_dom.proofs.Ranges.{AreRanges-head, AreRanges-tail, lower_bound, above_gap, least_is_in, at_place, from_place, proper, within_limits, lows_rise}
 use Rattle.fz_dom.proofs.Heads.{within_all}
+use Rattle.fz_sets.proofs.Numbers.{Decides-int_lt}
 
 pub prepend : (r : ℤ × ℤ) (rs : List (ℤ × ℤ)) → r.0 ≤ℤ r.1 → AreRanges rs → ((x : ℤ) → IsInSet rs x → (r.1 +ℤ pos 1) <ℤ x) → AreRanges (r ∷ rs)
 prepend r [] le h f = le
@@ -197,9 +198,6 @@ piece_ranges false a zs f g h = h
 piece_in : (t : Bool) (a : ℤ × ℤ) (zs : List (ℤ × ℤ)) (x : ℤ) → IsInSet (cond t (a ∷ []) [] ++ zs) x ↔ (((t ≡ true) × IsInRange a x) ⊎ IsInSet zs x)
 piece_in true a zs x = (λ i. elim i [ inl j ↦ inl (refl, j) | inr j ↦ inr j ], λ m. elim m [ inl j ↦ inl j.1 | inr j ↦ inr j ])
 piece_in false a zs x = (λ i. inr i, λ m. elim m [ inl j ↦ absurd (false≢true j.0) | inr j ↦ j ])
-
-Decides-int_lt : (a b : ℤ) → Decides (int_lt a b) (a <ℤ b)
-Decides-int_lt a b = (λ t. grind (arith, ints), λ lt. grind (arith, ints))
 
 below_in : (l : ℤ) (r : ℤ × ℤ) (x : ℤ) → ((int_lt r.0 l ≡ true) × IsInRange (r.0, int_min r.1 (l -ℤ pos 1)) x) ↔ (IsInRange r x × (x <ℤ l))
 below_in l r x = let d = Decides-int_lt r.0 l in (

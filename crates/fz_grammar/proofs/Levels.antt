@@ -8,12 +8,8 @@ use Rattle.fz_grammar.specs.Verdict.{depth, Stays, IsAccepted, HasFault, IsTooDe
 use Rattle.fz_grammar.proofs.Sets.{and_right}
 use Rattle.fz_grammar.proofs.Laws.{sound, chosen_among, body_examples}
 use Rattle.fz_grammar.proofs.Fronts.{is_read, completed, breaks, breaks_behind}
-use Rattle.fz_grammar.proofs.Steps.{levels, plain, plain_stops}
-
--- each body closes what it opens
-abbrev pub AreEven : (G : Grammar) (n : G.Name) → Choice G.Tree G.Token n → Type 0
-AreEven G n (Only a) = (l : ℕ) → levels G a.body l ≡ l
-AreEven G n (When a rest) = ((l : ℕ) → levels G a.body l ≡ l) × AreEven G n rest
+use Rattle.fz_grammar.specs.Levels.{levels, AreEven}
+use Rattle.fz_grammar.proofs.Steps.{plain, plain_stops}
 
 even_among : (G : Grammar) (n : G.Name) (c : Choice G.Tree G.Token n) (a : Body G n) → Among c a → AreEven G n c → (l : ℕ) → levels G a.body l ≡ l
 even_among G n (Only b) a m h = subst (λ (x : Body G n). (l : ℕ) → levels G x.body l ≡ l) m h

@@ -9,7 +9,8 @@ use Rattle.fz_grammar.specs.Verdict.{IsAccepted, HasFault, IsTooDeep}
 use Rattle.fz_grammar.proofs.Sets.{and_left, and_right}
 use Rattle.fz_grammar.proofs.Laws.{chosen_among}
 use Rattle.fz_grammar.proofs.Steps.{joined, stops_before, stops_behind}
-use Rattle.fz_grammar.proofs.Levels.{AreEven, accepted, faulty, faulty_behind, too_deep_at}
+use Rattle.fz_grammar.specs.Levels.{AreEven}
+use Rattle.fz_grammar.proofs.Levels.{accepted, faulty, faulty_behind, too_deep_at}
 
 -- the bracket that is wanted stands there, and no more levels may open
 abbrev IsOver : Grammar → ℕ → ℕ → ℕ → ℕ → Type 0

@@ -1,18 +1,13 @@
 -- Steps of reading, one behind another.
 use Rattle.std.proofs.Common.{ℕ, List, [], ◌∷◌, ◌++◌}
 use Rattle.fz_grammar.specs.Grammar.{Symbol, Leaf, Rule, Grammar, Trees}
+use Rattle.fz_grammar.specs.Levels.{levels}
 use Rattle.fz_grammar.specs.Reading.{level, ReadsIn, DoneIn, TookIn, ChoseIn, StopsIn, HereIn, AlongIn, WithinIn, BehindIn, Reads, Done, Took, Chose, Stops, Here, Along, Within, Behind}
 
 abbrev pub join : (G : Grammar) (ss rs : List (Symbol G.Name)) → Trees G ss → Trees G rs → Trees G (ss ++ rs)
 join G [] rs v w = w
 join G (Leaf k ∷ ss) rs v w = (v.0, join G ss rs v.1 w)
 join G (Rule n ∷ ss) rs v w = (v.0, join G ss rs v.1 w)
-
--- the level behind symbols
-abbrev pub levels : (G : Grammar) → List (Symbol G.Name) → ℕ → ℕ
-levels G [] l = l
-levels G (Leaf k ∷ ss) l = levels G ss (level G k l)
-levels G (Rule n ∷ ss) l = levels G ss l
 
 pub plain : (G : Grammar) (limit l : ℕ) (ss : List (Symbol G.Name)) (old new : List G.Token) (v : Trees G ss) → ReadsIn G limit l ss old new v → Reads G ss old new v
 plain G limit l ss old new v (DoneIn _ ts) = Done ts

@@ -1,5 +1,6 @@
 pub mod Grammar
 pub mod Reading
+pub mod Levels
 pub mod Tables
 pub mod Verdict
 pub mod Carried

@@ -8,9 +8,7 @@ use Rattle.std.proofs.lemmas.Bool.Decides.{Decides-int_eq, not_from_Decides}
 use Rattle.fz_sets.specs.Sets.{IsInRange, IsInSet, AreRanges, AreOneSet}
 use Rattle.fz_language.specs.Numerals.{behind, with_number, ranges_of}
 use Rattle.fz_language.specs.SetLaws.{points_of}
-
-Decides-int_lt : (a b : ℤ) → Decides (int_lt a b) (a <ℤ b)
-Decides-int_lt a b = (λ t. grind (arith, ints), λ lt. grind (arith, ints))
+use Rattle.fz_sets.proofs.Numbers.{Decides-int_lt, above_of_not, most_of_not}
 
 pub Decides-int_le : (a b : ℤ) → Decides (int_le a b) (a ≤ℤ b)
 Decides-int_le a b = (λ t. grind (arith, ints), λ le. grind (arith, ints))
@@ -68,9 +66,6 @@ joined_members r (s ∷ rs) y k a = go (int_eq s.0 (r.1 +ℤ pos 1)) (Decides-in
 
 -- ---- one number more
 
-beyond : (x m : ℤ) → (x ≤ℤ m → ⊥) → m <ℤ x
-beyond x m n = grind (arith, ints)
-
 more_above : (b x : ℤ) (rs : List (ℤ × ℤ)) → b <ℤ x → Above b rs → Above b (with_number x rs)
 more_above b x [] h a = (h, omega (arith, ints), tt)
 more_above b x (r ∷ rs) h a = go (λ over. more_above r.1 x rs over (lower (r.1 +ℤ pos 1) r.1 rs (omega (arith, ints)) a.2)) (int_lt x r.0) (Decides-int_lt x r.0) (int_le x r.1) (Decides-int_le x r.1)
@@ -78,10 +73,7 @@ more_above b x (r ∷ rs) h a = go (λ over. more_above r.1 x rs over (lower (r.
     go : (r.1 <ℤ x → Above r.1 (with_number x rs)) → (t : Bool) → Decides t (x <ℤ r.0) → (u : Bool) → Decides u (x ≤ℤ r.1) → Above b (cond t (behind (x, x) (r ∷ rs)) (cond u (r ∷ rs) (behind r (with_number x rs))))
     go later true d u k = joined_above b (x, x) (r ∷ rs) h (omega (arith, ints)) (d.0 refl, a.1, a.2)
     go later false d true k = a
-    go later false d false k = joined_above b r (with_number x rs) a.0 a.1 (later (beyond x r.1 (not_from_Decides false k refl)))
-
-at_low : (x l : ℤ) → (x <ℤ l → ⊥) → l ≤ℤ x
-at_low x l n = grind (arith, ints)
+    go later false d false k = joined_above b r (with_number x rs) a.0 a.1 (later (above_of_not x r.1 (not_from_Decides false k refl)))
 
 more_members : (b x : ℤ) (rs : List (ℤ × ℤ)) (y : ℤ) → Above b rs → IsInSet (with_number x rs) y ↔ (IsInRange (x, x) y ⊎ IsInSet rs y)
 more_members b x [] y a = (λ h. h, λ h. h)
@@ -90,12 +82,12 @@ more_members b x (r ∷ rs) y a = let above = lower (r.1 +ℤ pos 1) r.1 rs (ome
     go : Above r.1 rs → (IsInSet (with_number x rs) y ↔ (IsInRange (x, x) y ⊎ IsInSet rs y)) → (t : Bool) → Decides t (x <ℤ r.0) → (u : Bool) → Decides u (x ≤ℤ r.1)
         → IsInSet (cond t (behind (x, x) (r ∷ rs)) (cond u (r ∷ rs) (behind r (with_number x rs)))) y ↔ (IsInRange (x, x) y ⊎ IsInSet (r ∷ rs) y)
     go above inner true d u k = joined_members (x, x) (r ∷ rs) y (omega (arith, ints)) (d.0 refl, a.1, a.2)
-    go above inner false d true k = let low = at_low x r.0 (not_from_Decides false d refl) in let high = k.0 refl in (
+    go above inner false d true k = let low = most_of_not x r.0 (not_from_Decides false d refl) in let high = k.0 refl in (
       λ h. inr h,
       λ h. elim h [ inl i ↦ inl (let p = i.0 in omega (arith, ints, low, p), let p = i.1 in omega (arith, ints, high, p)) | inr m ↦ m ],
     )
     go above inner false d false k =
-        let over = beyond x r.1 (not_from_Decides false k refl) in
+        let over = above_of_not x r.1 (not_from_Decides false k refl) in
         let outer = joined_members r (with_number x rs) y a.1 (more_above r.1 x rs over above) in (
           λ h. elim (outer.0 h) [ inl i ↦ inr (inl i) | inr m ↦ elim (inner.0 m) [ inl j ↦ inl j | inr n ↦ inr (inr n) ] ],
           λ h. outer.1 (elim h [ inl i ↦ inr (inner.1 (inl i)) | inr m ↦ elim m [ inl j ↦ inl j | inr n ↦ inr (inner.1 (inr n)) ] ]),
@@ -114,7 +106,7 @@ rises (x ∷ xs) = let r = rises xs in go r (int_lt r.bound x) (Decides-int_lt r
     go : (r : Rises (ranges_of xs)) (t : Bool) → Decides t (r.bound <ℤ x) → Rises (with_number x (ranges_of xs))
     go r true d = record { bound = r.bound; above = more_above r.bound x (ranges_of xs) (d.0 refl) r.above }
     go r false d =
-        let h = at_low r.bound x (not_from_Decides false d refl) in
+        let h = most_of_not r.bound x (not_from_Decides false d refl) in
         record { bound = x -ℤ pos 1; above = more_above (x -ℤ pos 1) x (ranges_of xs) (omega (arith, ints)) (lower r.bound (x -ℤ pos 1) (ranges_of xs) (omega (arith, ints, h)) r.above) }
 
 pub ranges_rise : (xs : List ℤ) → AreRanges (ranges_of xs)

@@ -9,7 +9,7 @@ use Rattle.fz_language.specs.Tokens.{Token, Lexeme, Identifier, Word, Number, Fl
 use Rattle.fz_language.specs.Kinds.{number, sign_number, keyword_number}
 use Rattle.fz_language.specs.Grammar.{Part, WholeProgram, Items, OneItem, PredicateItem, Parameter, OfArray, IndexSets, Index, Variability, VariableItem, OptionalValue, ParameterItem, ArrayItem, ValueType, Plain, SetLiteral, Braces, OneNumber, Constant, RangeEnd, Basic, ListLiteral, Expression, ConstraintItem, SolveItem, Method, Annotations, Annotation, Called, Argument, Listed, More, Parameters, Indexes, Members, Elements, Expressions, Arguments, flatzinc, rules}
 use Rattle.fz_grammar.specs.Tables.{Tables, is_fine}
-use Rattle.fz_grammar.proofs.Levels.{AreEven}
+use Rattle.fz_grammar.specs.Levels.{AreEven}
 
 abbrev sign_of : ℕ → List Sign → Sign
 sign_of k [] = DoubleDot

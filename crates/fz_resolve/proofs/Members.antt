@@ -9,9 +9,7 @@ use Rattle.fz_language.specs.Within.{NumberFits}
 use Rattle.fz_language.specs.SetLaws.{points_of}
 use Rattle.fz_resolve.proofs.AllOf.{part}
 use Rattle.fz_language.proofs.SetProofs.{ranges_rise, ranges_hold}
-
-some_is : {X : Type 0} (x y : X) → Some x ≡ Some y → x ≡ y
-some_is x y e = cc
+use Rattle.fz_sets.proofs.Lists.{some_is}
 
 limits_of : (ns : List Number) (xs : List ℤ) → all_of (map value_of ns) ≡ Some xs → AllByRecursion NumberFits ns → AreWithinLimits (points_of xs)
 limits_of [] xs e f = subst (λ (ys : List ℤ). AreWithinLimits (points_of ys)) (some_is [] xs e) tt

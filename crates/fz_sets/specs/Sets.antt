@@ -47,3 +47,7 @@ set_size (r ∷ rs) = range_size r + set_size rs
 -- the rising ranges of the set l..u
 abbrev pub interval : ℤ → ℤ → List (ℤ × ℤ)
 interval l u = if int_le l u then (l, u) ∷ [] else []
+
+-- the set of one number
+abbrev pub single : ℤ → List (ℤ × ℤ)
+single x = (x, x) ∷ []

@@ -42,22 +42,7 @@ read_more vs xs i v s x e h l at set is k m =
     rw add-one
     (declared_more vs xs i v e h l k (subst (λ (u : List (ℤ × ℤ)). IsInSet u (get_or xs i e)) (set ∙ ap (λ (u : Variable). u.set) at) (subst (λ (u : ℤ). IsInSet s u) is m)))
 
-all_more : {X : Type 0} (P : X → Type 0) (xs : List X) (i : ℕ) (d : X) → i < length xs → AllByRecursion P (take i xs) → P (get_or xs i d) → AllByRecursion P (take (suc i) xs)
-all_more P [] i d h k p = absurd (omega (arith, h))
-all_more P (x ∷ xs) zero d h k p = (p, tt)
-all_more P (x ∷ xs) (suc i) d h k p = (k.0, all_more P xs i d (omega (arith, h)) k.1 p)
-
-all_at : {X : Type 0} (P : X → Type 0) (xs : List X) (i : ℕ) (d : X) → i < length xs → AllByRecursion P xs → P (get_or xs i d)
-all_at P [] i d h k = absurd (omega (arith, h))
-all_at P (x ∷ xs) zero d h k = k.0
-all_at P (x ∷ xs) (suc i) d h k = all_at P xs i d (omega (arith, h)) k.1
-
 -- the same, of the element that the code reads
-pub all_read_more : {X : Type 0} (P : X → Type 0) (xs : List X) (i : ℕ) (x : X) → i < length xs → x ≡ get_or xs i x → AllByRecursion P (take i xs) → P x → AllByRecursion P (take (i + 1) xs)
-all_read_more P xs i x h at k p = rw add-one (all_more P xs i x h k (subst P at p))
-
-pub all_read : {X : Type 0} (P : X → Type 0) (xs : List X) (i : ℕ) (x : X) → i < length xs → x ≡ get_or xs i x → AllByRecursion P xs → P x
-all_read P xs i x h at k = subst P (sym at) (all_at P xs i x h k)
 
 pub all_whole : {X : Type 0} (P : X → Type 0) (xs : List X) (i : ℕ) → length xs ≤ i → AllByRecursion P (take i xs) → AllByRecursion P xs
 all_whole P [] i h k = tt

@@ -5,6 +5,7 @@ use Rattle.std.specs.Prelude.{◌↔◌, Bool, IsTrue, pos, Some, slice_get, opt
 use Rattle.std.proofs.lemmas.Option.{slice_get-map}
 use Rattle.std.specs.List.{All, Any, AllByRecursion}
 use Rattle.fz_spec.specs.Truth.{SomeByRecursion, AreDifferent, IsElement}
+use Rattle.fz_sets.proofs.Lists.{some_is}
 
 some_from_any : {X Y : Type 0} (P : Y → Type 0) (f : X → Y) (xs : List X) (k : ℕ) (x : X) → k < length xs → get_or xs k x ≡ x → P (f x) → SomeByRecursion P (map f xs)
 some_from_any P f [] k x h e p = absurd (omega (arith, h))
@@ -90,9 +91,6 @@ behind xs i = rw add-one (take_all (length xs - suc i) (drop (suc i) xs) (let l 
 same_place : (p i : ℕ) → pos (p + 1) ≡ pos (i + 1) → p ≡ i
 same_place p i e = let f : p + 1 ≡ i + 1 = cc in omega (arith, f)
 
-some_value : {Y : Type 0} (x y : Y) → Some x ≡ Some y → x ≡ y
-some_value x y e = cc
-
 got : {X : Type 0} (xs : List X) (p : ℕ) (d : X) → p < length xs → slice_get xs p ≡ Some (get_or xs p d)
 got [] p d h = absurd (omega (arith, h))
 got (x ∷ xs) zero d h = refl
@@ -107,7 +105,7 @@ pub element_at : {X : Type 0} (f : X → ℤ) (xs : List X) (k : ℤ) (p : ℕ) 
 element_at f xs k p d c r place within has =
     let here : slice_get (map f xs) p ≡ Some (f (get_or xs p d)) = slice_get-map f xs p ∙ ap (option_map f) (got xs p d within) in (
       λ t. (p, place, here ∙ ap Some (has.0 t)),
-      λ (i, e, g). has.1 (some_value (f (get_or xs p d)) c (sym here ∙ subst (λ (n : ℕ). slice_get (map f xs) n ≡ Some c) (sym (same_place p i (sym place ∙ e))) g)),
+      λ (i, e, g). has.1 (some_is (f (get_or xs p d)) c (sym here ∙ subst (λ (n : ℕ). slice_get (map f xs) n ≡ Some c) (sym (same_place p i (sym place ∙ e))) g)),
     )
 
 pub no_element : {X : Type 0} (f : X → ℤ) (xs : List X) (k : ℤ) (p : ℕ) (c : ℤ) → k ≡ pos (p + 1) → length xs ≤ p → IsElement k (map f xs) c → ⊥

@@ -2,9 +2,7 @@
 use Rattle.std.proofs.Common.{◌≡◌, ℕ, ℤ, ◌+◌, ◌*◌, ◌≤◌, ◌+ℤ◌, arith}
 use Rattle.std.specs.Int.RustNames.{unsigned_abs}
 use Rattle.std.proofs.lemmas.Int.{ints}
-
-abs_of_sum : (a b : ℤ) → unsigned_abs (a +ℤ b) ≤ unsigned_abs a + unsigned_abs b
-abs_of_sum a b = grind (arith, ints)
+use Rattle.fz_sets.proofs.Numbers.{abs_of_sum}
 
 -- a sum of one number more, where each is within a bound
 pub near_more : (bound n : ℕ) (a b : ℤ) → unsigned_abs a ≤ n * bound → unsigned_abs b ≤ bound → unsigned_abs (a +ℤ b) ≤ (n + 1) * bound

@@ -1,7 +1,8 @@
 use Rattle.std.proofs.Common.{refl}
 use Rattle.fz_spec.specs.Constraints.{IsTrueOf}
-use Rattle.fz_truth.proofs.Declared.{all_read_more, all_read, all_whole}
+use Rattle.fz_truth.proofs.Declared.{all_whole}
 use Rattle.fz_truth.proofs.model.are_true.Goals as goal
+use Rattle.fz_sets.proofs.Lists.{all_read_more, all_read}
 
 pub returns-then-not-is_true : goal.returns-then-not-is_true
 returns-then-not-is_true c = (
