@@ -1,21 +1,20 @@
 -- What is settled lasts.
-use Rattle.std.proofs.Common.{◌≡◌, ◌≢◌, get_or-set_same, get_or-set_other, ℕ, ◌<◌, List, [], ◌∷◌, refl, sym, ◌∙◌, subst, arith, length, ◌⊎◌, inl, inr}
-use Rattle.std.specs.Prelude.{ℤ, slice_get, slice_index, slice_set, Some}
+use Rattle.std.proofs.Common.{◌≡◌, ◌≢◌, get_or-set_same, get_or-set_other, ℕ, ◌<◌, List, [], ◌∷◌, refl, sym, ◌∙◌, subst, arith, length, inl, inr}
+use Rattle.std.specs.Prelude.{slice_get, slice_index, slice_set, Some}
 use Rattle.std.specs.List.{AllByRecursion}
 use Rattle.std.proofs.lemmas.Bool.{cases_eq}
 use Rattle.std.proofs.lemmas.List.{length-set}
+use Rattle.fz_sets.proofs.Lists.{by_place}
 use Rattle.fz_spec.specs.Constraints.{Constraint}
 use Rattle.fz_strength.specs.declared.event.Event.{Event}
 use Rattle.fz_strength.specs.declared.event.Event.TheVariants.{Any, Bound, Fixed}
-use Rattle.fz_strength.specs.Domains.{IsNarrower, dom_at, room}
-use Rattle.fz_strength.specs.Events.{Wait, level, AreQuiet, IsQuiet}
+use Rattle.fz_strength.specs.Events.{Wait, level, AreQuiet}
 use Rattle.fz_strength.specs.Lines.{Rests, waits}
 use Rattle.fz_strength.specs.Promises.{RestsForGood}
 use Rattle.fz_strength.proofs.Keeping.{kept_where_quiet}
 use Rattle.fz_prop.specs.Stores.{Stored, Shrinks, mark_at, without_first}
 use Rattle.fz_prop.proofs.Twice.{narrower_twice}
 use Rattle.fz_agenda.specs.Agendas.{AreUnmarked, IsSettled, SettledLasts, AllRestAtRest, MayBeIdle, MayBeGone, MayBeQueued, MayBeTaken}
-use Rattle.fz_agenda.proofs.Places.{by_place}
 
 unmarked_before : (ws : List Wait) (s t : Stored) → Shrinks s t → AreUnmarked ws t → AreUnmarked ws s
 unmarked_before [] s t shrinks un = tt

@@ -1,11 +1,12 @@
 -- What is queued stands in a queue.
-use Rattle.std.proofs.Common.{◌≡◌, ◌≢◌, ◌⊎◌, inl, inr, ℕ, zero, suc, ◌+◌, ◌<◌, ◌≤◌, List, [], ◌∷◌, ◌++◌, refl, sym, ◌∙◌, subst, arith, length, get_or-set_same, get_or-set_other}
-use Rattle.std.specs.Prelude.{slice_index, slice_index_or, slice_set, Bool, true, false, not, IsTrue, ◌↔◌}
+use Rattle.std.proofs.Common.{◌≡◌, ◌⊎◌, inl, inr, ℕ, zero, suc, ◌+◌, ◌<◌, ◌≤◌, List, [], ◌∷◌, ◌++◌, refl, sym, ◌∙◌, subst, arith, length, get_or-set_same, get_or-set_other}
+use Rattle.std.specs.Prelude.{slice_index, slice_index_or, slice_set, Bool, true, IsTrue, ◌↔◌}
 use Rattle.std.proofs.lemmas.Bool.{cases_eq, cases_lt}
 use Rattle.std.proofs.lemmas.List.{length-set}
+use Rattle.fz_sets.proofs.Lists.{below_or_same, by_place, beyond}
 use Rattle.fz_prop.specs.Stores.{IsListed}
+use Rattle.fz_prop.proofs.Steps.{listed_before, listed_last}
 use Rattle.fz_agenda.specs.Queues.{IsWaiting, IsAgenda, StillWaiting, IsAtRest}
-use Rattle.fz_agenda.proofs.Places.{by_place, below_or_same, beyond, listed_before, listed_last}
 
 abbrev queue_at : List (List ℕ) → ℕ → List ℕ
 queue_at queues class = slice_index_or queues class []

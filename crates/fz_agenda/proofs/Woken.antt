@@ -2,11 +2,11 @@
 use Rattle.std.proofs.Common.{◌≡◌, ◌⊎◌, inl, inr, ℕ, ◌+◌, ◌<◌, List, [], ◌∷◌, refl, sym, ◌∙◌, subst, arith, length, take, get_or-set_same, get_or-set_other}
 use Rattle.std.specs.Prelude.{slice_index, slice_set}
 use Rattle.std.proofs.lemmas.List.{length-set}
+use Rattle.fz_sets.proofs.Lists.{by_place, same_at, all_read_more}
 use Rattle.fz_spec.specs.Constraints.{Constraint}
 use Rattle.fz_prop.specs.Stores.{Stored, IsListed}
 use Rattle.fz_agenda.specs.Agendas.{IsSettled}
 use Rattle.fz_agenda.specs.Queues.{IsWoken, AreAwake}
-use Rattle.fz_agenda.proofs.Places.{by_place, same_at, all_read_more}
 
 -- what may become of one state
 abbrev MayBecome : ℕ → ℕ → Type 0

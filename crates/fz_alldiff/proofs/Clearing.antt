@@ -7,15 +7,13 @@ use Rattle.fz_dom.specs.Shape.{least}
 use Rattle.fz_spec.specs.declared.term.Term.{Term}
 use Rattle.fz_strength.specs.Domains.{term_set, AreDomains, IsNarrower}
 use Rattle.fz_strength.specs.Events.{IsOnly}
-use Rattle.fz_strength.proofs.Lists.{all_at}
-use Rattle.fz_strength.proofs.Truths.{in_single, is_single}
+use Rattle.fz_sets.proofs.Lists.{all_at}
+use Rattle.fz_strength.proofs.Truths.{in_single}
+use Rattle.fz_strength.proofs.Terms.{only_number}
 use Rattle.fz_prop.specs.Stores.{IsTermOf}
 use Rattle.fz_prop.proofs.Filled.{still_only}
 use Rattle.fz_prop.proofs.TermChanges.{narrower_term, only_in}
 use Rattle.fz_alldiff.specs.Differing.{IsFixedPlace, IsOnlyAt, IsCleared, AreCleared, IsOutside}
-
-same_only : (d : List (ℤ × ℤ)) (m n : ℤ) → IsOnly d m → IsOnly d n → m ≡ n
-same_only d m n is_m is_n = is_single m n (subst (λ (e : List (ℤ × ℤ)). IsInSet e m) is_n (subst (λ (e : List (ℤ × ℤ)). IsInSet e m) (sym is_m) (in_single m m refl)))
 
 has_only : (d : List (ℤ × ℤ)) (n : ℤ) → IsOnly d n → IsInSet d n
 has_only d n only = subst (λ (e : List (ℤ × ℤ)). IsInSet e n) (sym only) (in_single n n refl)
@@ -36,7 +34,7 @@ cleared_still xs ds es i terms domains narrower h = (
       let was = h.0 in
       let same : was.0 ≡ x = same_term xs i was.0 x was.1 at_i in
       let before : IsOnly (term_set ds x) was.2.0 = subst (λ (t : Term). IsOnly (term_set ds t) was.2.0) same was.2.1 in
-      let is_n : was.2.0 ≡ n = same_only (term_set es x) was.2.0 n (still_only ds es x was.2.0 (all_at (IsTermOf (length ds)) xs i x terms at_i) before domains narrower) only in
+      let is_n : was.2.0 ≡ n = only_number (term_set es x) was.2.0 n (still_only ds es x was.2.0 (all_at (IsTermOf (length ds)) xs i x terms at_i) before domains narrower) only in
       h.1 j x y other at_i at_j n (subst (λ (m : ℤ). IsOnly (term_set ds x) m) is_n before) (narrower_term ds es y narrower n is)),
 )
 
@@ -48,7 +46,7 @@ cleared_now xs done ds es i n terms domains narrower only cleared outside = (
   (λ j x y other at_i at_j m only_m is.
       let at_x : IsOnly (term_set ds x) n = subst (λ (t : Term). IsOnly (term_set ds t) n) (same_term xs i only.0 x only.1 at_i) only.2 in
       let is_x = all_at (IsTermOf (length ds)) xs i x terms at_i in
-      let is_n : m ≡ n = same_only (term_set es x) m n only_m (still_only ds es x n is_x at_x domains narrower) in
+      let is_n : m ≡ n = only_number (term_set es x) m n only_m (still_only ds es x n is_x at_x domains narrower) in
       let now : IsInSet (term_set es y) n = subst (λ (k : ℤ). IsInSet (term_set es y) k) is_n is in
       elim (slice_index_or done j false) as (λ b. slice_index_or done j false ≡ b → ⊥) [
         | true ↦ λ is_done.

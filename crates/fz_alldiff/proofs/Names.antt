@@ -1,25 +1,26 @@
 -- The propagator by the name of its constraint, and its variables.
-use Rattle.std.proofs.Common.{◌≡◌, ℕ, zero, suc, List, [], ◌∷◌, refl, sym, subst, ◌∙◌, ap, inl, inr, map}
-use Rattle.std.specs.Prelude.{ℤ, slice_get, flat_map, Some}
+use Rattle.std.proofs.Common.{◌≡◌, ℕ, List, [], ◌∷◌, refl, sym, subst, ◌∙◌, ap, inl, inr, map}
+use Rattle.std.specs.Prelude.{ℤ, slice_get, Some}
 use Rattle.std.specs.List.{AllByRecursion}
 use Rattle.fz_spec.specs.declared.builtin.Builtin.{Builtin}
 use Rattle.fz_spec.specs.declared.term.Term.{Term}
-use Rattle.fz_spec.specs.declared.term.Term.TheVariants.{Num, Var}
 use Rattle.fz_spec.specs.Constraints.{Terms, Constraint, IsTrueOf, term_values}
 use Rattle.fz_strength.specs.declared.cost.Cost.TheVariants.{Quadratic}
 use Rattle.fz_strength.specs.Costs.{cost_of}
 use Rattle.fz_strength.specs.declared.event.Event.TheVariants.{Fixed}
 use Rattle.fz_strength.specs.Differences.{IsDifference, AreApart}
-use Rattle.fz_strength.specs.Events.{Wait, waits_for, AllFixed, AreBelow, AreFixed}
+use Rattle.fz_strength.specs.Events.{Wait, AllFixed, AreBelow, AreFixed, variables_of}
 use Rattle.fz_strength.specs.Lines.{RestsOnceFixed, waits, Rests}
 use Rattle.fz_strength.specs.Promises.{IsCorrect}
 use Rattle.fz_strength.proofs.Differences.{difference_line, difference_truth, difference_waits}
+use Rattle.fz_strength.proofs.Waits.{terms_fixed, variables_waited, event_waited}
 use Rattle.fz_prop.specs.declared.answer.Answer.{Answer}
 use Rattle.fz_prop.specs.Answers.{IsAnswer, IsAnswerOf, IsCorrectOf}
 use Rattle.fz_prop.specs.Stores.{IsTermOf}
 use Rattle.fz_prop.specs.Truths.{IsSame}
 use Rattle.fz_prop.proofs.Answering.{answer_of, correct_of}
-use Rattle.fz_alldiff.specs.Differing.{IsDifferent, variable_of, variables_of}
+use Rattle.fz_prop.proofs.Waits.{terms_below, waits_below}
+use Rattle.fz_alldiff.specs.Differing.{IsDifferent}
 
 -- the constraint of a name over terms
 abbrev pub differing : Builtin → List Term → Constraint
@@ -43,43 +44,17 @@ cost_is name xs is = elim is [ inl e ↦ rw e refl | inr e ↦ rw e refl ]
 
 -- ---- its variables
 
-terms_below : (xs : List Term) (n : ℕ) → AreBelow (waits_for Fixed xs) n → AllByRecursion (IsTermOf n) xs
-terms_below [] n below = tt
-terms_below (Num m ∷ xs) n below = (tt, terms_below xs n below)
-terms_below (Var v ∷ xs) n below = (below.0, terms_below xs n below.1)
-
-terms_fixed : (xs : List Term) (ds : List (List (ℤ × ℤ))) → AreFixed (waits_for Fixed xs) ds → AllFixed ds xs
-terms_fixed [] ds fixed = tt
-terms_fixed (Num n ∷ xs) ds fixed = ((n, refl), terms_fixed xs ds fixed)
-terms_fixed (Var v ∷ xs) ds fixed = (fixed.0, terms_fixed xs ds fixed.1)
-
-waited_variables : (xs : List Term) → map (λ (w : Wait). w.variable) (waits_for Fixed xs) ≡ flat_map variable_of xs
-waited_variables [] = refl
-waited_variables (Num n ∷ xs) = waited_variables xs
-waited_variables (Var v ∷ xs) = ap (λ (vs : List ℕ). v ∷ vs) (waited_variables xs)
-
-all_for_fixed : (xs : List Term) (w : Wait) (i : ℕ) → slice_get (waits_for Fixed xs) i ≡ Some w → Fixed ≡ w.event
-all_for_fixed [] w i at = absurd (cc (at))
-all_for_fixed (Num n ∷ xs) w i at = all_for_fixed xs w i at
-all_for_fixed (Var v ∷ xs) w zero at = cc (at)
-all_for_fixed (Var v ∷ xs) w (suc i) at = all_for_fixed xs w i at
-
 pub terms_of : (name : Builtin) (xs : List Term) (n : ℕ) → IsDifference name → AreBelow (waits (differing name xs)) n → AllByRecursion (IsTermOf n) xs
-terms_of name xs n is below = terms_below xs n (subst (λ (ws : List Wait). AreBelow ws n) (difference_waits name xs is) below)
-
-waits_below : (xs : List Term) (n : ℕ) → AllByRecursion (IsTermOf n) xs → AreBelow (waits_for Fixed xs) n
-waits_below [] n terms = tt
-waits_below (Num m ∷ xs) n terms = waits_below xs n terms.1
-waits_below (Var v ∷ xs) n terms = (terms.0, waits_below xs n terms.1)
+terms_of name xs n is below = terms_below Fixed xs n (subst (λ (ws : List Wait). AreBelow ws n) (difference_waits name xs is) below)
 
 pub below_of : (name : Builtin) (xs : List Term) (n : ℕ) → IsDifference name → AllByRecursion (IsTermOf n) xs → AreBelow (waits (differing name xs)) n
-below_of name xs n is terms = subst (λ (ws : List Wait). AreBelow ws n) (sym (difference_waits name xs is)) (waits_below xs n terms)
+below_of name xs n is terms = subst (λ (ws : List Wait). AreBelow ws n) (sym (difference_waits name xs is)) (waits_below Fixed xs n terms)
 
 pub fixed_of : (name : Builtin) (xs : List Term) (ds : List (List (ℤ × ℤ))) → IsDifference name → AreFixed (waits (differing name xs)) ds → AllFixed ds xs
-fixed_of name xs ds is fixed = terms_fixed xs ds (subst (λ (ws : List Wait). AreFixed ws ds) (difference_waits name xs is) fixed)
+fixed_of name xs ds is fixed = terms_fixed Fixed xs ds (subst (λ (ws : List Wait). AreFixed ws ds) (difference_waits name xs is) fixed)
 
 pub variables_are : (name : Builtin) (xs : List Term) → IsDifference name → variables_of xs ≡ map (λ (w : Wait). w.variable) (waits (differing name xs))
-variables_are name xs is = sym (ap (map (λ (w : Wait). w.variable)) (difference_waits name xs is) ∙ waited_variables xs)
+variables_are name xs is = sym (ap (map (λ (w : Wait). w.variable)) (difference_waits name xs is) ∙ variables_waited Fixed xs)
 
 pub event_is : (name : Builtin) (xs : List Term) (w : Wait) (i : ℕ) → IsDifference name → slice_get (waits (differing name xs)) i ≡ Some w → Fixed ≡ w.event
-event_is name xs w i is at = all_for_fixed xs w i (subst (λ (ws : List Wait). slice_get ws i ≡ Some w) (difference_waits name xs is) at)
+event_is name xs w i is at = event_waited Fixed xs i w (subst (λ (ws : List Wait). slice_get ws i ≡ Some w) (difference_waits name xs is) at)

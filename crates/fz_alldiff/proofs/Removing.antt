@@ -9,13 +9,13 @@ use Rattle.fz_dom.specs.declared.change.Change.{Change}
 use Rattle.fz_dom.specs.declared.change.Change.TheVariants.{Wiped}
 use Rattle.fz_spec.specs.declared.term.Term.{Term}
 use Rattle.fz_spec.specs.Constraints.{term_value, term_values}
-use Rattle.fz_strength.specs.Domains.{dom_at, term_set, Within}
-use Rattle.fz_strength.proofs.Lists.{all_at}
+use Rattle.fz_strength.specs.Domains.{term_set, Within}
+use Rattle.fz_sets.proofs.Lists.{all_at}
 use Rattle.fz_prop.specs.Answers.{IsCorrectOf}
 use Rattle.fz_prop.specs.Stores.{Stored, Shrinks, IsTermOf, IsTermChange}
-use Rattle.fz_prop.proofs.Steps.{quiet_self}
 use Rattle.fz_prop.proofs.TermChanges.{term_within, narrower_term, only_in, within_kept, kept_term, none_kept}
 use Rattle.fz_prop.proofs.Twice.{shrinks_twice}
+use Rattle.fz_prop.proofs.Steps.{same_shrinks}
 use Rattle.fz_alldiff.specs.Differing.{IsDifferent, AreNeverDifferent, IsOnlyAt, IsDone, IsOutside}
 
 -- ---- two places have different numbers
@@ -50,16 +50,8 @@ pub record IsRemoving (xs : List Term) (done : List Bool) (n : ℤ) (i : ℕ) (r
   pub correct : IsCorrectOf (IsDifferent xs) r.doms s.doms
   pub outside : (j : ℕ) (y : Term) → j < k → i ≢ j → (IsDone done j → ⊥) → slice_get xs j ≡ Some y → IsInSet (term_set s.doms y) n → ⊥
 
-pub shrinks_none : (s : Stored) → Shrinks s s
-shrinks_none s = record {
-  narrower = record { size = refl; members = λ v x is. is };
-  marks_grow = λ v. omega arith;
-  marks_tell = λ v event below. quiet_self event (dom_at s.doms v);
-  falls = inl refl;
-}
-
 pub removing_none : (xs : List Term) (done : List Bool) (n : ℤ) (i : ℕ) (s : Stored) → IsRemoving xs done n i s s 0
-removing_none xs done n i s = record { shrinks = shrinks_none s; correct = λ a all within. within; outside = λ j y below. absurd (omega (arith, below)) }
+removing_none xs done n i s = record { shrinks = same_shrinks s; correct = λ a all within. within; outside = λ j y below. absurd (omega (arith, below)) }
 
 -- a place is passed that is done, or that is the number's own
 pub removing_passed : (xs : List Term) (done : List Bool) (n : ℤ) (i : ℕ) (r s : Stored) (k : ℕ) → (i ≢ k → IsDone done k) → IsRemoving xs done n i r s k → IsRemoving xs done n i r s (k + 1)

@@ -10,19 +10,18 @@ use Rattle.fz_spec.specs.declared.term.Term.{Term}
 use Rattle.fz_spec.specs.Constraints.{term_value}
 use Rattle.fz_strength.specs.Differences.{AreApart}
 use Rattle.fz_strength.specs.Domains.{term_set, AreDomains, Within, IsNarrower}
-use Rattle.fz_strength.specs.Events.{IsOnly, IsFixedIn, AllFixed}
+use Rattle.fz_strength.specs.Events.{IsOnly, IsFixedIn, AllFixed, AreSingle}
 use Rattle.fz_strength.proofs.Differences.{different}
-use Rattle.fz_strength.proofs.Lists.{all_at}
-use Rattle.fz_strength.specs.Events.{AreSingle}
+use Rattle.fz_sets.proofs.Lists.{all_at}
 use Rattle.fz_prop.specs.declared.answer.Answer.{Answer}
 use Rattle.fz_prop.specs.declared.answer.Answer.TheVariants.{Fix, NoFix, Subsumed, Failed}
 use Rattle.fz_prop.specs.Answers.{IsAnswerOf, IsCorrectOf, IsDecided}
 use Rattle.fz_prop.specs.Stores.{Stored, Shrinks, IsTermOf}
 use Rattle.fz_prop.proofs.TermChanges.{term_within, only_in}
 use Rattle.fz_prop.proofs.Twice.{shrinks_twice}
+use Rattle.fz_prop.proofs.Steps.{same_shrinks}
 use Rattle.fz_alldiff.specs.Differing.{IsDifferent, AreNeverDifferent, IsFixedPlace, IsDone, IsCleared, AreCleared, IsRested}
 use Rattle.fz_alldiff.proofs.Clearing.{fixed_still, cleared_still}
-use Rattle.fz_alldiff.proofs.Removing.{shrinks_none}
 
 -- what is left to do
 abbrev pub undone : Bool → ℕ
@@ -52,7 +51,7 @@ pub clearing_none : (xs : List Term) (s : Stored) → AreDomains s.doms → IsCl
 clearing_none xs s domains = record {
   size = length_of (length xs);
   domains = domains;
-  shrinks = shrinks_none s;
+  shrinks = same_shrinks s;
   correct = λ a all within. within;
   cleared = λ i is. absurd (none_done (length xs) i is);
 }

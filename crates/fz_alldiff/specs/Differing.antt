@@ -1,14 +1,13 @@
 -- Terms that are all different: when an assignment makes it true, and what is done of the work on a store.
-use Rattle.std.specs.Prelude.{◌≡◌, ◌≢◌, Bool, true, false, ℕ, ◌<◌, ℤ, List, length, flat_map, [], ◌∷◌, slice_get, slice_index_or, Some}
+use Rattle.std.specs.Prelude.{◌≡◌, ◌≢◌, Bool, true, false, ℕ, ◌<◌, ℤ, List, length, slice_get, slice_index_or, Some}
 use Rattle.fz_sets.specs.Sets.{IsInSet}
 use Rattle.fz_spec.specs.declared.builtin.Builtin.{Builtin}
 use Rattle.fz_spec.specs.declared.term.Term.{Term}
-use Rattle.fz_spec.specs.declared.term.Term.TheVariants.{Num, Var}
 use Rattle.fz_spec.specs.Constraints.{term_values}
 use Rattle.fz_spec.specs.Truth.{AreDifferent}
 use Rattle.fz_strength.specs.Differences.{IsDifference}
 use Rattle.fz_strength.specs.Domains.{term_set, Within}
-use Rattle.fz_strength.specs.Events.{IsOnly}
+use Rattle.fz_strength.specs.Events.{IsOnly, variables_of}
 use Rattle.fz_strength.specs.Relations.{IsApart}
 use Rattle.fz_prop.specs.declared.answer.Answer.{Answer}
 use Rattle.fz_prop.specs.declared.answer.Answer.TheVariants.{Fix, Subsumed}
@@ -49,14 +48,6 @@ abbrev pub IsRested : List Bool → Answer → Type 0
 IsRested done Subsumed = (i : ℕ) → i < length done → IsDone done i
 IsRested done Fix = (i : ℕ) × (i < length done) × (IsDone done i → ⊥)
 IsRested done answer = ⊥
-
--- the variables of terms, in order
-abbrev pub variable_of : Term → List ℕ
-variable_of (Num n) = []
-variable_of (Var v) = v ∷ []
-
-abbrev pub variables_of : List Term → List ℕ
-variables_of xs = flat_map variable_of xs
 
 -- the name says that terms are all different, and their variables are listed
 pub record IsAllDifferent (name : Builtin) (xs : List Term) (variables : List ℕ) : Type 0 where

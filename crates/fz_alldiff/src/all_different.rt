@@ -1,5 +1,5 @@
 //! Terms that are all different.
-ghost use Rattle.std.specs.Prelude.{◌≡◌, List, [], ◌∷◌, length, IfOk};
+ghost use Rattle.std.specs.Prelude.{◌≡◌, [], ◌∷◌, length, IfOk};
 ghost use Rattle.fz_spec.specs.Constraints.{Terms};
 ghost use Rattle.fz_strength.specs.Differences.{IsDifference};
 ghost use Rattle.fz_strength.specs.Events.{AreBelow, AreFixed};
@@ -7,9 +7,9 @@ ghost use Rattle.fz_strength.specs.Lines.{waits};
 ghost use Rattle.fz_strength.specs.Promises.{IsCorrect, Suits};
 ghost use Rattle.fz_prop.specs.Answers.{IsAnswer, IsDecided};
 ghost use Rattle.fz_prop.specs.Stores.{Shrinks};
-ghost use Rattle.fz_alldiff.specs.Differing.{variables_of};
 
 use crate::differ::keep_different;
+use fz_prop::variables::variables_of;
 use fz_prop::{Answer, Cost, Event, Propagator, Store};
 use fz_spec::builtin::Builtin;
 use fz_spec::term::Term;
@@ -69,19 +69,6 @@ impl AllDifferent {
     {
         keep_different(*self.variables.allocator(), store, &self.terms)
     }
-}
-
-/// The variables of terms, in order.
-fn variables_of(alloc: Global, terms: &[Term]) -> Result<Vec<u32>, AllocError>
-    ensures { IfOk result (λ v. v.items ≡ variables_of terms.now) }
-{
-    let mut variables = Vec::new(alloc);
-    for term in terms {
-        if let Term::Var(variable) = term {
-            variables.push(*variable)?;
-        }
-    }
-    Ok(variables)
 }
 
 impl Propagator for AllDifferent {

@@ -11,7 +11,7 @@ use Rattle.fz_strength.specs.declared.event.Event.TheVariants.{Fixed}
 use Rattle.fz_strength.specs.Domains.{dom_at, Within, number_at}
 use Rattle.fz_strength.specs.Events.{AllFixed, Wait, wait_for, waits_for, AreBelow}
 use Rattle.fz_strength.specs.Lines.{terms_of, terms_among}
-use Rattle.fz_strength.proofs.Lists.{all_left, all_right}
+use Rattle.fz_sets.proofs.Lists.{all_left, all_right}
 use Rattle.fz_strength.proofs.Terms.{is_single}
 
 -- two assignments give these terms the same numbers

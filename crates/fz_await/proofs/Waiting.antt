@@ -1,18 +1,19 @@
 -- A constraint that waits: its variables, and what its looks answer.
-use Rattle.std.proofs.Common.{◌≡◌, ◌<◌, ◌≤◌, ℕ, List, [], ◌∷◌, ◌++◌, refl, sym, ◌∙◌, ap, subst, length}
-use Rattle.std.specs.Prelude.{ℤ, zero, suc, map, flat_map, slice_get, Some}
+use Rattle.std.proofs.Common.{◌≡◌, ◌<◌, ℕ, List, [], ◌∷◌, refl, sym, ◌∙◌, ap, subst, length}
+use Rattle.std.specs.Prelude.{ℤ, map, slice_get, Some}
 use Rattle.std.specs.List.{AllByRecursion}
 use Rattle.fz_spec.specs.declared.term.Term.{Term}
 use Rattle.fz_spec.specs.declared.term.Term.TheVariants.{Num, Var}
-use Rattle.fz_spec.specs.Constraints.{Constraint, Holds, IsTrueOf}
+use Rattle.fz_spec.specs.Constraints.{Constraint, IsTrueOf}
 use Rattle.fz_strength.specs.declared.event.Event.TheVariants.{Fixed}
-use Rattle.fz_strength.specs.Domains.{dom_at, Within, AreDomains, IsNarrower}
-use Rattle.fz_strength.specs.Events.{IsOnly, AllFixed, Wait, waits_for, AreBelow, AreFixed}
-use Rattle.fz_strength.specs.Lines.{terms_among, waits, Rests, HasOwnLine}
+use Rattle.fz_strength.specs.Domains.{dom_at, Within}
+use Rattle.fz_strength.specs.Events.{IsOnly, AllFixed, Wait, waits_for, AreBelow, AreFixed, variables_of}
+use Rattle.fz_strength.specs.Lines.{terms_among, waits, Rests}
 use Rattle.fz_strength.specs.Promises.{IsAlwaysTrue, IsNeverTrue, RestsForGood}
 use Rattle.fz_strength.proofs.General.{general_line, general_waits}
 use Rattle.fz_strength.proofs.Terms.{within_before}
-use Rattle.fz_await.specs.Awaited.{variable_of, variables_in, IsAwaiting}
+use Rattle.fz_strength.proofs.Waits.{variables_waited, event_waited}
+use Rattle.fz_await.specs.Awaited.{IsAwaiting}
 use Rattle.fz_await.proofs.Values.{fixed_agree, truth_agrees}
 
 -- ---- its variables
@@ -21,16 +22,11 @@ use Rattle.fz_await.proofs.Values.{fixed_agree, truth_agrees}
 abbrev pub IsFixedAt : List (List (ℤ × ℤ)) → ℕ → Type 0
 IsFixedAt ds v = (x : ℤ) × IsOnly (dom_at ds v) x
 
-waited_variables : (ts : List Term) → map (λ (w : Wait). w.variable) (waits_for Fixed ts) ≡ flat_map variable_of ts
-waited_variables [] = refl
-waited_variables (Num n ∷ ts) = waited_variables ts
-waited_variables (Var v ∷ ts) = ap (λ (vs : List ℕ). v ∷ vs) (waited_variables ts)
-
 pub variables_are : (c : Constraint) (variables : List ℕ) → IsAwaiting c variables → variables ≡ map (λ (w : Wait). w.variable) (waits c)
 variables_are c variables is =
-    is.listed ∙ sym (ap (map (λ (w : Wait). w.variable)) (general_waits c.name c.arguments is.general) ∙ waited_variables (terms_among c.arguments))
+    is.listed ∙ sym (ap (map (λ (w : Wait). w.variable)) (general_waits c.name c.arguments is.general) ∙ variables_waited Fixed (terms_among c.arguments))
 
-all_below : (ts : List Term) (n : ℕ) → AreBelow (waits_for Fixed ts) n → AllByRecursion (λ (v : ℕ). v < n) (flat_map variable_of ts)
+all_below : (ts : List Term) (n : ℕ) → AreBelow (waits_for Fixed ts) n → AllByRecursion (λ (v : ℕ). v < n) (variables_of ts)
 all_below [] n below = tt
 all_below (Num m ∷ ts) n below = all_below ts n below
 all_below (Var v ∷ ts) n below = (below.0, all_below ts n below.1)
@@ -42,17 +38,17 @@ pub variables_below : (c : Constraint) (variables : List ℕ) (n : ℕ) → IsAw
 variables_below c variables n is below =
     subst (λ (vs : List ℕ). AllByRecursion (λ (v : ℕ). v < n) vs) (sym is.listed) (all_below (terms_among c.arguments) n (terms_below c variables n is below))
 
-all_fixed : (ts : List Term) (ds : List (List (ℤ × ℤ))) → AllByRecursion (IsFixedAt ds) (flat_map variable_of ts) → AllFixed ds ts
+all_fixed : (ts : List Term) (ds : List (List (ℤ × ℤ))) → AllByRecursion (IsFixedAt ds) (variables_of ts) → AllFixed ds ts
 all_fixed [] ds fixed = tt
 all_fixed (Num n ∷ ts) ds fixed = ((n, refl), all_fixed ts ds fixed)
 all_fixed (Var v ∷ ts) ds fixed = (fixed.0, all_fixed ts ds fixed.1)
 
-each_fixed : (ts : List Term) (ds : List (List (ℤ × ℤ))) → AllFixed ds ts → AllByRecursion (IsFixedAt ds) (flat_map variable_of ts)
+each_fixed : (ts : List Term) (ds : List (List (ℤ × ℤ))) → AllFixed ds ts → AllByRecursion (IsFixedAt ds) (variables_of ts)
 each_fixed [] ds fixed = tt
 each_fixed (Num n ∷ ts) ds fixed = each_fixed ts ds fixed.1
 each_fixed (Var v ∷ ts) ds fixed = (fixed.0, each_fixed ts ds fixed.1)
 
-waits_fixed : (ts : List Term) (ds : List (List (ℤ × ℤ))) → AreFixed (waits_for Fixed ts) ds → AllByRecursion (IsFixedAt ds) (flat_map variable_of ts)
+waits_fixed : (ts : List Term) (ds : List (List (ℤ × ℤ))) → AreFixed (waits_for Fixed ts) ds → AllByRecursion (IsFixedAt ds) (variables_of ts)
 waits_fixed [] ds fixed = tt
 waits_fixed (Num n ∷ ts) ds fixed = waits_fixed ts ds fixed
 waits_fixed (Var v ∷ ts) ds fixed = (fixed.0, waits_fixed ts ds fixed.1)
@@ -90,12 +86,5 @@ pub never_true : (c : Constraint) (variables : List ℕ) (ds : List (List (ℤ �
     → AllByRecursion (IsFixedAt ds) variables → Within ds a → (IsTrueOf a c → ⊥) → IsNeverTrue c ds
 never_true c variables ds a is below fixed in_a false = λ b in_b h. false (one_for_all c variables ds b a is below fixed in_b in_a h)
 
--- each of what is waited for is that a variable gets fixed
-all_for_fixed : (ts : List Term) (w : Wait) (i : ℕ) → slice_get (waits_for Fixed ts) i ≡ Some w → Fixed ≡ w.event
-all_for_fixed [] w i at = absurd (cc (at))
-all_for_fixed (Num n ∷ ts) w i at = all_for_fixed ts w i at
-all_for_fixed (Var v ∷ ts) w zero at = cc (at)
-all_for_fixed (Var v ∷ ts) w (suc i) at = all_for_fixed ts w i at
-
 pub event_is : (c : Constraint) (variables : List ℕ) (w : Wait) (i : ℕ) → IsAwaiting c variables → slice_get (waits c) i ≡ Some w → Fixed ≡ w.event
-event_is c variables w i is at = all_for_fixed (terms_among c.arguments) w i (subst (λ (ws : List Wait). slice_get ws i ≡ Some w) (general_waits c.name c.arguments is.general) at)
+event_is c variables w i is at = event_waited Fixed (terms_among c.arguments) i w (subst (λ (ws : List Wait). slice_get ws i ≡ Some w) (general_waits c.name c.arguments is.general) at)

@@ -1,20 +1,20 @@
 //! Constraints that wait for their terms to get fixed.
-ghost use Rattle.std.specs.Prelude.{◌≡◌, ◌++◌, List, length, map, flat_map, IfOk, OnOk};
-ghost use Rattle.fz_strength.specs.Events.{AreBelow, AreFixed};
-ghost use Rattle.fz_strength.specs.Lines.{waits, HasOwnLine};
+ghost use Rattle.std.specs.Prelude.{◌≡◌, ◌++◌, length, map, IfOk, OnOk};
+ghost use Rattle.fz_strength.specs.Events.{AreBelow, AreFixed, variables_of};
+ghost use Rattle.fz_strength.specs.Lines.{waits, terms_of, HasOwnLine};
 ghost use Rattle.fz_strength.specs.Promises.{IsCorrect};
 ghost use Rattle.fz_prop.specs.Answers.{IsAnswer, IsDecided};
 ghost use Rattle.fz_prop.specs.Stores.{Shrinks};
 ghost use Rattle.fz_model.specs.Arguments.{argument_of};
-ghost use Rattle.fz_await.specs.Awaited.{variable_of, variables_of, variables_in};
+ghost use Rattle.fz_await.specs.Awaited.{variables_in};
 ghost use Rattle.fz_strength.specs.Costs.{cost_of};
 
 use crate::numbers::{are_fixed, least_numbers};
 use fz_model::constraint::{Argument, Constraint};
 use fz_model::part::Part;
+use fz_prop::variables::{add_variable, add_variables};
 use fz_prop::{Answer, Cost, Event, Propagator, Store};
 use fz_spec::builtin::Builtin;
-use fz_spec::term::Term;
 use fz_truth::is_true;
 use std::alloc::{AllocError, Global};
 use std::marker::Model;
@@ -98,39 +98,20 @@ fn variables_in(alloc: Global, arguments: &[Argument]) -> Result<Vec<u32>, Alloc
 {
     let mut variables = Vec::new(alloc);
     for argument in arguments {
-        add_variables(&mut variables, argument)?;
+        add_argument(&mut variables, argument)?;
     }
     Ok(variables)
 }
 
-fn add_variables(variables: &mut Vec<u32>, argument: &Argument) -> Result<(), AllocError>
-    ensures { OnOk result
-        (variables.new.items ≡ variables.old.items ++ variables_of (argument_of argument.now)) }
+fn add_argument(variables: &mut Vec<u32>, argument: &Argument) -> Result<(), AllocError>
+    ensures { OnOk result (variables.new.items
+        ≡ variables.old.items ++ variables_of (terms_of (argument_of argument.now))) }
 {
     match argument {
         Argument::One(term) => add_variable(variables, *term),
-        Argument::Terms(terms) => add_each(variables, terms),
+        Argument::Terms(terms) => add_variables(variables, terms),
         Argument::Numbers(_) | Argument::Set(_) => Ok(()),
     }
-}
-
-fn add_each(variables: &mut Vec<u32>, terms: &[Term]) -> Result<(), AllocError>
-    ensures { OnOk result
-        (variables.new.items ≡ variables.old.items ++ flat_map variable_of terms.now) }
-{
-    for term in terms {
-        add_variable(variables, *term)?;
-    }
-    Ok(())
-}
-
-fn add_variable(variables: &mut Vec<u32>, term: Term) -> Result<(), AllocError>
-    ensures { OnOk result (variables.new.items ≡ variables.old.items ++ variable_of term) }
-{
-    if let Term::Var(variable) = term {
-        variables.push(variable)?;
-    }
-    Ok(())
 }
 
 impl Propagator for Awaiting {

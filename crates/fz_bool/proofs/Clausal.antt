@@ -3,13 +3,14 @@ use Rattle.std.proofs.Common.{◌≡◌, ◌≢◌, ℕ, suc, List, [], ◌∷�
 use Rattle.std.specs.Prelude.{ℤ, Some, slice_get}
 use Rattle.std.specs.List.{AllByRecursion}
 use Rattle.std.proofs.lemmas.Bool.{cases_eq}
+use Rattle.fz_sets.proofs.Lists.{some_is, all_at}
 use Rattle.fz_spec.specs.Truth.{SomeByRecursion}
 use Rattle.fz_spec.specs.Constraints.{term_value}
 use Rattle.fz_strength.specs.declared.literal.Literal.{Literal}
 use Rattle.fz_strength.specs.Domains.{term_set, Within}
 use Rattle.fz_strength.specs.Events.{IsFixedIn}
 use Rattle.fz_strength.specs.Clauses.{true_number, false_number, MakesTrue, MakesFalse, IsTrueIn, IsFalseIn, IsUntrueIn, AreOthersUntrue}
-use Rattle.fz_strength.proofs.Clauses.{only_still, all_with, all_at, apart}
+use Rattle.fz_strength.proofs.Clauses.{only_still, all_with, apart}
 use Rattle.fz_prop.specs.declared.answer.Answer.TheVariants.{Subsumed, Failed}
 use Rattle.fz_prop.specs.Answers.{IsAnswerOf}
 use Rattle.fz_prop.proofs.Filled.{narrower_ranges, one_left}
@@ -17,7 +18,7 @@ use Rattle.fz_prop.specs.Truths.{IsAbout}
 use Rattle.fz_bool.specs.Looks.{IsOpen, IsLiteralOf, AreLiteralsOf, IsLastOf, HasTwoOpen, IsTruthAmong}
 use Rattle.fz_bool.specs.declared.literals.State.TheVariants.{Open}
 use Rattle.fz_bool.specs.Clausal.{TruthOf, LineOf, AreMadeFalse, AreFalseIn, AreFixedLiterals}
-use Rattle.fz_bool.proofs.Looks.{same_item, some_at, untrue_not_true, open_not_true}
+use Rattle.fz_bool.proofs.Looks.{some_at, untrue_not_true, open_not_true}
 use Rattle.fz_bool.proofs.Within.{IsSameWithin, makes_true, not_made_true, made_false, none_true, all_or_some, false_of_untrue, untrue_of_false, all_false_of_untrue, all_false_still, some_true_still, makes_some_true}
 
 -- ---- lines
@@ -34,7 +35,7 @@ only_there : (P Q : Literal → Type 0) (ls : List Literal) (i : ℕ) (l : Liter
 only_there P Q ls i l at clash others some =
     let found = some_place P ls some in
     elim (cases_eq found.0 i) [
-      | inl e ↦ subst P (same_item found.1 l (sym found.2 ∙ ap (slice_get ls) e ∙ at)) found.3
+      | inl e ↦ subst P (some_is found.1 l (sym found.2 ∙ ap (slice_get ls) e ∙ at)) found.3
       | inr ne ↦ absurd (clash found.1 (others found.0 found.1 found.2 ne) found.3)
     ]
 

@@ -1,13 +1,14 @@
 -- Making literals false, one after the other.
 use Rattle.std.proofs.Common.{◌≡◌, ℕ, ◌<◌, ◌≤◌, ◌+◌, List, sym, ap, subst, ◌∙◌, arith, length, inl, inr}
 use Rattle.std.specs.Prelude.{ℤ, Some, slice_get}
+use Rattle.fz_sets.proofs.Lists.{all_of, some_is, all_at}
 use Rattle.fz_dom.specs.declared.change.Change.{Change}
 use Rattle.fz_dom.specs.declared.change.Change.TheVariants.{Wiped}
 use Rattle.fz_spec.specs.Constraints.{term_value}
 use Rattle.fz_strength.specs.declared.literal.Literal.{Literal}
 use Rattle.fz_strength.specs.Domains.{term_set, Within}
 use Rattle.fz_strength.specs.Clauses.{false_number, MakesFalse, IsFalseIn}
-use Rattle.fz_strength.proofs.Clauses.{all_at, only_still}
+use Rattle.fz_strength.proofs.Clauses.{only_still}
 use Rattle.fz_prop.specs.declared.answer.Answer.TheVariants.{Subsumed}
 use Rattle.fz_prop.specs.Answers.{IsAnswerOf, IsCorrectOf}
 use Rattle.fz_prop.specs.Stores.{Stored, IsStore, Shrinks, IsTermOf, IsTermChange}
@@ -16,7 +17,7 @@ use Rattle.fz_prop.proofs.TermChanges.{term_within, within_kept, kept_term, none
 use Rattle.fz_prop.proofs.Twice.{shrinks_twice}
 use Rattle.fz_bool.specs.Looks.{AreTermsOf}
 use Rattle.fz_bool.specs.Clausal.{AreMadeFalse, AreFalseIn}
-use Rattle.fz_bool.proofs.Looks.{inside_of, all_from, split, same_item}
+use Rattle.fz_bool.proofs.Looks.{inside_of, split}
 use Rattle.fz_bool.proofs.Within.{makes_false, all_false_still}
 
 -- the first so many are false, and no assignment that makes all false is lost
@@ -47,7 +48,7 @@ next_false change r s t ls n l are at before store shrinks h not = record {
   correct = λ a holds within.
       within_kept change l.term (λ (u : ℤ). u ≡ false_number l) s t a h shrinks (before.correct a holds within) (all_at (MakesFalse a) ls n l holds at);
   fails = λ j k below at_k. elim (split j n below) [
-    | inl e ↦ subst (IsFalseIn t.doms) (same_item l k (sym at ∙ ap (slice_get ls) (sym e) ∙ at_k)) (made change s t l (term_at r s ls n l before.shrinks are at) store shrinks h not)
+    | inl e ↦ subst (IsFalseIn t.doms) (some_is l k (sym at ∙ ap (slice_get ls) (sym e) ∙ at_k)) (made change s t l (term_at r s ls n l before.shrinks are at) store shrinks h not)
     | inr less ↦ only_still k.term (false_number k) s.doms t.doms store.domains shrinks.narrower (before.fails j k less at_k)
   ];
 }
@@ -61,7 +62,7 @@ wiped_correct r s t ls n l are at before h = λ a within holds.
 
 pub all_made_false : (r s : Stored) (ls : List Literal) (n : ℕ) → AreTermsOf r.doms ls → length ls ≤ n → FalseSoFar r s ls n → IsAnswerOf Subsumed (AreMadeFalse ls) (AreFalseIn ls) r.doms s.doms
 all_made_false r s ls n are whole before =
-    let all : AreFalseIn ls s.doms = all_from (IsFalseIn s.doms) ls (λ i l at. let inside = inside_of ls i l at in before.fails i l (omega (arith, inside, whole)) at) in (
-      (λ a within. all_from (MakesFalse a) ls (λ i l at. makes_false s.doms l a (term_at r s ls i l before.shrinks are at) within (all_at (IsFalseIn s.doms) ls i l all at))),
+    let all : AreFalseIn ls s.doms = all_of (IsFalseIn s.doms) ls (λ i l at. let inside = inside_of ls i l at in before.fails i l (omega (arith, inside, whole)) at) in (
+      (λ a within. all_of (MakesFalse a) ls (λ i l at. makes_false s.doms l a (term_at r s ls i l before.shrinks are at) within (all_at (IsFalseIn s.doms) ls i l all at))),
       (λ fs domains narrower. all_false_still s.doms fs ls domains narrower all),
     )

@@ -3,14 +3,14 @@ use Rattle.std.proofs.Common.{◌≡◌, ◌≢◌, ◌⊎◌, ℕ, zero, suc, �
 use Rattle.std.specs.Prelude.{ℤ, pos, false, Option, Some, None, slice_get}
 use Rattle.std.specs.List.{AllByRecursion}
 use Rattle.std.proofs.lemmas.Bool.{cases_eq}
+use Rattle.fz_sets.proofs.Lists.{all_of, some_is, all_at}
 use Rattle.fz_spec.specs.declared.term.Term.TheVariants.{Num}
 use Rattle.fz_spec.specs.Truth.{SomeByRecursion}
 use Rattle.fz_strength.specs.declared.literal.Literal.{Literal}
-use Rattle.fz_dom.specs.Shape.{least}
 use Rattle.fz_strength.specs.Domains.{term_set}
-use Rattle.fz_strength.specs.Events.{IsOnly, IsFixedIn}
+use Rattle.fz_strength.specs.Events.{IsFixedIn}
 use Rattle.fz_strength.specs.Clauses.{IsTrueIn, IsUntrueIn, true_number}
-use Rattle.fz_strength.proofs.Clauses.{all_at}
+use Rattle.fz_strength.proofs.Terms.{only_number}
 use Rattle.fz_bool.specs.declared.literals.State.{State}
 use Rattle.fz_bool.specs.declared.literals.State.TheVariants.{True, False, Open}
 use Rattle.fz_bool.specs.Looks.{IsOpen, IsLastOf, HasTwoOpen, IsTruthAmong}
@@ -36,17 +36,10 @@ some_at P [] i x at holds = absurd (cc (at))
 some_at P (y ∷ ys) zero x at holds = let e : x ≡ y = cc in inl (subst P e holds)
 some_at P (y ∷ ys) (suc i) x at holds = inr (some_at P ys i x at holds)
 
-pub all_from : {X : Type 0} (P : X → Type 0) (xs : List X) → ((i : ℕ) (x : X) → slice_get xs i ≡ Some x → P x) → AllByRecursion P xs
-all_from P [] each = tt
-all_from P (x ∷ xs) each = (each 0 x refl, all_from P xs (λ i y at. each (suc i) y at))
-
 pub none_of : {X : Type 0} (P : X → Type 0) (xs : List X) → ((i : ℕ) (x : X) → slice_get xs i ≡ Some x → P x → ⊥) → SomeByRecursion P xs → ⊥
 none_of P [] each some = some
 none_of P (x ∷ xs) each (inl here) = each 0 x refl here
 none_of P (x ∷ xs) each (inr there) = none_of P xs (λ i y at. each (suc i) y at) there
-
-pub same_item : (l k : Literal) → Some l ≡ Some k → l ≡ k
-same_item l k e = cc
 
 -- ---- the first so many
 
@@ -72,7 +65,7 @@ split j n below = elim (cases_eq j n) [ inl e ↦ inl e | inr ne ↦ inr (omega 
 
 untrue_more : (ds : List (List (ℤ × ℤ))) (ls : List Literal) (n : ℕ) (l : Literal) → slice_get ls n ≡ Some l → IsUntrueIn ds l → AreUntrueBelow ds ls n → AreUntrueBelow ds ls (n + 1)
 untrue_more ds ls n l here untrue before = λ j k below at. elim (split j n below) [
-  | inl e ↦ subst (IsUntrueIn ds) (same_item l k (sym here ∙ ap (slice_get ls) (sym e) ∙ at)) untrue
+  | inl e ↦ subst (IsUntrueIn ds) (some_is l k (sym here ∙ ap (slice_get ls) (sym e) ∙ at)) untrue
   | inr less ↦ before j k less at
 ]
 
@@ -85,7 +78,7 @@ untrue_next (Some k) ds ls n l here untrue before = record {
   at = before.at;
   unfixed = before.unfixed;
   others = λ j m below ne at. elim (split j n below) [
-    | inl e ↦ subst (IsUntrueIn ds) (same_item l m (sym here ∙ ap (slice_get ls) (sym e) ∙ at)) untrue
+    | inl e ↦ subst (IsUntrueIn ds) (some_is l m (sym here ∙ ap (slice_get ls) (sym e) ∙ at)) untrue
     | inr less ↦ before.others j m less ne at
   ];
 }
@@ -121,7 +114,7 @@ last_of ds ls n l whole before = record {
 }
 
 pub all_untrue : (ds : List (List (ℤ × ℤ))) (ls : List Literal) (n : ℕ) → length ls ≤ n → AreUntrueBelow ds ls n → AllByRecursion (IsUntrueIn ds) ls
-all_untrue ds ls n whole before = all_from (IsUntrueIn ds) ls (λ i l at. let inside = inside_of ls i l at in before i l (omega (arith, inside, whole)) at)
+all_untrue ds ls n whole before = all_of (IsUntrueIn ds) ls (λ i l at. let inside = inside_of ls i l at in before i l (omega (arith, inside, whole)) at)
 
 -- ---- whether one is true
 
@@ -140,9 +133,6 @@ StateSoFar True ds ls n = ⊥
 StateSoFar False ds ls n = AreUntrueBelow ds ls n
 StateSoFar Open ds ls n = AreNotTrueBelow ds ls n × HasOpen ds ls
 
-only_number : (d : List (ℤ × ℤ)) (x y : ℤ) → IsOnly d x → IsOnly d y → x ≡ y
-only_number d x y of_x of_y = ap least (sym of_x ∙ of_y)
-
 pub untrue_not_true : (ds : List (List (ℤ × ℤ))) (l : Literal) → IsUntrueIn ds l → IsTrueIn ds l → ⊥
 untrue_not_true ds l untrue holds = untrue.2 (only_number (term_set ds l.term) untrue.0 (true_number l) untrue.1 holds)
 
@@ -151,7 +141,7 @@ open_not_true ds l unfixed holds = unfixed (true_number l, holds)
 
 not_true_more : (ds : List (List (ℤ × ℤ))) (ls : List Literal) (n : ℕ) (l : Literal) → slice_get ls n ≡ Some l → (IsTrueIn ds l → ⊥) → AreNotTrueBelow ds ls n → AreNotTrueBelow ds ls (n + 1)
 not_true_more ds ls n l here not before = λ j k below at holds. elim (split j n below) [
-  | inl e ↦ not (subst (IsTrueIn ds) (same_item k l (sym at ∙ ap (slice_get ls) e ∙ here)) holds)
+  | inl e ↦ not (subst (IsTrueIn ds) (some_is k l (sym at ∙ ap (slice_get ls) e ∙ here)) holds)
   | inr less ↦ before j k less at holds
 ]
 

@@ -1,29 +1,31 @@
 -- A constraint by its name is the clause that it says.
-use Rattle.std.proofs.Common.{◌≡◌, ℕ, zero, suc, List, [], ◌∷◌, ◌++◌, refl, sym, ap, subst, ◌∙◌, map, length, append_assoc, append-nil, inl, inr}
-use Rattle.std.specs.Prelude.{ℤ, pos, ◌↔◌, Some, flat_map, slice_get}
+use Rattle.std.proofs.Common.{◌≡◌, ℕ, List, [], ◌∷◌, ◌++◌, refl, sym, ap, subst, ◌∙◌, map, length, append_assoc, append-nil, inl, inr}
+use Rattle.std.specs.Prelude.{ℤ, pos, ◌↔◌, Some, slice_get}
 use Rattle.std.specs.List.{AllByRecursion}
+use Rattle.fz_sets.proofs.Numbers.{same_or_not}
 use Rattle.fz_spec.specs.declared.builtin.Builtin.{Builtin}
 use Rattle.fz_spec.specs.declared.builtin.Builtin.TheVariants.{ArrayBoolAnd, ArrayBoolOr, BoolAnd, BoolClause, BoolClauseReif, BoolOr}
 use Rattle.fz_spec.specs.declared.term.Term.{Term}
-use Rattle.fz_spec.specs.declared.term.Term.TheVariants.{Num, Var}
+use Rattle.fz_spec.specs.declared.term.Term.TheVariants.{Num}
 use Rattle.fz_spec.specs.Constraints.{Argument, One, Terms, Constraint, IsTrueOf, term_value}
 use Rattle.fz_spec.specs.Truth.{SomeByRecursion}
 use Rattle.fz_strength.specs.declared.literal.Literal.{Literal}
 use Rattle.fz_strength.specs.declared.event.Event.TheVariants.{Fixed}
 use Rattle.fz_strength.specs.Costs.{cost_of_name, cost_of_form}
 use Rattle.fz_strength.specs.Domains.{AreDomains, Within, IsNarrower}
-use Rattle.fz_strength.specs.Events.{IsFixedIn, Wait, waits_for, AreBelow, AreFixed}
+use Rattle.fz_strength.specs.Events.{IsFixedIn, Wait, waits_for, AreBelow, AreFixed, variable_of, variables_of}
 use Rattle.fz_strength.specs.Lines.{terms_among, waits, waits_of, Rests, RestsOf}
 use Rattle.fz_strength.specs.Promises.{IsCorrect, IsTruth, Suits, truths_of}
-use Rattle.fz_strength.specs.Clauses.{Clause, clause_of, clause_terms, positive, negative, clause, disjunction, conjunction, MakesTrue, MakesFalse, IsClauseLine, AllTruth}
-use Rattle.fz_strength.proofs.Clauses.{clause_all, clause_truth, some_or_none, same_or_not, apart, all_with, all_unmap}
-use Rattle.fz_strength.specs.Clauses.{true_number}
+use Rattle.fz_strength.specs.Clauses.{Clause, clause_of, clause_terms, positive, negative, clause, disjunction, conjunction, MakesTrue, MakesFalse, IsClauseLine, AllTruth, true_number}
+use Rattle.fz_strength.proofs.Clauses.{clause_all, clause_truth, some_or_none, apart, all_with, all_unmap}
+use Rattle.fz_strength.proofs.Waits.{terms_fixed, variables_waited, event_waited}
 use Rattle.fz_prop.specs.declared.answer.Answer.{Answer}
 use Rattle.fz_prop.specs.Answers.{IsAnswer, IsAnswerOf, IsCorrectOf}
 use Rattle.fz_prop.specs.Stores.{IsTermOf}
 use Rattle.fz_prop.proofs.Answering.{answer_of}
+use Rattle.fz_prop.proofs.Waits.{terms_below}
 use Rattle.fz_bool.specs.Looks.{IsLiteralOf, AreLiteralsOf}
-use Rattle.fz_bool.specs.Clausal.{TruthOf, LineOf, AreFixedLiterals, variable_of, literal_variables, IsClause}
+use Rattle.fz_bool.specs.Clausal.{TruthOf, LineOf, AreFixedLiterals, literal_variables, IsClause}
 use Rattle.fz_bool.proofs.Within.{IsSameWithin, same_answer, same_correct, made_false, none_true, all_or_some}
 
 -- ---- its line, its waits, its terms and its cost
@@ -66,16 +68,6 @@ clause_cost name arguments c is = absurd (cc (is))
 
 -- ---- its terms
 
-all_below : (ts : List Term) (n : ℕ) → AreBelow (waits_for Fixed ts) n → AllByRecursion (IsTermOf n) ts
-all_below [] n below = tt
-all_below (Num m ∷ ts) n below = (tt, all_below ts n below)
-all_below (Var v ∷ ts) n below = (below.0, all_below ts n below.1)
-
-all_fixed : (ts : List Term) (ds : List (List (ℤ × ℤ))) → AreFixed (waits_for Fixed ts) ds → AllByRecursion (IsFixedIn ds) ts
-all_fixed [] ds fixed = tt
-all_fixed (Num m ∷ ts) ds fixed = ((m, refl), all_fixed ts ds fixed)
-all_fixed (Var v ∷ ts) ds fixed = (fixed.0, all_fixed ts ds fixed.1)
-
 abbrev parts : List Literal → Literal → Clause
 parts ls r = record { literals = ls; result = r }
 
@@ -83,7 +75,7 @@ pub clause_of_terms : (c : Constraint) (ls : List Literal) (r : Literal) (vs : L
     → AreLiteralsOf ds ls × IsLiteralOf ds r
 clause_of_terms c ls r vs ds is below suits =
     let terms = clause_all (IsTermOf (length ds)) c.name c.arguments (parts ls r) is.says tt
-    (all_below (terms_among c.arguments) (length ds) (subst (λ (ws : List Wait). AreBelow ws (length ds)) (clause_waits c.name c.arguments (parts ls r) is.says) below)) in
+    (terms_below Fixed (terms_among c.arguments) (length ds) (subst (λ (ws : List Wait). AreBelow ws (length ds)) (clause_waits c.name c.arguments (parts ls r) is.says) below)) in
     let truths : AllByRecursion (IsTruth ds) (clause_terms (parts ls r)) = subst (AllByRecursion (IsTruth ds)) (clause_truths c.name c.arguments (parts ls r) is.says) suits in (
       all_with (λ (l : Literal). IsTermOf (length ds) l.term) (λ (l : Literal). IsTruth ds l.term) (IsLiteralOf ds) ls (λ l term truth. (term, truth)) terms.0
           (all_unmap (IsTruth ds) (λ (l : Literal). l.term) ls truths.1),
@@ -93,7 +85,7 @@ clause_of_terms c ls r vs ds is below suits =
 pub clause_fixed : (c : Constraint) (ls : List Literal) (r : Literal) (vs : List ℕ) (ds : List (List (ℤ × ℤ))) → IsClause c ls r vs → AreFixed (waits c) ds → AreFixedLiterals ds ls × IsFixedIn ds r.term
 clause_fixed c ls r vs ds is fixed =
     clause_all (IsFixedIn ds) c.name c.arguments (parts ls r) is.says (pos 1, refl)
-    (all_fixed (terms_among c.arguments) ds (subst (λ (ws : List Wait). AreFixed ws ds) (clause_waits c.name c.arguments (parts ls r) is.says) fixed))
+    (terms_fixed Fixed (terms_among c.arguments) ds (subst (λ (ws : List Wait). AreFixed ws ds) (clause_waits c.name c.arguments (parts ls r) is.says) fixed))
 
 -- ---- its truth
 
@@ -134,22 +126,17 @@ clause_correct c ls r vs ds es is of h = same_correct (TruthOf ls r) (λ a. IsTr
 
 -- ---- its variables
 
-waited_variables : (ts : List Term) → map (λ (w : Wait). w.variable) (waits_for Fixed ts) ≡ flat_map variable_of ts
-waited_variables [] = refl
-waited_variables (Num n ∷ ts) = waited_variables ts
-waited_variables (Var v ∷ ts) = ap (λ (vs : List ℕ). v ∷ vs) (waited_variables ts)
-
-positive_variables : (ts : List Term) → literal_variables (map positive ts) ≡ flat_map variable_of ts
+positive_variables : (ts : List Term) → literal_variables (map positive ts) ≡ variables_of ts
 positive_variables [] = refl
 positive_variables (t ∷ ts) = ap (λ (vs : List ℕ). variable_of t ++ vs) (positive_variables ts)
 
-negative_variables : (ts : List Term) → literal_variables (map negative ts) ≡ flat_map variable_of ts
+negative_variables : (ts : List Term) → literal_variables (map negative ts) ≡ variables_of ts
 negative_variables [] = refl
 negative_variables (t ∷ ts) = ap (λ (vs : List ℕ). variable_of t ++ vs) (negative_variables ts)
 
-variables_append : (ts us : List Term) → flat_map variable_of (ts ++ us) ≡ flat_map variable_of ts ++ flat_map variable_of us
+variables_append : (ts us : List Term) → variables_of (ts ++ us) ≡ variables_of ts ++ variables_of us
 variables_append [] us = refl
-variables_append (t ∷ ts) us = ap (λ (vs : List ℕ). variable_of t ++ vs) (variables_append ts us) ∙ sym (append_assoc (variable_of t) (flat_map variable_of ts) (flat_map variable_of us))
+variables_append (t ∷ ts) us = ap (λ (vs : List ℕ). variable_of t ++ vs) (variables_append ts us) ∙ sym (append_assoc (variable_of t) (variables_of ts) (variables_of us))
 
 literals_append : (ls ks : List Literal) → literal_variables (ls ++ ks) ≡ literal_variables ls ++ literal_variables ks
 literals_append [] ks = refl
@@ -159,35 +146,28 @@ literals_append (l ∷ ls) ks = ap (λ (vs : List ℕ). variable_of l.term ++ vs
 abbrev own_variables : Clause → List ℕ
 own_variables c = literal_variables c.literals ++ variable_of c.result.term
 
-signs : (ps ns : List Term) → literal_variables (map positive ps ++ map negative ns) ≡ flat_map variable_of ps ++ flat_map variable_of ns
+signs : (ps ns : List Term) → literal_variables (map positive ps ++ map negative ns) ≡ variables_of ps ++ variables_of ns
 signs ps ns = literals_append (map positive ps) (map negative ns) ∙ rw (positive_variables ps, negative_variables ns) refl
 
-clause_variables : (name : Builtin) (arguments : List Argument) (c : Clause) → clause_of name arguments ≡ Some c → own_variables c ≡ flat_map variable_of (terms_among arguments)
+clause_variables : (name : Builtin) (arguments : List Argument) (c : Clause) → clause_of name arguments ≡ Some c → own_variables c ≡ variables_of (terms_among arguments)
 clause_variables BoolClause (Terms ps ∷ Terms ns ∷ []) c is =
-    let e : clause ps ns (Num (pos 1)) ≡ c = cc in subst (λ (d : Clause). own_variables d ≡ flat_map variable_of (ps ++ (ns ++ []))) e (simp (signs, variables_append, append_assoc, append-nil))
+    let e : clause ps ns (Num (pos 1)) ≡ c = cc in subst (λ (d : Clause). own_variables d ≡ variables_of (ps ++ (ns ++ []))) e (simp (signs, variables_append, append_assoc, append-nil))
 clause_variables BoolClauseReif (Terms ps ∷ Terms ns ∷ One r ∷ []) c is =
-    let e : clause ps ns r ≡ c = cc in subst (λ (d : Clause). own_variables d ≡ flat_map variable_of (ps ++ (ns ++ r ∷ []))) e (simp (signs, variables_append, append_assoc, append-nil))
+    let e : clause ps ns r ≡ c = cc in subst (λ (d : Clause). own_variables d ≡ variables_of (ps ++ (ns ++ r ∷ []))) e (simp (signs, variables_append, append_assoc, append-nil))
 clause_variables ArrayBoolOr (Terms ts ∷ One r ∷ []) c is =
-    let e : disjunction ts r ≡ c = cc in subst (λ (d : Clause). own_variables d ≡ flat_map variable_of (ts ++ r ∷ [])) e (simp (positive_variables, variables_append, append-nil))
+    let e : disjunction ts r ≡ c = cc in subst (λ (d : Clause). own_variables d ≡ variables_of (ts ++ r ∷ [])) e (simp (positive_variables, variables_append, append-nil))
 clause_variables ArrayBoolAnd (Terms ts ∷ One r ∷ []) c is =
-    let e : conjunction ts r ≡ c = cc in subst (λ (d : Clause). own_variables d ≡ flat_map variable_of (ts ++ r ∷ [])) e (simp (negative_variables, variables_append, append-nil))
+    let e : conjunction ts r ≡ c = cc in subst (λ (d : Clause). own_variables d ≡ variables_of (ts ++ r ∷ [])) e (simp (negative_variables, variables_append, append-nil))
 clause_variables BoolOr (One a ∷ One b ∷ One r ∷ []) c is =
-    let e : disjunction (a ∷ b ∷ []) r ≡ c = cc in subst (λ (d : Clause). own_variables d ≡ flat_map variable_of (a ∷ b ∷ r ∷ [])) e (simp (append_assoc, append-nil))
+    let e : disjunction (a ∷ b ∷ []) r ≡ c = cc in subst (λ (d : Clause). own_variables d ≡ variables_of (a ∷ b ∷ r ∷ [])) e (simp (append_assoc, append-nil))
 clause_variables BoolAnd (One a ∷ One b ∷ One r ∷ []) c is =
-    let e : conjunction (a ∷ b ∷ []) r ≡ c = cc in subst (λ (d : Clause). own_variables d ≡ flat_map variable_of (a ∷ b ∷ r ∷ [])) e (simp (append_assoc, append-nil))
+    let e : conjunction (a ∷ b ∷ []) r ≡ c = cc in subst (λ (d : Clause). own_variables d ≡ variables_of (a ∷ b ∷ r ∷ [])) e (simp (append_assoc, append-nil))
 clause_variables name arguments c is = absurd (cc (is))
 
 pub variables_are : (c : Constraint) (ls : List Literal) (r : Literal) (vs : List ℕ) → IsClause c ls r vs → vs ≡ map (λ (w : Wait). w.variable) (waits c)
 variables_are c ls r vs is =
     is.listed ∙ clause_variables c.name c.arguments (parts ls r) is.says
-    ∙ sym (ap (map (λ (w : Wait). w.variable)) (clause_waits c.name c.arguments (parts ls r) is.says) ∙ waited_variables (terms_among c.arguments))
-
--- each of what is waited for is that a variable gets fixed
-all_for_fixed : (ts : List Term) (w : Wait) (i : ℕ) → slice_get (waits_for Fixed ts) i ≡ Some w → Fixed ≡ w.event
-all_for_fixed [] w i at = absurd (cc (at))
-all_for_fixed (Num n ∷ ts) w i at = all_for_fixed ts w i at
-all_for_fixed (Var v ∷ ts) w zero at = cc (at)
-all_for_fixed (Var v ∷ ts) w (suc i) at = all_for_fixed ts w i at
+    ∙ sym (ap (map (λ (w : Wait). w.variable)) (clause_waits c.name c.arguments (parts ls r) is.says) ∙ variables_waited Fixed (terms_among c.arguments))
 
 pub event_is : (c : Constraint) (ls : List Literal) (r : Literal) (vs : List ℕ) (w : Wait) (i : ℕ) → IsClause c ls r vs → slice_get (waits c) i ≡ Some w → Fixed ≡ w.event
-event_is c ls r vs w i is at = all_for_fixed (terms_among c.arguments) w i (subst (λ (ws : List Wait). slice_get ws i ≡ Some w) (clause_waits c.name c.arguments (parts ls r) is.says) at)
+event_is c ls r vs w i is at = event_waited Fixed (terms_among c.arguments) i w (subst (λ (ws : List Wait). slice_get ws i ≡ Some w) (clause_waits c.name c.arguments (parts ls r) is.says) at)

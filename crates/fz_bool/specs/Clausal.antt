@@ -1,11 +1,9 @@
 -- Clauses: when an assignment makes one true, its line, and what its propagator keeps.
-use Rattle.std.specs.Prelude.{◌≡◌, ◌++◌, ℕ, ℤ, List, [], ◌∷◌, flat_map, Some}
+use Rattle.std.specs.Prelude.{◌≡◌, ◌++◌, ℕ, ℤ, List, flat_map, Some}
 use Rattle.std.specs.List.{AllByRecursion}
-use Rattle.fz_spec.specs.declared.term.Term.{Term}
-use Rattle.fz_spec.specs.declared.term.Term.TheVariants.{Num, Var}
 use Rattle.fz_spec.specs.Constraints.{Constraint}
 use Rattle.fz_strength.specs.declared.literal.Literal.{Literal}
-use Rattle.fz_strength.specs.Events.{IsFixedIn}
+use Rattle.fz_strength.specs.Events.{IsFixedIn, variable_of}
 use Rattle.fz_strength.specs.Clauses.{clause_of, ClauseTruth, MakesFalse, IsFalseIn, IsClauseLine}
 
 abbrev pub TruthOf : List Literal → Literal → List ℤ → Type 0
@@ -24,11 +22,6 @@ AreFalseIn ls ds = AllByRecursion (IsFalseIn ds) ls
 -- one number is left of each of these literals
 abbrev pub AreFixedLiterals : List (List (ℤ × ℤ)) → List Literal → Type 0
 AreFixedLiterals ds ls = AllByRecursion (λ (l : Literal). IsFixedIn ds l.term) ls
-
--- the variable of a term, and those of literals
-abbrev pub variable_of : Term → List ℕ
-variable_of (Num n) = []
-variable_of (Var v) = v ∷ []
 
 abbrev pub literal_variables : List Literal → List ℕ
 literal_variables ls = flat_map (λ (l : Literal). variable_of l.term) ls

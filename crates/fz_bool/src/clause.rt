@@ -1,13 +1,13 @@
 //! Clauses.
-ghost use Rattle.std.specs.Prelude.{◌≡◌, ◌++◌, List, length, map, IfOk, OnOk, MatchOption, None};
+ghost use Rattle.std.specs.Prelude.{◌≡◌, ◌++◌, length, IfOk, MatchOption, None};
 ghost use Rattle.fz_strength.specs.Clauses.{clause_of, IsTrueIn, IsUntrueIn};
-ghost use Rattle.fz_strength.specs.Events.{IsFixedIn, AreBelow, AreFixed};
+ghost use Rattle.fz_strength.specs.Events.{IsFixedIn, AreBelow, AreFixed, variable_of};
 ghost use Rattle.fz_strength.specs.Lines.{waits};
 ghost use Rattle.fz_strength.specs.Promises.{IsCorrect, Suits};
 ghost use Rattle.fz_prop.specs.Answers.{IsAnswer, IsAnswerOf, IsCorrectOf, IsDecided};
 ghost use Rattle.fz_prop.specs.Stores.{Shrinks};
 ghost use Rattle.fz_bool.specs.Looks.{IsLiteralOf, AreLiteralsOf, IsOpen};
-ghost use Rattle.fz_bool.specs.Clausal.{TruthOf, LineOf, AreFixedLiterals, variable_of, literal_variables};
+ghost use Rattle.fz_bool.specs.Clausal.{TruthOf, LineOf, AreFixedLiterals, literal_variables};
 
 use crate::literals::{
     Left, State, keep_false, left_of, make_false, make_true, state_of, truth_among,
@@ -15,8 +15,8 @@ use crate::literals::{
 use crate::parts::parts_of;
 use fz_model::constraint::Constraint;
 use fz_model::part::Part;
+use fz_prop::variables::add_variable;
 use fz_prop::{Answer, Cost, Event, Propagator, Store};
-use fz_spec::term::Term;
 use fz_strength::literal::Literal;
 use std::alloc::{AllocError, Global};
 use std::marker::Model;
@@ -93,15 +93,6 @@ fn variables_of(alloc: Global, literals: &[Literal], r: Literal) -> Result<Vec<u
     }
     add_variable(&mut variables, r.term)?;
     Ok(variables)
-}
-
-fn add_variable(variables: &mut Vec<u32>, term: Term) -> Result<(), AllocError>
-    ensures { OnOk result (variables.new.items ≡ variables.old.items ++ variable_of term) }
-{
-    if let Term::Var(variable) = term {
-        variables.push(variable)?;
-    }
-    Ok(())
 }
 
 /// Narrows a store so that a literal says whether one of these literals is true.

@@ -12,13 +12,13 @@ use Rattle.fz_spec.specs.Constraints.{term_value}
 use Rattle.fz_spec.specs.Truth.{IsElement}
 use Rattle.fz_strength.specs.Domains.{dom_at, term_set, room, AreDomains, Within, IsNarrower}
 use Rattle.fz_strength.specs.Events.{IsOnly}
-use Rattle.fz_strength.proofs.Truths.{in_single}
+use Rattle.fz_strength.proofs.Terms.{in_single}
 use Rattle.fz_prop.specs.declared.answer.Answer.{Answer}
 use Rattle.fz_prop.specs.declared.answer.Answer.TheVariants.{Fix, NoFix, Subsumed, Failed}
 use Rattle.fz_prop.specs.Answers.{IsAnswerOf, IsCorrectOf, IsDecided}
 use Rattle.fz_prop.specs.Stores.{Stored, Shrinks, IsTermOf, IsTermChange}
 use Rattle.fz_prop.proofs.Filled.{narrower_ranges, still_only}
-use Rattle.fz_prop.proofs.TermChanges.{term_within, narrower_term, only_in, within_kept, kept_term, none_kept, fixed_stays}
+use Rattle.fz_prop.proofs.TermChanges.{term_within, narrower_term, only_in, within_kept, kept_term, none_kept, fixed_stays, falls_of, same_store}
 use Rattle.fz_rel.specs.Truths.{AreSingle}
 use Rattle.fz_element.specs.Selecting.{IsSelected, SelectionLine, IsPair, ArePairs, IsRested}
 
@@ -40,14 +40,6 @@ left_term change (Num n) P r s h x is holds = is
 left_term Same (Var v) P r s h x is holds = subst (λ (u : Stored). IsInSet (dom_at u.doms v) x) (sym h.0) is
 left_term Wiped (Var v) P r s h x is holds = subst (λ (u : Stored). IsInSet (dom_at u.doms v) x) (sym h.0) is
 left_term Changed (Var v) P r s h x is holds = (h.kept x).1 (is, holds)
-
-same_store : (t : Term) (P : ℤ → Type 0) (r s : Stored) → IsTermChange Same t P r s → s ≡ r
-same_store (Num n) P r s h = h.0
-same_store (Var v) P r s h = h.0
-
-falls_at : (t : Term) (P : ℤ → Type 0) (r s : Stored) → IsTermChange Changed t P r s → room s.doms < room r.doms
-falls_at (Num n) P r s h = absurd h
-falls_at (Var v) P r s h = h.falls
 
 -- ---- no assignment is lost
 
@@ -171,10 +163,10 @@ pub falls_twice : (first second : Change) (k c : Term) (P Q : ℤ → Type 0) (r
     → Shrinks r s → Shrinks s t → room t.doms < room r.doms
 falls_twice first second k c P Q r s t changed h g shrinks narrows = elim changed [
   | inl e ↦
-      let falls = falls_at k P r s (subst (λ (f : Change). IsTermChange f k P r s) e h) in
+      let falls = falls_of k P r s (subst (λ (f : Change). IsTermChange f k P r s) e h) in
       elim narrows.falls [ inl same ↦ subst (λ (u : Stored). room u.doms < room r.doms) (sym same) falls | inr more ↦ omega (arith, falls, more) ]
   | inr e ↦
-      let falls = falls_at c Q s t (subst (λ (f : Change). IsTermChange f c Q s t) e g) in
+      let falls = falls_of c Q s t (subst (λ (f : Change). IsTermChange f c Q s t) e g) in
       elim shrinks.falls [ inl same ↦ subst (λ (u : Stored). room t.doms < room u.doms) same falls | inr more ↦ omega (arith, falls, more) ]
 ]
 

@@ -14,15 +14,16 @@ use Rattle.fz_strength.specs.Events.{IsOnly, Wait, wait_for, AreBelow, AreFixed}
 use Rattle.fz_strength.specs.Lines.{RestsOnceFixed, waits, Rests}
 use Rattle.fz_strength.specs.Promises.{IsCorrect}
 use Rattle.fz_strength.proofs.Elements.{selection_line, selection_truth, selection_waits}
-use Rattle.fz_strength.proofs.Lists.{all_left, all_right}
+use Rattle.fz_strength.proofs.Waits.{term_fixed}
+use Rattle.fz_sets.proofs.Lists.{all_left, all_right}
 use Rattle.fz_prop.specs.declared.answer.Answer.{Answer}
 use Rattle.fz_prop.specs.Answers.{IsAnswer, IsAnswerOf, IsCorrectOf}
 use Rattle.fz_prop.specs.Stores.{IsTermOf}
 use Rattle.fz_prop.specs.Truths.{IsSame}
 use Rattle.fz_prop.proofs.Answering.{answer_of, correct_of}
+use Rattle.fz_prop.proofs.Waits.{term_below}
 use Rattle.fz_rel.specs.Comparisons.{variables_of}
 use Rattle.fz_rel.specs.Truths.{AreSingle}
-use Rattle.fz_rel.proofs.Waiting.{term_of, single_of}
 use Rattle.fz_element.specs.Selecting.{IsSelected, SelectionLine}
 
 -- the constraint of a name over an index, a list and a value
@@ -53,13 +54,13 @@ pub terms_of : (name : Builtin) (k : Term) (xs : List ℤ) (c : Term) (n : ℕ) 
 terms_of name k xs c n is below =
     let is_below : Wait → Type 0 = λ (w : Wait). w.variable < n in
     let both : AreBelow (wait_for Any k ++ wait_for Any c) n = subst (λ (ws : List Wait). AreBelow ws n) (selection_waits name xs k c is) below in
-    (term_of Any k n (all_left is_below (wait_for Any k) (wait_for Any c) both), term_of Any c n (all_right is_below (wait_for Any k) (wait_for Any c) both))
+    (term_below Any k n (all_left is_below (wait_for Any k) (wait_for Any c) both), term_below Any c n (all_right is_below (wait_for Any k) (wait_for Any c) both))
 
 pub singles_of : (name : Builtin) (k : Term) (xs : List ℤ) (c : Term) (ds : List (List (ℤ × ℤ))) → IsSelection name → AreFixed (waits (selecting name k xs c)) ds → AreSingle k c ds
 singles_of name k xs c ds is fixed =
     let is_fixed : Wait → Type 0 = λ (w : Wait). (u : ℤ) × IsOnly (dom_at ds w.variable) u in
     let both : AreFixed (wait_for Any k ++ wait_for Any c) ds = subst (λ (ws : List Wait). AreFixed ws ds) (selection_waits name xs k c is) fixed in
-    (single_of Any k ds (all_left is_fixed (wait_for Any k) (wait_for Any c) both), single_of Any c ds (all_right is_fixed (wait_for Any k) (wait_for Any c) both))
+    (term_fixed Any k ds (all_left is_fixed (wait_for Any k) (wait_for Any c) both), term_fixed Any c ds (all_right is_fixed (wait_for Any k) (wait_for Any c) both))
 
 waited_variables : (k c : Term) → map (λ (w : Wait). w.variable) (wait_for Any k ++ wait_for Any c) ≡ variables_of k c
 waited_variables (Num n) (Num m) = refl

@@ -12,7 +12,7 @@ use Rattle.fz_spec.specs.declared.term.Term.{Term}
 use Rattle.fz_spec.specs.declared.term.Term.TheVariants.{Num, Var}
 use Rattle.fz_spec.specs.Truth.{IsElement}
 use Rattle.fz_strength.specs.Domains.{dom_at, term_set, AreDomains}
-use Rattle.fz_strength.proofs.Truths.{is_single}
+use Rattle.fz_strength.proofs.Terms.{is_single}
 use Rattle.fz_prop.specs.Stores.{IsTermOf, FitsTerm}
 use Rattle.fz_element.specs.Selecting.{IsPair, ArePairs}
 

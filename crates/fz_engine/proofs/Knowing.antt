@@ -8,7 +8,7 @@ use Rattle.fz_sets.specs.Sets.{IsWithinLimits, IsInSet, IsInRange}
 use Rattle.fz_spec.specs.declared.kind.Kind.{Kind}
 use Rattle.fz_spec.specs.declared.kind.Kind.TheVariants as kinds
 use Rattle.fz_spec.specs.declared.builtin.Builtin.{Builtin}
-use Rattle.fz_spec.specs.declared.builtin.Builtin.TheVariants.{IntLinEq, IntLinLe, IntLinNe, ArrayBoolAnd, ArrayBoolOr, BoolAnd, BoolClause, BoolClauseReif, BoolOr, BoolEqReif, BoolLeReif, BoolLtReif, IntEqReif, IntLeReif, IntLtReif, IntNeReif, SetIn, SetInReif, ArrayBoolElement, ArrayIntElement}
+use Rattle.fz_spec.specs.declared.builtin.Builtin.TheVariants.{BoolLinEq, BoolLinLe, IntLinEq, IntLinEqReif, IntLinLe, IntLinLeReif, IntLinNe, IntLinNeReif, ArrayBoolAnd, ArrayBoolOr, BoolAnd, BoolClause, BoolClauseReif, BoolOr, BoolEqReif, BoolLeReif, BoolLtReif, IntEqReif, IntLeReif, IntLtReif, IntNeReif, SetIn, SetInReif, ArrayBoolElement, ArrayIntElement, ArrayIntMaximum, ArrayIntMinimum, IntAbs, IntDiv, IntMax, IntMin, IntMod, IntPlus, IntTimes}
 use Rattle.fz_spec.specs.declared.term.Term.{Term}
 use Rattle.fz_spec.specs.declared.term.Term.TheVariants.{Num, Var}
 use Rattle.fz_spec.specs.declared.asked.Element.{Element}
@@ -22,24 +22,29 @@ use Rattle.fz_spec.specs.Instance.{Instance, Variable}
 use Rattle.fz_model.specs.Kept as kept
 use Rattle.fz_model.specs.Kept.{IsNumberOf, kind_at, FitsElement, FitsList, FitsAsked, AllFit, FitsRow, HasSetOf, IsVariable, IsConstraint, IsModel}
 use Rattle.fz_strength.specs.declared.event.Event.{Event}
-use Rattle.fz_strength.specs.declared.event.Event.TheVariants.{Any, Fixed}
+use Rattle.fz_strength.specs.declared.event.Event.TheVariants.{Any, Bound, Fixed}
 use Rattle.fz_strength.specs.declared.relation.Relation.{Relation}
 use Rattle.fz_strength.specs.Elements.{waits_of_selection}
 use Rattle.fz_strength.specs.Events.{Wait, wait_for, waits_for, AreBelow}
 use Rattle.fz_strength.specs.Relations.{relation_of, reified_of, event_of, reified_event}
-use Rattle.fz_strength.specs.Sums.{sum_relation_of, sum_event_of}
-use Rattle.fz_strength.specs.Lines.{terms_among, waits, waits_of, waits_of_two, waits_of_reified, waits_of_set, waits_of_set_reified, waits_of_sum, IsComparing}
+use Rattle.fz_strength.specs.Sums.{sum_relation_of, left_terms, sum_event_of}
+use Rattle.fz_strength.specs.ReifiedSums.{reified_sum_of}
+use Rattle.fz_strength.specs.Lines.{terms_among, waits, waits_of, waits_of_two, waits_of_reified, waits_of_set, waits_of_set_reified, waits_of_sum, waits_of_sum_reified, IsComparing, waits_otherwise}
+use Rattle.fz_strength.specs.declared.operation.Operation.{Operation}
+use Rattle.fz_strength.specs.declared.operation.Operation.TheVariants.{Plus, Times, Quotient, Remainder, Abs, Min, Max}
+use Rattle.fz_strength.specs.Operations.{Equation, equation, equation_of, equation_terms, waits_of_equation}
 use Rattle.fz_strength.specs.Domains.{dom_at}
 use Rattle.fz_strength.specs.declared.literal.Literal.{Literal}
 use Rattle.fz_strength.specs.Clauses.{Clause, clause_of}
 use Rattle.fz_strength.specs.Promises.{truths_of_clause, truth_of_reified, truths_of, IsTruth}
-use Rattle.fz_strength.proofs.Clauses.{clause_all, all_map}
-use Rattle.fz_strength.proofs.Truths.{is_single}
-use Rattle.fz_strength.proofs.Lists.{all_both}
+use Rattle.fz_strength.proofs.Clauses.{clause_all}
+use Rattle.fz_strength.proofs.Terms.{is_single}
+use Rattle.fz_sets.proofs.Lists.{all_left, all_both, all_at, some_is, all_map}
 use Rattle.fz_prop.specs.Stores.{IsTermOf, FitsTerm, declared_sets}
+use Rattle.fz_prop.proofs.Waits.{wait_below, waits_below}
 use Rattle.fz_engine.specs.Known.{IsLimited, HaveLimits, IsKept, IsAmong, AreAmong}
 use Rattle.fz_engine.specs.Runs.{AreOf}
-use Rattle.fz_engine.proofs.Lists.{each_of, same_some, none_some}
+use Rattle.fz_engine.proofs.Lists.{none_some}
 
 number_limits : (kind : Kind) (n : ℤ) → IsNumberOf kind n → IsWithinLimits n
 number_limits kinds.Bool n is = (omega (arith, ints, is.0, is.1), omega (arith, ints, is.0, is.1))
@@ -134,10 +139,10 @@ kept_as c name arguments e f kept = rw (e, f) kept
 same_length : (ks : List ℤ) (ts : List Term) → IsTrue (have_lengths Equal (length ks ∷ length ts ∷ [])) → length ks ≡ length ts
 same_length ks ts h = grind (arith, tests)
 
-terms_limited : (vs : List Variable) (ts : List Term) → AllByRecursion (kept.IsTermOf vs kinds.Int) ts → AllByRecursion FitsTerm ts
-terms_limited vs [] all = tt
-terms_limited vs (Num n ∷ ts) all = (all.0, terms_limited vs ts all.1)
-terms_limited vs (Var v ∷ ts) all = (tt, terms_limited vs ts all.1)
+terms_limited : (vs : List Variable) (kind : Kind) (ts : List Term) → AllByRecursion (kept.IsTermOf vs kind) ts → AllByRecursion FitsTerm ts
+terms_limited vs kind [] all = tt
+terms_limited vs kind (Num n ∷ ts) all = (number_limits kind n all.0, terms_limited vs kind ts all.1)
+terms_limited vs kind (Var v ∷ ts) all = (tt, terms_limited vs kind ts all.1)
 
 -- as many factors as terms, not too many, and the terms' numbers within the limits
 pub record IsSum (ks : List ℤ) (ts : List Term) : Type 0 where
@@ -145,16 +150,38 @@ pub record IsSum (ks : List ℤ) (ts : List Term) : Type 0 where
   pub few : length ts ≤ ELEMENT_LIMIT
   pub fits : AllByRecursion FitsTerm ts
 
-sum_of : (vs : List Variable) (name : Builtin) (ks : List ℤ) (ts : List Term) (c : ℤ) (relation : Relation) → sum_relation_of name ≡ Some relation
-    → MatchOption (row_of name) ⊥ (λ row. FitsRow vs row (Numbers ks ∷ Terms ts ∷ One (Num c) ∷ [])) → IsSum ks ts
-sum_of vs IntLinEq ks ts c relation is fits = record { same = same_length ks ts fits.lengths; few = fits.fit.1.0.0; fits = terms_limited vs ts fits.fit.1.0.1 }
-sum_of vs IntLinNe ks ts c relation is fits = record { same = same_length ks ts fits.lengths; few = fits.fit.1.0.0; fits = terms_limited vs ts fits.fit.1.0.1 }
-sum_of vs IntLinLe ks ts c relation is fits = record { same = same_length ks ts fits.lengths; few = fits.fit.1.0.0; fits = terms_limited vs ts fits.fit.1.0.1 }
+sum_of : (vs : List Variable) (name : Builtin) (ks : List ℤ) (ts : List Term) (c : Term) (relation : Relation) → sum_relation_of name ≡ Some relation
+    → MatchOption (row_of name) ⊥ (λ row. FitsRow vs row (Numbers ks ∷ Terms ts ∷ One c ∷ [])) → IsSum ks ts
+sum_of vs IntLinEq ks ts c relation is fits = record { same = same_length ks ts fits.lengths; few = fits.fit.1.0.0; fits = terms_limited vs kinds.Int ts fits.fit.1.0.1 }
+sum_of vs IntLinNe ks ts c relation is fits = record { same = same_length ks ts fits.lengths; few = fits.fit.1.0.0; fits = terms_limited vs kinds.Int ts fits.fit.1.0.1 }
+sum_of vs IntLinLe ks ts c relation is fits = record { same = same_length ks ts fits.lengths; few = fits.fit.1.0.0; fits = terms_limited vs kinds.Int ts fits.fit.1.0.1 }
+sum_of vs BoolLinEq ks ts c relation is fits = record { same = same_length ks ts fits.lengths; few = fits.fit.1.0.0; fits = terms_limited vs kinds.Bool ts fits.fit.1.0.1 }
+sum_of vs BoolLinLe ks ts c relation is fits = record { same = same_length ks ts fits.lengths; few = fits.fit.1.0.0; fits = terms_limited vs kinds.Bool ts fits.fit.1.0.1 }
 sum_of vs name ks ts c relation is fits = absurd (none_some None relation refl is)
 
-pub sum_kept : (name : Builtin) (ks : List ℤ) (ts : List Term) (c : ℤ) (relation : Relation) → sum_relation_of name ≡ Some relation
-    → IsKept (record { name = name; arguments = Numbers ks ∷ Terms ts ∷ One (Num c) ∷ [] }) → IsSum ks ts
+pub sum_kept : (name : Builtin) (ks : List ℤ) (ts : List Term) (c : Term) (relation : Relation) → sum_relation_of name ≡ Some relation
+    → IsKept (record { name = name; arguments = Numbers ks ∷ Terms ts ∷ One c ∷ [] }) → IsSum ks ts
 sum_kept name ks ts c relation is kept = sum_of kept.0 name ks ts c relation is kept.1
+
+-- the same with a Boolean behind it
+bool_element : (vs : List Variable) (t : Term) → FitsElement vs (record { kind = kinds.Bool; may_vary = true }) t → kept.IsTermOf vs kinds.Bool t
+bool_element vs (Num n) fits = fits
+bool_element vs (Var v) fits = fits.1
+
+pub record IsSumWith (vs : List Variable) (ks : List ℤ) (ts : List Term) (r : Term) : Type 0 where
+  pub sum : IsSum ks ts
+  pub boolean : kept.IsTermOf vs kinds.Bool r
+
+reified_sum_in : (vs : List Variable) (name : Builtin) (ks : List ℤ) (ts : List Term) (c : ℤ) (r : Term) (relation : Relation) → reified_sum_of name ≡ Some relation
+    → MatchOption (row_of name) ⊥ (λ row. FitsRow vs row (Numbers ks ∷ Terms ts ∷ One (Num c) ∷ One r ∷ [])) → IsSumWith vs ks ts r
+reified_sum_in vs IntLinEqReif ks ts c r relation is fits = record { sum = record { same = same_length ks ts fits.lengths; few = fits.fit.1.0.0; fits = terms_limited vs kinds.Int ts fits.fit.1.0.1 }; boolean = bool_element vs r fits.fit.1.1.1.0 }
+reified_sum_in vs IntLinNeReif ks ts c r relation is fits = record { sum = record { same = same_length ks ts fits.lengths; few = fits.fit.1.0.0; fits = terms_limited vs kinds.Int ts fits.fit.1.0.1 }; boolean = bool_element vs r fits.fit.1.1.1.0 }
+reified_sum_in vs IntLinLeReif ks ts c r relation is fits = record { sum = record { same = same_length ks ts fits.lengths; few = fits.fit.1.0.0; fits = terms_limited vs kinds.Int ts fits.fit.1.0.1 }; boolean = bool_element vs r fits.fit.1.1.1.0 }
+reified_sum_in vs name ks ts c r relation is fits = absurd (none_some None relation refl is)
+
+pub reified_sum_kept : (name : Builtin) (ks : List ℤ) (ts : List Term) (c : ℤ) (r : Term) (relation : Relation) → reified_sum_of name ≡ Some relation
+    → IsKept (record { name = name; arguments = Numbers ks ∷ Terms ts ∷ One (Num c) ∷ One r ∷ [] }) → IsSum ks ts
+reified_sum_kept name ks ts c r relation is kept = (reified_sum_in kept.0 name ks ts c r relation is kept.1).sum
 
 -- a term and a list of numbers don't compare unless one argument stands behind them
 pub no_selection : (name : Builtin) (k : Term) (xs : List ℤ) (rest : List Argument) → (length rest ≡ 1 → ⊥) → IsComparing name (One k ∷ Numbers xs ∷ rest) → ⊥
@@ -165,25 +192,21 @@ no_selection name k xs (Numbers ns ∷ y ∷ rest) not h = h
 no_selection name k xs (Terms us ∷ y ∷ rest) not h = h
 no_selection name k xs (Set set ∷ y ∷ rest) not h = h
 
--- a list of numbers and one of terms have no line of their own unless one argument stands behind them
-pub no_sum_line : (name : Builtin) (ks : List ℤ) (ts : List Term) (rest : List Argument) → (length rest ≡ 1 → ⊥) → IsComparing name (Numbers ks ∷ Terms ts ∷ rest) → ⊥
-no_sum_line name ks ts [] not h = h
-no_sum_line name ks ts (x ∷ []) not h = not refl
-no_sum_line name ks ts (One (Num c) ∷ y ∷ rest) not h = h
-no_sum_line name ks ts (One (Var v) ∷ y ∷ rest) not h = h
-no_sum_line name ks ts (Numbers ns ∷ y ∷ rest) not h = h
-no_sum_line name ks ts (Terms us ∷ y ∷ rest) not h = h
-no_sum_line name ks ts (Set set ∷ y ∷ rest) not h = h
+-- a list of numbers and one of terms have no line of their own unless one argument stands behind them, or two do
+pub no_sum_line : (name : Builtin) (ks : List ℤ) (ts : List Term) (rest : List Argument) → 3 ≤ length rest → IsComparing name (Numbers ks ∷ Terms ts ∷ rest) → ⊥
+no_sum_line name ks ts [] many h = h
+no_sum_line name ks ts (x ∷ []) many h = absurd (omega (arith, many))
+no_sum_line name ks ts (x ∷ y ∷ []) many h = absurd (omega (arith, many))
+no_sum_line name ks ts (One (Num c) ∷ One r ∷ z ∷ rest) many h = h
+no_sum_line name ks ts (One (Num c) ∷ Numbers ns ∷ z ∷ rest) many h = h
+no_sum_line name ks ts (One (Num c) ∷ Terms us ∷ z ∷ rest) many h = h
+no_sum_line name ks ts (One (Num c) ∷ Set set ∷ z ∷ rest) many h = h
+no_sum_line name ks ts (One (Var v) ∷ y ∷ z ∷ rest) many h = h
+no_sum_line name ks ts (Numbers ns ∷ y ∷ z ∷ rest) many h = h
+no_sum_line name ks ts (Terms us ∷ y ∷ z ∷ rest) many h = h
+no_sum_line name ks ts (Set set ∷ y ∷ z ∷ rest) many h = h
 
 -- ---- what constraints wait for
-
-wait_below : (event : Event) (t : Term) (n : ℕ) → IsTermOf n t → AreBelow (wait_for event t) n
-wait_below event (Num number) n is = tt
-wait_below event (Var v) n is = (is, tt)
-
-waits_below : (event : Event) (ts : List Term) (n : ℕ) → AllByRecursion (IsTermOf n) ts → AreBelow (waits_for event ts) n
-waits_below event [] n all = tt
-waits_below event (t ∷ ts) n all = all_both (λ (w : Wait). w.variable < n) (wait_for event t) (waits_for event ts) (wait_below event t n all.0) (waits_below event ts n all.1)
 
 terms_below : (n : ℕ) (arguments : List Argument) → AreAmong n arguments → AllByRecursion (IsTermOf n) (terms_among arguments)
 terms_below n [] among = tt
@@ -194,6 +217,40 @@ terms_below n (Set set ∷ arguments) among = terms_below n arguments among.1
 
 general_below : (arguments : List Argument) (n : ℕ) → AreAmong n arguments → AreBelow (waits_for Fixed (terms_among arguments)) n
 general_below arguments n among = waits_below Fixed (terms_among arguments) n (terms_below n arguments among)
+
+three_all : (P : Term → Type 0) (operation : Operation) (x y z : Term) (e : Equation) → Some (equation operation (x ∷ y ∷ []) z) ≡ Some e → AllByRecursion P (x ∷ y ∷ z ∷ [])
+    → AllByRecursion P (equation_terms e)
+three_all P operation x y z e is all =
+    let same : equation operation (x ∷ y ∷ []) z ≡ e = cc in subst (λ (f : Equation). AllByRecursion P (equation_terms f)) same (all.1.1.0, (all.0, (all.1.0, tt)))
+
+list_all : (P : Term → Type 0) (operation : Operation) (z : Term) (xs : List Term) (e : Equation) → Some (equation operation xs z) ≡ Some e → AllByRecursion P (z ∷ (xs ++ []))
+    → AllByRecursion P (equation_terms e)
+list_all P operation z xs e is all =
+    let same : equation operation xs z ≡ e = cc in subst (λ (f : Equation). AllByRecursion P (equation_terms f)) same (all.0, all_left P xs [] all.1)
+
+-- the terms of an equation are among those of its constraint
+equation_all : (P : Term → Type 0) (name : Builtin) (arguments : List Argument) (e : Equation) → equation_of name arguments ≡ Some e → AllByRecursion P (terms_among arguments)
+    → AllByRecursion P (equation_terms e)
+equation_all P IntPlus (One x ∷ One y ∷ One z ∷ []) e is all = three_all P Plus x y z e is all
+equation_all P IntTimes (One x ∷ One y ∷ One z ∷ []) e is all = three_all P Times x y z e is all
+equation_all P IntDiv (One x ∷ One y ∷ One z ∷ []) e is all = three_all P Quotient x y z e is all
+equation_all P IntMod (One x ∷ One y ∷ One z ∷ []) e is all = three_all P Remainder x y z e is all
+equation_all P IntMin (One x ∷ One y ∷ One z ∷ []) e is all = three_all P Min x y z e is all
+equation_all P IntMax (One x ∷ One y ∷ One z ∷ []) e is all = three_all P Max x y z e is all
+equation_all P IntAbs (One x ∷ One z ∷ []) e is all =
+    let same : equation Abs (x ∷ []) z ≡ e = cc in subst (λ (f : Equation). AllByRecursion P (equation_terms f)) same (all.1.0, (all.0, tt))
+equation_all P ArrayIntMinimum (One z ∷ Terms xs ∷ []) e is all = list_all P Min z xs e is all
+equation_all P ArrayIntMaximum (One z ∷ Terms xs ∷ []) e is all = list_all P Max z xs e is all
+equation_all P name arguments e is all = absurd (cc (is))
+
+equation_below : (name : Builtin) (arguments : List Argument) (W : List Wait) (o : Option Equation) (n : ℕ) → equation_of name arguments ≡ o → AreBelow W n
+    → AllByRecursion (IsTermOf n) (terms_among arguments) → AreBelow (waits_of_equation W o) n
+equation_below name arguments W None n is general all = general
+equation_below name arguments W (Some e) n is general all = waits_below Bound (equation_terms e) n (equation_all (IsTermOf n) name arguments e is all)
+
+otherwise_below : (name : Builtin) (arguments : List Argument) (n : ℕ) → AreAmong n arguments → AreBelow (waits_otherwise name arguments) n
+otherwise_below name arguments n among =
+    equation_below name arguments (waits_for Fixed (terms_among arguments)) (equation_of name arguments) n refl (general_below arguments n among) (terms_below n arguments among)
 
 two_below : (W : List Wait) (o : Option Relation) (x y : Term) (n : ℕ) → AreBelow W n → IsTermOf n x → IsTermOf n y → AreBelow (waits_of_two W o x y) n
 two_below W None x y n general first second = general
@@ -225,30 +282,42 @@ sum_below : (W : List Wait) (o : Option Relation) (ts : List Term) (n : ℕ) →
 sum_below W None ts n general all = general
 sum_below W (Some relation) ts n general all = waits_below (sum_event_of relation) ts n all
 
+left_among : (ts : List Term) (c : Term) (n : ℕ) → AllByRecursion (IsTermOf n) ts → IsTermOf n c → AllByRecursion (IsTermOf n) (left_terms ts c)
+left_among ts (Num c) n all last = all
+left_among ts (Var v) n all last = (last, all)
+
+reified_sum_below : (W : List Wait) (o : Option Relation) (ts : List Term) (r : Term) (n : ℕ) → AreBelow W n → AllByRecursion (IsTermOf n) ts → IsTermOf n r → AreBelow (waits_of_sum_reified W o ts r) n
+reified_sum_below W None ts r n general all last = general
+reified_sum_below W (Some relation) ts r n general all last = all_both (λ (w : Wait). w.variable < n) (waits_for Bound ts) (wait_for Any r) (waits_below Bound ts n all) (wait_below Any r n last)
+
 below_of : (name : Builtin) (arguments : List Argument) (n : ℕ) → AreAmong n arguments → AreBelow (waits_of name arguments) n
 below_of name (One x ∷ One y ∷ []) n among =
-    two_below (waits_for Fixed (x ∷ y ∷ [])) (relation_of name) x y n (general_below (One x ∷ One y ∷ []) n among) among.0 among.1.0
+    let at = One x ∷ One y ∷ [] in two_below (waits_otherwise name at) (relation_of name) x y n (otherwise_below name at n among) among.0 among.1.0
 below_of name (One x ∷ One y ∷ One r ∷ []) n among =
-    reified_below (waits_for Fixed (x ∷ y ∷ r ∷ [])) (reified_of name) x y r n (general_below (One x ∷ One y ∷ One r ∷ []) n among) among.0 among.1.0 among.1.1.0
+    let at = One x ∷ One y ∷ One r ∷ [] in reified_below (waits_otherwise name at) (reified_of name) x y r n (otherwise_below name at n among) among.0 among.1.0 among.1.1.0
 below_of name (One x ∷ Set set ∷ []) n among = set_below (waits_for Fixed (x ∷ [])) name x n (general_below (One x ∷ Set set ∷ []) n among) among.0
 below_of name (One x ∷ Set set ∷ One r ∷ []) n among =
     set_reified_below (waits_for Fixed (x ∷ r ∷ [])) name x r n (general_below (One x ∷ Set set ∷ One r ∷ []) n among) among.0 among.1.1.0
 below_of name (One k ∷ Numbers xs ∷ One c ∷ []) n among =
     selection_below (waits_for Fixed (k ∷ c ∷ [])) name k c n (general_below (One k ∷ Numbers xs ∷ One c ∷ []) n among) among.0 among.1.1.0
-below_of name (Numbers ks ∷ Terms ts ∷ One (Num c) ∷ []) n among =
-    let at = Numbers ks ∷ Terms ts ∷ One (Num c) ∷ [] in
-    sum_below (waits_for Fixed (terms_among at)) (sum_relation_of name) ts n (general_below at n among) among.1.0
-below_of name arguments n among = general_below arguments n among
+below_of name (Numbers ks ∷ Terms ts ∷ One c ∷ []) n among =
+    let at = Numbers ks ∷ Terms ts ∷ One c ∷ [] in
+    sum_below (waits_for Fixed (terms_among at)) (sum_relation_of name) (left_terms ts c) n (general_below at n among) (left_among ts c n among.1.0 among.1.1.0)
+below_of name (Numbers ks ∷ Terms ts ∷ One (Num c) ∷ One r ∷ []) n among =
+    let at = Numbers ks ∷ Terms ts ∷ One (Num c) ∷ One r ∷ [] in
+    reified_sum_below (waits_for Fixed (terms_among at)) (reified_sum_of name) ts r n (general_below at n among) among.1.0 among.1.1.1.0
+below_of name (Terms xs ∷ []) n among = general_below (Terms xs ∷ []) n among
+below_of name arguments n among = otherwise_below name arguments n among
 
 pub below : (m : Instance) (i : ℕ) (c : Constraint) → IsModel m → slice_get m.constraints i ≡ Some c → AreBelow (waits c) (length m.variables)
-below m i c model is = below_of c.name c.arguments (length m.variables) (fits_of m.variables c (each_of (IsConstraint m.variables) m.constraints i c model.constrained is)).1
+below m i c model is = below_of c.name c.arguments (length m.variables) (fits_of m.variables c (all_at (IsConstraint m.variables) m.constraints i c model.constrained is)).1
 
 -- ---- which terms are Booleans
 
 -- one has the set 0..1
 bool_set : (vs : List Variable) (v : ℕ) → AllByRecursion IsVariable vs → kind_at vs v ≡ Some kinds.Bool → dom_at (declared_sets vs) v ≡ (pos 0, pos 1) ∷ []
 bool_set [] v sets is = absurd (cc (is))
-bool_set (u ∷ vs) zero sets is = subst (λ (kind : Kind). HasSetOf kind u.set) (same_some u.kind kinds.Bool is) sets.0
+bool_set (u ∷ vs) zero sets is = subst (λ (kind : Kind). HasSetOf kind u.set) (some_is u.kind kinds.Bool is) sets.0
 bool_set (u ∷ vs) (suc v) sets is = bool_set vs v sets.1 is
 
 in_bool : (x : ℤ) → IsInSet ((pos 0, pos 1) ∷ []) x → IsInRange (pos 0, pos 1) x
@@ -284,10 +353,6 @@ set_third_bool vs x (Var v) set fits = fits.fit.1.1.0.1
 none_clause : (c : Clause) → None ≡ Some c → ⊥
 none_clause c is = cc
 
-bool_element : (vs : List Variable) (t : Term) → FitsElement vs (record { kind = kinds.Bool; may_vary = true }) t → kept.IsTermOf vs kinds.Bool t
-bool_element vs (Num n) fits = fits
-bool_element vs (Var v) fits = fits.1
-
 clause_bools : (vs : List Variable) (name : Builtin) (arguments : List Argument) (c : Clause) → clause_of name arguments ≡ Some c → MatchOption (row_of name) ⊥ (λ row. FitsRow vs row arguments)
     → AllByRecursion (kept.IsTermOf vs kinds.Bool) (terms_among arguments)
 clause_bools vs BoolClause (Terms ps ∷ Terms ns ∷ []) c is fits =
@@ -320,11 +385,17 @@ suits_reified : (T : List Term) (vs : List Variable) (name : Builtin) (o : Optio
 suits_reified T vs name None x y r of sets fits others = others
 suits_reified T vs name (Some relation) x y r of sets fits others = (bool_truth vs r sets (third_bool vs name x y r relation of fits), tt)
 
+suits_sum : (vs : List Variable) (name : Builtin) (o : Option Relation) (ks : List ℤ) (ts : List Term) (c : ℤ) (r : Term) → reified_sum_of name ≡ o → AllByRecursion IsVariable vs
+    → MatchOption (row_of name) ⊥ (λ row. FitsRow vs row (Numbers ks ∷ Terms ts ∷ One (Num c) ∷ One r ∷ [])) → AllByRecursion (IsTruth (declared_sets vs)) (truth_of_reified [] o r)
+suits_sum vs name None ks ts c r of sets fits = tt
+suits_sum vs name (Some relation) ks ts c r of sets fits = (bool_truth vs r sets (reified_sum_in vs name ks ts c r relation of fits).boolean, tt)
+
 suits_of : (vs : List Variable) (name : Builtin) (arguments : List Argument) → AllByRecursion IsVariable vs → MatchOption (row_of name) ⊥ (λ row. FitsRow vs row arguments)
     → AllByRecursion (IsTruth (declared_sets vs)) (truths_of name arguments)
 suits_of vs name (One x ∷ One y ∷ One r ∷ []) sets fits =
     let at = One x ∷ One y ∷ One r ∷ [] in
     suits_reified (truths_of_clause (clause_of name at)) vs name (reified_of name) x y r refl sets fits (suits_clause vs name at (clause_of name at) refl sets fits)
+suits_of vs name (Numbers ks ∷ Terms ts ∷ One (Num c) ∷ One r ∷ []) sets fits = suits_sum vs name (reified_sum_of name) ks ts c r refl sets fits
 suits_of vs SetInReif (One x ∷ Set set ∷ One r ∷ []) sets fits = (bool_truth vs r sets (set_third_bool vs x r set fits), tt)
 suits_of vs name arguments sets fits = suits_clause vs name arguments (clause_of name arguments) refl sets fits
 
@@ -335,5 +406,5 @@ declared_length vs = length-map vs (λ (v : Variable). v.set)
 pub terms_declared : (m : Instance) → IsModel m → AreOf m.constraints (declared_sets m.variables)
 terms_declared m model i c is = (
   subst (λ (n : ℕ). AreBelow (waits c) n) (sym (declared_length m.variables)) (below m i c model is),
-  suits_of m.variables c.name c.arguments model.sets (each_of (IsConstraint m.variables) m.constraints i c model.constrained is),
+  suits_of m.variables c.name c.arguments model.sets (all_at (IsConstraint m.variables) m.constraints i c model.constrained is),
 )

@@ -3,6 +3,7 @@ use Rattle.std.proofs.Common.{◌≡◌, ◌⊎◌, inl, inr, ℕ, zero, suc, �
 use Rattle.std.specs.Prelude.{Some, slice_get, slice_index, OnOk}
 use Rattle.std.proofs.lemmas.Bool.{cases_eq}
 use Rattle.std.proofs.lemmas.Option.{slice_get_within}
+use Rattle.fz_sets.proofs.Lists.{all_of, some_is, below_or_same}
 use Rattle.fz_spec.specs.Constraints.{Constraint}
 use Rattle.fz_strength.specs.declared.event.Event.{Event}
 use Rattle.fz_strength.specs.Events.{Wait}
@@ -11,8 +12,6 @@ use Rattle.fz_prop.specs.Stores.{Stored, IsListed}
 use Rattle.fz_agenda.specs.Agendas.{IsSettled}
 use Rattle.fz_agenda.specs.Queues.{IsWoken}
 use Rattle.fz_agenda.specs.Wakes.{Waking, waiting_at, HasVariable, IsListedAt, IsIndexOf, Extends}
-use Rattle.fz_agenda.proofs.Places.{below_or_same}
-use Rattle.fz_engine.proofs.Lists.{all_of, same_some}
 
 pub extends_twice : (u v w : Waking) → Extends u v → Extends v w → Extends u w
 extends_twice u v w p q event variable place listed = q event variable place (p event variable place listed)
@@ -42,7 +41,7 @@ has_variable_at w ws i v here each = subst (λ (u : ℕ). HasVariable w u) (sym 
 pub listed_at : {T E : Type 0} (r : Result T E) (w : Waking) (ws : List Wait) (i v place : ℕ) (event : Event) → IsWaitAt ws i v → ((x : Wait) → slice_get ws i ≡ Some x → event ≡ x.event)
     → OnOk r (IsListed (waiting_at w event v) place) → OnOk r ((x : Wait) → slice_get ws i ≡ Some x → IsListed (waiting_at w x.event x.variable) place)
 listed_at (Ok u) w ws i v place event here is listed = λ x at.
-    let same : here.wait ≡ x = same_some here.wait x (sym here.at ∙ at) in
+    let same : here.wait ≡ x = some_is here.wait x (sym here.at ∙ at) in
     let variable : v ≡ x.variable = here.variable ∙ ap (λ (y : Wait). y.variable) same in
     subst (λ (u : ℕ). IsListed (waiting_at w x.event u) place) variable (subst (λ (e : Event). IsListed (waiting_at w e v) place) (is x at) listed)
 listed_at (Err u) w ws i v place event here is listed = tt
@@ -86,7 +85,7 @@ index_more cs w u n c extends below at listed = record {
   each = λ i x more is. elim (cases_eq i n) [
     | inl e ↦
         let here : slice_get cs n ≡ Some x = subst (λ (j : ℕ). slice_get cs j ≡ Some x) e is in
-        let same : c ≡ x = same_some c x (sym at ∙ here) in
+        let same : c ≡ x = some_is c x (sym at ∙ here) in
         subst (λ (j : ℕ). IsListedAt u j (waits x)) (sym e) (subst (λ (y : Constraint). IsListedAt u n (waits y)) same listed)
     | inr ne ↦ still_listed w u i (waits x) extends (below.each i x (below_or_same i n more ne) is)
   ];

@@ -4,6 +4,7 @@ use Rattle.std.specs.Prelude.{ℤ, slice_get, slice_index, slice_set, Some}
 use Rattle.std.specs.List.{AllByRecursion}
 use Rattle.std.proofs.Math.Nat.{mul-le-mul_left}
 use Rattle.std.proofs.lemmas.List.Sums.{sum_by-cons, sum_by-set}
+use Rattle.fz_sets.proofs.Lists.{all_at}
 use Rattle.fz_spec.specs.declared.term.Term.{Term}
 use Rattle.fz_spec.specs.Constraints.{Constraint, IsTrueOf}
 use Rattle.fz_strength.specs.Domains.{Within, IsNarrower, room}
@@ -19,7 +20,6 @@ use Rattle.fz_agenda.specs.Wakes.{Waking, HaveSize, IsIndexOf, IsDraining, IsDra
 use Rattle.fz_agenda.proofs.Settled.{settled_lasts, all_rest_at_rest, may_be_idle, may_be_gone}
 use Rattle.fz_agenda.proofs.Places.{within_of}
 use Rattle.fz_engine.specs.Runs.{AreOf, IsRun, AreNeverTrue, AllRest, HasMoved, work}
-use Rattle.fz_engine.proofs.Lists.{each_of}
 
 -- ---- constraints of a store
 
@@ -67,7 +67,7 @@ pub ran : (cs : List Constraint) (s t : Stored) (states : List ℕ) (i : ℕ) (c
 ran cs s t states i c store is shrinks correct settled = record {
   store = store;
   narrower = shrinks.narrower;
-  correct = λ a all within. correct a (each_of (IsTrueOf a) cs i c all is) within;
+  correct = λ a all within. correct a (all_at (IsTrueOf a) cs i c all is) within;
   settled = settled_lasts cs states s t store shrinks settled;
 }
 
@@ -85,7 +85,7 @@ ran_gone cs s t states after i c run is within rests at =
     with_states cs s t states after run (subst (λ (x : List ℕ). IsSettled cs x t) (sym at) (may_be_gone cs states t i c run.settled is within rests))
 
 pub never_true : (cs : List Constraint) (ds : List (List (ℤ × ℤ))) (i : ℕ) (c : Constraint) → slice_get cs i ≡ Some c → IsNeverTrue c ds → AreNeverTrue cs ds
-never_true cs ds i c is never = λ a all within. never a within (each_of (IsTrueOf a) cs i c all is)
+never_true cs ds i c is never = λ a all within. never a within (all_at (IsTrueOf a) cs i c all is)
 
 -- after a run no assignment is there: none was before it
 pub never_before : (cs : List Constraint) (s t : Stored) (after : List ℕ) → IsRun cs s t after → AreNeverTrue cs t.doms → AreNeverTrue cs s.doms

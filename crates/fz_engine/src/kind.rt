@@ -1,25 +1,29 @@
 //! Kinds of propagators.
-ghost use Rattle.std.specs.Prelude.{◌≡◌, ◌<◌, List, [], ◌∷◌, length, map, IfOk, slice_get, Some};
+ghost use Rattle.std.specs.Prelude.{◌≡◌, ◌<◌, List, [], ◌∷◌, length, map, IfOk, MatchOption, slice_get, Some, None};
 ghost use Rattle.fz_spec.specs.Constraints as meaning;
 ghost use Rattle.fz_spec.specs.declared.builtin.Builtin.TheVariants.{SetIn, SetInReif};
 ghost use Rattle.fz_spec.specs.declared.term.Term.TheVariants.{Num};
 ghost use Rattle.fz_model.specs.Arguments.{argument_of};
+ghost use Rattle.fz_strength.specs.Clauses.{clause_of};
 ghost use Rattle.fz_strength.specs.Costs.{cost_of};
 ghost use Rattle.fz_strength.specs.Differences.{IsDifference};
 ghost use Rattle.fz_strength.specs.Elements.{IsSelection};
 ghost use Rattle.fz_strength.specs.Events.{Wait, AreBelow};
 ghost use Rattle.fz_strength.specs.Lines.{waits, HasOwnLine, IsComparing};
+ghost use Rattle.fz_strength.specs.Operations.{equation_of};
 ghost use Rattle.fz_strength.specs.Promises.{IsCorrect, Suits};
 ghost use Rattle.fz_prop.specs.Answers.{IsAnswer};
 ghost use Rattle.fz_prop.specs.Stores.{Shrinks, IsStore, FitsTerm};
 ghost use Rattle.fz_engine.specs.Known.{IsOwn, IsCompared, HaveLimits, IsKept};
 
 use fz_alldiff::AllDifferent;
+use fz_arith::Arithmetic;
 use fz_await::Awaiting;
 use fz_bool::Clause;
 use fz_dom::Dom;
 use fz_element::Element;
 use fz_linear::Linear;
+use fz_linreif::ReifiedLinear;
 use fz_model::constraint::{Argument, Constraint};
 use fz_prop::{Answer, Cost, Event, Propagator, Store};
 use fz_rel::{Comparison, Membership, ReifiedComparison, ReifiedMembership};
@@ -37,6 +41,7 @@ pub struct Kind {
 
 #[derive(Drop)]
 enum Form {
+    Arithmetic(Arithmetic),
     Comparison(Comparison),
     ReifiedComparison(ReifiedComparison),
     Membership(Membership),
@@ -45,6 +50,7 @@ enum Form {
     Clause(Clause),
     Element(Element),
     Linear(Linear),
+    ReifiedLinear(ReifiedLinear),
     Awaiting(Awaiting),
 }
 
@@ -78,6 +84,7 @@ impl Kind {
         ensures { result.now ≡ map (λ (w : Wait). w.variable) (waits self.now) }
     {
         match &self.form {
+            Form::Arithmetic(arithmetic) => arithmetic.vars(),
             Form::Comparison(comparison) => comparison.vars(),
             Form::ReifiedComparison(comparison) => comparison.vars(),
             Form::Membership(membership) => membership.vars(),
@@ -86,6 +93,7 @@ impl Kind {
             Form::Clause(clause) => clause.vars(),
             Form::Element(element) => element.vars(),
             Form::Linear(linear) => linear.vars(),
+            Form::ReifiedLinear(linear) => linear.vars(),
             Form::Awaiting(awaiting) => awaiting.vars(),
         }
     }
@@ -96,6 +104,7 @@ impl Kind {
         ensures { (w : Wait) → slice_get (waits self.now) place ≡ Some w → result ≡ w.event }
     {
         match &self.form {
+            Form::Arithmetic(arithmetic) => arithmetic.event(place),
             Form::Comparison(comparison) => comparison.event(place),
             Form::ReifiedComparison(comparison) => comparison.event(place),
             Form::Membership(membership) => membership.event(place),
@@ -104,6 +113,7 @@ impl Kind {
             Form::Clause(clause) => clause.event(place),
             Form::Element(element) => element.event(place),
             Form::Linear(linear) => linear.event(place),
+            Form::ReifiedLinear(linear) => linear.event(place),
             Form::Awaiting(awaiting) => awaiting.event(place),
         }
     }
@@ -113,6 +123,7 @@ impl Kind {
         ensures { result ≡ cost_of self.now }
     {
         match &self.form {
+            Form::Arithmetic(arithmetic) => arithmetic.cost(),
             Form::Comparison(comparison) => comparison.cost(),
             Form::ReifiedComparison(comparison) => comparison.cost(),
             Form::Membership(membership) => membership.cost(),
@@ -121,6 +132,7 @@ impl Kind {
             Form::Clause(clause) => clause.cost(),
             Form::Element(element) => element.cost(),
             Form::Linear(linear) => linear.cost(),
+            Form::ReifiedLinear(linear) => linear.cost(),
             Form::Awaiting(awaiting) => awaiting.cost(),
         }
     }
@@ -138,6 +150,7 @@ impl Kind {
         ensures answer { IfOk result (λ r. IsAnswer r self.now store.old.doms store.new.doms) }
     {
         let answer = match &self.form {
+            Form::Arithmetic(arithmetic) => arithmetic.run(store),
             Form::Comparison(comparison) => comparison.run(store),
             Form::ReifiedComparison(comparison) => comparison.run(store),
             Form::Membership(membership) => membership.run(store),
@@ -146,6 +159,7 @@ impl Kind {
             Form::Clause(clause) => clause.run(store),
             Form::Element(element) => element.run(store),
             Form::Linear(linear) => linear.run(store),
+            Form::ReifiedLinear(linear) => linear.run(store),
             Form::Awaiting(awaiting) => awaiting.run(store),
         };
         let _ = store.doms();
@@ -172,18 +186,44 @@ fn own(alloc: Global, constraint: &Constraint) -> Result<Option<Kind>, AllocErro
 {
     match compared(alloc, constraint)? {
         Some(kind) => Ok(Some(kind)),
-        None => clause(alloc, constraint),
+        None => saying(alloc, constraint),
+    }
+}
+
+/// The propagator of a constraint that says a clause or an equation; `None` where it says none.
+fn saying(alloc: Global, constraint: &Constraint) -> Result<Option<Kind>, AllocError>
+    requires { IsComparing constraint.now.name constraint.now.arguments → ⊥ }
+    ensures { IfOk result (λ o. IsOwn o constraint.now.name constraint.now.arguments) }
+{
+    match clause(alloc, constraint)? {
+        Some(kind) => Ok(Some(kind)),
+        None => equation(alloc, constraint),
     }
 }
 
 /// The propagator of a constraint that says a clause; `None` where it says none.
 fn clause(alloc: Global, constraint: &Constraint) -> Result<Option<Kind>, AllocError>
-    requires { IsComparing constraint.now.name constraint.now.arguments → ⊥ }
-    ensures { IfOk result (λ o. IsOwn o constraint.now.name constraint.now.arguments) }
+    ensures { IfOk result (λ o. MatchOption o
+        (clause_of constraint.now.name constraint.now.arguments ≡ None)
+        (λ k. k ≡ constraint.now)) }
 {
     match Clause::of(alloc, constraint)? {
         Some(clause) => Ok(Some(Kind {
             form: Form::Clause(clause),
+        })),
+        None => Ok(None),
+    }
+}
+
+/// The propagator of a constraint that says an equation; `None` where it says none.
+fn equation(alloc: Global, constraint: &Constraint) -> Result<Option<Kind>, AllocError>
+    ensures { IfOk result (λ o. MatchOption o
+        (equation_of constraint.now.name constraint.now.arguments ≡ None)
+        (λ k. k ≡ constraint.now)) }
+{
+    match Arithmetic::of(alloc, constraint)? {
+        Some(arithmetic) => Ok(Some(Kind {
+            form: Form::Arithmetic(arithmetic),
         })),
         None => Ok(None),
     }
@@ -472,6 +512,7 @@ fn of_sum(
     match rest {
         [] => Ok(None),
         [last] => of_last(alloc, name, factors, terms, last),
+        [number, truth] => of_last_two(alloc, name, factors, terms, number, truth),
         _ => Ok(None),
     }
 }
@@ -492,55 +533,82 @@ fn of_last(
         (meaning.Numbers factors.now ∷ meaning.Terms terms.now ∷ argument_of last.now ∷ [])) }
 {
     match last {
-        Argument::One(number) => of_number(alloc, name, factors, terms, *number),
+        Argument::One(last) => summing(alloc, name, factors, terms, *last),
         _ => Ok(None),
     }
 }
 
-/// The propagator of a sum of terms with factors and a term, which is a number where there is one.
-fn of_number(
+/// The same where two arguments stand behind the two.
+fn of_last_two(
     alloc: Global,
     name: Builtin,
     factors: &[i32],
     terms: &[Term],
-    number: Term,
+    number: &Argument,
+    truth: &Argument,
 ) -> Result<Option<Kind>, AllocError>
     requires { IsKept (record {
       name = name;
-      arguments = meaning.Numbers factors.now ∷ meaning.Terms terms.now ∷ meaning.One number ∷ [];
+      arguments = meaning.Numbers factors.now ∷ meaning.Terms terms.now ∷ argument_of number.now
+          ∷ argument_of truth.now ∷ [];
     }) }
-    ensures { IfOk result (λ o. IsCompared o name
-        (meaning.Numbers factors.now ∷ meaning.Terms terms.now ∷ meaning.One number ∷ [])) }
+    ensures { IfOk result (λ o. IsCompared o name (meaning.Numbers factors.now
+        ∷ meaning.Terms terms.now ∷ argument_of number.now ∷ argument_of truth.now ∷ [])) }
 {
-    match number {
-        Term::Num(number) => summing(alloc, name, factors, terms, number),
-        Term::Var(_) => Ok(None),
+    match (number, truth) {
+        (Argument::One(Term::Num(number)), Argument::One(r)) => {
+            reified_sum(alloc, name, factors, terms, *number, *r)
+        }
+        _ => Ok(None),
     }
 }
 
-/// The propagator of a sum of terms with factors and a number; `None` where the name is no linear constraint.
+/// The propagator of a sum of terms with factors and a term; `None` where the name is no linear constraint.
 fn summing(
     alloc: Global,
     name: Builtin,
     factors: &[i32],
     terms: &[Term],
-    number: i32,
+    last: Term,
 ) -> Result<Option<Kind>, AllocError>
     requires { IsKept (record {
       name = name;
-      arguments = meaning.Numbers factors.now ∷ meaning.Terms terms.now
-          ∷ meaning.One (Num number) ∷ [];
+      arguments = meaning.Numbers factors.now ∷ meaning.Terms terms.now ∷ meaning.One last ∷ [];
     }) }
     ensures { IfOk result (λ o. IsCompared o name
-        (meaning.Numbers factors.now ∷ meaning.Terms terms.now ∷ meaning.One (Num number) ∷ [])) }
+        (meaning.Numbers factors.now ∷ meaning.Terms terms.now ∷ meaning.One last ∷ [])) }
 {
     let Some(relation) = Relation::of_sum(name) else {
         return Ok(None);
     };
-    let factors = Vec::from_slice(alloc, factors)?;
-    let terms = Vec::from_slice(alloc, terms)?;
-    let linear = Linear::new(alloc, name, relation, factors, terms, number)?;
+    let linear = Linear::new(alloc, name, relation, factors, terms, last)?;
     Ok(Some(Kind {
         form: Form::Linear(linear),
+    }))
+}
+
+/// The propagator of a sum of terms with factors, a number and a Boolean; `None` where the name is no reified linear constraint.
+fn reified_sum(
+    alloc: Global,
+    name: Builtin,
+    factors: &[i32],
+    terms: &[Term],
+    number: i32,
+    r: Term,
+) -> Result<Option<Kind>, AllocError>
+    requires { IsKept (record {
+      name = name;
+      arguments = meaning.Numbers factors.now ∷ meaning.Terms terms.now
+          ∷ meaning.One (Num number) ∷ meaning.One r ∷ [];
+    }) }
+    ensures { IfOk result (λ o. IsCompared o name (meaning.Numbers factors.now
+        ∷ meaning.Terms terms.now ∷ meaning.One (Num number) ∷ meaning.One r ∷ [])) }
+{
+    let Some(relation) = Relation::of_reified_sum(name) else {
+        return Ok(None);
+    };
+    let linear = ReifiedLinear::new(alloc, name, relation, factors, terms, number, r)?;
+    Ok(Some(Kind {
+        form: Form::ReifiedLinear(linear),
     }))
 }

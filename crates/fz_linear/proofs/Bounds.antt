@@ -9,7 +9,6 @@ use Rattle.fz_strength.specs.Domains.{term_set, AreDomains, IsNarrower}
 use Rattle.fz_strength.specs.Sums.{least_product, greatest_product, least_sum, greatest_sum, AreNear, RestsAtMost, negated}
 use Rattle.fz_strength.specs.Events.{AllFixed}
 use Rattle.fz_strength.proofs.SumLaws.{neg_sum}
-use Rattle.fz_strength.proofs.Terms.{single}
 use Rattle.fz_prop.specs.declared.answer.Answer.TheVariants.{Fix, Subsumed, Failed}
 use Rattle.fz_prop.specs.Answers.{IsCorrectOf}
 use Rattle.fz_prop.specs.Stores.{Stored}
@@ -17,6 +16,7 @@ use Rattle.fz_linear.specs.Terms.{AreTermsOf}
 use Rattle.fz_linear.specs.Passes.{KeepsNear, IsPassed, KeepsBetween, ArePassed}
 use Rattle.fz_linear.specs.Sums.{SumTruth, IsAnswerSum}
 use Rattle.fz_linear.proofs.Slacks.{terms_of, sum_above, sum_below, sums_rise, greatest_sum_falls, least_sum_negated, greatest_sum_negated, near_all}
+use Rattle.fz_sets.specs.Sets.{single}
 
 -- ---- orders
 

@@ -13,9 +13,8 @@ use Rattle.fz_spec.specs.Constraints.{term_value, term_values}
 use Rattle.fz_spec.specs.Truth.{weighted_sum}
 use Rattle.fz_strength.specs.declared.relation.Relation.TheVariants.{NotEqual}
 use Rattle.fz_strength.specs.Domains.{term_set, AreDomains, Within}
-use Rattle.fz_strength.specs.Events.{IsOnly}
+use Rattle.fz_strength.specs.Events.{IsOnly, IsFixedIn, AllFixed}
 use Rattle.fz_strength.specs.Sums.{least_product, least_sum, AllButOneFixed}
-use Rattle.fz_strength.specs.Events.{IsFixedIn, AllFixed}
 use Rattle.fz_strength.proofs.Terms.{within_before, is_single}
 use Rattle.fz_prop.specs.declared.answer.Answer.TheVariants.{Fix, Subsumed, Failed}
 use Rattle.fz_prop.specs.Answers.{IsCorrectOf}

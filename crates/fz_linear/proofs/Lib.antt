@@ -4,6 +4,7 @@ pub mod Summing
 pub mod Tight
 pub mod Passing
 pub mod Bounds
+pub mod Above
 pub mod Names
 pub mod Factors
 pub mod Gaps

@@ -1,50 +1,22 @@
 -- The steps of a pass.
-use Rattle.std.proofs.Common.{◌≡◌, ℕ, suc, ◌<◌, ◌≤◌, List, [], ◌∷◌, refl, ap, subst, ◌∙◌, arith, length, drop, Bool, true, false, inl, inr, ◌⊎◌}
+use Rattle.std.proofs.Common.{◌≡◌, ℕ, suc, ◌<◌, List, [], ◌∷◌, refl, ap, subst, ◌∙◌, arith, length, drop, Bool, true, false}
 use Rattle.std.specs.Prelude.{ℤ, ◌+ℤ◌, ◌≤ℤ◌, ◌↔◌, ◌||◌}
 use Rattle.std.proofs.lemmas.Int.{ints}
 use Rattle.fz_dom.specs.declared.change.Change.{Change}
 use Rattle.fz_dom.specs.declared.change.Change.TheVariants.{Same, Changed, Wiped}
 use Rattle.fz_spec.specs.declared.term.Term.{Term}
-use Rattle.fz_strength.specs.declared.event.Event.{Event}
-use Rattle.fz_strength.specs.declared.event.Event.TheVariants.{Any, Bound, Fixed}
-use Rattle.fz_strength.specs.Domains.{dom_at, term_set, AreDomains, IsNarrower, room}
-use Rattle.fz_strength.specs.Events.{IsQuiet}
+use Rattle.fz_strength.specs.Domains.{term_set, AreDomains, room}
 use Rattle.fz_strength.specs.Sums.{least_product, greatest_product, AreNear, negated}
 use Rattle.fz_prop.specs.Stores.{Stored, Shrinks}
 use Rattle.fz_prop.proofs.Steps.{same_shrinks}
 use Rattle.fz_prop.proofs.TermChanges.{narrower_term}
+use Rattle.fz_prop.proofs.Twice.{shrinks_twice, room_after}
 use Rattle.fz_linear.specs.Terms.{AreTermsOf}
 use Rattle.fz_linear.specs.Passes.{IsStep, IsTightened, KeepsNear, IsPassed, KeepsBetween, ArePassed}
 use Rattle.fz_linear.proofs.Spans.{spanned, least_rises}
 use Rattle.fz_linear.proofs.Slacks.{IsAt, near_at, near_from, term_at, least_sum_rises}
 
 -- ---- one change after another
-
-quiet_both : (event : Event) (d e f : List (ℤ × ℤ)) → IsQuiet event d e → IsQuiet event e f → IsQuiet event d f
-quiet_both Any d e f p q = p ∙ q
-quiet_both Bound d e f p q = (p.0 ∙ q.0, p.1 ∙ q.1)
-quiet_both Fixed d e f p q = λ x only. p x (q x only ∙ only) ∙ q x only
-
-pub narrower_both : (ds es fs : List (List (ℤ × ℤ))) → IsNarrower ds es → IsNarrower es fs → IsNarrower ds fs
-narrower_both ds es fs p q = record { size = q.size ∙ p.size; members = λ v x is. p.members v x (q.members v x is) }
-
-pub room_after : (r s : Stored) → Shrinks r s → room s.doms ≤ room r.doms
-room_after r s h = elim h.falls [ inl e ↦ (let f = ap (λ (t : Stored). room t.doms) e in omega (arith, f)) | inr less ↦ omega (arith, less) ]
-
-fall_both : (r s t : Stored) → Shrinks r s → Shrinks s t → (t ≡ r) ⊎ (room t.doms < room r.doms)
-fall_both r s t p q = elim p.falls [
-  | inl e ↦ elim q.falls [ inl f ↦ inl (f ∙ e) | inr less ↦ inr (let g = ap (λ (u : Stored). room u.doms) e in omega (arith, less, g)) ]
-  | inr less ↦ inr (let g = room_after s t q in omega (arith, less, g))
-]
-
-pub shrinks_both : (r s t : Stored) → Shrinks r s → Shrinks s t → Shrinks r t
-shrinks_both r s t p q = record {
-  narrower = narrower_both r.doms s.doms t.doms p.narrower q.narrower;
-  marks_grow = λ v. (let a = p.marks_grow v in let b = q.marks_grow v in omega (arith, a, b));
-  marks_tell = λ v event h. (let b = q.marks_grow v in
-      quiet_both event (dom_at r.doms v) (dom_at s.doms v) (dom_at t.doms v) (p.marks_tell v event (omega (arith, h, b))) (q.marks_tell v event h));
-  falls = fall_both r s t p q;
-}
 
 -- ---- a pass so far: the terms before a place are tightened
 
@@ -97,7 +69,7 @@ pub pass_step : (ks : List ℤ) (ts : List Term) (slack : ℤ) (r s u : Stored) 
     → AreTermsOf (length r.doms) ts → IsAt ks ts i k t → IsPass ks ts slack r s i changed → IsTightened change k t slack s u → Shrinks s u → ((now ≡ true) ↔ (change ≡ Changed))
     → IsPass ks ts slack r u (suc i) (changed || now)
 pass_step ks ts slack r s u i changed now change k t domains are at pass tightened shrinks told = record {
-  shrinks = shrinks_both r s u pass.shrinks shrinks;
+  shrinks = shrinks_twice r s u pass.shrinks shrinks;
   kept = kept_after ks ts slack r s u i changed change k t domains are at pass tightened;
   still = still_after ks ts slack r s u i changed now change k t at pass tightened.step told;
   moved = moved_after ks ts slack r s u i changed now change k t pass shrinks tightened.step told;

@@ -95,6 +95,16 @@ near_all (k ∷ ks) (t ∷ ts) ds slack domains are near =
       near_all ks ts ds slack domains are.1 (omega (arith, ints, near, here)),
     )
 
+-- and so it is seen from the other side
+pub near_negated : (ks : List ℤ) (ts : List Term) (ds : List (List (ℤ × ℤ))) (slack : ℤ) → AreNear ds slack ks ts → AreNear ds slack (negated ks) ts
+near_negated [] ts ds slack near = tt
+near_negated (k ∷ ks) [] ds slack near = tt
+near_negated (k ∷ ks) (t ∷ ts) ds slack near =
+    let low = least_negated k (term_set ds t) in
+    let high = greatest_negated k (term_set ds t) in
+    let here = near.0 in
+    (omega (arith, ints, low, high, here), near_negated ks ts ds slack near.1)
+
 -- a factor and a term at a place
 pub record IsAt (ks : List ℤ) (ts : List Term) (i : ℕ) (k : ℤ) (t : Term) : Type 0 where
   pub factor : drop i ks ≡ k ∷ drop (suc i) ks

@@ -4,7 +4,7 @@ use Rattle.std.specs.Prelude.{ℤ, pos, negsuc, neg_ℤ, ◌+ℤ◌, ◌-ℤ◌,
 use Rattle.std.proofs.lemmas.Int.{ints}
 use Rattle.std.proofs.Math.IntN.{zero-*ℤ, suc_ℤ-*ℤ, pred_ℤ-*ℤ}
 use Rattle.std.proofs.Math.Nat.{suc-mul}
-use Rattle.fz_sets.specs.Sets.{IsInSet}
+use Rattle.fz_sets.specs.Sets.{IsInSet, single}
 use Rattle.fz_dom.specs.Shape.{least, greatest}
 use Rattle.fz_dom.proofs.Ranges.{least_member, greatest_member}
 use Rattle.fz_num.proofs.Products.{mul_le, mul_ge}
@@ -13,7 +13,7 @@ use Rattle.fz_spec.specs.declared.term.Term.TheVariants.{Num, Var}
 use Rattle.fz_strength.specs.Domains.{term_set, AreDomains}
 use Rattle.fz_strength.specs.Sums.{least_product, greatest_product}
 use Rattle.fz_strength.proofs.SumLaws.{neg_product}
-use Rattle.fz_strength.proofs.Terms.{single, in_single, is_single}
+use Rattle.fz_strength.proofs.Terms.{in_single, is_single}
 use Rattle.fz_prop.specs.Stores.{IsTermOf}
 use Rattle.fz_linear.specs.Terms.{IsSpanned}
 

@@ -1,12 +1,13 @@
 -- The steps of a sum.
 use Rattle.std.proofs.Common.{◌≡◌, ℕ, ◌<◌, ◌≤◌, ◌+◌, ◌*◌, ◌^◌, List, [], refl, arith, length, drop, drop-cons, add-one}
-use Rattle.std.specs.Prelude.{ℤ, pos, ◌+ℤ◌, unsigned_abs, slice_index_or}
+use Rattle.std.specs.Prelude.{ℤ, pos, ◌+ℤ◌, ◌≤ℤ◌, unsigned_abs, slice_index_or}
 use Rattle.std.proofs.lemmas.Int.{ints}
+use Rattle.fz_sets.proofs.Numbers.{abs_of_sum}
 use Rattle.fz_spec.specs.declared.term.Term.{Term}
 use Rattle.fz_spec.specs.declared.term.Term.TheVariants.{Num}
 use Rattle.fz_strength.specs.Domains.{term_set}
-use Rattle.fz_strength.specs.Sums.{least_product, greatest_product, least_sum, greatest_sum}
-use Rattle.fz_linear.proofs.Slacks.{IsAt}
+use Rattle.fz_strength.specs.Sums.{least_product, greatest_product, least_sum, greatest_sum, AreNear}
+use Rattle.fz_linear.proofs.Slacks.{IsAt, near_from}
 
 -- a sum of so many products, and what is left of the whole
 pub record IsSummed (sum rest whole : ℤ) (n : ℕ) : Type 0 where
@@ -42,10 +43,17 @@ least_none ds ks ts none = rw none refl
 pub greatest_none : (ds : List (List (ℤ × ℤ))) (ks : List ℤ) (ts : List Term) → ks ≡ [] → greatest_sum ds ks ts ≡ pos 0
 greatest_none ds ks ts none = rw none refl
 
--- ---- sizes
+-- where a term's ends are so near, it may stand before terms that are
+pub near_more : (ds : List (List (ℤ × ℤ))) (ks : List ℤ) (ts : List Term) (i : ℕ) (k : ℤ) (t : Term) (low high slack : ℤ) (width widest : ℕ) → IsAt ks ts i k t
+    → low ≡ least_product k (term_set ds t) → high ≡ greatest_product k (term_set ds t) → high ≤ℤ (low +ℤ pos width) → width ≤ widest → pos widest ≤ℤ slack
+    → AreNear ds slack (drop (i + 1) ks) (drop (i + 1) ts) → AreNear ds slack (drop i ks) (drop i ts)
+near_more ds ks ts i k t low high slack width widest at low_is high_is near wide fits rest =
+    near_from ks ts i k t ds slack at (omega (arith, ints, low_is, high_is, near, wide, fits)) (rw (add-one i) at rest)
 
-abs_of_sum : (a b : ℤ) → unsigned_abs (a +ℤ b) ≤ unsigned_abs a + unsigned_abs b
-abs_of_sum a b = grind (arith, ints)
+pub near_none : (ds : List (List (ℤ × ℤ))) (slack : ℤ) (ks : List ℤ) (ts : List Term) → ks ≡ [] → AreNear ds slack ks ts
+near_none ds slack ks ts none = rw none tt
+
+-- ---- sizes
 
 pub add_near : (sum product : ℤ) (n : ℕ) → unsigned_abs sum ≤ n * 2 ^ 63 → unsigned_abs product ≤ 2 ^ 63 → unsigned_abs (sum +ℤ product) ≤ (n + 1) * 2 ^ 63
 add_near sum product n f g = let h = abs_of_sum sum product in omega (arith, f, g, h)

@@ -9,10 +9,10 @@ use Rattle.fz_dom.specs.declared.change.Change.TheVariants.{Same, Changed, Wiped
 use Rattle.fz_spec.specs.declared.term.Term.{Term}
 use Rattle.fz_spec.specs.declared.term.Term.TheVariants.{Num, Var}
 use Rattle.fz_spec.specs.Constraints.{term_value}
-use Rattle.fz_strength.specs.Domains.{term_set, room}
+use Rattle.fz_strength.specs.Domains.{term_set}
 use Rattle.fz_strength.specs.Sums.{least_product, greatest_product}
 use Rattle.fz_prop.specs.Stores.{Stored, Shrinks, IsTermOf, IsTermChange}
-use Rattle.fz_prop.proofs.TermChanges.{term_within, within_kept, none_kept}
+use Rattle.fz_prop.proofs.TermChanges.{term_within, within_kept, none_kept, falls_of}
 use Rattle.fz_strength.proofs.Terms.{is_single}
 use Rattle.fz_linear.specs.declared.side.Side.{Side}
 use Rattle.fz_linear.specs.declared.side.Side.TheVariants.{Above, Below}
@@ -26,10 +26,6 @@ seen_size Above k = refl
 seen_size Below (pos zero) = refl
 seen_size Below (pos (suc n)) = refl
 seen_size Below (negsuc n) = refl
-
-falls_of : (t : Term) (P : ℤ → Type 0) (r s : Stored) → IsTermChange Changed t P r s → room s.doms < room r.doms
-falls_of (Var v) P r s h = h.falls
-falls_of (Num n) P r s h = absurd h
 
 -- where nothing left, all numbers have the property
 all_keep : (t : Term) (P : ℤ → Type 0) (r s : Stored) (x : ℤ) → IsTermChange Same t P r s → IsInSet (term_set r.doms t) x → P x

@@ -1,25 +1,32 @@
 -- What the propagator of a linear constraint keeps.
-use Rattle.std.specs.Prelude.{◌≡◌, ◌≤◌, ℕ, ℤ, List, [], ◌∷◌, length, Some}
+use Rattle.std.specs.Prelude.{◌≡◌, ◌+◌, ◌≤◌, ℕ, ℤ, List, length, drop, Some}
 use Rattle.std.specs.List.{AllByRecursion}
 use Rattle.fz_spec.specs.declared.builtin.Builtin.{Builtin}
 use Rattle.fz_spec.specs.declared.limits.TheConstants.{ELEMENT_LIMIT}
 use Rattle.fz_spec.specs.declared.term.Term.{Term}
 use Rattle.fz_spec.specs.declared.term.Term.TheVariants.{Num, Var}
 use Rattle.fz_strength.specs.declared.relation.Relation.{Relation}
-use Rattle.fz_strength.specs.Sums.{sum_relation_of}
+use Rattle.fz_strength.specs.Events.{variables_of}
+use Rattle.fz_strength.specs.Sums.{sum_relation_of, left_factors, left_terms, right_number}
 use Rattle.fz_prop.specs.Stores.{FitsTerm}
 
--- the variables of terms, in order
-abbrev pub variables_of : List Term → List ℕ
-variables_of [] = []
-variables_of (Num n ∷ ts) = variables_of ts
-variables_of (Var v ∷ ts) = v ∷ variables_of ts
+-- what stands on the left without the term that the sum is related to
+abbrev pub given : {X : Type 0} → Term → List X → List X
+given (Num n) xs = xs
+given (Var v) xs = drop 1 xs
 
--- Its relation is that of its name; it has a factor for each term, not too many, with numbers within the limits; and its variables
--- stand in a list.
-pub record IsLinear (name : Builtin) (relation : Relation) (factors : List ℤ) (terms : List Term) (variables : List ℕ) : Type 0 where
+-- the factors and the terms have that term among them, and the number is what is on the right
+pub record IsMoved (last : Term) (factors : List ℤ) (terms : List Term) (number : ℤ) : Type 0 where
+  pub factors_are : factors ≡ left_factors (given last factors) last
+  pub terms_are : terms ≡ left_terms (given last terms) last
+  pub number_is : number ≡ right_number last
+
+-- Its relation is that of its name; it has a factor for each term, not too many, with numbers within the limits, the term that the
+-- sum is related to among them; and its variables stand in a list.
+pub record IsLinear (name : Builtin) (relation : Relation) (factors : List ℤ) (terms : List Term) (number : ℤ) (last : Term) (variables : List ℕ) : Type 0 where
   pub relation_is : sum_relation_of name ≡ Some relation
   pub same : length factors ≡ length terms
-  pub few : length terms ≤ ELEMENT_LIMIT
+  pub few : length terms ≤ ELEMENT_LIMIT + 1
   pub fits : AllByRecursion FitsTerm terms
+  pub moved : IsMoved last factors terms number
   pub variables_are : variables ≡ variables_of terms

@@ -1,17 +1,18 @@
 //! Sums that aren't a number.
-ghost use Rattle.std.specs.Prelude.{◌≡◌, ◌^◌, ◌<◌, ◌≤◌, ◌↔◌, ◌-ℤ◌, ◌*ℤ◌, IsTrue, length, take, slice_get, Some, IfOk, unsigned_abs};
+ghost use Rattle.std.specs.Prelude.{◌≡◌, ◌+◌, ◌^◌, ◌<◌, ◌≤◌, ◌↔◌, ◌-ℤ◌, ◌*ℤ◌, IsTrue, length, take, slice_get, Some, IfOk, unsigned_abs};
 ghost use Rattle.std.specs.List.{AllByRecursion};
 ghost use Rattle.fz_spec.specs.declared.limits.TheConstants.{ELEMENT_LIMIT};
 ghost use Rattle.fz_strength.specs.declared.relation.Relation.TheVariants.{NotEqual};
 ghost use Rattle.fz_strength.specs.Domains.{term_set, AreDomains};
 ghost use Rattle.fz_strength.specs.Events.{IsFixedIn, AllFixed};
+ghost use Rattle.fz_prop.specs.declared.answer.Answer.TheVariants.{Fix};
 ghost use Rattle.fz_prop.specs.Answers.{IsCorrectOf, IsDecided};
 ghost use Rattle.fz_prop.specs.Stores.{Shrinks, IsTermOf, FitsTerm};
 ghost use Rattle.fz_linear.specs.Terms.{AreTermsOf};
 ghost use Rattle.fz_linear.specs.Sums.{SumTruth, IsAnswerSum};
 ghost use Rattle.fz_linear.specs.Gaps.{IsUnfixed, IsExcluded, AllOthersFixed, others_sum};
 
-use crate::sums::{product, product_ends, sum_ends};
+use crate::sums::{Ends, product, product_ends, sum_ends};
 use fz_num::floor_div;
 use fz_prop::terms::{remove, value_of};
 use fz_prop::{Answer, Store};
@@ -42,7 +43,7 @@ pub fn keep_apart(
     number: i32,
 ) -> Result<Answer, AllocError>
     requires same { length factors.now ≡ length terms.now }
-    requires few { length terms.now ≤ ELEMENT_LIMIT }
+    requires few { length terms.now ≤ ELEMENT_LIMIT + 1 }
     requires inside { AreTermsOf (length store.old.doms) terms.now }
     requires fits { AllByRecursion FitsTerm terms.now }
     ensures shrinks { Shrinks store.old store.new }
@@ -50,6 +51,7 @@ pub fn keep_apart(
         store.old.doms store.new.doms }
     ensures answer { IfOk result
         (λ r. IsAnswerSum NotEqual factors.now terms.now number r store.old.doms store.new.doms) }
+    ensures still { IfOk result (λ r. r ≡ Fix → store.new ≡ store.old) }
     ensures checking { IfOk result (λ r. AllFixed store.old.doms terms.now → IsDecided r) }
 {
     match count_unfixed(store, terms) {
@@ -95,14 +97,14 @@ fn count_unfixed(store: &Store, terms: &[Term]) -> Unfixed
 /// Whether a sum of fixed terms is a number.
 fn compare(store: &Store, factors: &[i32], terms: &[Term], number: i32) -> Answer
     requires same { length factors.now ≡ length terms.now }
-    requires few { length terms.now ≤ ELEMENT_LIMIT }
+    requires few { length terms.now ≤ ELEMENT_LIMIT + 1 }
     requires inside { AreTermsOf (length store.now.doms) terms.now }
     requires fixed { AllFixed store.now.doms terms.now }
     ensures answer { IsAnswerSum NotEqual factors.now terms.now number result
         store.now.doms store.now.doms }
     ensures decided { IsDecided result }
 {
-    if sum_ends(store, factors, terms).0 == i128::from(number) {
+    if sum_ends(store, factors, terms).least == i128::from(number) {
         Answer::Failed
     } else {
         Answer::Subsumed
@@ -138,14 +140,14 @@ fn divide(factor: i32, product: i128) -> Excluded
 /// What a term with its factor must not be for the sum not to be a number, where all other terms are fixed.
 fn forbidden(store: &Store, factors: &[i32], terms: &[Term], number: i32, place: usize) -> i128
     requires same { length factors.now ≡ length terms.now }
-    requires few { length terms.now ≤ ELEMENT_LIMIT }
+    requires few { length terms.now ≤ ELEMENT_LIMIT + 1 }
     requires inside { AreTermsOf (length store.now.doms) terms.now }
     requires place { place < length terms.now }
     ensures domains { AreDomains store.now.doms }
     ensures product { result ≡ number -ℤ others_sum store.now.doms factors.now terms.now place }
     ensures near { unsigned_abs result ≤ 2 ^ 100 }
 {
-    let (least, _) = sum_ends(store, factors, terms);
+    let Ends { least, .. } = sum_ends(store, factors, terms);
     let (low, _) = product_ends(store, factors[place], terms[place]);
     without(number, least, low)
 }
@@ -168,7 +170,7 @@ fn exclude(
     place: usize,
 ) -> Result<Answer, AllocError>
     requires same { length factors.now ≡ length terms.now }
-    requires few { length terms.now ≤ ELEMENT_LIMIT }
+    requires few { length terms.now ≤ ELEMENT_LIMIT + 1 }
     requires inside { AreTermsOf (length store.old.doms) terms.now }
     requires fits { AllByRecursion FitsTerm terms.now }
     requires place { place < length terms.now }

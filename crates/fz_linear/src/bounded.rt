@@ -1,16 +1,17 @@
 //! Sums that a number bounds.
-ghost use Rattle.std.specs.Prelude.{◌≡◌, ◌≤◌, ℤ, List, length, IfOk};
+ghost use Rattle.std.specs.Prelude.{◌≡◌, ◌+◌, ◌^◌, ◌≤◌, ℤ, pos, ◌+ℤ◌, List, length, IfOk, unsigned_abs};
 ghost use Rattle.fz_spec.specs.declared.limits.TheConstants.{ELEMENT_LIMIT};
 ghost use Rattle.fz_strength.specs.declared.relation.Relation.TheVariants.{AtMost, Equal};
 ghost use Rattle.fz_strength.specs.Events.{AllFixed};
+ghost use Rattle.fz_prop.specs.declared.answer.Answer.TheVariants.{Fix};
 ghost use Rattle.fz_prop.specs.Answers.{IsCorrectOf, IsDecided};
 ghost use Rattle.fz_prop.specs.Stores.{Shrinks};
 ghost use Rattle.fz_linear.specs.Terms.{AreTermsOf};
-ghost use Rattle.fz_linear.specs.Sums.{SumTruth, IsAnswerSum};
+ghost use Rattle.fz_linear.specs.Sums.{SumTruth, SumFalse, IsAnswerSum, IsAnswerAgainst};
 
 use crate::pass::{tighten_all, tighten_between};
 use crate::side::Side;
-use crate::sums::{gap, sum_ends};
+use crate::sums::{Ends, are_loose, gap, is_loose, sum_ends};
 use fz_prop::{Answer, Store};
 use fz_spec::term::Term;
 use std::alloc::AllocError;
@@ -23,16 +24,21 @@ pub fn keep_at_most(
     number: i32,
 ) -> Result<Answer, AllocError>
     requires same { length factors.now ≡ length terms.now }
-    requires few { length terms.now ≤ ELEMENT_LIMIT }
+    requires few { length terms.now ≤ ELEMENT_LIMIT + 1 }
     requires inside { AreTermsOf (length store.old.doms) terms.now }
     ensures shrinks { Shrinks store.old store.new }
     ensures correct { IsCorrectOf (SumTruth AtMost factors.now terms.now number)
         store.old.doms store.new.doms }
     ensures answer { IfOk result
         (λ r. IsAnswerSum AtMost factors.now terms.now number r store.old.doms store.new.doms) }
+    ensures still { IfOk result (λ r. r ≡ Fix → store.new ≡ store.old) }
     ensures checking { IfOk result (λ r. AllFixed store.old.doms terms.now → IsDecided r) }
 {
-    let (least, greatest) = sum_ends(store, factors, terms);
+    let Ends {
+        least,
+        greatest,
+        widest,
+    } = sum_ends(store, factors, terms);
     let number = i128::from(number);
     if number < least {
         return Ok(Answer::Failed);
@@ -40,7 +46,59 @@ pub fn keep_at_most(
     if greatest <= number {
         return Ok(Answer::Subsumed);
     }
-    if tighten_all(store, Side::Above, factors, terms, gap(least, number))? {
+    let slack = gap(least, number);
+    if is_loose(widest, slack) {
+        return Ok(Answer::Fix);
+    }
+    if tighten_all(store, Side::Above, factors, terms, slack)? {
+        return Ok(Answer::NoFix);
+    }
+    Ok(Answer::Fix)
+}
+
+/// The next number.
+fn next(number: i32) -> i128
+    ensures next { result ≡ number +ℤ pos 1 }
+    ensures near { unsigned_abs result ≤ 2 ^ 100 }
+{
+    i128::from(number) + 1
+}
+
+/// Narrows a store so that a sum is above a number.
+pub fn keep_above(
+    store: &mut Store,
+    factors: &[i32],
+    terms: &[Term],
+    number: i32,
+) -> Result<Answer, AllocError>
+    requires same { length factors.now ≡ length terms.now }
+    requires few { length terms.now ≤ ELEMENT_LIMIT + 1 }
+    requires inside { AreTermsOf (length store.old.doms) terms.now }
+    ensures shrinks { Shrinks store.old store.new }
+    ensures correct { IsCorrectOf (SumFalse AtMost factors.now terms.now number)
+        store.old.doms store.new.doms }
+    ensures answer { IfOk result (λ r.
+        IsAnswerAgainst AtMost factors.now terms.now number r store.old.doms store.new.doms) }
+    ensures still { IfOk result (λ r. r ≡ Fix → store.new ≡ store.old) }
+    ensures checking { IfOk result (λ r. AllFixed store.old.doms terms.now → IsDecided r) }
+{
+    let Ends {
+        least,
+        greatest,
+        widest,
+    } = sum_ends(store, factors, terms);
+    let bound = next(number);
+    if greatest < bound {
+        return Ok(Answer::Failed);
+    }
+    if bound <= least {
+        return Ok(Answer::Subsumed);
+    }
+    let slack = gap(bound, greatest);
+    if is_loose(widest, slack) {
+        return Ok(Answer::Fix);
+    }
+    if tighten_all(store, Side::Below, factors, terms, slack)? {
         return Ok(Answer::NoFix);
     }
     Ok(Answer::Fix)
@@ -54,16 +112,21 @@ pub fn keep_equal(
     number: i32,
 ) -> Result<Answer, AllocError>
     requires same { length factors.now ≡ length terms.now }
-    requires few { length terms.now ≤ ELEMENT_LIMIT }
+    requires few { length terms.now ≤ ELEMENT_LIMIT + 1 }
     requires inside { AreTermsOf (length store.old.doms) terms.now }
     ensures shrinks { Shrinks store.old store.new }
     ensures correct { IsCorrectOf (SumTruth Equal factors.now terms.now number)
         store.old.doms store.new.doms }
     ensures answer { IfOk result
         (λ r. IsAnswerSum Equal factors.now terms.now number r store.old.doms store.new.doms) }
+    ensures still { IfOk result (λ r. r ≡ Fix → store.new ≡ store.old) }
     ensures checking { IfOk result (λ r. AllFixed store.old.doms terms.now → IsDecided r) }
 {
-    let (least, greatest) = sum_ends(store, factors, terms);
+    let Ends {
+        least,
+        greatest,
+        widest,
+    } = sum_ends(store, factors, terms);
     let number = i128::from(number);
     if number < least {
         return Ok(Answer::Failed);
@@ -74,13 +137,12 @@ pub fn keep_equal(
     if least == greatest {
         return Ok(Answer::Subsumed);
     }
-    if tighten_between(
-        store,
-        factors,
-        terms,
-        gap(least, number),
-        gap(number, greatest),
-    )? {
+    let above = gap(least, number);
+    let below = gap(number, greatest);
+    if are_loose(widest, above, below) {
+        return Ok(Answer::Fix);
+    }
+    if tighten_between(store, factors, terms, above, below)? {
         return Ok(Answer::NoFix);
     }
     Ok(Answer::Fix)

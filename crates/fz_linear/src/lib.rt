@@ -7,8 +7,9 @@ mod bounded;
 pub mod linear;
 mod pass;
 mod reach;
+pub mod relate;
 mod side;
-mod sums;
+pub mod sums;
 
 pub use linear::Linear;
 

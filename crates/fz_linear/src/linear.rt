@@ -1,21 +1,17 @@
 //! Linear constraints.
-ghost use Rattle.std.specs.Prelude.{◌≡◌, ◌≢◌, ◌≤◌, List, [], ◌∷◌, length, IfOk, Some};
+ghost use Rattle.std.specs.Prelude.{◌≡◌, ◌≤◌, List, [], ◌∷◌, length, IfOk, Some};
 ghost use Rattle.std.specs.List.{AllByRecursion};
 ghost use Rattle.fz_spec.specs.Constraints.{One, Numbers, Terms};
 ghost use Rattle.fz_spec.specs.declared.limits.TheConstants.{ELEMENT_LIMIT};
-ghost use Rattle.fz_strength.specs.declared.relation.Relation.TheVariants.{Below};
-ghost use Rattle.fz_strength.specs.Sums.{sum_relation_of};
-ghost use Rattle.fz_strength.specs.Events.{AllFixed, AreBelow, AreFixed};
+ghost use Rattle.fz_strength.specs.Sums.{sum_relation_of, left_factors, left_terms, right_number};
+ghost use Rattle.fz_strength.specs.Events.{AreBelow, AreFixed};
 ghost use Rattle.fz_strength.specs.Lines.{waits};
 ghost use Rattle.fz_strength.specs.Promises.{IsCorrect, Suits};
-ghost use Rattle.fz_prop.specs.Answers.{IsAnswer, IsCorrectOf, IsDecided};
+ghost use Rattle.fz_prop.specs.Answers.{IsAnswer, IsDecided};
 ghost use Rattle.fz_prop.specs.Stores.{Shrinks, FitsTerm};
-ghost use Rattle.fz_linear.specs.Terms.{AreTermsOf};
-ghost use Rattle.fz_linear.specs.Sums.{SumTruth, IsAnswerSum};
-ghost use Rattle.fz_linear.specs.Linears.{IsLinear, variables_of};
 
-use crate::apart::keep_apart;
-use crate::bounded::{keep_at_most, keep_equal};
+use crate::relate::relate;
+use fz_prop::variables::variables_of;
 use fz_prop::{Answer, Cost, Event, Propagator, Store};
 use fz_spec::builtin::Builtin;
 use fz_spec::term::Term;
@@ -23,65 +19,105 @@ use fz_strength::relation::Relation;
 use std::alloc::{AllocError, Global};
 use std::marker::Model;
 
-/// A linear constraint: how the sum of terms with factors relates to a number.
+/// A linear constraint: how the sum of terms with factors relates to a term.
 #[derive(Drop)]
 pub struct Linear {
     name: Builtin,
     relation: Relation,
+    /// All terms with their factors, a variable that the sum is related to the first, with the factor -1.
     factors: Vec<i32>,
     terms: Vec<Term>,
     number: i32,
+    /// What the sum is related to.
+    last: Term,
     variables: Vec<u32>,
 }
 
 impl Model for Linear {
     ghost use Rattle.std.specs.Prelude.{[], ◌∷◌};
     ghost use Rattle.fz_spec.specs.Constraints.{Constraint, One, Numbers, Terms};
-    ghost use Rattle.fz_spec.specs.declared.term.Term.TheVariants.{Num};
-    ghost use Rattle.fz_linear.specs.Linears.{IsLinear};
+    ghost use Rattle.fz_linear.specs.Linears.{IsLinear, given};
 
     ghost Value = { Constraint };
 
     ghost view = { λ p. record {
       name = p.name;
-      arguments = Numbers p.factors.items ∷ Terms p.terms.items ∷ One (Num p.number) ∷ [];
+      arguments = Numbers (given p.last p.factors.items) ∷ Terms (given p.last p.terms.items)
+          ∷ One p.last ∷ [];
     } };
 
-    ghost invariant = { λ p.
-        IsLinear p.name p.relation p.factors.items p.terms.items p.variables.items };
+    ghost invariant = { λ p. IsLinear p.name p.relation p.factors.items p.terms.items
+        p.number p.last p.variables.items };
 }
 
 impl Linear {
     /// The propagator of a linear constraint.
     ///
     /// # Errors
-    /// `AllocError` where there is no memory for its variables.
+    /// `AllocError` where there is no memory for its lists.
     pub fn new(
         alloc: Global,
         name: Builtin,
         relation: Relation,
-        factors: Vec<i32>,
-        terms: Vec<Term>,
-        number: i32,
+        factors: &[i32],
+        terms: &[Term],
+        last: Term,
     ) -> Result<Linear, AllocError>
         requires relation { sum_relation_of name ≡ Some relation }
-        requires same { length factors.items ≡ length terms.items }
-        requires few { length terms.items ≤ ELEMENT_LIMIT }
-        requires fits { AllByRecursion FitsTerm terms.items }
+        requires same { length factors.now ≡ length terms.now }
+        requires few { length terms.now ≤ ELEMENT_LIMIT }
+        requires fits { AllByRecursion FitsTerm terms.now }
         ensures { IfOk result (λ p. p ≡ record {
           name = name;
-          arguments = Numbers factors.items ∷ Terms terms.items ∷ One (Term.Num number) ∷ [];
+          arguments = Numbers factors.now ∷ Terms terms.now ∷ One last ∷ [];
         }) }
     {
+        let factors = factors_left(alloc, factors, last)?;
+        let terms = terms_left(alloc, terms, last)?;
         let variables = variables_of(alloc, &terms)?;
         Ok(Linear {
             name,
             relation,
             factors,
             terms,
-            number,
+            number: number_right(last),
+            last,
             variables,
         })
+    }
+}
+
+/// The factors, before them that of a variable that the sum is related to.
+fn factors_left(alloc: Global, factors: &[i32], last: Term) -> Result<Vec<i32>, AllocError>
+    ensures { IfOk result (λ v. v.items ≡ left_factors factors.now last) }
+{
+    let mut all = Vec::new(alloc);
+    if let Term::Var(_) = last {
+        all.push(-1)?;
+    }
+    all.extend_from_slice(factors)?;
+    Ok(all)
+}
+
+/// The terms, before them a variable that the sum is related to.
+fn terms_left(alloc: Global, terms: &[Term], last: Term) -> Result<Vec<Term>, AllocError>
+    ensures { IfOk result (λ v. v.items ≡ left_terms terms.now last) }
+{
+    let mut all = Vec::new(alloc);
+    if let Term::Var(_) = last {
+        all.push(last)?;
+    }
+    all.extend_from_slice(terms)?;
+    Ok(all)
+}
+
+/// The number that a sum is related to, 0 where it is related to a variable.
+fn number_right(last: Term) -> i32
+    ensures { result ≡ right_number last }
+{
+    match last {
+        Term::Num(number) => number,
+        Term::Var(_) => 0,
     }
 }
 
@@ -106,46 +142,6 @@ impl Linear {
             &self.terms,
             self.number,
         )
-    }
-}
-
-/// The variables of terms, in order.
-fn variables_of(alloc: Global, terms: &[Term]) -> Result<Vec<u32>, AllocError>
-    ensures { IfOk result (λ v. v.items ≡ variables_of terms.now) }
-{
-    let mut variables = Vec::with_capacity(alloc, terms.len())?;
-    for term in terms {
-        if let Term::Var(variable) = *term {
-            variables.push(variable)?;
-        }
-    }
-    Ok(variables)
-}
-
-/// Narrows a store by how a sum relates to a number.
-fn relate(
-    store: &mut Store,
-    relation: Relation,
-    factors: &[i32],
-    terms: &[Term],
-    number: i32,
-) -> Result<Answer, AllocError>
-    requires bounded { relation ≢ Below }
-    requires same { length factors.now ≡ length terms.now }
-    requires few { length terms.now ≤ ELEMENT_LIMIT }
-    requires inside { AreTermsOf (length store.old.doms) terms.now }
-    requires fits { AllByRecursion FitsTerm terms.now }
-    ensures shrinks { Shrinks store.old store.new }
-    ensures correct { IsCorrectOf (SumTruth relation factors.now terms.now number)
-        store.old.doms store.new.doms }
-    ensures answer { IfOk result
-        (λ r. IsAnswerSum relation factors.now terms.now number r store.old.doms store.new.doms) }
-    ensures checking { IfOk result (λ r. AllFixed store.old.doms terms.now → IsDecided r) }
-{
-    match relation {
-        Relation::Equal => keep_equal(store, factors, terms, number),
-        Relation::NotEqual => keep_apart(store, factors, terms, number),
-        _ => keep_at_most(store, factors, terms, number),
     }
 }
 
@@ -186,6 +182,7 @@ impl Propagator for Linear {
             factors,
             terms,
             number: self.number,
+            last: self.last,
             variables,
         })
     }

@@ -1,8 +1,8 @@
 //! The ends of products and sums.
-ghost use Rattle.std.specs.Prelude.{◌≡◌, ◌+◌, ◌*◌, ◌^◌, ◌≤◌, pos, ◌+ℤ◌, ◌-ℤ◌, ◌*ℤ◌, ◌≤ℤ◌, length, unsigned_abs};
+ghost use Rattle.std.specs.Prelude.{◌≡◌, ◌↔◌, ℕ, ◌+◌, ◌*◌, ◌^◌, ◌≤◌, pos, ◌+ℤ◌, ◌-ℤ◌, ◌*ℤ◌, ◌≤ℤ◌, length, unsigned_abs, IsTrue};
 ghost use Rattle.fz_spec.specs.declared.limits.TheConstants.{ELEMENT_LIMIT};
 ghost use Rattle.fz_strength.specs.Domains.{term_set, AreDomains};
-ghost use Rattle.fz_strength.specs.Sums.{least_product, greatest_product, least_sum, greatest_sum};
+ghost use Rattle.fz_strength.specs.Sums.{least_product, greatest_product, least_sum, greatest_sum, AreNear};
 ghost use Rattle.fz_prop.specs.Stores.{IsTermOf};
 ghost use Rattle.fz_linear.specs.Terms.{AreTermsOf};
 
@@ -41,25 +41,72 @@ fn add(sum: i128, product: i64, count: usize) -> i128
     sum + i128::from(product)
 }
 
+/// The ends of a sum.
+#[derive(Clone, Copy)]
+pub struct Ends {
+    /// The least that it may be.
+    pub least: i128,
+    /// The greatest.
+    pub greatest: i128,
+    /// The greatest of no term with its factor is further above its least.
+    pub widest: u64,
+}
+
+/// How far a number may be above another at most.
+fn width(low: i64, high: i64) -> u64
+    ensures { high ≤ℤ (low +ℤ pos result) }
+{
+    high.abs_diff(low)
+}
+
+/// The greater of two widths.
+fn wider(first: u64, second: u64) -> u64
+    ensures first { first ≤ result }
+    ensures second { second ≤ result }
+{
+    first.max(second)
+}
+
+/// Whether each width fits into a slack.
+pub fn is_loose(widest: u64, slack: u128) -> bool
+    ensures { IsTrue result ↔ (widest ≤ slack) }
+{
+    u128::from(widest) <= slack
+}
+
+/// Whether each width fits into two slacks.
+pub fn are_loose(widest: u64, above: u128, below: u128) -> bool
+    ensures { IsTrue result ↔ ((widest ≤ above) × (widest ≤ below)) }
+{
+    is_loose(widest, above) && is_loose(widest, below)
+}
+
 /// The least and the greatest that the sum of terms is with their factors.
-pub fn sum_ends(store: &Store, factors: &[i32], terms: &[Term]) -> (i128, i128)
+pub fn sum_ends(store: &Store, factors: &[i32], terms: &[Term]) -> Ends
     requires same { length factors.now ≡ length terms.now }
-    requires few { length terms.now ≤ ELEMENT_LIMIT }
+    requires few { length terms.now ≤ ELEMENT_LIMIT + 1 }
     requires inside { AreTermsOf (length store.now.doms) terms.now }
-    ensures least { result.0 ≡ least_sum store.now.doms factors.now terms.now }
-    ensures greatest { result.1 ≡ greatest_sum store.now.doms factors.now terms.now }
-    ensures near { unsigned_abs result.0 ≤ 2 ^ 90 }
-    ensures near_greatest { unsigned_abs result.1 ≤ 2 ^ 90 }
+    ensures least { result.least ≡ least_sum store.now.doms factors.now terms.now }
+    ensures greatest { result.greatest ≡ greatest_sum store.now.doms factors.now terms.now }
+    ensures near { unsigned_abs result.least ≤ 2 ^ 90 }
+    ensures near_greatest { unsigned_abs result.greatest ≤ 2 ^ 90 }
+    ensures loose { (slack : ℕ) → result.widest ≤ slack
+        → AreNear store.now.doms (pos slack) factors.now terms.now }
     ensures domains { AreDomains store.now.doms }
 {
     let _ = store.doms();
-    let (mut least, mut greatest) = (0, 0);
+    let (mut least, mut greatest, mut widest) = (0, 0, 0);
     for i in 0..factors.len() {
         let (low, high) = product_ends(store, factors[i], terms[i]);
         least = add(least, low, i);
         greatest = add(greatest, high, i);
+        widest = wider(widest, width(low, high));
     }
-    (least, greatest)
+    Ends {
+        least,
+        greatest,
+        widest,
+    }
 }
 
 /// How far a number is above another.

@@ -51,9 +51,8 @@ fn named(
         ≡ Numbers factors ∷ Terms (Term.Var 0 ∷ Term.Var 1 ∷ []) ∷ One (Term.Num number) ∷ []) }
     ensures below { IfOk result (λ p. AreBelow (waits p) 2) }
 {
-    let factors = Vec::from_slice(alloc, &factors)?;
-    let terms = Vec::from_slice(alloc, &[Term::Var(0), Term::Var(1)])?;
-    Linear::new(alloc, name, relation, factors, terms, number)
+    let terms = [Term::Var(0), Term::Var(1)];
+    Linear::new(alloc, name, relation, &factors, &terms, Term::Num(number))
 }
 
 /// The constraint of the first two variables that says a relation.
@@ -212,5 +211,49 @@ fn each_relation_narrows(rt: HostRuntime) -> Result<(), Fail> {
         assert_eq!(rt; ends(&store, 0), behind[0]);
         assert_eq!(rt; ends(&store, 1), behind[1]);
     }
+    Ok(())
+}
+
+/// The constraint that a multiple of the first variable is the second.
+fn multiple(alloc: Global, factor: i32) -> Result<Linear, AllocError>
+    ensures below { IfOk result (λ p. AreBelow (waits p) 2) }
+{
+    let (x, y) = (Term::Var(0), Term::Var(1));
+    Linear::new(
+        alloc,
+        Builtin::BoolLinEq,
+        Relation::Equal,
+        &[factor],
+        &[x],
+        y,
+    )
+}
+
+/// Runs it.
+fn run_multiple(
+    store: &mut Store,
+    alloc: Global,
+    factor: i32,
+) -> Result<Option<Answer>, AllocError> {
+    if store.doms().len() != 2 {
+        return Ok(None);
+    }
+    let first = multiple(alloc, factor)?;
+    let mut copy = first.copy()?;
+    Ok(Some(copy.propagate(store)?))
+}
+
+#[test]
+fn a_sum_is_a_variable(rt: HostRuntime) -> Result<(), Fail> {
+    let alloc = rt.alloc();
+    let mut store = Store::new(alloc, &model(alloc)?)?.expect(&rt, "a store");
+    let first = run_multiple(&mut store, alloc, 2)?;
+    assert_eq!(rt; first, Some(Answer::NoFix));
+    let second = run_multiple(&mut store, alloc, 2)?;
+    assert_eq!(rt; second, Some(Answer::NoFix));
+    assert_eq!(rt; ends(&store, 0), (0, 4));
+    assert_eq!(rt; ends(&store, 1), (0, 8));
+    let last = run_multiple(&mut store, alloc, 2)?;
+    assert_eq!(rt; last, Some(Answer::Fix));
     Ok(())
 }

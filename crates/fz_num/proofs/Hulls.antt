@@ -6,8 +6,8 @@ use Rattle.std.specs.Prelude.{int_div}
 use Rattle.std.specs.Int.{int_max, int_min}
 use Rattle.std.proofs.lemmas.Int.{ints, clamps, by_lt_z}
 use Rattle.fz_num.specs.declared.span.Span.{Span}
-use Rattle.fz_num.specs.Spans.{IsHull, IsSmall, IsSum, IsDifference, IsMultiple, IsProduct, IsQuotient, IsInSpan, IsAround, IsOneOf, IsNegative, IsPositive}
-use Rattle.fz_num.proofs.Products.{rising_by, falling_by, IsBetween, factor_between, divided_between, divisor_between, between_comm, small_product, small_quotient}
+use Rattle.fz_num.specs.Spans.{IsHull, IsSmall, IsSum, IsDifference, IsMultiple, IsProduct, IsQuotient, IsInSpan, IsAround, IsOneOf, IsNegative, IsPositive, IsBetween}
+use Rattle.fz_num.proofs.Products.{rising_by, falling_by, factor_between, divided_between, divisor_between, between_comm, small_product, small_quotient}
 
 min_is : (a b : ℤ) → (int_min a b ≡ a) ⊎ (int_min a b ≡ b)
 min_is a b = by_lt_z b a (λ lt. inr (omega (arith, ints, clamps))) (λ le. inl (omega (arith, ints, clamps)))

@@ -7,9 +7,7 @@ use Rattle.std.proofs.lemmas.Int.{ints, fits_signed_mul, fits_signed_from_abs}
 use Rattle.std.proofs.Math.Nat.{div-zero, div-mul-le_self, div-le_self, mul-le-mul_left}
 use Rattle.std.proofs.lemmas.Nat.{le-div}
 use Rattle.std.proofs.Math.IntN.{*ℤ_comm, zero-*ℤ, suc_ℤ-*ℤ, pred_ℤ-*ℤ}
-
-abbrev pub IsBetween : ℤ → ℤ → ℤ → Type 0
-IsBetween a b z = ((a ≤ℤ z) × (z ≤ℤ b)) ⊎ ((b ≤ℤ z) × (z ≤ℤ a))
+use Rattle.fz_num.specs.Spans.{IsBetween}
 
 pub mul_le : (n : ℕ) (x y : ℤ) → x ≤ℤ y → (pos n *ℤ x) ≤ℤ (pos n *ℤ y)
 mul_le zero x y le = rw (zero-*ℤ x, zero-*ℤ y) (omega (arith, ints))

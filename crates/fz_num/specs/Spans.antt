@@ -5,6 +5,10 @@ use Rattle.fz_num.specs.declared.span.Span.{Span}
 abbrev pub IsInSpan : Span → ℤ → Type 0
 IsInSpan s x = (s.lo ≤ℤ x) × (x ≤ℤ s.hi)
 
+-- z lies between a and b, whichever is the lesser
+abbrev pub IsBetween : ℤ → ℤ → ℤ → Type 0
+IsBetween a b z = ((a ≤ℤ z) × (z ≤ℤ b)) ⊎ ((b ≤ℤ z) × (z ≤ℤ a))
+
 -- both ends are at most 2 ^ k in size
 abbrev pub IsSmall : ℕ → Span → Type 0
 IsSmall k s = (neg_ℤ (pos (2 ^ k)) ≤ℤ s.lo) × (s.hi ≤ℤ pos (2 ^ k))

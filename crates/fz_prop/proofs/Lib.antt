@@ -1,8 +1,10 @@
 pub mod Levels
 pub mod Steps
+pub mod Waits
 pub mod TermChanges
 pub mod Twice
 pub mod Settling
 pub mod Answering
 pub mod Filled
 pub mod Reifying
+pub mod Numbers

@@ -1,9 +1,8 @@
 -- A change of one domain is a step of the store.
-use Rattle.std.proofs.Common.{◌≡◌, ◌≢◌, ℕ, zero, suc, ◌<◌, ◌≤◌, List, [], ◌∷◌, ◌++◌, refl, sym, subst, ◌∙◌, arith, length, true, false, nat_eq, inl, inr, cond, max, get_or, get_or-set_same, get_or-set_other, drop, length-append}
+use Rattle.std.proofs.Common.{◌≡◌, ◌≢◌, ℕ, ◌<◌, ◌≤◌, List, [], ◌∷◌, ◌++◌, refl, sym, subst, ◌∙◌, arith, length, true, false, nat_eq, inl, inr, cond, max, get_or-set_same, get_or-set_other, drop, length-append}
 use Rattle.std.specs.Prelude.{ℤ, pos, ◌-ℤ◌, ◌↔◌, slice_set, slice_index}
 use Rattle.std.proofs.lemmas.Int.{ints}
 use Rattle.std.specs.List.{AllByRecursion}
-use Rattle.std.proofs.lemmas.Bool.{cases_eq}
 use Rattle.std.proofs.lemmas.List.{length-set, set-get_or, drop-append-le}
 use Rattle.std.proofs.lemmas.List.Sums.{sum_by-set}
 use Rattle.fz_sets.specs.Sets.{IsInSet, set_size}
@@ -12,26 +11,21 @@ use Rattle.fz_dom.specs.Changes.{IsKeeping}
 use Rattle.fz_dom.specs.declared.change.Change.{Change}
 use Rattle.fz_dom.specs.declared.change.Change.TheVariants.{Same, Changed, Wiped}
 use Rattle.fz_strength.specs.declared.event.Event.{Event}
-use Rattle.fz_strength.specs.declared.event.Event.TheVariants.{Any, Bound, Fixed}
 use Rattle.fz_strength.specs.Domains.{dom_at, room}
 use Rattle.fz_strength.specs.Events.{level, IsQuiet}
-use Rattle.fz_strength.proofs.Lists.{all_both}
+use Rattle.fz_strength.proofs.Terms.{quiet_self}
+use Rattle.fz_sets.proofs.Lists.{all_both, by_place}
 use Rattle.fz_prop.specs.Cuts.{change_level}
 use Rattle.fz_prop.specs.Stores.{Stored, IsStore, Shrinks, Narrows, IsChangeAt, IsCut, IsNoted, mark_at, IsListed, with_listed, with_dom}
 use Rattle.fz_prop.proofs.Levels.{tells}
 
-pub quiet_self : (event : Event) (d : List (ℤ × ℤ)) → IsQuiet event d d
-quiet_self Any d = refl
-quiet_self Bound d = (refl, refl)
-quiet_self Fixed d = λ x only. refl
-
 -- ---- lists of changed variables
 
-listed_before : (xs ys : List ℕ) (v : ℕ) → IsListed xs v → IsListed (xs ++ ys) v
+pub listed_before : (xs ys : List ℕ) (v : ℕ) → IsListed xs v → IsListed (xs ++ ys) v
 listed_before [] ys v is = absurd is
 listed_before (x ∷ xs) ys v is = elim is [ inl h ↦ inl h | inr h ↦ inr (listed_before xs ys v h) ]
 
-listed_last : (xs : List ℕ) (v : ℕ) → IsListed (xs ++ v ∷ []) v
+pub listed_last : (xs : List ℕ) (v : ℕ) → IsListed (xs ++ v ∷ []) v
 listed_last [] v = inl refl
 listed_last (x ∷ xs) v = inr (listed_last xs v)
 
@@ -57,10 +51,6 @@ pub length_listed : (n v : ℕ) (xs : List ℕ) → length xs ≤ length (with_l
 length_listed n v xs = elim (nat_eq n 0) as (λ b. length xs ≤ length (cond b (xs ++ v ∷ []) xs)) [ true ↦ omega (arith, length-append xs (v ∷ [])) | false ↦ omega arith ]
 
 -- ---- the step
-
--- everywhere, or at one place and elsewhere
-by_place : (P : ℕ → Type 0) (v : ℕ) → P v → ((u : ℕ) → u ≢ v → P u) → (u : ℕ) → P u
-by_place P v here there u = elim (cases_eq u v) [ inl e ↦ subst P (sym e) here | inr ne ↦ there u ne ]
 
 pub record IsStep (s : Stored) (v : ℕ) (P : ℤ → Type 0) (t : Stored) : Type 0 where
   pub store : IsStore t
@@ -181,11 +171,6 @@ kept_change Wiped ds ms ns cs bs gs h v n e P is head within cut domain same_bs 
       shrinks = subst (Shrinks (kept ds ms cs h)) (sym same) (same_shrinks (kept ds ms cs h));
       is = (same, cut.0.1);
     }
-
-pub same_at : {X : Type 0} (xs : List X) (v : ℕ) (d e : X) → v < length xs → get_or xs v d ≡ get_or xs v e
-same_at [] v d e within = absurd (omega (arith, within))
-same_at (x ∷ xs) zero d e within = refl
-same_at (x ∷ xs) (suc v) d e within = same_at xs v d e (omega (arith, within))
 
 -- a change by another property that says the same
 pub change_at_as : (change : Change) (v : ℕ) (P Q : ℤ → Type 0) (s t : Stored) → ((x : ℤ) → P x ↔ Q x) → IsChangeAt change v P s t → IsChangeAt change v Q s t

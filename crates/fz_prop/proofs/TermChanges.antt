@@ -1,17 +1,17 @@
 -- What changes of terms leave.
-use Rattle.std.proofs.Common.{◌≡◌, ℕ, ◌<◌, List, [], ◌∷◌, refl, sym, ap, subst, ◌∙◌, arith, length, inl, inr}
+use Rattle.std.proofs.Common.{◌≡◌, ℕ, ◌<◌, List, refl, sym, ap, subst, ◌∙◌, arith, length, inl, inr}
 use Rattle.std.specs.Prelude.{ℤ}
 use Rattle.std.proofs.lemmas.Bool.{cases_eq}
-use Rattle.std.proofs.lemmas.Int.{ints}
 use Rattle.fz_sets.specs.Sets.{IsInSet, set_size}
+use Rattle.fz_sets.proofs.Sizes.{some_size, size_of_one}
 use Rattle.fz_dom.specs.declared.change.Change.{Change}
 use Rattle.fz_dom.specs.declared.change.Change.TheVariants.{Same, Changed, Wiped}
 use Rattle.fz_spec.specs.declared.term.Term.{Term}
 use Rattle.fz_spec.specs.declared.term.Term.TheVariants.{Num, Var}
 use Rattle.fz_spec.specs.Constraints.{term_value}
-use Rattle.fz_strength.specs.Domains.{dom_at, term_set, Within, IsNarrower, number_at}
+use Rattle.fz_strength.specs.Domains.{dom_at, term_set, Within, IsNarrower, number_at, room}
 use Rattle.fz_strength.specs.Events.{IsOnly}
-use Rattle.fz_strength.proofs.Truths.{single, in_single, is_single}
+use Rattle.fz_strength.proofs.Truths.{in_single, is_single}
 use Rattle.fz_prop.specs.Stores.{Stored, Shrinks, IsTermOf, IsTermChange}
 
 pub term_within : (ds : List (List (ℤ × ℤ))) (a : List ℤ) (t : Term) → IsTermOf (length ds) t → Within ds a → IsInSet (term_set ds t) (term_value a t)
@@ -58,14 +58,15 @@ pub none_kept : (t : Term) (P : ℤ → Type 0) (r s : Stored) → IsTermChange 
 none_kept (Var v) P r s h x is holds = h.1 x is holds
 none_kept (Num n) P r s h x is holds = h.1 (subst P (is_single x n is) holds)
 
-size_of_only : (x : ℤ) → set_size (single x) ≡ 1
-size_of_only x = omega (arith, ints)
+pub falls_of : (t : Term) (P : ℤ → Type 0) (r s : Stored) → IsTermChange Changed t P r s → room s.doms < room r.doms
+falls_of (Num n) P r s h = absurd h
+falls_of (Var v) P r s h = h.falls
 
-some_size : (d : List (ℤ × ℤ)) → 0 < length d → 0 < set_size d
-some_size [] filled = absurd (omega (arith, filled))
-some_size (r ∷ rs) filled = omega arith
+pub same_store : (t : Term) (P : ℤ → Type 0) (r s : Stored) → IsTermChange Same t P r s → s ≡ r
+same_store (Num n) P r s h = h.0
+same_store (Var v) P r s h = h.0
 
 -- a term that is fixed doesn't change
 pub fixed_stays : (t : Term) (P : ℤ → Type 0) (r s : Stored) (x : ℤ) → IsOnly (term_set r.doms t) x → IsTermChange Changed t P r s → ⊥
 fixed_stays (Num n) P r s x only h = h
-fixed_stays (Var v) P r s x only h = omega (arith, h.smaller, some_size (dom_at s.doms v) h.filled, ap set_size only, size_of_only x)
+fixed_stays (Var v) P r s x only h = omega (arith, h.smaller, some_size (dom_at s.doms v) h.filled, ap set_size only, size_of_one x)

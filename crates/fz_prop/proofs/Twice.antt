@@ -1,5 +1,5 @@
 -- A store that is narrowed twice.
-use Rattle.std.proofs.Common.{◌≡◌, ◌<◌, List, sym, ◌∙◌, subst, arith, ◌⊎◌, inl, inr}
+use Rattle.std.proofs.Common.{◌≡◌, ◌<◌, ◌≤◌, List, sym, ap, ◌∙◌, subst, arith, ◌⊎◌, inl, inr}
 use Rattle.std.specs.Prelude.{ℤ}
 use Rattle.fz_strength.specs.declared.event.Event.{Event}
 use Rattle.fz_strength.specs.declared.event.Event.TheVariants.{Any, Bound, Fixed}
@@ -12,7 +12,7 @@ narrower_twice ds es fs p q = record { size = q.size ∙ p.size; members = λ v 
 
 quiet_twice : (event : Event) (d e f : List (ℤ × ℤ)) → IsQuiet event d e → IsQuiet event e f → IsQuiet event d f
 quiet_twice Any d e f p q = p ∙ q
-quiet_twice Bound d e f p q = (p.0 ∙ q.0, p.1 ∙ q.1)
+quiet_twice Bound d e f p q = (p.0 ∙ q.0, p.1 ∙ q.1, λ x only. p.2 x (q.2 x only ∙ only) ∙ q.2 x only)
 quiet_twice Fixed d e f p q = λ x only. p x (q x only ∙ only) ∙ q x only
 
 falls_twice : (r s t : Stored) → (s ≡ r) ⊎ (room s.doms < room r.doms) → (t ≡ s) ⊎ (room t.doms < room s.doms) → (t ≡ r) ⊎ (room t.doms < room r.doms)
@@ -29,3 +29,6 @@ shrinks_twice r s t p q = record {
   marks_tell = λ v event h. quiet_twice event (dom_at r.doms v) (dom_at s.doms v) (dom_at t.doms v) (p.marks_tell v event (omega (arith, h, q.marks_grow v))) (q.marks_tell v event h);
   falls = falls_twice r s t p.falls q.falls;
 }
+
+pub room_after : (r s : Stored) → Shrinks r s → room s.doms ≤ room r.doms
+room_after r s h = elim h.falls [ inl same ↦ (let f = ap (λ (t : Stored). room t.doms) same in omega (arith, f)) | inr less ↦ omega (arith, less) ]

@@ -7,6 +7,7 @@ mod cut;
 pub mod propagator;
 pub mod store;
 pub mod terms;
+pub mod variables;
 
 pub use answer::Answer;
 pub use fz_dom::Change;

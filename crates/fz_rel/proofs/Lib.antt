@@ -3,7 +3,6 @@ pub mod Orders
 pub mod Equality
 pub mod Opposites
 pub mod Shown
-pub mod Waiting
 pub mod Names
 pub mod ReifiedNames
 pub mod Sets

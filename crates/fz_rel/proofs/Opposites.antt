@@ -1,22 +1,13 @@
 -- A relation and the one that is true exactly where it is false.
-use Rattle.std.proofs.Common.{◌≡◌, arith}
-use Rattle.std.specs.Prelude.{ℤ, ◌≤ℤ◌, ◌<ℤ◌}
-use Rattle.std.proofs.lemmas.Int.{ints, by_lt_z}
+use Rattle.std.proofs.Common.{arith}
+use Rattle.std.proofs.lemmas.Int.{ints}
 use Rattle.fz_spec.specs.declared.term.Term.{Term}
 use Rattle.fz_spec.specs.Constraints.{term_value}
 use Rattle.fz_strength.specs.declared.relation.Relation.TheVariants.{Equal, NotEqual, AtMost, Below}
 use Rattle.fz_prop.specs.Truths.{IsSame}
+use Rattle.fz_sets.proofs.Numbers.{above_of_not, most_of_not}
+use Rattle.fz_prop.proofs.Numbers.{same_of_not}
 use Rattle.fz_rel.specs.Truths.{TruthOf, FalseOf, LineOf, AgainstOf}
-
-same_of_not : (x y : ℤ) → ((x ≡ y → ⊥) → ⊥) → x ≡ y
-same_of_not x y not =
-    by_lt_z x y (λ below. absurd (not (λ same. omega (arith, ints, below, same)))) (λ least_x. by_lt_z y x (λ above. absurd (not (λ same. omega (arith, ints, above, same)))) (λ least_y. omega (arith, ints, least_x, least_y)))
-
-below_of_not : (x y : ℤ) → (x ≤ℤ y → ⊥) → y <ℤ x
-below_of_not x y not = by_lt_z y x (λ h. h) (λ h. absurd (not h))
-
-most_of_not : (x y : ℤ) → (x <ℤ y → ⊥) → y ≤ℤ x
-most_of_not x y not = by_lt_z x y (λ h. absurd (not h)) (λ h. h)
 
 pub against_equal : (x y : Term) → IsSame (TruthOf NotEqual x y) (FalseOf Equal x y) (LineOf NotEqual x y) (AgainstOf Equal x y)
 against_equal x y = record { truth = λ a. ((λ h. h), (λ h. h)); line = λ ds h. h }
@@ -25,7 +16,7 @@ pub against_apart : (x y : Term) → IsSame (TruthOf Equal x y) (FalseOf NotEqua
 against_apart x y = record { truth = λ a. ((λ same apart. apart same), same_of_not (term_value a x) (term_value a y)); line = λ ds h. h }
 
 pub against_most : (x y : Term) → IsSame (TruthOf Below y x) (FalseOf AtMost x y) (LineOf Below y x) (AgainstOf AtMost x y)
-against_most x y = record { truth = λ a. ((λ below most. omega (arith, ints, below, most)), below_of_not (term_value a x) (term_value a y)); line = λ ds h. h }
+against_most x y = record { truth = λ a. ((λ below most. omega (arith, ints, below, most)), above_of_not (term_value a x) (term_value a y)); line = λ ds h. h }
 
 pub against_below : (x y : Term) → IsSame (TruthOf AtMost y x) (FalseOf Below x y) (LineOf AtMost y x) (AgainstOf Below x y)
 against_below x y = record { truth = λ a. ((λ most below. omega (arith, ints, below, most)), most_of_not (term_value a x) (term_value a y)); line = λ ds h. h }

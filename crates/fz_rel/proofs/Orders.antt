@@ -8,7 +8,6 @@ use Rattle.fz_dom.proofs.Ranges.{least_member, greatest_member}
 use Rattle.fz_dom.specs.declared.change.Change.{Change}
 use Rattle.fz_dom.specs.declared.change.Change.TheVariants.{Same, Wiped}
 use Rattle.fz_spec.specs.declared.term.Term.{Term}
-use Rattle.fz_spec.specs.declared.term.Term.TheVariants.{Num, Var}
 use Rattle.fz_spec.specs.Constraints.{term_value}
 use Rattle.fz_strength.specs.Relations.{Relates, RestsAs}
 use Rattle.fz_strength.specs.Domains.{term_set, AreDomains, Within}
@@ -17,7 +16,7 @@ use Rattle.fz_prop.specs.Answers.{IsCorrectOf}
 use Rattle.fz_prop.specs.Stores.{Stored, Shrinks, IsTermOf, IsTermChange}
 use Rattle.fz_rel.specs.Truths.{TruthOf, IsAnswerAs, order_of, gap_of, IsOrdered}
 use Rattle.fz_prop.proofs.Filled.{term_ranges, narrower_ranges}
-use Rattle.fz_prop.proofs.TermChanges.{term_within, narrower_term, within_kept, kept_term, none_kept}
+use Rattle.fz_prop.proofs.TermChanges.{term_within, narrower_term, within_kept, kept_term, none_kept, same_store}
 
 pub to_order : (strict : Bool) (x y : ℤ) → Relates (order_of strict) x y → IsOrdered strict x y
 to_order true x y h = omega (arith, ints, h)
@@ -93,16 +92,12 @@ all_ordered strict x y ds u w is_x is_y upper lower apart =
 
 -- ---- where nothing changed
 
-pub stays : (t : Term) (P : ℤ → Type 0) (r s : Stored) → IsTermChange Same t P r s → s ≡ r
-stays (Num n) P r s h = h.0
-stays (Var v) P r s h = h.0
-
 -- the greatest of x is before the greatest of y
 pub high_order : (strict : Bool) (x y : Term) (w : ℤ) (r s : Stored) → IsTermOf (length r.doms) x → AreDomains r.doms → w ≡ greatest (term_set r.doms y) -ℤ gap_of strict
     → IsTermChange Same x (λ z. z ≤ℤ w) r s → IsOrdered strict (greatest (term_set s.doms x)) (greatest (term_set s.doms y))
 high_order strict x y w r s is_x domains is h =
     let at_x = term_ranges r.doms x is_x domains in
-    let same : s ≡ r = stays x (λ z. z ≤ℤ w) r s h in
+    let same : s ≡ r = same_store x (λ z. z ≤ℤ w) r s h in
     let top : IsInSet (term_set s.doms x) (greatest (term_set r.doms x)) = rw same (greatest_member (term_set r.doms x) at_x.some at_x.ranges).0 in
     let kept : greatest (term_set r.doms x) ≤ℤ w = (kept_term Same x (λ z. z ≤ℤ w) r s h (λ e. cc (e)) (greatest (term_set r.doms x)) top).1 in
     rw same (omega (arith, ints, kept, is))
@@ -112,7 +107,7 @@ pub low_order : (strict : Bool) (x y : Term) (w : ℤ) (r s : Stored) → IsTerm
     → IsTermChange Same y (λ z. w ≤ℤ z) r s → IsOrdered strict (least (term_set s.doms x)) (least (term_set s.doms y))
 low_order strict x y w r s is_y domains is h =
     let at_y = term_ranges r.doms y is_y domains in
-    let same : s ≡ r = stays y (λ z. w ≤ℤ z) r s h in
+    let same : s ≡ r = same_store y (λ z. w ≤ℤ z) r s h in
     let low : IsInSet (term_set s.doms y) (least (term_set r.doms y)) = rw same (least_member (term_set r.doms y) at_y.some at_y.ranges).0 in
     let kept : w ≤ℤ least (term_set r.doms y) = (kept_term Same y (λ z. w ≤ℤ z) r s h (λ e. cc (e)) (least (term_set r.doms y)) low).1 in
     rw same (omega (arith, ints, kept, is))

@@ -6,6 +6,7 @@ use Rattle.fz_sets.specs.Sets.{IsInSet, IsInRange, LEAST, GREATEST, AreOneSet}
 use Rattle.fz_dom.specs.Changes.{IsChange, IsFromTo}
 use Rattle.fz_dom.specs.declared.change.Change.{Change}
 use Rattle.fz_dom.specs.declared.change.Change.TheVariants.{Same, Changed, Wiped}
+use Rattle.fz_dom.proofs.Lists.{in_take}
 use Rattle.fz_rel.specs.Reified.{AreOthers}
 
 in_more : (i : ℕ) (rs : List (ℤ × ℤ)) (d : ℤ × ℤ) (x : ℤ) → i < length rs → IsInSet (take (suc i) rs) x → IsInSet (take i rs) x ⊎ IsInRange (get_or rs i d) x
@@ -22,12 +23,6 @@ more_in zero (r ∷ rs) d x inside (inr h) = inl h
 more_in (suc i) (r ∷ rs) d x inside (inl (inl h)) = inl h
 more_in (suc i) (r ∷ rs) d x inside (inl (inr h)) = inr (more_in i rs d x (omega (arith, inside)) (inl h))
 more_in (suc i) (r ∷ rs) d x inside (inr h) = inr (more_in i rs d x (omega (arith, inside)) (inr h))
-
-in_first : (i : ℕ) (rs : List (ℤ × ℤ)) (x : ℤ) → IsInSet (take i rs) x → IsInSet rs x
-in_first zero rs x is = absurd is
-in_first (suc i) [] x is = absurd is
-in_first (suc i) (r ∷ rs) x (inl h) = inl h
-in_first (suc i) (r ∷ rs) x (inr h) = inr (in_first i rs x h)
 
 -- ---- step by step
 
@@ -68,7 +63,7 @@ pub others_none : (set : List (ℤ × ℤ)) (i : ℕ) (d e f : List (ℤ × ℤ)
 others_none set i d e f low high r inside is low_is high_is h others none x =
     let range : IsFromTo low high x ↔ IsInRange (get_or set i (pos 0, pos 0)) x = rw (low_is, high_is, ← is) ((λ k. k), (λ k. k)) in (
       (λ m. absurd ((none x).0 m)),
-      (λ o. absurd (h.1 x ((others x).1 (o.0, λ t. o.1 (in_first i set x t))) (λ k. o.1 (in_first (suc i) set x (more_in i set (pos 0, pos 0) x inside (inr (range.0 k))))))),
+      (λ o. absurd (h.1 x ((others x).1 (o.0, λ t. o.1 (in_take i set x t))) (λ k. o.1 (in_take (suc i) set x (more_in i set (pos 0, pos 0) x inside (inr (range.0 k))))))),
     )
 
 pub others_all : (set d : List (ℤ × ℤ)) (i : ℕ) → length set ≤ i → AreOthers (take i set) d → AreOthers set d

@@ -15,37 +15,38 @@ use Rattle.fz_strength.specs.declared.relation.Relation.TheVariants.{Equal, NotE
 use Rattle.fz_strength.specs.declared.event.Event.{Event}
 use Rattle.fz_strength.specs.declared.event.Event.TheVariants.{Any, Fixed}
 use Rattle.fz_strength.specs.Domains.{term_set, dom_at}
-use Rattle.fz_strength.specs.Events.{IsOnly, IsFixedIn, Wait, wait_for, waits_for, AreBelow, AreFixed}
+use Rattle.fz_strength.specs.Events.{IsOnly, IsFixedIn, Wait, wait_for, waits_for, AreBelow, AreFixed, variable_of}
 use Rattle.fz_strength.specs.Relations.{reified_of, Relates, RestsAs, RestsAgainst, IsShown, IsRefuted, reified_event}
-use Rattle.fz_strength.specs.Lines.{IsReifiedLine, Rests, RestsReified, RestsOtherwise, waits_of_reified, waits}
+use Rattle.fz_strength.specs.Lines.{IsReifiedLine, Rests, RestsReified, RestsOtherwise, waits_otherwise, waits_of_reified, waits}
 use Rattle.fz_strength.specs.Promises.{IsCorrect, IsTruth, Suits, truth_of_reified, truths_of_clause}
 use Rattle.fz_strength.specs.Clauses.{clause_of}
-use Rattle.fz_strength.proofs.Lists.{all_left, all_right}
+use Rattle.fz_strength.proofs.Waits.{term_fixed, variable_waited}
+use Rattle.fz_sets.proofs.Lists.{all_left, all_right}
 use Rattle.fz_prop.specs.declared.answer.Answer.{Answer}
 use Rattle.fz_prop.specs.Answers.{IsAnswer, IsAnswerOf, IsCorrectOf}
 use Rattle.fz_prop.specs.Stores.{IsTermOf}
 use Rattle.fz_prop.specs.Truths.{IsSame, TruthWith}
 use Rattle.fz_prop.proofs.Answering.{answer_of, correct_of}
+use Rattle.fz_prop.proofs.Waits.{term_below}
 use Rattle.fz_rel.specs.Truths.{TruthOf, AreSingle}
 use Rattle.fz_rel.specs.Reified.{ReifiedLine}
-use Rattle.fz_rel.specs.Comparisons.{variables_of, variable_of}
-use Rattle.fz_rel.proofs.Waiting.{term_of, single_of, variable_waited}
+use Rattle.fz_rel.specs.Comparisons.{variables_of}
 
 -- the constraint of a name over two terms and a Boolean
 abbrev pub reifying : Builtin → Term → Term → Term → Constraint
 reifying name x y r = record { name = name; arguments = One x ∷ One y ∷ One r ∷ [] }
 
-same : (p q : Relation) (x y r : ℤ) → Some p ≡ Some q → IsReified (Relates q x y) r ↔ IsReified (Relates p x y) r
-same p q x y r e = let f : p ≡ q = cc in rw f ((λ h. h), (λ h. h))
+pub same_reified : (p q : Relation) (x y r : ℤ) → Some p ≡ Some q → IsReified (Relates q x y) r ↔ IsReified (Relates p x y) r
+same_reified p q x y r e = let f : p ≡ q = cc in rw f ((λ h. h), (λ h. h))
 
 truth_is : (name : Builtin) (relation : Relation) (x y r : ℤ) → reified_of name ≡ Some relation → IsReified (Relates relation x y) r ↔ HoldsOfThree name x y r
-truth_is IntEqReif relation x y r e = same Equal relation x y r e
-truth_is BoolEqReif relation x y r e = same Equal relation x y r e
-truth_is IntNeReif relation x y r e = same NotEqual relation x y r e
-truth_is IntLeReif relation x y r e = same AtMost relation x y r e
-truth_is BoolLeReif relation x y r e = same AtMost relation x y r e
-truth_is IntLtReif relation x y r e = same Below relation x y r e
-truth_is BoolLtReif relation x y r e = same Below relation x y r e
+truth_is IntEqReif relation x y r e = same_reified Equal relation x y r e
+truth_is BoolEqReif relation x y r e = same_reified Equal relation x y r e
+truth_is IntNeReif relation x y r e = same_reified NotEqual relation x y r e
+truth_is IntLeReif relation x y r e = same_reified AtMost relation x y r e
+truth_is BoolLeReif relation x y r e = same_reified AtMost relation x y r e
+truth_is IntLtReif relation x y r e = same_reified Below relation x y r e
+truth_is BoolLtReif relation x y r e = same_reified Below relation x y r e
 truth_is name relation x y r e = absurd (cc (e))
 
 line_is : (G : Type 0) (o : Option Relation) (relation : Relation) (d e r : List (ℤ × ℤ)) → o ≡ Some relation
@@ -74,7 +75,7 @@ reified_correct name relation x y r ds es is h =
 
 waits_are : (name : Builtin) (relation : Relation) (x y r : Term) → reified_of name ≡ Some relation
     → waits (reifying name x y r) ≡ wait_for (reified_event relation) x ++ (wait_for (reified_event relation) y ++ wait_for Any r)
-waits_are name relation x y r is = ap (λ (o : Option Relation). waits_of_reified (waits_for Fixed (x ∷ y ∷ r ∷ [])) o x y r) is
+waits_are name relation x y r is = ap (λ (o : Option Relation). waits_of_reified (waits_otherwise name (One x ∷ One y ∷ One r ∷ [])) o x y r) is
 
 pub record AreTermsOf (n : ℕ) (x y r : Term) : Type 0 where
   pub x_is : IsTermOf n x
@@ -90,9 +91,9 @@ reified_terms name relation x y r n is below =
     let all : AreBelow (wx ++ (wy ++ wr)) n = subst (λ (ws : List Wait). AreBelow ws n) (waits_are name relation x y r is) below in
     let behind : AreBelow (wy ++ wr) n = all_right is_below wx (wy ++ wr) all in
     record {
-      x_is = term_of (reified_event relation) x n (all_left is_below wx (wy ++ wr) all);
-      y_is = term_of (reified_event relation) y n (all_left is_below wy wr behind);
-      r_is = term_of Any r n (all_right is_below wy wr behind);
+      x_is = term_below (reified_event relation) x n (all_left is_below wx (wy ++ wr) all);
+      y_is = term_below (reified_event relation) y n (all_left is_below wy wr behind);
+      r_is = term_below Any r n (all_right is_below wy wr behind);
     }
 
 pub reified_fixed : (name : Builtin) (relation : Relation) (x y r : Term) (ds : List (List (ℤ × ℤ))) → reified_of name ≡ Some relation → AreFixed (waits (reifying name x y r)) ds
@@ -104,8 +105,8 @@ reified_fixed name relation x y r ds is fixed =
     let wr : List Wait = wait_for Any r in
     let all : AreFixed (wx ++ (wy ++ wr)) ds = subst (λ (ws : List Wait). AreFixed ws ds) (waits_are name relation x y r is) fixed in
     let behind : AreFixed (wy ++ wr) ds = all_right is_fixed wx (wy ++ wr) all in (
-      (single_of (reified_event relation) x ds (all_left is_fixed wx (wy ++ wr) all), single_of (reified_event relation) y ds (all_left is_fixed wy wr behind)),
-      single_of Any r ds (all_right is_fixed wy wr behind),
+      (term_fixed (reified_event relation) x ds (all_left is_fixed wx (wy ++ wr) all), term_fixed (reified_event relation) y ds (all_left is_fixed wy wr behind)),
+      term_fixed Any r ds (all_right is_fixed wy wr behind),
     )
 
 pub reified_suits : (name : Builtin) (relation : Relation) (x y r : Term) (ds : List (List (ℤ × ℤ))) → reified_of name ≡ Some relation → Suits (reifying name x y r) ds → IsTruth ds r
@@ -134,7 +135,7 @@ reified_cost name relation x y r e = absurd (cc (e))
 
 -- ---- its events
 
-before_events : (ws vs : List Wait) (event : Event) (place : ℕ) (w : Wait) → AllByRecursion (λ (v : Wait). v.event ≡ event) ws → place < length ws → slice_get (ws ++ vs) place ≡ Some w → event ≡ w.event
+pub before_events : (ws vs : List Wait) (event : Event) (place : ℕ) (w : Wait) → AllByRecursion (λ (v : Wait). v.event ≡ event) ws → place < length ws → slice_get (ws ++ vs) place ≡ Some w → event ≡ w.event
 before_events [] vs event place w all inside is = absurd (omega (arith, inside))
 before_events (v ∷ ws) vs event zero w all inside is = let e : v ≡ w = cc in sym all.0 ∙ ap (λ (u : Wait). u.event) e
 before_events (v ∷ ws) vs event (suc place) w all inside is = before_events ws vs event place w all.1 (omega (arith, inside)) is
@@ -144,12 +145,12 @@ any_event [] event place w all is = absurd (cc (is))
 any_event (v ∷ ws) event zero w all is = let e : v ≡ w = cc in sym all.0 ∙ ap (λ (u : Wait). u.event) e
 any_event (v ∷ ws) event (suc place) w all is = any_event ws event place w all.1 is
 
-after_events : (ws vs : List Wait) (event : Event) (place : ℕ) (w : Wait) → AllByRecursion (λ (v : Wait). v.event ≡ event) vs → length ws ≤ place → slice_get (ws ++ vs) place ≡ Some w → event ≡ w.event
+pub after_events : (ws vs : List Wait) (event : Event) (place : ℕ) (w : Wait) → AllByRecursion (λ (v : Wait). v.event ≡ event) vs → length ws ≤ place → slice_get (ws ++ vs) place ≡ Some w → event ≡ w.event
 after_events [] vs event place w all past is = any_event vs event place w all is
 after_events (v ∷ ws) vs event zero w all past is = absurd (omega (arith, past))
 after_events (v ∷ ws) vs event (suc place) w all past is = after_events ws vs event place w all (omega (arith, past)) is
 
-waited : (event : Event) (t : Term) → AllByRecursion (λ (v : Wait). v.event ≡ event) (wait_for event t)
+pub waited : (event : Event) (t : Term) → AllByRecursion (λ (v : Wait). v.event ≡ event) (wait_for event t)
 waited event (Num n) = tt
 waited event (Var v) = (refl, tt)
 

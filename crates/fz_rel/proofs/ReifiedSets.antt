@@ -16,7 +16,8 @@ use Rattle.fz_strength.specs.Domains.{term_set, dom_at, AreDomains, Within, IsNa
 use Rattle.fz_strength.specs.Events.{IsOnly, IsFixedIn, Wait, wait_for, AreBelow, AreFixed}
 use Rattle.fz_strength.specs.Lines.{LiesIn, LiesOutside, waits}
 use Rattle.fz_strength.specs.Promises.{IsTruth}
-use Rattle.fz_strength.proofs.Lists.{all_left, all_right}
+use Rattle.fz_strength.proofs.Waits.{term_fixed, variable_waited}
+use Rattle.fz_sets.proofs.Lists.{all_left, all_right}
 use Rattle.fz_prop.specs.declared.answer.Answer.{Answer}
 use Rattle.fz_prop.specs.declared.answer.Answer.TheVariants.{Fix, NoFix, Subsumed, Failed}
 use Rattle.fz_prop.specs.Answers.{IsAnswer, IsAnswerOf, IsCorrectOf}
@@ -26,10 +27,10 @@ use Rattle.fz_prop.proofs.Filled.{narrower_ranges}
 use Rattle.fz_prop.specs.Truths.{AreSides, IsAbout, TruthWith}
 use Rattle.fz_prop.proofs.Reifying.{one_answer, zero_answer, zero_correct, shown_about, refuted_about}
 use Rattle.fz_prop.proofs.TermChanges.{term_within, narrower_term}
+use Rattle.fz_prop.proofs.Waits.{term_below}
 use Rattle.fz_rel.specs.Comparisons.{variables_of}
 use Rattle.fz_rel.specs.Members.{IsMember, MemberLine, IsOverlap}
 use Rattle.fz_rel.specs.Reified.{member_sides, ReifiedMemberLine, AreOthers}
-use Rattle.fz_rel.proofs.Waiting.{term_of, single_of, variable_waited}
 
 -- the constraint of a term, a set and a Boolean
 abbrev pub reified_member : Term → List (ℤ × ℤ) → Term → Constraint
@@ -116,14 +117,14 @@ member_named answer x set r ds es h =
 pub member_terms : (x : Term) (set : List (ℤ × ℤ)) (r : Term) (n : ℕ) → AreBelow (waits (reified_member x set r)) n → IsTermOf n x × IsTermOf n r
 member_terms x set r n below =
     let is_below : Wait → Type 0 = λ (w : Wait). w.variable < n in (
-      term_of Any x n (all_left is_below (wait_for Any x) (wait_for Any r) below),
-      term_of Any r n (all_right is_below (wait_for Any x) (wait_for Any r) below),
+      term_below Any x n (all_left is_below (wait_for Any x) (wait_for Any r) below),
+      term_below Any r n (all_right is_below (wait_for Any x) (wait_for Any r) below),
     )
 
 pub member_fixed : (x : Term) (set : List (ℤ × ℤ)) (r : Term) (ds : List (List (ℤ × ℤ))) → AreFixed (waits (reified_member x set r)) ds → IsFixedIn ds r
 member_fixed x set r ds fixed =
     let is_fixed : Wait → Type 0 = λ (w : Wait). (u : ℤ) × IsOnly (dom_at ds w.variable) u in
-    single_of Any r ds (all_right is_fixed (wait_for Any x) (wait_for Any r) fixed)
+    term_fixed Any r ds (all_right is_fixed (wait_for Any x) (wait_for Any r) fixed)
 
 pub member_variables : (x : Term) (set : List (ℤ × ℤ)) (r : Term) → map (λ (w : Wait). w.variable) (waits (reified_member x set r)) ≡ variables_of x r
 member_variables (Num m) set r = variable_waited Any r

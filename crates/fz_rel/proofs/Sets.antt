@@ -5,16 +5,15 @@ use Rattle.fz_sets.specs.Sets.{IsInSet}
 use Rattle.fz_spec.specs.declared.builtin.Builtin.TheVariants.{SetIn}
 use Rattle.fz_spec.specs.declared.term.Term.{Term}
 use Rattle.fz_spec.specs.Constraints.{Constraint, One, Set, IsTrueOf}
-use Rattle.fz_strength.specs.Events.{Wait}
+use Rattle.fz_strength.specs.Events.{Wait, variable_of}
 use Rattle.fz_strength.specs.Lines.{Rests, waits}
 use Rattle.fz_strength.specs.declared.event.Event.TheVariants.{Fixed}
+use Rattle.fz_strength.proofs.Waits.{variable_waited}
 use Rattle.fz_prop.specs.declared.answer.Answer.{Answer}
 use Rattle.fz_prop.specs.Answers.{IsAnswer, IsAnswerOf}
 use Rattle.fz_prop.specs.Truths.{IsSame, IsAbout}
 use Rattle.fz_prop.proofs.Answering.{answer_of}
-use Rattle.fz_rel.specs.Comparisons.{variable_of}
 use Rattle.fz_rel.specs.Members.{IsMember, MemberLine}
-use Rattle.fz_rel.proofs.Waiting.{variable_waited}
 
 -- the constraint of a term and a set
 abbrev pub member_of : Term → List (ℤ × ℤ) → Constraint

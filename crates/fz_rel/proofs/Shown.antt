@@ -13,7 +13,7 @@ use Rattle.fz_strength.specs.Domains.{term_set, AreDomains}
 use Rattle.fz_strength.specs.Events.{IsOnly}
 use Rattle.fz_strength.specs.Promises.{IsTruth}
 use Rattle.fz_strength.specs.Relations.{Relates, RestsAs, RestsAgainst, IsShown, IsRefuted}
-use Rattle.fz_strength.proofs.Truths.{in_single}
+use Rattle.fz_strength.proofs.Terms.{in_single}
 use Rattle.fz_prop.specs.Stores.{IsTermOf}
 use Rattle.fz_prop.specs.Truths.{HasRanges, AreSides, TruthWith, LineWith, IsAbout}
 use Rattle.fz_prop.proofs.Filled.{term_ranges, narrower_ranges, one_left}

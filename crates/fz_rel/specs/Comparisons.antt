@@ -1,15 +1,11 @@
 -- What the propagator of a comparison keeps.
-use Rattle.std.specs.Prelude.{◌≡◌, ◌≤◌, ℕ, List, [], ◌∷◌, ◌++◌, take, Some}
+use Rattle.std.specs.Prelude.{◌≡◌, ◌≤◌, ℕ, List, ◌++◌, take, Some}
 use Rattle.fz_spec.specs.declared.builtin.Builtin.{Builtin}
 use Rattle.fz_spec.specs.declared.term.Term.{Term}
-use Rattle.fz_spec.specs.declared.term.Term.TheVariants.{Num, Var}
 use Rattle.fz_strength.specs.declared.relation.Relation.{Relation}
 use Rattle.fz_strength.specs.Relations.{relation_of}
+use Rattle.fz_strength.specs.Events.{variable_of}
 use Rattle.fz_prop.specs.Stores.{FitsTerm}
-
-abbrev pub variable_of : Term → List ℕ
-variable_of (Num n) = []
-variable_of (Var v) = v ∷ []
 
 abbrev pub variables_of : Term → Term → List ℕ
 variables_of x y = variable_of x ++ variable_of y

@@ -7,11 +7,12 @@ use Rattle.fz_strength.specs.declared.relation.Relation.{Relation}
 use Rattle.fz_strength.specs.Domains.{term_set}
 use Rattle.fz_strength.specs.Lines.{LiesIn, LiesOutside}
 use Rattle.fz_strength.specs.Relations.{reified_of, IsShown, IsRefuted}
+use Rattle.fz_strength.specs.Events.{variable_of}
 use Rattle.fz_prop.specs.Stores.{FitsTerm}
 use Rattle.fz_prop.specs.Truths.{Sides, LineWith}
 use Rattle.fz_rel.specs.Truths.{LineOf, AgainstOf}
 use Rattle.fz_rel.specs.Members.{MemberLine}
-use Rattle.fz_rel.specs.Comparisons.{variable_of, variables_of}
+use Rattle.fz_rel.specs.Comparisons.{variables_of}
 
 abbrev pub sides_of : Relation → Term → Term → Sides
 sides_of relation x y = record {

@@ -2,12 +2,11 @@
 ghost use Rattle.std.specs.Prelude.{◌≡◌, ◌≤◌, ℕ, ℤ, List, [], ◌∷◌, length, map, take, IfOk};
 ghost use Rattle.fz_spec.specs.declared.builtin.Builtin.TheVariants.{SetIn};
 ghost use Rattle.fz_spec.specs.Constraints.{One, Set};
-ghost use Rattle.fz_strength.specs.Events.{AreBelow, AreFixed};
+ghost use Rattle.fz_strength.specs.Events.{AreBelow, AreFixed, variable_of};
 ghost use Rattle.fz_strength.specs.Lines.{waits};
 ghost use Rattle.fz_strength.specs.Promises.{IsCorrect, Suits};
 ghost use Rattle.fz_prop.specs.Answers.{IsAnswer, IsAnswerOf, IsCorrectOf, IsDecided};
 ghost use Rattle.fz_prop.specs.Stores.{Shrinks, IsTermOf};
-ghost use Rattle.fz_rel.specs.Comparisons.{variable_of};
 ghost use Rattle.fz_rel.specs.Members.{IsMember, MemberLine, IsMembership};
 
 use fz_dom::Dom;

@@ -1,14 +1,14 @@
 //! Relations of two terms, and a Boolean that says whether they hold.
 ghost use Rattle.std.specs.Prelude.{◌≡◌, ◌≤◌, ◌++◌, ℕ, ℤ, List, [], ◌∷◌, length, map, take, IfOk, Some};
 ghost use Rattle.fz_spec.specs.Constraints.{One};
-ghost use Rattle.fz_strength.specs.Events.{IsFixedIn, AreBelow, AreFixed};
+ghost use Rattle.fz_strength.specs.Events.{IsFixedIn, AreBelow, AreFixed, variable_of};
 ghost use Rattle.fz_strength.specs.Lines.{waits};
 ghost use Rattle.fz_strength.specs.Promises.{IsCorrect, IsTruth, Suits};
 ghost use Rattle.fz_strength.specs.Relations.{reified_of};
 ghost use Rattle.fz_prop.specs.Answers.{IsAnswer, IsAnswerOf, IsCorrectOf, IsDecided};
 ghost use Rattle.fz_prop.specs.Stores.{Shrinks, IsStore, IsTermOf, FitsTerm};
 ghost use Rattle.fz_prop.specs.Truths.{TruthWith};
-ghost use Rattle.fz_rel.specs.Comparisons.{variable_of, variables_of};
+ghost use Rattle.fz_rel.specs.Comparisons.{variables_of};
 ghost use Rattle.fz_rel.specs.Truths.{TruthOf, AreSingle};
 ghost use Rattle.fz_rel.specs.Reified.{ReifiedLine, IsReifiedComparison};
 

@@ -1,8 +1,8 @@
 -- The line of a clause: it lasts while none of its terms gets fixed, and says the truth where all are.
-use Rattle.std.proofs.Common.{◌≡◌, ◌≢◌, ℕ, ◌<◌, ◌≤◌, zero, suc, List, [], ◌∷◌, ◌++◌, ◌∙◌, refl, sym, ap, subst, arith, length, map, inl, inr, get_or}
-use Rattle.std.specs.Prelude.{ℤ, pos, true, false, if◌then◌else◌, Option, Some, None, ◌↔◌, ◌⊎◌, slice_get}
+use Rattle.std.proofs.Common.{◌≡◌, ℕ, ◌<◌, zero, List, [], ◌∷◌, ◌++◌, ◌∙◌, refl, sym, subst, arith, length, map, inl, inr}
+use Rattle.std.specs.Prelude.{ℤ, pos, true, false, if◌then◌else◌, Some, ◌↔◌, ◌⊎◌}
 use Rattle.std.specs.List.{AllByRecursion}
-use Rattle.std.proofs.lemmas.Int.{ints, by_lt_z}
+use Rattle.std.proofs.lemmas.Int.{ints}
 use Rattle.std.proofs.lemmas.List.{get_or_past}
 use Rattle.std.proofs.lemmas.Bool.{cases_lt}
 use Rattle.fz_sets.specs.Sets.{IsInSet}
@@ -20,14 +20,11 @@ use Rattle.fz_strength.specs.Domains.{dom_at, term_set, AreDomains, IsNarrower}
 use Rattle.fz_strength.specs.Events.{IsOnly, IsQuiet}
 use Rattle.fz_strength.specs.Lines.{terms_among}
 use Rattle.fz_strength.specs.Clauses.{Clause, positive, negative, true_number, false_number, disjunction, conjunction, clause, clause_of, MakesTrue, MakesFalse, ClauseTruth, IsTrueIn, IsFalseIn, IsUntrueIn, IsClauseLine, AllTruth}
-use Rattle.fz_strength.proofs.Lists.{all_left, all_right, all_both}
-use Rattle.fz_strength.proofs.Terms.{quiet_self, in_single, is_single}
+use Rattle.fz_sets.proofs.Lists.{all_left, all_right, all_both, all_map, all_at}
+use Rattle.fz_strength.proofs.Terms.{quiet_self, in_single, is_single, only_number}
+use Rattle.fz_sets.proofs.Numbers.{same_or_not}
 
 -- ---- lists
-
-pub all_map : {X Y : Type 0} (P : Y → Type 0) (f : X → Y) (xs : List X) → AllByRecursion (λ (x : X). P (f x)) xs → AllByRecursion P (map f xs)
-all_map P f [] all = tt
-all_map P f (x ∷ xs) all = (all.0, all_map P f xs all.1)
 
 pub all_unmap : {X Y : Type 0} (P : Y → Type 0) (f : X → Y) (xs : List X) → AllByRecursion P (map f xs) → AllByRecursion (λ (x : X). P (f x)) xs
 all_unmap P f [] all = tt
@@ -41,11 +38,6 @@ pub some_with : {X : Type 0} (P Q R : X → Type 0) (xs : List X) → ((x : X) �
 some_with P Q R [] step p q = q
 some_with P Q R (x ∷ xs) step p (inl q) = inl (step x p.0 q)
 some_with P Q R (x ∷ xs) step p (inr q) = inr (some_with P Q R xs step p.1 q)
-
-pub all_at : {X : Type 0} (P : X → Type 0) (xs : List X) (i : ℕ) (x : X) → AllByRecursion P xs → slice_get xs i ≡ Some x → P x
-all_at P [] i x all at = absurd (cc (at))
-all_at P (y ∷ ys) zero x all at = let e : y ≡ x = cc in subst P e all.0
-all_at P (y ∷ ys) (suc i) x all at = all_at P ys i x all.1 at
 
 pub some_map : {X Y : Type 0} (P : Y → Type 0) (f : X → Y) (xs : List X) → SomeByRecursion (λ (x : X). P (f x)) xs ↔ SomeByRecursion P (map f xs)
 some_map P f [] = ((λ h. h), (λ h. h))
@@ -148,9 +140,6 @@ clause_kept c ds es domains narrower calm line =
 abbrev IsAlone : List (List (ℤ × ℤ)) → List ℤ → Term → Type 0
 IsAlone ds a t = IsOnly (term_set ds t) (term_value a t)
 
-only_number : (d : List (ℤ × ℤ)) (x y : ℤ) → IsOnly d x → IsOnly d y → x ≡ y
-only_number d x y of_x of_y = ap least (sym of_x ∙ of_y)
-
 true_alone : (l : Literal) (ds : List (List (ℤ × ℤ))) (a : List ℤ) → IsAlone ds a l.term → IsTrueIn ds l ↔ MakesTrue a l
 true_alone l ds a alone = ((λ holds. only_number (term_set ds l.term) (term_value a l.term) (true_number l) alone holds), (λ e. subst (IsOnly (term_set ds l.term)) e alone))
 
@@ -166,9 +155,6 @@ apart l x = elim l.negated as (λ b. x ≡ (if b then pos 0 else pos 1) → x �
   | true ↦ λ zero one. omega (arith, ints, zero, one)
   | false ↦ λ one zero. omega (arith, ints, one, zero)
 ]
-
-pub same_or_not : (x y : ℤ) → (x ≡ y) ⊎ (x ≡ y → ⊥)
-same_or_not x y = by_lt_z x y (λ below. inr (λ e. omega (arith, ints, below, e))) (λ above. by_lt_z y x (λ over. inr (λ e. omega (arith, ints, over, e))) (λ under. inl (omega (arith, ints, above, under))))
 
 -- some is true, or none is
 pub some_or_none : (a : List ℤ) (ls : List Literal) → SomeByRecursion (MakesTrue a) ls ⊎ AllByRecursion (λ (l : Literal). MakesTrue a l → ⊥) ls

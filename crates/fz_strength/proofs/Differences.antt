@@ -14,7 +14,7 @@ use Rattle.fz_strength.specs.Domains.{term_set, Alone, IsNarrower}
 use Rattle.fz_strength.specs.Events.{IsQuiet, waits_for, AreQuiet, AreBelow, AreSingle}
 use Rattle.fz_strength.specs.Differences.{IsDifference, AreApart, RestsOfDifferences}
 use Rattle.fz_strength.specs.Lines.{waits_of}
-use Rattle.fz_strength.proofs.Lists.{all_left, all_at}
+use Rattle.fz_sets.proofs.Lists.{all_left, all_at}
 use Rattle.fz_strength.proofs.Terms.{in_single, term_narrower, terms_quiet, terms_alone}
 
 -- ---- it lasts

@@ -11,8 +11,9 @@ use Rattle.fz_strength.specs.Domains.{dom_at, term_set, Alone}
 use Rattle.fz_strength.specs.Events.{IsQuiet, Wait, wait_for, AreQuiet, AreBelow}
 use Rattle.fz_strength.specs.Elements.{IsSelection, AreMatched, RestsOfSelection, waits_of_selection}
 use Rattle.fz_strength.specs.Lines.{waits_of}
-use Rattle.fz_strength.proofs.Lists.{all_left, all_right}
-use Rattle.fz_strength.proofs.Terms.{single, in_single, is_single, term_quiet, term_alone}
+use Rattle.fz_sets.proofs.Lists.{all_left, all_right}
+use Rattle.fz_strength.proofs.Terms.{in_single, is_single, term_quiet, term_alone}
+use Rattle.fz_sets.specs.Sets.{single}
 
 -- ---- it lasts
 

@@ -1,5 +1,5 @@
 -- Of a constraint without a line of its own: the general line is its line, and it waits for its terms to get fixed.
-use Rattle.std.proofs.Common.{◌≡◌, List, [], ◌∷◌, refl, inl, inr}
+use Rattle.std.proofs.Common.{◌≡◌, List, [], ◌∷◌, ◌∙◌, ◌⊎◌, refl, inl, inr}
 use Rattle.std.specs.Prelude.{ℤ, Option, Some, None, IsSome}
 use Rattle.fz_spec.specs.declared.builtin.Builtin.{Builtin}
 use Rattle.fz_spec.specs.declared.builtin.Builtin.TheVariants.{SetIn, SetInReif}
@@ -13,8 +13,10 @@ use Rattle.fz_strength.specs.Domains.{term_set}
 use Rattle.fz_strength.specs.Events.{Wait, waits_for}
 use Rattle.fz_strength.specs.Relations.{relation_of, reified_of}
 use Rattle.fz_strength.proofs.Differences.{line_of_differences}
-use Rattle.fz_strength.specs.Lines.{terms_among, RestsOnceFixed, RestsOfTwo, RestsReified, RestsOfSet, RestsOfSetReified, RestsOf, waits_of_two, waits_of_reified, waits_of_set, waits_of_set_reified, waits_of, HasOwnLine, RestsOfSum, waits_of_sum, RestsOfClause, RestsOtherwise}
-use Rattle.fz_strength.specs.Sums.{sum_relation_of}
+use Rattle.fz_strength.specs.Lines.{terms_among, RestsOnceFixed, RestsOfTwo, RestsReified, RestsOfSet, RestsOfSetReified, RestsOf, waits_of_two, waits_of_reified, waits_of_set, waits_of_set_reified, waits_of, HasOwnLine, RestsOfSum, RestsOfSumReified, waits_of_sum, waits_of_sum_reified, RestsOfClause, RestsOtherwise, waits_otherwise}
+use Rattle.fz_strength.specs.Sums.{sum_relation_of, left_factors, left_terms, right_number}
+use Rattle.fz_strength.specs.ReifiedSums.{reified_sum_of}
+use Rattle.fz_strength.specs.Operations.{Equation, equation_of, RestsOfEquation, waits_of_equation}
 use Rattle.fz_strength.proofs.Elements.{line_of_selection, waits_selection}
 
 line_of_two : (G : Type 0) (o : Option Relation) (d e : List (ℤ × ℤ)) → (IsSome o → ⊥) → G → RestsOfTwo G o d e
@@ -37,17 +39,30 @@ line_of_sum : (G : Type 0) (o : Option Relation) (ds : List (List (ℤ × ℤ)))
 line_of_sum G None ds ks ts c none h = h
 line_of_sum G (Some relation) ds ks ts c none h = absurd (none refl)
 
+line_of_sum_reified : (G : Type 0) (o : Option Relation) (ds : List (List (ℤ × ℤ))) (ks : List ℤ) (ts : List Term) (c : ℤ) (r : List (ℤ × ℤ)) → (IsSome o → ⊥) → G
+    → RestsOfSumReified G o ds ks ts c r
+line_of_sum_reified G None ds ks ts c r none h = h
+line_of_sum_reified G (Some relation) ds ks ts c r none h = absurd (none refl)
+
 line_of_clause : (G : Type 0) (o : Option Clause) (ds : List (List (ℤ × ℤ))) → (IsSome o → ⊥) → G → RestsOfClause G o ds
 line_of_clause G None ds none h = h
 line_of_clause G (Some clause) ds none h = absurd (none refl)
 
-line_otherwise : (name : Builtin) (arguments : List Argument) (ds : List (List (ℤ × ℤ))) → (IsSome (clause_of name arguments) → ⊥) → RestsOnceFixed name arguments ds
-    → RestsOtherwise name arguments ds
-line_otherwise name arguments ds none h = line_of_clause (RestsOnceFixed name arguments ds) (clause_of name arguments) ds none h
+line_of_equation : (G : Type 0) (o : Option Equation) (ds : List (List (ℤ × ℤ))) → (IsSome o → ⊥) → G → RestsOfEquation G o ds
+line_of_equation G None ds none h = h
+line_of_equation G (Some e) ds none h = absurd (none refl)
+
+line_otherwise : (name : Builtin) (arguments : List Argument) (ds : List (List (ℤ × ℤ))) → (IsSome (clause_of name arguments) ⊎ IsSome (equation_of name arguments) → ⊥)
+    → RestsOnceFixed name arguments ds → RestsOtherwise name arguments ds
+line_otherwise name arguments ds none h =
+    line_of_clause (RestsOfEquation (RestsOnceFixed name arguments ds) (equation_of name arguments) ds) (clause_of name arguments) ds (λ is. none (inl is))
+    (line_of_equation (RestsOnceFixed name arguments ds) (equation_of name arguments) ds (λ is. none (inr is)) h)
 
 pub general_line : (name : Builtin) (arguments : List Argument) (ds : List (List (ℤ × ℤ))) → (HasOwnLine name arguments → ⊥) → RestsOnceFixed name arguments ds
     → RestsOf name arguments ds
-general_line name (One x ∷ One y ∷ []) ds none h = line_of_two (RestsOnceFixed name (One x ∷ One y ∷ []) ds) (relation_of name) (term_set ds x) (term_set ds y) (λ own. none (inl own)) h
+general_line name (One x ∷ One y ∷ []) ds none h =
+    let at = One x ∷ One y ∷ [] in
+    line_of_two (RestsOtherwise name at ds) (relation_of name) (term_set ds x) (term_set ds y) (λ own. none (inl own)) (line_otherwise name at ds (λ own. none (inr own)) h)
 general_line name (One x ∷ One y ∷ One r ∷ []) ds none h =
     let at = One x ∷ One y ∷ One r ∷ [] in
     line_of_reified (RestsOtherwise name at ds) (reified_of name) (term_set ds x) (term_set ds y) (term_set ds r) (λ own. none (inl own)) (line_otherwise name at ds (λ own. none (inr own)) h)
@@ -57,8 +72,10 @@ general_line name (One x ∷ Set set ∷ One r ∷ []) ds none h =
 general_line name (One k ∷ Numbers xs ∷ One c ∷ []) ds none h =
     line_of_selection (RestsOnceFixed name (One k ∷ Numbers xs ∷ One c ∷ []) ds) name xs (term_set ds k) (term_set ds c) (λ own. none (inl own)) h
 general_line name (Terms xs ∷ []) ds none h = line_of_differences (RestsOnceFixed name (Terms xs ∷ []) ds) name xs ds (λ own. none (inl own)) h
-general_line name (Numbers ks ∷ Terms ts ∷ One (Num c) ∷ []) ds none h =
-    line_of_sum (RestsOnceFixed name (Numbers ks ∷ Terms ts ∷ One (Num c) ∷ []) ds) (sum_relation_of name) ds ks ts c (λ own. none (inl own)) h
+general_line name (Numbers ks ∷ Terms ts ∷ One c ∷ []) ds none h =
+    line_of_sum (RestsOnceFixed name (Numbers ks ∷ Terms ts ∷ One c ∷ []) ds) (sum_relation_of name) ds (left_factors ks c) (left_terms ts c) (right_number c) (λ own. none (inl own)) h
+general_line name (Numbers ks ∷ Terms ts ∷ One (Num c) ∷ One r ∷ []) ds none h =
+    line_of_sum_reified (RestsOnceFixed name (Numbers ks ∷ Terms ts ∷ One (Num c) ∷ One r ∷ []) ds) (reified_sum_of name) ds ks ts c (term_set ds r) (λ own. none (inl own)) h
 general_line name arguments ds none h = line_otherwise name arguments ds (λ own. none (inr own)) h
 
 -- ---- what it waits for
@@ -83,12 +100,28 @@ waits_sum : (W : List Wait) (o : Option Relation) (ts : List Term) → (IsSome o
 waits_sum W None ts none = refl
 waits_sum W (Some relation) ts none = absurd (none refl)
 
+waits_sum_reified : (W : List Wait) (o : Option Relation) (ts : List Term) (r : Term) → (IsSome o → ⊥) → waits_of_sum_reified W o ts r ≡ W
+waits_sum_reified W None ts r none = refl
+waits_sum_reified W (Some relation) ts r none = absurd (none refl)
+
+waits_equation : (W : List Wait) (o : Option Equation) → (IsSome o → ⊥) → waits_of_equation W o ≡ W
+waits_equation W None none = refl
+waits_equation W (Some e) none = absurd (none refl)
+
+general_otherwise : (name : Builtin) (arguments : List Argument) → (HasOwnLine name arguments → ⊥) → waits_otherwise name arguments ≡ waits_for Fixed (terms_among arguments)
+general_otherwise name arguments none = waits_equation (waits_for Fixed (terms_among arguments)) (equation_of name arguments) (λ own. none (inr (inr own)))
+
 pub general_waits : (name : Builtin) (arguments : List Argument) → (HasOwnLine name arguments → ⊥) → waits_of name arguments ≡ waits_for Fixed (terms_among arguments)
-general_waits name (One x ∷ One y ∷ []) none = waits_two (waits_for Fixed (x ∷ y ∷ [])) (relation_of name) x y (λ own. none (inl own))
-general_waits name (One x ∷ One y ∷ One r ∷ []) none = waits_reified (waits_for Fixed (x ∷ y ∷ r ∷ [])) (reified_of name) x y r (λ own. none (inl own))
+general_waits name (One x ∷ One y ∷ []) none =
+    let at = One x ∷ One y ∷ [] in waits_two (waits_otherwise name at) (relation_of name) x y (λ own. none (inl own)) ∙ general_otherwise name at none
+general_waits name (One x ∷ One y ∷ One r ∷ []) none =
+    let at = One x ∷ One y ∷ One r ∷ [] in waits_reified (waits_otherwise name at) (reified_of name) x y r (λ own. none (inl own)) ∙ general_otherwise name at none
 general_waits name (One x ∷ Set set ∷ []) none = waits_set (waits_for Fixed (x ∷ [])) name x (λ own. none (inl own))
 general_waits name (One x ∷ Set set ∷ One r ∷ []) none = waits_set_reified (waits_for Fixed (x ∷ r ∷ [])) name x r (λ own. none (inl own))
-general_waits name (Numbers ks ∷ Terms ts ∷ One (Num c) ∷ []) none =
-    waits_sum (waits_for Fixed (terms_among (Numbers ks ∷ Terms ts ∷ One (Num c) ∷ []))) (sum_relation_of name) ts (λ own. none (inl own))
+general_waits name (Numbers ks ∷ Terms ts ∷ One c ∷ []) none =
+    waits_sum (waits_for Fixed (terms_among (Numbers ks ∷ Terms ts ∷ One c ∷ []))) (sum_relation_of name) (left_terms ts c) (λ own. none (inl own))
+general_waits name (Numbers ks ∷ Terms ts ∷ One (Num c) ∷ One r ∷ []) none =
+    waits_sum_reified (waits_for Fixed (terms_among (Numbers ks ∷ Terms ts ∷ One (Num c) ∷ One r ∷ []))) (reified_sum_of name) ts r (λ own. none (inl own))
 general_waits name (One k ∷ Numbers xs ∷ One c ∷ []) none = waits_selection (waits_for Fixed (k ∷ c ∷ [])) name k c (λ own. none (inl own))
-general_waits name arguments none = refl
+general_waits name (Terms xs ∷ []) none = refl
+general_waits name arguments none = general_otherwise name arguments none

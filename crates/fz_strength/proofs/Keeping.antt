@@ -1,5 +1,5 @@
 -- A line lasts while nothing happens that may break it.
-use Rattle.std.proofs.Common.{◌≡◌, List, [], ◌∷◌, ◌++◌, ◌∙◌, refl}
+use Rattle.std.proofs.Common.{◌≡◌, List, [], ◌∷◌, ◌++◌, ◌∙◌, refl, subst}
 use Rattle.std.specs.Prelude.{ℤ, Option, Some, None}
 use Rattle.fz_sets.specs.Sets.{IsInSet}
 use Rattle.fz_spec.specs.declared.builtin.Builtin.{Builtin}
@@ -14,14 +14,18 @@ use Rattle.fz_strength.specs.Clauses.{Clause, clause_of}
 use Rattle.fz_strength.specs.Domains.{dom_at, term_set, AreDomains, IsNarrower}
 use Rattle.fz_strength.specs.Events.{IsQuiet, Wait, wait_for, waits_for, AreQuiet}
 use Rattle.fz_strength.specs.Relations.{relation_of, reified_of, RestsAs, event_of, reified_event}
-use Rattle.fz_strength.specs.Sums.{sum_relation_of}
-use Rattle.fz_strength.specs.Lines.{terms_among, RestsOnceFixed, RestsOfTwo, RestsReified, RestsOfSet, RestsOfSetReified, RestsOf, waits_of_two, waits_of_reified, waits_of_set, waits_of_set_reified, waits_of, RestsOfClause, RestsOtherwise}
+use Rattle.fz_strength.specs.Sums.{sum_relation_of, left_factors, left_terms, right_number}
+use Rattle.fz_strength.specs.ReifiedSums.{reified_sum_of}
+use Rattle.fz_strength.specs.Lines.{terms_among, RestsOnceFixed, RestsOfTwo, RestsReified, RestsOfSet, RestsOfSetReified, RestsOf, waits_of_two, waits_of_reified, waits_of_set, waits_of_set_reified, waits_of, RestsOfClause, RestsOtherwise, waits_otherwise}
+use Rattle.fz_strength.specs.Operations.{Equation, equation_of, RestsOfEquation, waits_of_equation}
 use Rattle.fz_strength.specs.Laws.{KeptWhereQuiet}
-use Rattle.fz_strength.proofs.Lists.{all_left, all_right}
+use Rattle.fz_sets.proofs.Lists.{all_left, all_right}
 use Rattle.fz_strength.proofs.Differences.{kept_differences}
 use Rattle.fz_strength.proofs.Elements.{kept_selection}
 use Rattle.fz_strength.proofs.Terms.{term_narrower, term_quiet, terms_quiet, all_fixed_before, within_before}
 use Rattle.fz_strength.proofs.SumLaws.{kept_sum}
+use Rattle.fz_strength.proofs.ReifiedSumLaws.{kept_sum_reified}
+use Rattle.fz_strength.proofs.OperationLaws.{kept_equation, clause_alone}
 use Rattle.fz_strength.proofs.Clauses.{clause_lasts}
 
 kept_as : (relation : Relation) (d e f g : List (ℤ × ℤ)) → ((x : ℤ) → IsInSet f x → IsInSet d x) → ((x : ℤ) → IsInSet g x → IsInSet e x)
@@ -91,20 +95,24 @@ kept_clause : (G H : Type 0) (o : Option Clause) (ds es : List (List (ℤ × ℤ
 kept_clause G H None ds es general kept h = general h
 kept_clause G H (Some clause) ds es general kept h = kept clause refl h
 
-kept_otherwise : (name : Builtin) (arguments : List Argument) (ds es : List (List (ℤ × ℤ))) → AreDomains es → IsNarrower ds es → AreQuiet (waits_for Fixed (terms_among arguments)) ds es
+kept_otherwise : (name : Builtin) (arguments : List Argument) (ds es : List (List (ℤ × ℤ))) → AreDomains es → IsNarrower ds es → AreQuiet (waits_otherwise name arguments) ds es
     → RestsOtherwise name arguments ds → RestsOtherwise name arguments es
 kept_otherwise name arguments ds es domains narrower quiet h =
-    kept_clause (RestsOnceFixed name arguments ds) (RestsOnceFixed name arguments es) (clause_of name arguments) ds es (kept_once_fixed name arguments ds es narrower quiet)
-    (λ c is. rw is (clause_lasts name arguments c ds es is domains narrower (terms_quiet Fixed (terms_among arguments) ds es quiet))) h
+    let W = waits_for Fixed (terms_among arguments) in
+    kept_clause (RestsOfEquation (RestsOnceFixed name arguments ds) (equation_of name arguments) ds) (RestsOfEquation (RestsOnceFixed name arguments es) (equation_of name arguments) es)
+    (clause_of name arguments) ds es
+    (kept_equation (RestsOnceFixed name arguments ds) (RestsOnceFixed name arguments es) W (equation_of name arguments) ds es narrower (kept_once_fixed name arguments ds es narrower) quiet)
+    (λ c is. rw is (clause_lasts name arguments c ds es is domains narrower
+    (terms_quiet Fixed (terms_among arguments) ds es (subst (λ (o : Option Equation). AreQuiet (waits_of_equation W o) ds es) (clause_alone name arguments c is) quiet)))) h
 
 arguments_kept : (name : Builtin) (arguments : List Argument) (ds es : List (List (ℤ × ℤ))) → AreDomains es → IsNarrower ds es → AreQuiet (waits_of name arguments) ds es
     → RestsOf name arguments ds → RestsOf name arguments es
 arguments_kept name (One x ∷ One y ∷ []) ds es domains narrower quiet h =
     let at = One x ∷ One y ∷ [] in
-    kept_two (RestsOnceFixed name at ds) (RestsOnceFixed name at es) (waits_for Fixed (terms_among at)) (relation_of name) x y ds es narrower (kept_once_fixed name at ds es narrower) quiet h
+    kept_two (RestsOtherwise name at ds) (RestsOtherwise name at es) (waits_otherwise name at) (relation_of name) x y ds es narrower (kept_otherwise name at ds es domains narrower) quiet h
 arguments_kept name (One x ∷ One y ∷ One r ∷ []) ds es domains narrower quiet h =
     let at = One x ∷ One y ∷ One r ∷ [] in
-    kept_reified (RestsOtherwise name at ds) (RestsOtherwise name at es) (waits_for Fixed (terms_among at)) (reified_of name) x y r ds es (kept_otherwise name at ds es domains narrower) quiet h
+    kept_reified (RestsOtherwise name at ds) (RestsOtherwise name at es) (waits_otherwise name at) (reified_of name) x y r ds es (kept_otherwise name at ds es domains narrower) quiet h
 arguments_kept name (One x ∷ Set set ∷ []) ds es domains narrower quiet h =
     let at = One x ∷ Set set ∷ [] in
     kept_set (RestsOnceFixed name at ds) (RestsOnceFixed name at es) (waits_for Fixed (terms_among at)) name x set ds es narrower (kept_once_fixed name at ds es narrower) quiet h
@@ -116,9 +124,13 @@ arguments_kept name (One k ∷ Numbers xs ∷ One c ∷ []) ds es domains narrow
     kept_selection (RestsOnceFixed name at ds) (RestsOnceFixed name at es) (waits_for Fixed (terms_among at)) name xs k c ds es (kept_once_fixed name at ds es narrower) quiet h
 arguments_kept name (Terms xs ∷ []) ds es domains narrower quiet h =
     let at = Terms xs ∷ [] in kept_differences (RestsOnceFixed name at ds) (RestsOnceFixed name at es) name xs ds es narrower (kept_once_fixed name at ds es narrower) quiet h
-arguments_kept name (Numbers ks ∷ Terms ts ∷ One (Num c) ∷ []) ds es domains narrower quiet h =
-    let at = Numbers ks ∷ Terms ts ∷ One (Num c) ∷ [] in
-    kept_sum (RestsOnceFixed name at ds) (RestsOnceFixed name at es) (waits_for Fixed (terms_among at)) (sum_relation_of name) ks ts c ds es narrower (kept_once_fixed name at ds es narrower) quiet h
+arguments_kept name (Numbers ks ∷ Terms ts ∷ One c ∷ []) ds es domains narrower quiet h =
+    let at = Numbers ks ∷ Terms ts ∷ One c ∷ [] in
+    kept_sum (RestsOnceFixed name at ds) (RestsOnceFixed name at es) (waits_for Fixed (terms_among at)) (sum_relation_of name) (left_factors ks c) (left_terms ts c) (right_number c) ds es narrower
+    (kept_once_fixed name at ds es narrower) quiet h
+arguments_kept name (Numbers ks ∷ Terms ts ∷ One (Num c) ∷ One r ∷ []) ds es domains narrower quiet h =
+    let at = Numbers ks ∷ Terms ts ∷ One (Num c) ∷ One r ∷ [] in
+    kept_sum_reified (RestsOnceFixed name at ds) (RestsOnceFixed name at es) (waits_for Fixed (terms_among at)) (reified_sum_of name) ks ts c r ds es narrower (kept_once_fixed name at ds es narrower) quiet h
 arguments_kept name arguments ds es domains narrower quiet h = kept_otherwise name arguments ds es domains narrower quiet h
 
 pub kept_where_quiet : KeptWhereQuiet

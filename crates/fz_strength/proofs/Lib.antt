@@ -1,8 +1,10 @@
-pub mod Lists
 pub mod Terms
+pub mod Waits
 pub mod Differences
 pub mod SumLaws
+pub mod ReifiedSumLaws
 pub mod Elements
+pub mod OperationLaws
 pub mod Truths
 pub mod Clauses
 pub mod Keeping

@@ -1,8 +1,8 @@
 -- Where one number is left of each variable, a line says that the constraint is true.
 use Rattle.std.proofs.Common.{◌≡◌, ◌<◌, List, [], ◌∷◌, ◌++◌, refl, sym, ap, subst, arith, length}
-use Rattle.std.specs.Prelude.{ℤ, pos, Option, Some, None}
+use Rattle.std.specs.Prelude.{ℤ, pos, Option, Some, None, ◌↔◌}
 use Rattle.std.proofs.lemmas.Int.{ints}
-use Rattle.fz_sets.specs.Sets.{IsInSet}
+use Rattle.fz_sets.specs.Sets.{IsInSet, single}
 use Rattle.fz_dom.specs.Shape.{least}
 use Rattle.fz_spec.specs.declared.builtin.Builtin.{Builtin}
 use Rattle.fz_spec.specs.declared.builtin.Builtin.TheVariants.{Bool2Int, BoolEq, BoolEqReif, BoolLe, BoolLeReif, BoolLt, BoolLtReif, BoolNot, BoolXor, IntEq, IntEqReif, IntLe, IntLeReif, IntLt, IntLtReif, IntNe, IntNeReif, SetIn, SetInReif}
@@ -17,17 +17,23 @@ use Rattle.fz_strength.specs.Clauses.{Clause, clause_of}
 use Rattle.fz_strength.specs.Domains.{term_set, Alone}
 use Rattle.fz_strength.specs.Events.{Wait, wait_for, waits_for, AreBelow}
 use Rattle.fz_strength.specs.Relations.{relation_of, reified_of, Relates, RestsAs, RestsAgainst, IsShown, IsRefuted, event_of, reified_event}
-use Rattle.fz_strength.specs.Lines.{IsReifiedLine, terms_among, RestsOnceFixed, RestsOfTwo, RestsReified, LiesIn, LiesOutside, RestsOfSet, RestsOfSetReified, RestsOfClause, RestsOtherwise, RestsOf, waits_of_two, waits_of_reified, waits_of_set, waits_of_set_reified, waits_of}
+use Rattle.fz_strength.specs.Lines.{IsReifiedLine, terms_among, RestsOnceFixed, RestsOfTwo, RestsReified, LiesIn, LiesOutside, RestsOfSet, RestsOfSetReified, RestsOfClause, RestsOtherwise, RestsOf, waits_of_two, waits_of_reified, waits_of_set, waits_of_set_reified, waits_of, waits_otherwise}
 use Rattle.fz_strength.specs.Laws.{TrueWhereAlone}
+use Rattle.fz_strength.specs.Operations.{Equation, equation_of, RestsOfEquation, waits_of_equation}
 use Rattle.fz_strength.proofs.Differences.{true_differences}
 use Rattle.fz_strength.proofs.Elements.{true_selection}
-use Rattle.fz_strength.proofs.Lists.{all_left, all_right}
+use Rattle.fz_sets.proofs.Lists.{some_is, all_left, all_right}
 use Rattle.fz_strength.proofs.SumLaws.{true_sum}
+use Rattle.fz_strength.proofs.ReifiedSumLaws.{true_sum_reified}
+use Rattle.fz_strength.proofs.OperationLaws.{true_equation, clause_alone}
 use Rattle.fz_strength.proofs.Clauses.{clause_true}
 use Rattle.fz_strength.proofs.Terms.{terms_alone, all_fixed_alone, within_alone}
-pub use Rattle.fz_strength.proofs.Terms.{single, in_single, is_single, term_alone}
+pub use Rattle.fz_strength.proofs.Terms.{in_single, is_single, term_alone}
 
 -- ---- relations
+
+pub same_relates : (r q : Relation) (x y : ℤ) → Some r ≡ Some q → Relates r x y ↔ Relates q x y
+same_relates r q x y e = rw (some_is r q e) ((λ h. h), (λ h. h))
 
 pub true_as : (relation : Relation) (x y : ℤ) → RestsAs relation (single x) (single y) → Relates relation x y
 true_as Equal x y h = ap least h
@@ -138,18 +144,22 @@ by_clause : (G H : Type 0) (o : Option Clause) (ds : List (List (ℤ × ℤ))) �
 by_clause G H None ds general truth h = general h
 by_clause G H (Some clause) ds general truth h = truth clause refl h
 
-otherwise : (name : Builtin) (arguments : List Argument) (ds : List (List (ℤ × ℤ))) (a : List ℤ) → Alone ds a → AreBelow (waits_for Fixed (terms_among arguments)) (length ds)
+otherwise : (name : Builtin) (arguments : List Argument) (ds : List (List (ℤ × ℤ))) (a : List ℤ) → Alone ds a → AreBelow (waits_otherwise name arguments) (length ds)
     → RestsOtherwise name arguments ds → Holds name arguments a
 otherwise name arguments ds a alone below h =
-    by_clause (RestsOnceFixed name arguments ds) (Holds name arguments a) (clause_of name arguments) ds (once_fixed name arguments ds a alone below)
-    (λ c is. rw is (clause_true name arguments c ds a is (terms_alone Fixed (terms_among arguments) ds a below alone))) h
+    let G = RestsOnceFixed name arguments ds in
+    let W = waits_for Fixed (terms_among arguments) in
+    by_clause (RestsOfEquation G (equation_of name arguments) ds) (Holds name arguments a) (clause_of name arguments) ds
+    (true_equation name arguments G W (equation_of name arguments) ds a refl (once_fixed name arguments ds a alone) below alone)
+    (λ c is. rw is (clause_true name arguments c ds a is
+    (terms_alone Fixed (terms_among arguments) ds a (subst (λ (o : Option Equation). AreBelow (waits_of_equation W o) (length ds)) (clause_alone name arguments c is) below) alone))) h
 
 arguments_true : (name : Builtin) (arguments : List Argument) (ds : List (List (ℤ × ℤ))) (a : List ℤ) → AreBelow (waits_of name arguments) (length ds) → Alone ds a
     → RestsOf name arguments ds → Holds name arguments a
 arguments_true name (One x ∷ One y ∷ []) ds a below alone h =
-    let at = One x ∷ One y ∷ [] in two (RestsOnceFixed name at ds) (waits_for Fixed (terms_among at)) name x y ds a (once_fixed name at ds a alone) below alone h
+    let at = One x ∷ One y ∷ [] in two (RestsOtherwise name at ds) (waits_otherwise name at) name x y ds a (otherwise name at ds a alone) below alone h
 arguments_true name (One x ∷ One y ∷ One r ∷ []) ds a below alone h =
-    let at = One x ∷ One y ∷ One r ∷ [] in three (RestsOtherwise name at ds) (waits_for Fixed (terms_among at)) name x y r ds a (otherwise name at ds a alone) below alone h
+    let at = One x ∷ One y ∷ One r ∷ [] in three (RestsOtherwise name at ds) (waits_otherwise name at) name x y r ds a (otherwise name at ds a alone) below alone h
 arguments_true name (One x ∷ Set s ∷ []) ds a below alone h =
     let at = One x ∷ Set s ∷ [] in set (RestsOnceFixed name at ds) (waits_for Fixed (terms_among at)) name x s ds a (once_fixed name at ds a alone) below alone h
 arguments_true name (One x ∷ Set s ∷ One r ∷ []) ds a below alone h =
@@ -159,8 +169,11 @@ arguments_true name (One k ∷ Numbers xs ∷ One c ∷ []) ds a below alone h =
     true_selection (RestsOnceFixed name at ds) (waits_for Fixed (terms_among at)) name xs k c ds a (once_fixed name at ds a alone) below alone h
 arguments_true name (Terms xs ∷ []) ds a below alone h =
     let at = Terms xs ∷ [] in true_differences (RestsOnceFixed name at ds) name xs ds a (once_fixed name at ds a alone) below alone h
-arguments_true name (Numbers ks ∷ Terms ts ∷ One (Num c) ∷ []) ds a below alone h =
-    let at = Numbers ks ∷ Terms ts ∷ One (Num c) ∷ [] in
+arguments_true name (Numbers ks ∷ Terms ts ∷ One (Num c) ∷ One r ∷ []) ds a below alone h =
+    let at = Numbers ks ∷ Terms ts ∷ One (Num c) ∷ One r ∷ [] in
+    true_sum_reified (RestsOnceFixed name at ds) (waits_for Fixed (terms_among at)) name ks ts c r ds a (once_fixed name at ds a alone) below alone h
+arguments_true name (Numbers ks ∷ Terms ts ∷ One c ∷ []) ds a below alone h =
+    let at = Numbers ks ∷ Terms ts ∷ One c ∷ [] in
     true_sum (RestsOnceFixed name at ds) (waits_for Fixed (terms_among at)) name ks ts c ds a (once_fixed name at ds a alone) below alone h
 arguments_true name arguments ds a below alone h = otherwise name arguments ds a alone below h
 

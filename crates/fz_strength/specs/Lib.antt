@@ -3,8 +3,10 @@ pub mod Events
 pub mod Relations
 pub mod Differences
 pub mod Sums
+pub mod ReifiedSums
 pub mod Clauses
 pub mod Elements
+pub mod Operations
 pub mod Lines
 pub mod Laws
 pub mod Costs

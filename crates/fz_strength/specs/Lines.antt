@@ -7,14 +7,16 @@ use Rattle.fz_spec.specs.declared.term.Term.{Term}
 use Rattle.fz_spec.specs.declared.term.Term.TheVariants.{Num}
 use Rattle.fz_spec.specs.Constraints.{Argument, One, Numbers, Terms, Set, Constraint, Holds}
 use Rattle.fz_strength.specs.declared.relation.Relation.{Relation}
-use Rattle.fz_strength.specs.declared.event.Event.TheVariants.{Any, Fixed}
+use Rattle.fz_strength.specs.declared.event.Event.TheVariants.{Any, Bound, Fixed}
 use Rattle.fz_strength.specs.Domains.{term_set, Within}
 use Rattle.fz_strength.specs.Events.{IsOnly, AllFixed, Wait, wait_for, waits_for}
 use Rattle.fz_strength.specs.Clauses.{Clause, clause_of, IsClauseLine}
 use Rattle.fz_strength.specs.Relations.{relation_of, reified_of, RestsAs, RestsAgainst, IsShown, IsRefuted, event_of, reified_event}
 use Rattle.fz_strength.specs.Differences.{IsDifference, RestsOfDifferences}
-use Rattle.fz_strength.specs.Sums.{sum_relation_of, RestsSum, sum_event_of}
+use Rattle.fz_strength.specs.Sums.{sum_relation_of, left_factors, left_terms, right_number, RestsSum, sum_event_of}
+use Rattle.fz_strength.specs.ReifiedSums.{reified_sum_of, IsSumShown, IsSumRefuted, RestsSumAgainst}
 use Rattle.fz_strength.specs.Elements.{IsSelection, RestsOfSelection, waits_of_selection}
+use Rattle.fz_strength.specs.Operations.{equation_of, RestsOfEquation, waits_of_equation}
 
 -- Where what is left decides, r is fixed; where r is fixed, the line of that side holds.
 pub record IsReifiedLine (shown refuted line against : Type 0) (r : List (ℤ × ℤ)) : Type 0 where
@@ -71,6 +73,12 @@ abbrev pub RestsOfSum : Type 0 → Option Relation → List (List (ℤ × ℤ)) 
 RestsOfSum G None ds ks ts c = G
 RestsOfSum G (Some relation) ds ks ts c = RestsSum relation ds ks ts c
 
+-- of a weighted sum, a number and a Boolean
+abbrev pub RestsOfSumReified : Type 0 → Option Relation → List (List (ℤ × ℤ)) → List ℤ → List Term → ℤ → List (ℤ × ℤ) → Type 0
+RestsOfSumReified G None ds ks ts c r = G
+RestsOfSumReified G (Some relation) ds ks ts c r =
+    IsReifiedLine (IsSumShown relation ds ks ts c) (IsSumRefuted relation ds ks ts c) (RestsSum relation ds ks ts c) (RestsSumAgainst relation ds ks ts c) r
+
 -- of a clause
 abbrev pub RestsOfClause : Type 0 → Option Clause → List (List (ℤ × ℤ)) → Type 0
 RestsOfClause G None ds = G
@@ -78,11 +86,12 @@ RestsOfClause G (Some clause) ds = IsClauseLine clause ds
 
 -- of a constraint that is no comparison and no membership
 abbrev pub RestsOtherwise : Builtin → List Argument → List (List (ℤ × ℤ)) → Type 0
-RestsOtherwise name arguments ds = RestsOfClause (RestsOnceFixed name arguments ds) (clause_of name arguments) ds
+RestsOtherwise name arguments ds =
+    RestsOfClause (RestsOfEquation (RestsOnceFixed name arguments ds) (equation_of name arguments) ds) (clause_of name arguments) ds
 
 -- The line of a constraint.
 abbrev pub RestsOf : Builtin → List Argument → List (List (ℤ × ℤ)) → Type 0
-RestsOf name (One x ∷ One y ∷ []) ds = RestsOfTwo (RestsOnceFixed name (One x ∷ One y ∷ []) ds) (relation_of name) (term_set ds x) (term_set ds y)
+RestsOf name (One x ∷ One y ∷ []) ds = RestsOfTwo (RestsOtherwise name (One x ∷ One y ∷ []) ds) (relation_of name) (term_set ds x) (term_set ds y)
 RestsOf name (One x ∷ One y ∷ One r ∷ []) ds =
     RestsReified (RestsOtherwise name (One x ∷ One y ∷ One r ∷ []) ds) (reified_of name) (term_set ds x) (term_set ds y) (term_set ds r)
 RestsOf name (One x ∷ Set set ∷ []) ds = RestsOfSet (RestsOnceFixed name (One x ∷ Set set ∷ []) ds) name (term_set ds x) set
@@ -91,11 +100,13 @@ RestsOf name (One x ∷ Set set ∷ One r ∷ []) ds =
 RestsOf name (One k ∷ Numbers xs ∷ One c ∷ []) ds =
     RestsOfSelection (RestsOnceFixed name (One k ∷ Numbers xs ∷ One c ∷ []) ds) name xs (term_set ds k) (term_set ds c)
 RestsOf name (Terms xs ∷ []) ds = RestsOfDifferences (RestsOnceFixed name (Terms xs ∷ []) ds) name xs ds
-RestsOf name (Numbers ks ∷ Terms ts ∷ One (Num c) ∷ []) ds =
-    RestsOfSum (RestsOnceFixed name (Numbers ks ∷ Terms ts ∷ One (Num c) ∷ []) ds) (sum_relation_of name) ds ks ts c
+RestsOf name (Numbers ks ∷ Terms ts ∷ One c ∷ []) ds =
+    RestsOfSum (RestsOnceFixed name (Numbers ks ∷ Terms ts ∷ One c ∷ []) ds) (sum_relation_of name) ds (left_factors ks c) (left_terms ts c) (right_number c)
+RestsOf name (Numbers ks ∷ Terms ts ∷ One (Num c) ∷ One r ∷ []) ds =
+    RestsOfSumReified (RestsOnceFixed name (Numbers ks ∷ Terms ts ∷ One (Num c) ∷ One r ∷ []) ds) (reified_sum_of name) ds ks ts c (term_set ds r)
 RestsOf name arguments ds = RestsOtherwise name arguments ds
 
--- the constraints that compare terms, or a term with a set or with an element of a list, all terms with one another, or a sum with a number
+-- the constraints that compare terms, or a term with a set or with an element of a list, all terms with one another, or a sum with a term
 abbrev pub IsComparing : Builtin → List Argument → Type 0
 IsComparing name (One x ∷ One y ∷ []) = IsSome (relation_of name)
 IsComparing name (One x ∷ One y ∷ One r ∷ []) = IsSome (reified_of name)
@@ -103,12 +114,13 @@ IsComparing name (One x ∷ Set set ∷ []) = name ≡ SetIn
 IsComparing name (One x ∷ Set set ∷ One r ∷ []) = name ≡ SetInReif
 IsComparing name (One k ∷ Numbers xs ∷ One c ∷ []) = IsSelection name
 IsComparing name (Terms xs ∷ []) = IsDifference name
-IsComparing name (Numbers ks ∷ Terms ts ∷ One (Num c) ∷ []) = IsSome (sum_relation_of name)
+IsComparing name (Numbers ks ∷ Terms ts ∷ One c ∷ []) = IsSome (sum_relation_of name)
+IsComparing name (Numbers ks ∷ Terms ts ∷ One (Num c) ∷ One r ∷ []) = IsSome (reified_sum_of name)
 IsComparing name arguments = ⊥
 
 -- the constraints that have a line of their own
 abbrev pub HasOwnLine : Builtin → List Argument → Type 0
-HasOwnLine name arguments = IsComparing name arguments ⊎ IsSome (clause_of name arguments)
+HasOwnLine name arguments = IsComparing name arguments ⊎ (IsSome (clause_of name arguments) ⊎ IsSome (equation_of name arguments))
 
 abbrev pub Rests : Constraint → List (List (ℤ × ℤ)) → Type 0
 Rests c ds = RestsOf c.name c.arguments ds
@@ -136,15 +148,27 @@ abbrev pub waits_of_sum : List Wait → Option Relation → List Term → List W
 waits_of_sum W None ts = W
 waits_of_sum W (Some relation) ts = waits_for (sum_event_of relation) ts
 
+abbrev pub waits_of_sum_reified : List Wait → Option Relation → List Term → Term → List Wait
+waits_of_sum_reified W None ts r = W
+waits_of_sum_reified W (Some relation) ts r = waits_for Bound ts ++ wait_for Any r
+
+-- of a constraint that is no comparison and no membership
+abbrev pub waits_otherwise : Builtin → List Argument → List Wait
+waits_otherwise name arguments = waits_of_equation (waits_for Fixed (terms_among arguments)) (equation_of name arguments)
+
 -- Each variable of a constraint stands here, with the kind of its changes that may break the line.
 abbrev pub waits_of : Builtin → List Argument → List Wait
-waits_of name (One x ∷ One y ∷ []) = waits_of_two (waits_for Fixed (x ∷ y ∷ [])) (relation_of name) x y
-waits_of name (One x ∷ One y ∷ One r ∷ []) = waits_of_reified (waits_for Fixed (x ∷ y ∷ r ∷ [])) (reified_of name) x y r
+waits_of name (One x ∷ One y ∷ []) = waits_of_two (waits_otherwise name (One x ∷ One y ∷ [])) (relation_of name) x y
+waits_of name (One x ∷ One y ∷ One r ∷ []) = waits_of_reified (waits_otherwise name (One x ∷ One y ∷ One r ∷ [])) (reified_of name) x y r
 waits_of name (One x ∷ Set set ∷ []) = waits_of_set (waits_for Fixed (x ∷ [])) name x
 waits_of name (One x ∷ Set set ∷ One r ∷ []) = waits_of_set_reified (waits_for Fixed (x ∷ r ∷ [])) name x r
-waits_of name (Numbers ks ∷ Terms ts ∷ One (Num c) ∷ []) = waits_of_sum (waits_for Fixed (terms_among (Numbers ks ∷ Terms ts ∷ One (Num c) ∷ []))) (sum_relation_of name) ts
+waits_of name (Numbers ks ∷ Terms ts ∷ One c ∷ []) =
+    waits_of_sum (waits_for Fixed (terms_among (Numbers ks ∷ Terms ts ∷ One c ∷ []))) (sum_relation_of name) (left_terms ts c)
+waits_of name (Numbers ks ∷ Terms ts ∷ One (Num c) ∷ One r ∷ []) =
+    waits_of_sum_reified (waits_for Fixed (terms_among (Numbers ks ∷ Terms ts ∷ One (Num c) ∷ One r ∷ []))) (reified_sum_of name) ts r
 waits_of name (One k ∷ Numbers xs ∷ One c ∷ []) = waits_of_selection (waits_for Fixed (k ∷ c ∷ [])) name k c
-waits_of name arguments = waits_for Fixed (terms_among arguments)
+waits_of name (Terms xs ∷ []) = waits_for Fixed (terms_among (Terms xs ∷ []))
+waits_of name arguments = waits_otherwise name arguments
 
 abbrev pub waits : Constraint → List Wait
 waits c = waits_of c.name c.arguments

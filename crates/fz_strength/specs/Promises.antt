@@ -5,11 +5,13 @@ use Rattle.fz_sets.specs.Sets.{IsInSet, IsInRange}
 use Rattle.fz_spec.specs.declared.builtin.Builtin.{Builtin}
 use Rattle.fz_spec.specs.declared.builtin.Builtin.TheVariants.{SetInReif}
 use Rattle.fz_spec.specs.declared.term.Term.{Term}
-use Rattle.fz_spec.specs.Constraints.{Argument, One, Set, Constraint, IsTrueOf}
+use Rattle.fz_spec.specs.declared.term.Term.TheVariants.{Num}
+use Rattle.fz_spec.specs.Constraints.{Argument, One, Numbers, Terms, Set, Constraint, IsTrueOf}
 use Rattle.fz_strength.specs.Domains.{term_set, AreDomains, Within, IsNarrower}
 use Rattle.fz_strength.specs.declared.relation.Relation.{Relation}
 use Rattle.fz_strength.specs.Clauses.{Clause, clause_of, clause_terms}
 use Rattle.fz_strength.specs.Relations.{reified_of}
+use Rattle.fz_strength.specs.ReifiedSums.{reified_sum_of}
 use Rattle.fz_strength.specs.Lines.{Rests}
 
 -- no assignment that makes it true is lost
@@ -41,6 +43,7 @@ truth_of_reified T (Some relation) r = r ∷ []
 abbrev pub truths_of : Builtin → List Argument → List Term
 truths_of name (One x ∷ One y ∷ One r ∷ []) = truth_of_reified (truths_of_clause (clause_of name (One x ∷ One y ∷ One r ∷ []))) (reified_of name) r
 truths_of SetInReif (One x ∷ Set set ∷ One r ∷ []) = r ∷ []
+truths_of name (Numbers ks ∷ Terms ts ∷ One (Num c) ∷ One r ∷ []) = truth_of_reified [] (reified_sum_of name) r
 truths_of name arguments = truths_of_clause (clause_of name arguments)
 
 -- only 0 and 1 are left of a term

@@ -4,8 +4,9 @@ use Rattle.std.specs.Prelude.{◌≢◌, ◌⊎◌, ℤ, pos, negsuc, neg_ℤ, �
 use Rattle.std.specs.List.{AllByRecursion}
 use Rattle.fz_dom.specs.Shape.{least, greatest}
 use Rattle.fz_spec.specs.declared.builtin.Builtin.{Builtin}
-use Rattle.fz_spec.specs.declared.builtin.Builtin.TheVariants.{IntLinEq, IntLinLe, IntLinNe}
+use Rattle.fz_spec.specs.declared.builtin.Builtin.TheVariants.{BoolLinEq, BoolLinLe, IntLinEq, IntLinLe, IntLinNe}
 use Rattle.fz_spec.specs.declared.term.Term.{Term}
+use Rattle.fz_spec.specs.declared.term.Term.TheVariants.{Num, Var}
 use Rattle.fz_spec.specs.Constraints.{term_values}
 use Rattle.fz_spec.specs.Truth.{weighted_sum}
 use Rattle.fz_strength.specs.declared.relation.Relation.{Relation}
@@ -15,12 +16,27 @@ use Rattle.fz_strength.specs.declared.event.Event.TheVariants.{Bound, Fixed}
 use Rattle.fz_strength.specs.Domains.{term_set, Within}
 use Rattle.fz_strength.specs.Events.{IsFixedIn, AllFixed}
 
--- how a linear constraint relates its sum to its number
+-- how a linear constraint relates its sum to its last term
 abbrev pub sum_relation_of : Builtin → Option Relation
 sum_relation_of IntLinEq = Some Equal
 sum_relation_of IntLinNe = Some NotEqual
 sum_relation_of IntLinLe = Some AtMost
+sum_relation_of BoolLinEq = Some Equal
+sum_relation_of BoolLinLe = Some AtMost
 sum_relation_of name = None
+
+-- A sum that is related to a variable is one with the variable as a further term of factor -1, which is so related to 0.
+abbrev pub left_factors : List ℤ → Term → List ℤ
+left_factors ks (Num c) = ks
+left_factors ks (Var v) = negsuc 0 ∷ ks
+
+abbrev pub left_terms : List Term → Term → List Term
+left_terms ts (Num c) = ts
+left_terms ts (Var v) = Var v ∷ ts
+
+abbrev pub right_number : Term → ℤ
+right_number (Num c) = c
+right_number (Var v) = pos 0
 
 -- the least and the greatest number of a set times a factor
 abbrev pub least_product : ℤ → List (ℤ × ℤ) → ℤ

@@ -7,4 +7,5 @@ pub mod cost;
 pub mod event;
 pub mod laws;
 pub mod literal;
+pub mod operation;
 pub mod relation;

@@ -1,6 +1,7 @@
 //! Relations of two numbers.
 ghost use Rattle.std.specs.Prelude.{◌≡◌};
 ghost use Rattle.fz_strength.specs.Relations.{relation_of, reified_of};
+ghost use Rattle.fz_strength.specs.ReifiedSums.{reified_sum_of};
 ghost use Rattle.fz_strength.specs.Sums.{sum_relation_of};
 
 use fz_spec::builtin::Builtin;
@@ -41,14 +42,26 @@ impl Relation {
         }
     }
 
-    /// How a linear constraint relates its sum to its number, if the name is one.
+    /// How a linear constraint relates its sum to its last term, if the name is one.
     pub fn of_sum(name: Builtin) -> Option<Relation>
         ensures { result ≡ sum_relation_of name }
     {
         match name {
-            Builtin::IntLinEq => Some(Relation::Equal),
+            Builtin::IntLinEq | Builtin::BoolLinEq => Some(Relation::Equal),
             Builtin::IntLinNe => Some(Relation::NotEqual),
-            Builtin::IntLinLe => Some(Relation::AtMost),
+            Builtin::IntLinLe | Builtin::BoolLinLe => Some(Relation::AtMost),
+            _ => None,
+        }
+    }
+
+    /// How the sum is related to the number where a reified linear constraint's Boolean is 1, if the name is one.
+    pub fn of_reified_sum(name: Builtin) -> Option<Relation>
+        ensures { result ≡ reified_sum_of name }
+    {
+        match name {
+            Builtin::IntLinEqReif => Some(Relation::Equal),
+            Builtin::IntLinNeReif => Some(Relation::NotEqual),
+            Builtin::IntLinLeReif => Some(Relation::AtMost),
             _ => None,
         }
     }

@@ -1,6 +1,6 @@
 use Rattle.std.proofs.Common.{◌≡◌, ◌<◌, ◌∙◌, [], ◌∷◌, ◌++◌, refl, ap, arith, length}
 use Rattle.std.specs.Prelude.{slice_index}
-use Rattle.fz_agenda.proofs.Places.{same_at}
+use Rattle.fz_sets.proofs.Lists.{same_at}
 use Rattle.fz_agenda.proofs.Standing.{agenda_queued, by_true}
 use Rattle.fz_agenda.proofs.agenda.enqueue.Goals as goal
 

@@ -1,7 +1,8 @@
-use Rattle.std.proofs.Common.{◌≡◌, ◌∙◌, ℕ, List, [], ◌∷◌, ◌++◌, subst}
+use Rattle.std.proofs.Common.{◌≡◌, ◌∙◌, ℕ, List, [], subst}
 use Rattle.std.specs.Prelude.{slice_index_or}
+use Rattle.fz_sets.proofs.Lists.{same_at}
 use Rattle.fz_prop.specs.Stores.{IsListed}
-use Rattle.fz_agenda.proofs.Places.{same_at, grown, extends_set, listed_set}
+use Rattle.fz_agenda.proofs.Places.{grown, extends_set, listed_set}
 use Rattle.fz_agenda.proofs.wakes.list_at.Goals as goal
 
 pub returns-clause-extends : goal.returns-clause-extends

@@ -1,9 +1,9 @@
 use Rattle.std.proofs.Common.{◌≡◌}
+use Rattle.fz_sets.proofs.Lists.{all_at}
 use Rattle.fz_prop.specs.Truths.{IsAbout}
 use Rattle.fz_prop.proofs.Settling.{settled_correct, settled_answer}
 use Rattle.fz_bool.specs.Looks.{IsLiteralOf}
 use Rattle.fz_strength.specs.Clauses.{true_number}
-use Rattle.fz_strength.proofs.Clauses.{all_at}
 use Rattle.fz_bool.specs.Clausal.{TruthOf, LineOf}
 use Rattle.fz_bool.proofs.Clausal.{held_answer, nothing_answer, two_line, two_not_fixed, last_about}
 use Rattle.fz_bool.proofs.clause.keep_some.Goals as goal

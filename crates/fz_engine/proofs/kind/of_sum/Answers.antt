@@ -7,4 +7,4 @@ use Rattle.fz_engine.proofs.kind.of_sum.Goals as goal
 pub returns-in_default : goal.returns-in_default
 returns-in_default c =
     let size = length-map c.args.rest.now argument_of in
-    no_sum_line c.args.name c.args.factors.now c.args.terms.now (map argument_of c.args.rest.now) (λ e. omega (arith, e, size, c.in_default.len_at_least))
+    no_sum_line c.args.name c.args.factors.now c.args.terms.now (map argument_of c.args.rest.now) (omega (arith, size, c.in_default.len_at_least))

@@ -4,4 +4,4 @@ use Rattle.fz_engine.proofs.kind.summing.Goals as goal
 
 pub new-requires-clause-fits : goal.new-requires-clause-fits
 new-requires-clause-fits c =
-    rw c.in_ok-terms.ensures.items (sum_kept c.args.name c.args.factors.now c.args.terms.now c.args.number c.in-Some.relation (sym c.in-Some.ensures) c.requires).fits
+    (sum_kept c.args.name c.args.factors.now c.args.terms.now c.args.last c.in-Some.relation (sym c.in-Some.ensures) c.requires).fits

@@ -1,11 +1,12 @@
-use Rattle.std.proofs.Common.{rules, ◌≡◌, ◌+ℤ◌, slice_index_or, pos, to_z}
+use Rattle.std.proofs.Common.{rules, ◌≡◌, ◌+ℤ◌, ◌≤ℤ◌, slice_index_or, pos, to_z, arith}
+use Rattle.std.proofs.lemmas.Int.{ints}
 use Rattle.std.proofs.Math.Facts.{to_z-of_z}
 use mir.Val.{SFits}
 use mir.Syntax.{w32, w64, w128}
 use Rattle.fz_spec.specs.declared.term.Term.TheVariants.{Num}
 use Rattle.fz_strength.specs.Domains.{term_set}
 use Rattle.fz_strength.specs.Sums.{least_product, greatest_product, least_sum, greatest_sum}
-use Rattle.fz_linear.proofs.Summing.{at_place, least_more, greatest_more, summed_more}
+use Rattle.fz_linear.proofs.Summing.{at_place, least_more, greatest_more, summed_more, near_more}
 use Rattle.fz_linear.proofs.sums.sum_ends.Goals as goal
 
 pub loop-i-preserved : goal.loop-i-preserved
@@ -26,7 +27,10 @@ loop-i-preserved c =
     let high : c.product_ends-low.result.1 ≡ greatest_product k (term_set ds t) = rw (to_z-of_z fits_factor) at c.product_ends-low.ensures.greatest in
     let least : c.add-least.result ≡ to_z w128 c.loop-i.least-bits +ℤ least_product k (term_set ds t) = rw (to_z-of_z fits_low, low) at c.add-least.ensures.sum in
     let greatest : c.add-greatest.result ≡ to_z w128 c.loop-i.greatest-bits +ℤ greatest_product k (term_set ds t) = rw (to_z-of_z fits_high, high) at c.add-greatest.ensures.sum in
+    let span : c.product_ends-low.result.1 ≤ℤ (c.product_ends-low.result.0 +ℤ pos c.width.result) = rw (to_z-of_z fits_low, to_z-of_z fits_high) at c.width.ensures in
     rw (to_z-of_z fits_least, to_z-of_z fits_greatest) (record {
       least = summed_more _ _ (least_sum ds ks ts) _ _ c.add-least.result i c.loop-i.invariant.least (least_more ds ks ts i k t at) least c.add-least.ensures.near;
+      near = λ slack wide rest. c.loop-i.invariant.near slack (omega (arith, ints, wide, c.wider-widest.ensures.first))
+          (near_more ds ks ts i k t c.product_ends-low.result.0 c.product_ends-low.result.1 slack c.width.result c.wider-widest.result at low high span c.wider-widest.ensures.second wide rest);
       greatest = summed_more _ _ (greatest_sum ds ks ts) _ _ c.add-greatest.result i c.loop-i.invariant.greatest (greatest_more ds ks ts i k t at) greatest c.add-greatest.ensures.near;
     })

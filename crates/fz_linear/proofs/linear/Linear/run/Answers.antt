@@ -3,9 +3,8 @@ use Rattle.std.proofs.Math.Facts.{to_z-of_z}
 use mir.Val.{SFits}
 use mir.Syntax.{w32}
 use Rattle.std.proofs.lemmas.Result.{IfOk-weaker}
-use Rattle.fz_strength.specs.Events.{AreFixed}
+use Rattle.fz_strength.specs.Events.{AreFixed, AllFixed}
 use Rattle.fz_strength.specs.Lines.{waits}
-use Rattle.fz_strength.specs.Events.{AllFixed}
 use Rattle.fz_prop.specs.declared.answer.Answer.{Answer}
 use Rattle.fz_prop.specs.Answers.{IsAnswer, IsDecided}
 use Rattle.fz_linear.specs.Sums.{IsAnswerSum}
@@ -19,14 +18,14 @@ pub relate-requires-clause-inside : goal.relate-requires-clause-inside
 relate-requires-clause-inside c =
     let p = c.self.inside in
     rw c.deref-2.ensures.value
-    (terms_are p.name p.relation p.factors.items p.terms.items p.number (length c.args.store.now.doms) c.self.invariant.relation_is (rw (← c.self.view_is) at c.requires.inside))
+    (terms_are p.name p.relation p.factors.items p.terms.items p.last (length c.args.store.now.doms) c.self.invariant.relation_is c.self.invariant.moved.terms_are (rw (← c.self.view_is) at c.requires.inside))
 
 pub returns-clause-correct : goal.returns-clause-correct
 returns-clause-correct c =
     let p = c.self.inside in
     let fits : SFits w32 p.number = search rules in
     rw (← c.self.view_is)
-    (correct_is p.name p.relation p.factors.items p.terms.items p.number c.args.store.now.doms c.relate.new.store.doms c.self.invariant.relation_is
+    (correct_is p.name p.relation p.factors.items p.terms.items p.number p.last c.args.store.now.doms c.relate.new.store.doms c.self.invariant.relation_is c.self.invariant.moved
     (rw (c.deref.ensures.value, c.deref-2.ensures.value, to_z-of_z fits) at c.relate.ensures.correct))
 
 pub returns-clause-answer : goal.returns-clause-answer
@@ -35,8 +34,8 @@ returns-clause-answer c =
     let fits : SFits w32 p.number = search rules in
     rw (← c.self.view_is)
     (IfOk-weaker c.relate.result (λ (r : Answer). IsAnswerSum p.relation p.factors.items p.terms.items p.number r c.args.store.now.doms c.relate.new.store.doms)
-    (λ (r : Answer). IsAnswer r (linear_of p.name p.factors.items p.terms.items p.number) c.args.store.now.doms c.relate.new.store.doms)
-    (λ r h. answer_is p.name p.relation p.factors.items p.terms.items p.number r c.args.store.now.doms c.relate.new.store.doms c.self.invariant.relation_is h)
+    (λ (r : Answer). IsAnswer r (linear_of p.name p.factors.items p.terms.items p.last) c.args.store.now.doms c.relate.new.store.doms)
+    (λ r h. answer_is p.name p.relation p.factors.items p.terms.items p.number p.last r c.args.store.now.doms c.relate.new.store.doms c.self.invariant.relation_is c.self.invariant.moved h)
     (rw (c.deref.ensures.value, c.deref-2.ensures.value, to_z-of_z fits) at c.relate.ensures.answer))
 
 pub returns-clause-checking : goal.returns-clause-checking
@@ -44,6 +43,6 @@ returns-clause-checking c =
     let p = c.self.inside in
     rw (← c.self.view_is)
     (IfOk-weaker c.relate.result (λ (r : Answer). AllFixed c.args.store.now.doms p.terms.items → IsDecided r)
-    (λ (r : Answer). AreFixed (waits (linear_of p.name p.factors.items p.terms.items p.number)) c.args.store.now.doms → IsDecided r)
-    (λ r h fixed. h (fixed_are p.name p.relation p.factors.items p.terms.items p.number c.args.store.now.doms c.self.invariant.relation_is fixed))
+    (λ (r : Answer). AreFixed (waits (linear_of p.name p.factors.items p.terms.items p.last)) c.args.store.now.doms → IsDecided r)
+    (λ r h fixed. h (fixed_are p.name p.relation p.factors.items p.terms.items p.last c.args.store.now.doms c.self.invariant.relation_is c.self.invariant.moved.terms_are fixed))
     (rw c.deref-2.ensures.value at c.relate.ensures.checking))

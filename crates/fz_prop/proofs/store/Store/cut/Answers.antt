@@ -1,9 +1,10 @@
 use Rattle.std.proofs.Common.{◌≡◌, ◌<◌, ◌∙◌, [], length}
 use Rattle.std.specs.Prelude.{slice_set}
+use Rattle.fz_sets.proofs.Lists.{same_at}
 use Rattle.fz_strength.specs.Domains.{dom_at}
 use Rattle.fz_prop.specs.Cuts.{Keeps}
 use Rattle.fz_prop.specs.Stores.{IsCut}
-use Rattle.fz_prop.proofs.Steps.{IsKeptChange, kept_change, same_at}
+use Rattle.fz_prop.proofs.Steps.{IsKeptChange, kept_change}
 use Rattle.fz_prop.proofs.store.Store.cut.Goals as goal
 
 stepped : (c : goal.After-note)

@@ -2,9 +2,10 @@ use Rattle.std.proofs.Common.{◌≡◌, ◌<◌, ◌∙◌, [], length, subst}
 use Rattle.std.proofs.Math.Facts.{to_z-of_z}
 use Rattle.std.specs.Prelude.{ℤ, ◌-ℤ◌, slice_set}
 use Rattle.fz_sets.specs.Sets.{IsInSet}
+use Rattle.fz_sets.proofs.Lists.{same_at}
 use Rattle.fz_strength.specs.Domains.{dom_at}
 use Rattle.fz_prop.specs.Stores.{IsCut}
-use Rattle.fz_prop.proofs.Steps.{IsKeptChange, kept_change, same_at}
+use Rattle.fz_prop.proofs.Steps.{IsKeptChange, kept_change}
 use Rattle.fz_prop.proofs.store.Store.keep_shifted.Goals as goal
 
 stepped : (c : goal.After-note)

@@ -1,0 +1,5 @@
+pub mod Quotients
+pub mod Between
+pub mod Places
+pub mod Steps
+pub mod Names

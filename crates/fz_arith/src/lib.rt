@@ -1,0 +1,15 @@
+//! The propagator of terms of which one is what an operation makes of the others: a sum, a product, an absolute value, the least or
+//! the greatest of several. It keeps each term between bounds that the ends of the others give (Apt, Zoeteweij: "An Analysis of
+//! Arithmetic Constraints on Integer Intervals").
+#![tactic(auto)]
+
+pub mod arithmetic;
+mod bounds;
+mod ends;
+mod narrow;
+mod parts;
+
+pub use arithmetic::Arithmetic;
+
+#[cfg(test)]
+mod tests;

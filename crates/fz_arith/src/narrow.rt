@@ -1,0 +1,186 @@
+//! Keeping the terms of an equation between their bounds.
+ghost use Rattle.std.specs.Prelude.{◌≡◌, ◌≤◌, ◌<◌, [], ◌∷◌, MatchOption, ◌↔◌, List, length, IfOk, OnErr, IsTrue};
+ghost use Rattle.std.specs.List.{AllByRecursion};
+ghost use Rattle.fz_dom.specs.Changes.{IsFromTo};
+ghost use Rattle.fz_dom.specs.declared.change.Change.TheVariants as changes;
+ghost use Rattle.fz_strength.specs.Events.{AllFixed};
+ghost use Rattle.fz_strength.specs.Operations.{equation, divisors_of, EquationTruth, IsEquationLine};
+ghost use Rattle.fz_prop.specs.Answers.{IsAnswerOf, IsCorrectOf, IsDecided};
+ghost use Rattle.fz_prop.specs.Stores.{Shrinks, IsStore, IsTermOf, IsTermChange, IsChangeAt};
+ghost use Rattle.fz_arith.specs.Narrowing.{IsClamped, IsDivided, IsStep, AreSteps, IsRested};
+
+use crate::bounds::bounds_at;
+use fz_prop::terms::{remove, value_of};
+use fz_prop::{Answer, Change, Store};
+use fz_spec::term::Term;
+use fz_strength::operation::{Bounds, Operation};
+use std::alloc::AllocError;
+
+/// Narrows a store so that a term is what an operation makes of others.
+pub fn keep_equation(
+    store: &mut Store,
+    operation: Operation,
+    operands: &[Term],
+    value: Term,
+) -> Result<Answer, AllocError>
+    requires value { IsTermOf (length store.old.doms) value }
+    requires operands { AllByRecursion (IsTermOf (length store.old.doms)) operands.now }
+    ensures shrinks { Shrinks store.old store.new }
+    ensures correct { IsCorrectOf (EquationTruth (equation operation operands.now value))
+        store.old.doms store.new.doms }
+    ensures answer { IfOk result
+        (λ r. IsAnswerOf r (EquationTruth (equation operation operands.now value))
+        (IsEquationLine (equation operation operands.now value))
+        store.old.doms store.new.doms) }
+    ensures checking { IfOk result
+        (λ r. AllFixed store.old.doms (value ∷ operands.now) → IsDecided r) }
+{
+    let mut changed = match exclude_zero(store, operation, operands)? {
+        Change::Wiped => return Ok(Answer::Failed),
+        change => is_changed(change),
+    };
+    for place in 0..operands.len() + 1 {
+        match step(store, operation, operands, value, place)? {
+            Change::Wiped => return Ok(Answer::Failed),
+            change => changed |= is_changed(change),
+        }
+    }
+    let _ = store.doms();
+    Ok(rested(store, changed, operands, value))
+}
+
+fn is_changed(change: Change) -> bool
+    ensures { IsTrue result ↔ (change ≡ changes.Changed) }
+{
+    match change {
+        Change::Changed => true,
+        Change::Same | Change::Wiped => false,
+    }
+}
+
+/// What must not be 0.
+fn divisor(operation: Operation, operands: &[Term]) -> Option<Term>
+    ensures { MatchOption result (divisors_of operation operands.now ≡ [])
+        (λ y. divisors_of operation operands.now ≡ y ∷ []) }
+{
+    match (operation, operands) {
+        (Operation::Quotient, [_, y]) => Some(*y),
+        (Operation::Remainder, [_, y]) => Some(*y),
+        _ => None,
+    }
+}
+
+/// Removes 0 from a divisor.
+fn exclude_zero(
+    store: &mut Store,
+    operation: Operation,
+    operands: &[Term],
+) -> Result<Change, AllocError>
+    requires { AllByRecursion (IsTermOf (length store.old.doms)) operands.now }
+    ensures shrinks { Shrinks store.old store.new }
+    ensures correct { (z : Term) → IsCorrectOf (EquationTruth (equation operation operands.now z))
+        store.old.doms store.new.doms }
+    ensures divided { IfOk result (λ r. (z : Term) → IsDivided r
+        (equation operation operands.now z) store.old store.new) }
+{
+    match divisor(operation, operands) {
+        Some(divisor) => remove(store, divisor, 0),
+        None => Ok(Change::Same),
+    }
+}
+
+/// Keeps the term at a place between its bounds.
+fn step(
+    store: &mut Store,
+    operation: Operation,
+    operands: &[Term],
+    value: Term,
+    place: usize,
+) -> Result<Change, AllocError>
+    requires value { IsTermOf (length store.old.doms) value }
+    requires operands { AllByRecursion (IsTermOf (length store.old.doms)) operands.now }
+    requires place { place ≤ length operands.now }
+    ensures shrinks { Shrinks store.old store.new }
+    ensures correct { IsCorrectOf (EquationTruth (equation operation operands.now value))
+        store.old.doms store.new.doms }
+    ensures step { IfOk result (λ r. IsStep r (equation operation operands.now value) place
+        store.old store.new) }
+{
+    let _ = store.doms();
+    let bounds = bounds_at(store, operation, operands, value, place);
+    keep_between(store, bounds)
+}
+
+/// Keeps the numbers of a term that lie between its bounds.
+fn keep_between(store: &mut Store, bounds: Bounds) -> Result<Change, AllocError>
+    requires { IsTermOf (length store.old.doms) bounds.term }
+    ensures shrinks { Shrinks store.old store.new }
+    ensures err { OnErr result (store.new ≡ store.old) }
+    ensures change { IfOk result (λ r. IsTermChange r bounds.term
+        (λ x. IsFromTo bounds.low bounds.high x) store.old store.new) }
+{
+    match bounds.term {
+        Term::Var(variable) => keep_range(store, variable, bounds.low, bounds.high),
+        Term::Num(number) if is_between(number, bounds) => Ok(Change::Same),
+        Term::Num(_) => Ok(Change::Wiped),
+    }
+}
+
+/// Keeps the numbers of a variable from a low to a high, both among them.
+fn keep_range(store: &mut Store, variable: u32, low: i64, high: i64) -> Result<Change, AllocError>
+    requires { variable < length store.old.doms }
+    ensures shrinks { Shrinks store.old store.new }
+    ensures err { OnErr result (store.new ≡ store.old) }
+    ensures change { IfOk result
+        (λ r. IsChangeAt r variable (λ x. IsFromTo low high x) store.old store.new) }
+{
+    let _ = store.doms();
+    store.keep_range(variable, clamped(low), clamped(high))
+}
+
+/// Whether a number lies between bounds.
+fn is_between(number: i32, bounds: Bounds) -> bool
+    ensures { IsTrue result ↔ IsFromTo bounds.low bounds.high number }
+{
+    bounds.low <= i64::from(number) && i64::from(number) <= bounds.high
+}
+
+/// A number of 32 bits that bounds the same numbers within the limits.
+fn clamped(value: i64) -> i32
+    ensures { IsClamped value result }
+{
+    match i32::try_from(value) {
+        Ok(value) => value,
+        Err(_) if value < 0 => i32::MIN,
+        Err(_) => i32::MAX,
+    }
+}
+
+/// What a run answers that found no term without a number.
+fn rested(store: &Store, changed: bool, operands: &[Term], value: Term) -> Answer
+    requires value { IsTermOf (length store.now.doms) value }
+    requires operands { AllByRecursion (IsTermOf (length store.now.doms)) operands.now }
+    ensures { IsRested result changed store.now.doms (value ∷ operands.now) }
+{
+    if changed {
+        return Answer::NoFix;
+    }
+    if value_of(store, value).is_some() && are_fixed(store, operands) {
+        Answer::Subsumed
+    } else {
+        Answer::Fix
+    }
+}
+
+/// Whether one number is left of each of these terms.
+fn are_fixed(store: &Store, terms: &[Term]) -> bool
+    requires { AllByRecursion (IsTermOf (length store.now.doms)) terms.now }
+    ensures { IsTrue result ↔ AllFixed store.now.doms terms.now }
+{
+    for term in terms {
+        if value_of(store, *term).is_none() {
+            return false;
+        }
+    }
+    true
+}

@@ -1,0 +1,33 @@
+//! What the ends of a sum show of a relation to a number.
+ghost use Rattle.std.specs.Prelude.{◌↔◌, ◌≤ℤ◌, IsTrue};
+ghost use Rattle.fz_strength.specs.ReifiedSums.{AllRelate, NoneRelate};
+
+use fz_strength::relation::Relation;
+
+/// Whether each number between two ends is so related to a number.
+pub fn is_shown(relation: Relation, low: i128, high: i128, number: i32) -> bool
+    requires rising { low ≤ℤ high }
+    ensures { IsTrue result ↔ AllRelate relation low high number }
+{
+    let number = i128::from(number);
+    match relation {
+        Relation::Equal => low == number && high == number,
+        Relation::NotEqual => number < low || high < number,
+        Relation::AtMost => high <= number,
+        Relation::Below => high < number,
+    }
+}
+
+/// Whether none is.
+pub fn is_refuted(relation: Relation, low: i128, high: i128, number: i32) -> bool
+    requires rising { low ≤ℤ high }
+    ensures { IsTrue result ↔ NoneRelate relation low high number }
+{
+    let number = i128::from(number);
+    match relation {
+        Relation::Equal => number < low || high < number,
+        Relation::NotEqual => low == number && high == number,
+        Relation::AtMost => number < low,
+        Relation::Below => number <= low,
+    }
+}

@@ -1,0 +1,12 @@
+//! The propagator of linear equations, disequations and orders with a Boolean that says whether they hold. Where the ends of the
+//! sum decide, the Boolean is fixed; where it is fixed, the sum is narrowed by the constraint or by its opposite.
+#![tactic(auto)]
+
+mod decide;
+mod follow;
+pub mod reified;
+
+pub use reified::ReifiedLinear;
+
+#[cfg(test)]
+mod tests;
