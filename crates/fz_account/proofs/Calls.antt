@@ -32,11 +32,11 @@ branch_code now k ds after same law current choice reachable fits made =
 abbrev pub with_both : Account → List (List ℤ) → Frontier → Account
 with_both k found after = record { model = k.model; mode = k.mode; before = k.before; found = found; witness = k.witness; given = k.given; after = after }
 
-pub add_code : (now k : Account) (x : List ℤ) (found : List (List ℤ)) (after : Frontier) → k ≡ now → AccountLaw k → now.mode ≡ All → now.after.current_open ≡ true → IsOnly now.model now.after.edges x
+pub add_code : (now k : Account) (x : List ℤ) (found : List (List ℤ)) (after : Frontier) → k ≡ now → AccountLaw k → now.mode ≡ All → now.after.current_open ≡ true → IsOnly now.model now.after.edges now.witness x
     → found ≡ k.found ++ x ∷ [] → after ≡ closed k.after → AccountLaw (with_both k found after)
 add_code now k x found after same law all current only is_found is_after =
     subst (λ (l : List (List ℤ)). AccountLaw (with_both k l after)) (sym is_found) (subst (λ (f : Frontier). AccountLaw (with_both k (k.found ++ x ∷ []) f)) (sym is_after)
-    (adds k x law (ap (λ (c : Account). c.mode) same ∙ all) (ap (λ (c : Account). c.after.current_open) same ∙ current) (subst (λ (c : Account). IsOnly c.model c.after.edges x) (sym same) only)))
+    (adds k x law (ap (λ (c : Account). c.mode) same ∙ all) (ap (λ (c : Account). c.after.current_open) same ∙ current) (subst (λ (c : Account). IsOnly c.model c.after.edges c.witness x) (sym same) only)))
 
 -- what is given and what is left are replaced
 abbrev pub with_parts : Account → List Frontier → Frontier → Account

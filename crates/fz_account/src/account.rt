@@ -203,7 +203,7 @@ impl Account {
     pub fn add_found(&mut self, assignment: Assignment) -> Result<(), AllocFailed<Assignment>>
         requires mode { self.old.mode ≡ All }
         requires current { self.old.after.current_open ≡ true }
-        requires only { IsOnly self.old.model self.old.after.edges assignment }
+        requires only { IsOnly self.old.model self.old.after.edges self.old.witness assignment }
         ensures ok { OnOk result (self.new ≡ with_found self.old assignment) }
         ensures err { OnErr result (self.new ≡ self.old) }
         ensures back { IfErr result (λ refused. refused.value ≡ assignment) }

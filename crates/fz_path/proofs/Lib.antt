@@ -3,6 +3,8 @@ pub mod Decisions
 pub mod Nodes
 pub mod Choosing
 pub mod Trails
+pub mod Knowing
+pub mod Learning
 pub mod Paths
 pub mod Falls
 pub mod Cuts

@@ -3,23 +3,8 @@ use Rattle.std.proofs.Common.{◌≡◌, ◌∙◌, ℕ, zero, suc, ◌<◌, Lis
 use Rattle.std.specs.Prelude.{ℤ}
 use Rattle.std.specs.List.{slice_get}
 use Rattle.fz_dom.specs.Shape.{least}
-use Rattle.fz_dom.proofs.Ranges.{least_member}
-use Rattle.fz_path.specs.Spaces.{Within, Alone, AreDomains, dom_at, number_at}
-
-pub number_least : (ds : List (List (ℤ × ℤ))) (v : ℕ) → v < length ds → number_at (map least ds) v ≡ least (dom_at ds v)
-number_least [] v h = absurd (omega (arith, h))
-number_least (d ∷ ds) zero h = refl
-number_least (d ∷ ds) (suc v) h = number_least ds v (omega (arith, h))
-
-pub length_least : (ds : List (List (ℤ × ℤ))) → length (map least ds) ≡ length ds
-length_least [] = refl
-length_least (d ∷ ds) = ap suc (length_least ds)
-
-pub least_within : (ds : List (List (ℤ × ℤ))) → AreDomains ds → Within ds (map least ds)
-least_within ds domains = record {
-  size = length_least ds;
-  members = λ v h. let d = domains v h in rw (number_least ds v h) (least_member (dom_at ds v) d.1 d.0.0).0;
-}
+pub use Rattle.fz_strength.proofs.Terms.{number_least, length_least, least_within}
+use Rattle.fz_path.specs.Spaces.{Alone, dom_at, number_at}
 
 pub same_numbers : (a b : List ℤ) → length a ≡ length b → ((v : ℕ) → v < length a → number_at a v ≡ number_at b v) → a ≡ b
 same_numbers [] [] size same = refl

@@ -1,14 +1,14 @@
 //! What a path asks of a space.
-ghost use Rattle.std.specs.Prelude.{◌≡◌, ◌<◌, ◌++◌, ◌∷◌, [], List, Some, false, length, IfOk, OnOk};
+ghost use Rattle.std.specs.Prelude.{◌≡◌, ◌<◌, ◌++◌, ◌∷◌, [], ℤ, List, Option, None, Some, false, length, IfOk, OnOk};
 ghost use Rattle.std.specs.List.{slice_get};
 ghost use Rattle.std.specs.Arc.{arc_value};
-ghost use Rattle.fz_spec.specs.Instance.{Instance};
+ghost use Rattle.fz_spec.specs.Instance.{Instance, IsWhole};
 ghost use Rattle.fz_tree.specs.declared.decision.Decision.{Decision};
 ghost use Rattle.fz_branch.specs.Picks.{AreClosed};
-ghost use Rattle.fz_path.specs.Spaces.{Spaced, AreDomains, Covers, IsStatus};
+ghost use Rattle.fz_path.specs.Spaces.{Spaced, AreDomains, AllBetter, Covers, IsStatus};
 
 use fz_dom::Dom;
-use fz_model::Model;
+use fz_model::{Assignment, Model};
 use fz_region::Choice;
 use std::alloc::{AllocError, Global};
 use std::sync::Arc;
@@ -16,7 +16,7 @@ use std::sync::Arc;
 /// What is known of a node once its space has come to rest.
 #[derive(Clone, Copy, Debug, PartialEq, Eq)]
 pub enum Status {
-    /// No satisfying assignment is there.
+    /// No satisfying assignment is there that betters what is known.
     Failed,
     /// One assignment is left, and it satisfies.
     Solved,
@@ -37,7 +37,7 @@ pub trait Space: Drop {
     fn root(alloc: Global, model: Arc<Model>) -> Result<Self, AllocError>
         requires { accepts (arc_value model) }
         ensures model { IfOk result (λ s. (spaced s).model ≡ arc_value model) }
-        ensures covers { IfOk result (λ s. Covers [] (spaced s)) };
+        ensures covers { IfOk result (λ s. Covers None [] (spaced s)) };
 
     /// Takes an alternative of a choice.
     ///
@@ -46,9 +46,21 @@ pub trait Space: Drop {
     fn commit(&mut self, choice: &Choice, alternative: u32) -> Result<(), AllocError>
         requires { alternative < length choice.now }
         ensures model { (spaced self.new).model ≡ (spaced self.old).model }
-        ensures covers { OnOk result ((ds : List Decision) (d : Decision)
+        ensures covers { OnOk result ((known : Option (List ℤ)) (ds : List Decision) (d : Decision)
             → slice_get choice.now alternative ≡ Some d
-            → Covers ds (spaced self.old) → Covers (ds ++ d ∷ []) (spaced self.new)) };
+            → Covers known ds (spaced self.old) → Covers known (ds ++ d ∷ []) (spaced self.new)) };
+
+    /// Keeps what is better than an assignment that is known.
+    ///
+    /// # Errors
+    /// `AllocError` where there is no memory.
+    fn tell_bound(&mut self, known: &Assignment) -> Result<(), AllocError>
+        requires { IsWhole (spaced self.old).model known.now }
+        ensures model { (spaced self.new).model ≡ (spaced self.old).model }
+        ensures covers { OnOk result ((ds : List Decision)
+            → Covers (Some known.now) ds (spaced self.old)
+            → Covers (Some known.now) ds (spaced self.new)) }
+        ensures better { OnOk result (AllBetter known.now (spaced self.new)) };
 
     /// Comes to rest, and says what is known then.
     ///
@@ -56,8 +68,8 @@ pub trait Space: Drop {
     /// `AllocError` where there is no memory.
     fn status(&mut self) -> Result<Status, AllocError>
         ensures model { (spaced self.new).model ≡ (spaced self.old).model }
-        ensures covers { OnOk result ((ds : List Decision)
-            → Covers ds (spaced self.old) → Covers ds (spaced self.new)) }
+        ensures covers { OnOk result ((known : Option (List ℤ)) (ds : List Decision)
+            → Covers known ds (spaced self.old) → Covers known ds (spaced self.new)) }
         ensures answer { IfOk result (λ status. IsStatus status (spaced self.new)) };
 
     /// A domain for each variable.

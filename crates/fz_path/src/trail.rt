@@ -1,5 +1,5 @@
 //! The spaces beside a path.
-ghost use Rattle.std.specs.Prelude.{◌≡◌, ◌≤◌, ◌<◌, ◌-◌, ◌++◌, ◌∷◌, [], ℕ, List, length, take, true, false, IsTrue, None, IfOk, IfSome, OnOk};
+ghost use Rattle.std.specs.Prelude.{◌≡◌, ◌≤◌, ◌<◌, ◌-◌, ◌++◌, ◌∷◌, [], ℕ, ℤ, List, length, take, true, false, IsTrue, Option, None, IfOk, IfSome, OnOk};
 ghost use Rattle.fz_spec.specs.Instance.{Instance};
 ghost use Rattle.fz_tree.specs.declared.decision.Decision.{Decision};
 ghost use Rattle.fz_tree.specs.Frontier as frontier;
@@ -28,8 +28,9 @@ impl<S: Space> Trail<S> {
     /// The root's space alone.
     pub fn new(alloc: Global, root: S, distance: u32) -> Trail<S>
         requires { 1 ≤ distance }
-        ensures { (m : Instance) (es : List frontier.Edge) → IsAt m [] (S.spaced root)
-            → IsTrail S.spaced m es result }
+        ensures { (m : Instance) (known : Option (List ℤ)) (es : List frontier.Edge)
+            → IsAt m known [] (S.spaced root)
+            → IsTrail S.spaced m known es result }
     {
         Trail {
             root,
@@ -42,8 +43,9 @@ impl<S: Space> Trail<S> {
 
     /// Forgets all but the root.
     pub fn clear(&mut self)
-        ensures { (m : Instance) (es fs : List frontier.Edge) → IsTrail S.spaced m es self.old
-            → IsTrail S.spaced m fs self.new }
+        ensures { (m : Instance) (known : Option (List ℤ)) (es fs : List frontier.Edge)
+            → IsTrail S.spaced m known es self.old
+            → IsTrail S.spaced m known fs self.new }
     {
         self.copies.clear();
         self.current = None;
@@ -51,8 +53,9 @@ impl<S: Space> Trail<S> {
 
     /// The path has moved to these edges: what isn't above them goes.
     pub fn retreat(&mut self, edges: &[Edge])
-        ensures { (m : Instance) (es : List frontier.Edge) → edges.now ≡ next_edges es
-            → IsTrail S.spaced m es self.old → IsTrail S.spaced m edges.now self.new }
+        ensures { (m : Instance) (known : Option (List ℤ)) (es : List frontier.Edge)
+            → edges.now ≡ next_edges es
+            → IsTrail S.spaced m known es self.old → IsTrail S.spaced m known edges.now self.new }
     {
         drop_current(&mut self.current, &mut self.spare);
         let depth = count_above(edges);
@@ -65,11 +68,14 @@ impl<S: Space> Trail<S> {
     /// `AllocError` where there is no memory.
     pub fn take_at(&mut self, edges: &[Edge]) -> Result<S, AllocError>
         requires edges { AreEdges edges.now }
-        requires trail { (m : Instance) × IsTrail S.spaced m edges.now self.old }
-        ensures space { IfOk result (λ s. (m : Instance) → IsTrail S.spaced m edges.now self.old
-            → IsAt m edges.now (S.spaced s)) }
-        ensures kept { (m : Instance) → IsTrail S.spaced m edges.now self.old
-            → IsTrail S.spaced m edges.now self.new }
+        requires trail { (m : Instance) × (known : Option (List ℤ))
+            × IsTrail S.spaced m known edges.now self.old }
+        ensures space { IfOk result (λ s. (m : Instance) (known : Option (List ℤ))
+            → IsTrail S.spaced m known edges.now self.old
+            → IsAt m known edges.now (S.spaced s)) }
+        ensures kept { (m : Instance) (known : Option (List ℤ))
+            → IsTrail S.spaced m known edges.now self.old
+            → IsTrail S.spaced m known edges.now self.new }
     {
         if let Some(space) = self.current.take() {
             return Ok(space);
@@ -80,11 +86,14 @@ impl<S: Space> Trail<S> {
     /// The same, from the nearest copy by the decisions behind it.
     fn remade(&mut self, edges: &[Edge]) -> Result<S, AllocError>
         requires edges { AreEdges edges.now }
-        requires trail { (m : Instance) × IsTrail S.spaced m edges.now self.old }
-        ensures space { IfOk result (λ s. (m : Instance) → IsTrail S.spaced m edges.now self.old
-            → IsAt m edges.now (S.spaced s)) }
-        ensures kept { (m : Instance) → IsTrail S.spaced m edges.now self.old
-            → IsTrail S.spaced m edges.now self.new }
+        requires trail { (m : Instance) × (known : Option (List ℤ))
+            × IsTrail S.spaced m known edges.now self.old }
+        ensures space { IfOk result (λ s. (m : Instance) (known : Option (List ℤ))
+            → IsTrail S.spaced m known edges.now self.old
+            → IsAt m known edges.now (S.spaced s)) }
+        ensures kept { (m : Instance) (known : Option (List ℤ))
+            → IsTrail S.spaced m known edges.now self.old
+            → IsTrail S.spaced m known edges.now self.new }
     {
         let kept = self.nearest(edges)?;
         let depth = kept.depth;
@@ -95,10 +104,12 @@ impl<S: Space> Trail<S> {
 
     /// A space above the node below the edges: the nearest copy, or what was one.
     fn nearest(&mut self, edges: &[Edge]) -> Result<Kept<S>, AllocError>
-        ensures space { IfOk result (λ k. (m : Instance) → IsTrail S.spaced m edges.now self.old
-            → IsKept S.spaced m edges.now k) }
-        ensures kept { (m : Instance) → IsTrail S.spaced m edges.now self.old
-            → IsTrail S.spaced m edges.now self.new }
+        ensures space { IfOk result (λ k. (m : Instance) (known : Option (List ℤ))
+            → IsTrail S.spaced m known edges.now self.old
+            → IsKept S.spaced m known edges.now k) }
+        ensures kept { (m : Instance) (known : Option (List ℤ))
+            → IsTrail S.spaced m known edges.now self.old
+            → IsTrail S.spaced m known edges.now self.new }
     {
         match self.used_copy(edges) {
             Some(kept) => Ok(kept),
@@ -108,10 +119,12 @@ impl<S: Space> Trail<S> {
 
     /// The nearest copy itself, where no other node is remade from it.
     fn used_copy(&mut self, edges: &[Edge]) -> Option<Kept<S>>
-        ensures space { IfSome result (λ k. (m : Instance) → IsTrail S.spaced m edges.now self.old
-            → IsKept S.spaced m edges.now k) }
-        ensures kept { (m : Instance) → IsTrail S.spaced m edges.now self.old
-            → IsTrail S.spaced m edges.now self.new }
+        ensures space { IfSome result (λ k. (m : Instance) (known : Option (List ℤ))
+            → IsTrail S.spaced m known edges.now self.old
+            → IsKept S.spaced m known edges.now k) }
+        ensures kept { (m : Instance) (known : Option (List ℤ))
+            → IsTrail S.spaced m known edges.now self.old
+            → IsTrail S.spaced m known edges.now self.new }
     {
         if !self.has_used_copy(edges) {
             return None;
@@ -121,10 +134,11 @@ impl<S: Space> Trail<S> {
 
     /// A copy of the nearest copy, or of the root's space.
     fn copy_of_nearest(&mut self) -> Result<Kept<S>, AllocError>
-        ensures space { IfOk result (λ k. (m : Instance) (es : List frontier.Edge)
-            → IsTrail S.spaced m es self.old → IsKept S.spaced m es k) }
-        ensures kept { (m : Instance) (es : List frontier.Edge)
-            → IsTrail S.spaced m es self.old → IsTrail S.spaced m es self.new }
+        ensures space { IfOk result (λ k. (m : Instance) (known : Option (List ℤ))
+            (es : List frontier.Edge)
+            → IsTrail S.spaced m known es self.old → IsKept S.spaced m known es k) }
+        ensures kept { (m : Instance) (known : Option (List ℤ)) (es : List frontier.Edge)
+            → IsTrail S.spaced m known es self.old → IsTrail S.spaced m known es self.new }
     {
         match self.copies.last() {
             Some(kept) => copy_of(&mut self.spare, kept.depth, &kept.space),
@@ -145,9 +159,10 @@ impl<S: Space> Trail<S> {
     /// # Errors
     /// `AllocError` where there is no memory.
     pub fn keep(&mut self, depth: usize, space: &S) -> Result<(), AllocError>
-        ensures { (m : Instance) (es : List frontier.Edge) → depth ≡ length es
-            → IsAt m es (S.spaced space.now) → IsTrail S.spaced m es self.old
-            → IsTrail S.spaced m es self.new }
+        ensures { (m : Instance) (known : Option (List ℤ)) (es : List frontier.Edge)
+            → depth ≡ length es
+            → IsAt m known es (S.spaced space.now) → IsTrail S.spaced m known es self.old
+            → IsTrail S.spaced m known es self.new }
     {
         if !self.is_due(depth) {
             return Ok(());
@@ -170,17 +185,19 @@ impl<S: Space> Trail<S> {
 
     /// The path goes on below one edge more, and this is the space there.
     pub fn descend(&mut self, space: S)
-        ensures { (m : Instance) (es : List frontier.Edge) (e : frontier.Edge)
-            → IsAt m (es ++ e ∷ []) (S.spaced space) → IsTrail S.spaced m es self.old
-            → IsTrail S.spaced m (es ++ e ∷ []) self.new }
+        ensures { (m : Instance) (known : Option (List ℤ))
+            (es : List frontier.Edge) (e : frontier.Edge)
+            → IsAt m known (es ++ e ∷ []) (S.spaced space) → IsTrail S.spaced m known es self.old
+            → IsTrail S.spaced m known (es ++ e ∷ []) self.new }
     {
         self.current = Some(space);
     }
 
     /// A space that is done with.
     pub fn release(&mut self, space: S)
-        ensures { (m : Instance) (es : List frontier.Edge) → IsTrail S.spaced m es self.old
-            → IsTrail S.spaced m es self.new }
+        ensures { (m : Instance) (known : Option (List ℤ)) (es : List frontier.Edge)
+            → IsTrail S.spaced m known es self.old
+            → IsTrail S.spaced m known es self.new }
     {
         let _ = self.spare.push(space);
     }
@@ -204,9 +221,10 @@ fn drop_current<S: Space>(current: &mut Option<S>, spare: &mut Vec<S>)
 
 /// Drops the copies below a depth.
 fn drop_below<S: Space>(copies: &mut Vec<Kept<S>>, spare: &mut Vec<S>, depth: usize)
-    ensures { (m : Instance) (es fs : List frontier.Edge) → take depth fs ≡ take depth es
-        → depth ≤ length fs → AreKept S.spaced m es 0 copies.old.items
-        → AreKept S.spaced m fs 0 copies.new.items }
+    ensures { (m : Instance) (known : Option (List ℤ)) (es fs : List frontier.Edge)
+        → take depth fs ≡ take depth es
+        → depth ≤ length fs → AreKept S.spaced m known es 0 copies.old.items
+        → AreKept S.spaced m known fs 0 copies.new.items }
 {
     'copies: while is_below(copies, depth) {
         if let Some(kept) = copies.pop() {
@@ -252,8 +270,9 @@ fn copy_of<S: Space>(spare: &mut Vec<S>, depth: usize, space: &S) -> Result<Kept
 fn commit_all<S: Space>(space: &mut S, edges: &[Edge]) -> Result<(), AllocError>
     requires { AreEdges edges.now }
     ensures model { (S.spaced space.new).model ≡ (S.spaced space.old).model }
-    ensures covers { OnOk result ((ds : List Decision) → Covers ds (S.spaced space.old)
-        → Covers (ds ++ decisions_of edges.now) (S.spaced space.new)) }
+    ensures covers { OnOk result ((known : Option (List ℤ)) (ds : List Decision)
+        → Covers known ds (S.spaced space.old)
+        → Covers known (ds ++ decisions_of edges.now) (S.spaced space.new)) }
 {
     'edges: for edge in edges {
         space.commit(&edge.choice, edge.taken)?;

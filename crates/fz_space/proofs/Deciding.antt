@@ -15,7 +15,8 @@ use Rattle.fz_tree.specs.declared.decision.Decision.{Decision}
 use Rattle.fz_tree.specs.Choice.{meets, compares, compares_if_there}
 use Rattle.fz_strength.specs.Domains.{Within, number_at}
 use Rattle.fz_strength.proofs.Terms.{within_before}
-use Rattle.fz_strength.proofs.Lists.{all_left, all_right, all_both}
+use Rattle.fz_sets.proofs.Lists.{all_left, all_right, all_both}
+use Rattle.fz_sets.proofs.Numbers.{test_of_le, test_of_above}
 use Rattle.fz_prop.specs.Stores.{Stored, IsStore, Shrinks, IsChangeAt}
 use Rattle.fz_prop.proofs.TermChanges.{within_kept}
 use Rattle.fz_agenda.proofs.Settled.{settled_lasts}
@@ -37,20 +38,14 @@ by_not false P t = ((λ h p. let e : false ≡ true = t.1 p in cc), (λ k. refl)
 le_of : (x v : ℤ) → IsTrue (int_le x v) → x ≤ℤ v
 le_of x v h = grind (arith, ints)
 
-of_le : (x v : ℤ) → x ≤ℤ v → IsTrue (int_le x v)
-of_le x v h = grind (arith, ints)
-
 above_of : (x v : ℤ) → IsTrue (not (int_le x v)) → v <ℤ x
 above_of x v h = grind (arith, ints)
-
-of_above : (x v : ℤ) → v <ℤ x → IsTrue (not (int_le x v))
-of_above x v h = grind (arith, ints)
 
 tests : (comparison : Comparison) (x v : ℤ) → Tests (compares comparison x v) (Compares comparison v x)
 tests Equal x v = Decides-int_eq x v
 tests NotEqual x v = by_not (int_eq x v) (x ≡ v) (Decides-int_eq x v)
-tests AtMost x v = (le_of x v, of_le x v)
-tests Above x v = (above_of x v, of_above x v)
+tests AtMost x v = (le_of x v, test_of_le x v)
+tests Above x v = (above_of x v, test_of_above x v)
 
 meets_is : (a : List ℤ) (d : Decision) → d.variable < length a → Tests (meets a d) (Compares d.comparison d.value (number_at a d.variable))
 meets_is a d within =
@@ -106,17 +101,17 @@ decided_beyond d ds es beyond a inside met =
 not_both : (b : Bool) → b ≡ true → b ≡ false → ⊥
 not_both b p q = let e : true ≡ false = sym p ∙ q in cc
 
-pub covers_failed : (m : Instance) (s : Stored) (failed : Bool) (ds : List Decision) (d : Decision) → failed ≡ true → Covers ds (spaced m s failed) → Covers (ds ++ d ∷ []) (spaced m s failed)
-covers_failed m s failed ds d is covers = record {
-  all = λ a satisfies met. absurd (not_both failed is (covers.all a satisfies (all_left (λ (x : Decision). IsTrue (meets a x)) ds (d ∷ []) met)).0);
+pub covers_failed : (m : Instance) (s : Stored) (failed : Bool) (known : Option (List ℤ)) (ds : List Decision) (d : Decision) → failed ≡ true → Covers known ds (spaced m s failed) → Covers known (ds ++ d ∷ []) (spaced m s failed)
+covers_failed m s failed known ds d is covers = record {
+  all = λ a satisfies better met. absurd (not_both failed is (covers.all a satisfies better (all_left (λ (x : Decision). IsTrue (meets a x)) ds (d ∷ []) met)).0);
   only = λ a alive within. absurd (not_both failed is alive);
 }
 
-pub covers_decided : (m : Instance) (s t : Stored) (ds : List Decision) (d : Decision) → IsDecided true d s.doms t.doms → Covers ds (spaced m s false) → Covers (ds ++ d ∷ []) (spaced m t false)
-covers_decided m s t ds d decided covers = record {
-  all = λ a satisfies met.
+pub covers_decided : (m : Instance) (s t : Stored) (known : Option (List ℤ)) (ds : List Decision) (d : Decision) → IsDecided true d s.doms t.doms → Covers known ds (spaced m s false) → Covers known (ds ++ d ∷ []) (spaced m t false)
+covers_decided m s t known ds d decided covers = record {
+  all = λ a satisfies better met.
       let is_met : Decision → Type 0 = λ (x : Decision). IsTrue (meets a x) in
-      let before = covers.all a satisfies (all_left is_met ds (d ∷ []) met) in
+      let before = covers.all a satisfies better (all_left is_met ds (d ∷ []) met) in
       (refl, (decided a).1 (before.1, (all_right is_met ds (d ∷ []) met).0));
   only = λ a alive within.
       let is_met : Decision → Type 0 = λ (x : Decision). IsTrue (meets a x) in
@@ -125,24 +120,24 @@ covers_decided m s t ds d decided covers = record {
       (both.0, all_both is_met ds (d ∷ []) both.1 (before.1, tt));
 }
 
-pub covers_none : (m : Instance) (s t : Stored) (ds : List Decision) (d : Decision) → IsDecided false d s.doms t.doms → Covers ds (spaced m s false) → Covers (ds ++ d ∷ []) (spaced m t true)
-covers_none m s t ds d decided covers = record {
-  all = λ a satisfies met.
+pub covers_none : (m : Instance) (s t : Stored) (known : Option (List ℤ)) (ds : List Decision) (d : Decision) → IsDecided false d s.doms t.doms → Covers known ds (spaced m s false) → Covers known (ds ++ d ∷ []) (spaced m t true)
+covers_none m s t known ds d decided covers = record {
+  all = λ a satisfies better met.
       let is_met : Decision → Type 0 = λ (x : Decision). IsTrue (meets a x) in
-      let before = covers.all a satisfies (all_left is_met ds (d ∷ []) met) in
+      let before = covers.all a satisfies better (all_left is_met ds (d ∷ []) met) in
       absurd (decided a before.1 (all_right is_met ds (d ∷ []) met).0);
   only = λ a alive within. let e : true ≡ false = alive in absurd (not_both true refl e);
 }
 
 -- as the code says it: whether some are left
-pub covers_left : (m : Instance) (s t : Stored) (ds : List Decision) (d : Decision) (left : Bool) → IsDecided left d s.doms t.doms → Covers ds (spaced m s false) → Covers (ds ++ d ∷ []) (spaced m t (not left))
-covers_left m s t ds d true decided covers = covers_decided m s t ds d decided covers
-covers_left m s t ds d false decided covers = covers_none m s t ds d decided covers
+pub covers_left : (m : Instance) (s t : Stored) (known : Option (List ℤ)) (ds : List Decision) (d : Decision) (left : Bool) → IsDecided left d s.doms t.doms → Covers known ds (spaced m s false) → Covers known (ds ++ d ∷ []) (spaced m t (not left))
+covers_left m s t known ds d true decided covers = covers_decided m s t known ds d decided covers
+covers_left m s t known ds d false decided covers = covers_none m s t known ds d decided covers
 
 -- as the code says it, where nothing failed before
-pub covers_taken : (m : Instance) (s t : Stored) (failed : Bool) (ds : List Decision) (d : Decision) (left : Bool) → failed ≡ false → IsDecided left d s.doms t.doms → Covers ds (spaced m s failed)
-    → Covers (ds ++ d ∷ []) (spaced m t (not left))
-covers_taken m s t failed ds d left is decided covers = covers_left m s t ds d left decided (subst (λ (b : Bool). Covers ds (spaced m s b)) is covers)
+pub covers_taken : (m : Instance) (s t : Stored) (failed : Bool) (known : Option (List ℤ)) (ds : List Decision) (d : Decision) (left : Bool) → failed ≡ false → IsDecided left d s.doms t.doms → Covers known ds (spaced m s failed)
+    → Covers known (ds ++ d ∷ []) (spaced m t (not left))
+covers_taken m s t failed known ds d left is decided covers = covers_left m s t known ds d left decided (subst (λ (b : Bool). Covers known ds (spaced m s b)) is covers)
 
 pub alive_lasts : (m : Instance) (states : List ℕ) (s t : Stored) → IsStore t → Shrinks s t → IsAlive m states s → IsAlive m states t
 alive_lasts m states s t store shrinks alive = record {
@@ -150,3 +145,8 @@ alive_lasts m states s t store shrinks alive = record {
   terms = terms_last m.constraints s.doms t.doms shrinks.narrower alive.terms;
   settled = settled_lasts m.constraints states s t store shrinks alive.settled;
 }
+
+-- as the code says it: what is left meets the decision
+pub met_left : (d : Decision) (left : Bool) (ds es : List (List (ℤ × ℤ))) → IsDecided left d ds es → not left ≡ false → (a : List ℤ) → Within es a → IsTrue (meets a d)
+met_left d true ds es decided alive a within = ((decided a).0 within).1
+met_left d false ds es decided alive a within = let e : true ≡ false = alive in absurd (not_both true refl e)

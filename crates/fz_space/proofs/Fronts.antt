@@ -1,13 +1,13 @@
 -- The variables at the front that have one number left.
-use Rattle.std.proofs.Common.{◌≡◌, ℕ, zero, suc, get_or, Bool, true, Some, ◌+◌, ◌<◌, ◌≤◌, ◌⊎◌, inl, inr, List, [], ◌∷◌, refl, sym, ◌∙◌, ap, subst, arith, length, false}
+use Rattle.std.proofs.Common.{◌≡◌, ℕ, zero, suc, get_or, Bool, true, Some, ◌+◌, ◌<◌, ◌≤◌, ◌⊎◌, inl, inr, List, [], ◌∷◌, refl, sym, ◌∙◌, subst, arith, length, false}
 use Rattle.std.specs.Prelude.{ℤ, slice_get}
 use Rattle.std.proofs.lemmas.Int.{ints}
-use Rattle.fz_sets.specs.Sets.{AreRanges, IsInSet, set_size}
+use Rattle.fz_sets.specs.Sets.{AreRanges, IsInSet, set_size, single}
+use Rattle.fz_sets.proofs.Sizes.{size_of_one, some_size}
 use Rattle.fz_dom.proofs.Lists.{same_or_less}
 use Rattle.fz_branch.specs.Values.{is_open}
 use Rattle.fz_branch.specs.Picks.{AreClosed}
 use Rattle.fz_strength.specs.Domains.{AreDomains, IsNarrower, dom_at}
-use Rattle.fz_strength.proofs.Truths.{single}
 use Rattle.fz_spec.specs.Instance.{Instance}
 use Rattle.fz_tree.specs.declared.decision.Decision.{Decision}
 use Rattle.fz_path.specs.Spaces.{Spaced}
@@ -15,19 +15,12 @@ use Rattle.fz_prop.specs.Stores.{Stored}
 use Rattle.fz_space.specs.Alive.{spaced, IsAlive, FrontFixed}
 use Rattle.fz_space.proofs.Living.{single_more}
 
-size_one : (x : ℤ) → set_size (single x) ≡ 1
-size_one x = omega (arith, ints)
-
 pub none_fixed : (ds : List (List (ℤ × ℤ))) → FrontFixed 0 ds
 none_fixed ds = record { within = omega arith; single = λ v h. absurd (omega (arith, h)) }
 
-some_left : (e : List (ℤ × ℤ)) → 0 < length e → 0 < set_size e
-some_left [] some = absurd (omega (arith, some))
-some_left (r ∷ e) some = omega arith
-
 narrowed : (e : List (ℤ × ℤ)) (x : ℤ) → (e ≡ single x) ⊎ (set_size e < set_size (single x)) → 0 < length e → e ≡ single x
 narrowed e x (inl same) some = same
-narrowed e x (inr less) some = let one = size_one x in let left = some_left e some in absurd (omega (arith, one, left, less))
+narrowed e x (inr less) some = let one = size_of_one x in let left = some_size e some in absurd (omega (arith, one, left, less))
 
 single_ranges : (x : ℤ) → AreRanges (single x)
 single_ranges x = omega (arith, ints)
@@ -50,7 +43,7 @@ front_lasts n ds es narrow narrower front = record {
 
 -- none of them has more than one value left
 pub front_closed : (n : ℕ) (ds : List (List (ℤ × ℤ))) → FrontFixed n ds → AreClosed n ds
-front_closed n ds front = λ v h. let at = front.single v h in subst (λ (d : List (ℤ × ℤ)). is_open d ≡ false) (sym at.1) (let one = size_one at.0 in rw one refl)
+front_closed n ds front = λ v h. let at = front.single v h in subst (λ (d : List (ℤ × ℤ)). is_open d ≡ false) (sym at.1) (let one = size_of_one at.0 in rw one refl)
 
 -- one more, where one number is left of the next
 pub front_more : (ds : List (List (ℤ × ℤ))) (n : ℕ) (x : ℤ) → n < length ds → dom_at ds n ≡ single x → FrontFixed n ds → FrontFixed (n + 1) ds

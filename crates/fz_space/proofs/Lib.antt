@@ -1,3 +1,4 @@
 pub mod Deciding
+pub mod Bounds
 pub mod Living
 pub mod Fronts

@@ -1,24 +1,24 @@
 -- What is known of a space at its root and at rest.
 use Rattle.std.proofs.Common.{◌≡◌, inl, inr, ℕ, zero, suc, ◌+◌, ◌<◌, List, [], ◌∷◌, refl, sym, ◌∙◌, ap, subst, arith, length, true, false}
-use Rattle.std.specs.Prelude.{ℤ}
+use Rattle.std.specs.Prelude.{ℤ, Option, None}
 use Rattle.std.proofs.lemmas.Bool.{cases_eq, cases_lt}
-use Rattle.fz_sets.specs.Sets.{IsInSet, set_size}
+use Rattle.fz_sets.specs.Sets.{IsInSet, set_size, single}
+use Rattle.fz_sets.proofs.Lists.{all_of, below_or_same}
+use Rattle.fz_sets.proofs.Sizes.{some_size}
 use Rattle.fz_spec.specs.Instance.{Instance, Variable, AreDeclared}
 use Rattle.fz_spec.specs.Constraints.{Constraint, IsTrueOf}
 use Rattle.fz_tree.specs.declared.decision.Decision.{Decision}
 use Rattle.fz_strength.specs.Domains.{Within, Alone, AreDomains, dom_at, number_at}
-use Rattle.fz_strength.proofs.Terms.{within_before}
-use Rattle.fz_strength.proofs.Truths.{single, is_single, true_where_alone}
+use Rattle.fz_strength.proofs.Terms.{within_before, is_single}
+use Rattle.fz_strength.proofs.Truths.{true_where_alone}
 use Rattle.fz_prop.specs.Stores.{Stored, HasEmpty, declared_sets}
 use Rattle.fz_agenda.specs.Agendas.{IsSettled}
-use Rattle.fz_agenda.proofs.Places.{below_or_same}
 use Rattle.fz_path.specs.Spaces.{Covers, MeetsAll, IsUndecided, IsStatus}
 use Rattle.fz_path.specs.declared.space.Status.{Status}
 use Rattle.fz_path.specs.declared.space.Status.TheVariants as status
 use Rattle.fz_engine.specs.Runs.{AreOf, IsRun, AreNeverTrue, AllRest}
 use Rattle.fz_space.specs.Alive.{spaced, IsAlive, IsLeft}
 use Rattle.fz_engine.proofs.Knowing.{declared_length}
-use Rattle.fz_engine.proofs.Lists.{all_of}
 use Rattle.fz_engine.proofs.Running.{terms_last}
 
 -- ---- the root
@@ -45,18 +45,18 @@ within_declared (v ∷ vs) (x ∷ a) within = (
   within_declared vs a (record { size = omega (arith, within.size); members = λ u h. within.members (suc u) (omega (arith, h)) }),
 )
 
-pub covers_root : (m : Instance) (s : Stored) → s.doms ≡ declared_sets m.variables → Covers [] (spaced m s false)
+pub covers_root : (m : Instance) (s : Stored) → s.doms ≡ declared_sets m.variables → Covers None [] (spaced m s false)
 covers_root m s is = record {
-  all = λ a satisfies met. (refl, subst (λ (ds : List (List (ℤ × ℤ))). Within ds a) (sym is) (declared_within m.variables a satisfies.declared));
+  all = λ a satisfies better met. (refl, subst (λ (ds : List (List (ℤ × ℤ))). Within ds a) (sym is) (declared_within m.variables a satisfies.declared));
   only = λ a alive within. (within_declared m.variables a (subst (λ (ds : List (List (ℤ × ℤ))). Within ds a) is within), tt);
 }
 
 true_is_false : (P : Type 0) → true ≡ false → P
 true_is_false P e = absurd (cc (e))
 
-pub covers_empty : (m : Instance) (s : Stored) → HasEmpty (declared_sets m.variables) → Covers [] (spaced m s true)
+pub covers_empty : (m : Instance) (s : Stored) → HasEmpty (declared_sets m.variables) → Covers None [] (spaced m s true)
 covers_empty m s empty = record {
-  all = λ a satisfies met.
+  all = λ a satisfies better met.
       let within : Within (declared_sets m.variables) a = declared_within m.variables a satisfies.declared in
       absurd (subst (λ (d : List (ℤ × ℤ)). IsInSet d (number_at a empty.variable)) empty.empty (within.members empty.variable empty.within));
   only = λ a alive within. true_is_false (AreDeclared m.variables a × MeetsAll [] a) alive;
@@ -82,21 +82,17 @@ alive_run m states after s t alive run = record {
 pub alive_settled : (m : Instance) (cs : List Constraint) (states after : List ℕ) (s t : Stored) → cs ≡ m.constraints → IsAlive m states s → IsRun cs s t after → IsAlive m after t
 alive_settled m cs states after s t is alive run = alive_run m states after s t alive (subst (λ (l : List Constraint). IsRun l s t after) is run)
 
-pub covers_run : (m : Instance) (s t : Stored) (after : List ℕ) (ds : List Decision) → IsRun m.constraints s t after → Covers ds (spaced m s false) → Covers ds (spaced m t false)
-covers_run m s t after ds run covers = record {
-  all = λ a satisfies met. (refl, run.correct a satisfies.constraints (covers.all a satisfies met).1);
+pub covers_run : (m : Instance) (s t : Stored) (after : List ℕ) (known : Option (List ℤ)) (ds : List Decision) → IsRun m.constraints s t after → Covers known ds (spaced m s false) → Covers known ds (spaced m t false)
+covers_run m s t after known ds run covers = record {
+  all = λ a satisfies better met. (refl, run.correct a satisfies.constraints (covers.all a satisfies better met).1);
   only = λ a alive within. covers.only a refl (within_before s.doms t.doms a run.narrower within);
 }
 
-pub covers_never : (m : Instance) (s t : Stored) (ds : List Decision) → AreNeverTrue m.constraints s.doms → Covers ds (spaced m s false) → Covers ds (spaced m t true)
-covers_never m s t ds never covers = record {
-  all = λ a satisfies met. absurd (never a satisfies.constraints (covers.all a satisfies met).1);
+pub covers_never : (m : Instance) (s t : Stored) (known : Option (List ℤ)) (ds : List Decision) → AreNeverTrue m.constraints s.doms → Covers known ds (spaced m s false) → Covers known ds (spaced m t true)
+covers_never m s t known ds never covers = record {
+  all = λ a satisfies better met. absurd (never a satisfies.constraints (covers.all a satisfies better met).1);
   only = λ a alive within. true_is_false (AreDeclared m.variables a × MeetsAll ds a) alive;
 }
-
-some_size : (d : List (ℤ × ℤ)) → 0 < length d → 0 < set_size d
-some_size [] some = absurd (omega (arith, some))
-some_size (r ∷ d) some = omega arith
 
 more_than_one : (n : ℕ) → 0 < n → (n ≡ 1 → ⊥) → 1 < n
 more_than_one n some ne = elim (cases_lt 1 n) [ inl more ↦ more | inr few ↦ absurd (ne (omega (arith, some, few))) ]

@@ -1,6 +1,6 @@
 -- What holds of a space.
-use Rattle.std.specs.Prelude.{◌≡◌, ◌↔◌, ◌≢◌, ℕ, ◌<◌, ◌≤◌, ℤ, ◌≤ℤ◌, ◌<ℤ◌, Bool, true, false, IsTrue, List, [], ◌∷◌, length}
-use Rattle.fz_spec.specs.Instance.{Instance}
+use Rattle.std.specs.Prelude.{◌≡◌, ◌↔◌, ◌≢◌, ℕ, ◌<◌, ◌≤◌, ℤ, ◌≤ℤ◌, ◌<ℤ◌, Bool, true, false, IsTrue, List, [], ◌∷◌, length, Option, Some, None}
+use Rattle.fz_spec.specs.Instance.{Instance, IsWhole, IsBetter}
 use Rattle.fz_tree.specs.declared.decision.Comparison.{Comparison}
 use Rattle.fz_tree.specs.declared.decision.Comparison.TheVariants.{Equal, NotEqual, AtMost, Above}
 use Rattle.fz_tree.specs.declared.decision.Decision.{Decision}
@@ -39,6 +39,11 @@ Compares Above value x = value <ℤ x
 abbrev pub IsDecided : Bool → Decision → List (List (ℤ × ℤ)) → List (List (ℤ × ℤ)) → Type 0
 IsDecided true d ds es = (a : List ℤ) → Within es a ↔ (Within ds a × IsTrue (meets a d))
 IsDecided false d ds es = (a : List ℤ) → Within ds a → IsTrue (meets a d) → ⊥
+
+-- the decision that exactly what betters an assignment meets; none where nothing betters it
+abbrev pub IsBound : Instance → List ℤ → Option Decision → Type 0
+IsBound m known (Some d) = (a : List ℤ) → IsWhole m a → IsBetter m a known ↔ IsTrue (meets a d)
+IsBound m known None = (a : List ℤ) → IsBetter m a known → ⊥
 
 -- what is left of domains at rest
 abbrev pub IsLeft : Status → List (List (ℤ × ℤ)) → Type 0

@@ -1,9 +1,10 @@
 //! Taking a decision.
-ghost use Rattle.std.specs.Prelude.{◌≡◌, pos, ◌+ℤ◌, ◌++◌, ◌∷◌, [], ◌<◌, ℕ, ℤ, ◌≤ℤ◌, ◌<ℤ◌, ◌≤◌, List, length, true, false, IfOk, OnOk, OnErr};
+ghost use Rattle.std.specs.Prelude.{◌≡◌, pos, ◌+ℤ◌, ◌++◌, ◌∷◌, [], ◌<◌, ℕ, ℤ, ◌≤ℤ◌, ◌<ℤ◌, ◌≤◌, List, Option, IsTrue, length, true, false, IfOk, OnOk, OnErr};
 ghost use Rattle.fz_spec.specs.Instance.{Instance};
 ghost use Rattle.fz_tree.specs.declared.decision.Decision as tree;
+ghost use Rattle.fz_tree.specs.Choice.{meets};
 ghost use Rattle.fz_sets.specs.Sets.{IsInSet, IsWithinLimits};
-ghost use Rattle.fz_strength.specs.Domains.{dom_at};
+ghost use Rattle.fz_strength.specs.Domains.{Within, dom_at};
 ghost use Rattle.fz_prop.specs.Stores.{IsStore, Shrinks, IsChangeAt};
 ghost use Rattle.fz_path.specs.Spaces.{Covers};
 ghost use Rattle.fz_space.specs.Alive.{spaced, IsAlive, FrontFixed, Compares, IsDecided};
@@ -23,9 +24,11 @@ pub fn take(store: &mut Store, failed: &mut bool, decision: Decision) -> Result<
         → failed.new ≡ false → IsAlive m states store.new }
     ensures front { (n : ℕ) → (failed.old ≡ false → FrontFixed n store.old.doms)
         → failed.new ≡ false → FrontFixed n store.new.doms }
-    ensures covers { OnOk result ((m : Instance) (ds : List tree.Decision)
-        → Covers ds (spaced m store.old failed.old)
-        → Covers (ds ++ decision ∷ []) (spaced m store.new failed.new)) }
+    ensures covers { OnOk result ((m : Instance) (known : Option (List ℤ)) (ds : List tree.Decision)
+        → Covers known ds (spaced m store.old failed.old)
+        → Covers known (ds ++ decision ∷ []) (spaced m store.new failed.new)) }
+    ensures met { OnOk result (failed.new ≡ false
+        → (a : List ℤ) → Within store.new.doms a → IsTrue (meets a decision)) }
     ensures stays { failed.old ≡ true → failed.new ≡ true }
     ensures lacking { OnOk result (length store.old.doms ≤ decision.variable → failed.new ≡ true) }
     ensures store_on_err { OnErr result (store.new ≡ store.old) }

@@ -2,6 +2,7 @@
 //! Tack, Lagerkvist: "Modeling and Programming with Gecode").
 #![tactic(auto)]
 
+mod bound;
 mod commit;
 mod rest;
 mod root;

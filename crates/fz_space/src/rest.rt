@@ -1,5 +1,5 @@
 //! What is known of a space at rest.
-ghost use Rattle.std.specs.Prelude.{◌≡◌, ◌<◌, List, length, true, false, IfOk};
+ghost use Rattle.std.specs.Prelude.{◌≡◌, ◌<◌, ℤ, List, Option, length, true, false, IfOk};
 ghost use Rattle.fz_sets.specs.Sets.{set_size};
 ghost use Rattle.fz_strength.specs.Domains.{AreDomains, dom_at};
 ghost use Rattle.fz_tree.specs.declared.decision.Decision.{Decision};
@@ -29,8 +29,9 @@ pub fn rest(
     requires front { failed.old ≡ false → FrontFixed front.old store.old.doms }
     ensures alive { failed.new ≡ false → IsAlive plan.now.model agenda.new store.new }
     ensures front { failed.new ≡ false → FrontFixed front.new store.new.doms }
-    ensures covers { (ds : List Decision) → Covers ds (spaced plan.now.model store.old failed.old)
-        → Covers ds (spaced plan.now.model store.new failed.new) }
+    ensures covers { (known : Option (List ℤ)) (ds : List Decision)
+        → Covers known ds (spaced plan.now.model store.old failed.old)
+        → Covers known ds (spaced plan.now.model store.new failed.new) }
     ensures answer { IfOk result (λ r. IsStatus r (spaced plan.now.model store.new failed.new)) }
     ensures lines { IfOk result (λ r. HaveLines r plan.now.model.constraints store.new.doms) }
     ensures stays { failed.old ≡ true → failed.new ≡ true }

@@ -1,5 +1,5 @@
 //! The parts of the space of a root.
-ghost use Rattle.std.specs.Prelude.{◌≡◌, [], false, IfOk};
+ghost use Rattle.std.specs.Prelude.{◌≡◌, None, [], false, IfOk};
 ghost use Rattle.fz_prop.specs.Stores.{HasEmpty, declared_sets, fresh};
 ghost use Rattle.fz_path.specs.Spaces.{Covers};
 ghost use Rattle.fz_space.specs.Alive.{spaced, IsAlive};
@@ -25,7 +25,7 @@ pub struct Parts {
 /// `AllocError` where there is no memory.
 pub fn parts_of(alloc: Global, plan: &Plan) -> Result<Parts, AllocError>
     ensures alive { IfOk result (λ p. p.failed ≡ false → IsAlive plan.now.model p.agenda p.store) }
-    ensures covers { IfOk result (λ p. Covers [] (spaced plan.now.model p.store p.failed)) }
+    ensures covers { IfOk result (λ p. Covers None [] (spaced plan.now.model p.store p.failed)) }
 {
     match Store::new(alloc, plan.model())? {
         None => failed_parts(alloc, plan),
@@ -37,7 +37,7 @@ pub fn parts_of(alloc: Global, plan: &Plan) -> Result<Parts, AllocError>
 fn failed_parts(alloc: Global, plan: &Plan) -> Result<Parts, AllocError>
     requires { HasEmpty (declared_sets plan.now.model.variables) }
     ensures alive { IfOk result (λ p. p.failed ≡ false → IsAlive plan.now.model p.agenda p.store) }
-    ensures covers { IfOk result (λ p. Covers [] (spaced plan.now.model p.store p.failed)) }
+    ensures covers { IfOk result (λ p. Covers None [] (spaced plan.now.model p.store p.failed)) }
 {
     let _ = plan.kinds();
     let agenda = Agenda::new(alloc, 0)?;
@@ -52,7 +52,7 @@ fn failed_parts(alloc: Global, plan: &Plan) -> Result<Parts, AllocError>
 fn live_parts(alloc: Global, plan: &Plan, store: Store) -> Result<Parts, AllocError>
     requires { store ≡ fresh (declared_sets plan.now.model.variables) }
     ensures alive { IfOk result (λ p. p.failed ≡ false → IsAlive plan.now.model p.agenda p.store) }
-    ensures covers { IfOk result (λ p. Covers [] (spaced plan.now.model p.store p.failed)) }
+    ensures covers { IfOk result (λ p. Covers None [] (spaced plan.now.model p.store p.failed)) }
 {
     let _ = plan.model();
     let agenda = agenda_of(alloc, plan.kinds())?;

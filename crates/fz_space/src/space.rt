@@ -1,17 +1,20 @@
 //! Spaces.
-ghost use Rattle.std.specs.Prelude.{◌≡◌, ◌<◌, ◌≤◌, ◌++◌, ◌∷◌, [], List, Some, length, true, IfOk, OnOk, OnErr};
+ghost use Rattle.std.specs.Prelude.{◌≡◌, ◌<◌, ◌≤◌, ◌++◌, ◌∷◌, [], ℤ, List, Option, Some, length, true, IfOk, OnOk, OnErr};
 ghost use Rattle.std.specs.List.{slice_get};
 ghost use Rattle.std.specs.Arc.{arc_value};
+ghost use Rattle.fz_spec.specs.Instance.{IsWhole};
 ghost use Rattle.fz_tree.specs.declared.decision.Decision.{Decision};
-ghost use Rattle.fz_path.specs.Spaces.{Spaced, Covers, IsStatus};
+ghost use Rattle.fz_path.specs.Spaces.{Spaced, AllBetter, Covers, IsStatus};
 ghost use Rattle.fz_space.specs.Alive.{HaveLines};
 
+use crate::bound::keep_better;
 use crate::commit::take;
 use crate::rest::rest;
 use crate::root::{Parts, parts_of};
 use fz_agenda::Agenda;
 use fz_dom::Dom;
 use fz_engine::Plan;
+use fz_model::Assignment;
 use fz_path::Status;
 use fz_prop::Store;
 use fz_region::Choice;
@@ -81,9 +84,9 @@ impl fz_path::Space for Space {
     fn commit(&mut self, choice: &Choice, alternative: u32) -> Result<(), AllocError>
         requires { alternative < length choice.now }
         ensures model { self.new.model ≡ self.old.model }
-        ensures covers { OnOk result ((ds : List Decision) (d : Decision)
+        ensures covers { OnOk result ((known : Option (List ℤ)) (ds : List Decision) (d : Decision)
             → slice_get choice.now alternative ≡ Some d
-            → Covers ds self.old → Covers (ds ++ d ∷ []) self.new) }
+            → Covers known ds self.old → Covers known (ds ++ d ∷ []) self.new) }
         ensures stays { self.old.failed ≡ true → self.new.failed ≡ true }
         ensures lacking { OnOk result ((d : Decision) → slice_get choice.now alternative ≡ Some d
             → length self.old.model.variables ≤ d.variable → self.new.failed ≡ true) }
@@ -96,13 +99,30 @@ impl fz_path::Space for Space {
         )
     }
 
+    /// What has failed stays so.
+    ///
+    /// # Errors
+    /// `AllocError` where there is no memory; the space is left as it was.
+    fn tell_bound(&mut self, known: &Assignment) -> Result<(), AllocError>
+        requires { IsWhole self.old.model known.now }
+        ensures model { self.new.model ≡ self.old.model }
+        ensures covers { OnOk result ((ds : List Decision)
+            → Covers (Some known.now) ds self.old → Covers (Some known.now) ds self.new) }
+        ensures better { OnOk result (AllBetter known.now self.new) }
+        ensures stays { self.old.failed ≡ true → self.new.failed ≡ true }
+        ensures err { OnErr result (self.new ≡ self.old) }
+    {
+        keep_better(self.plan.model(), &mut self.store, &mut self.failed, known)
+    }
+
     /// At a branch the line of each constraint holds. What has failed stays so.
     ///
     /// # Errors
     /// `AllocError` where there is no memory; the space covers what it covered, and can be asked again.
     fn status(&mut self) -> Result<Status, AllocError>
         ensures model { self.new.model ≡ self.old.model }
-        ensures covers { (ds : List Decision) → Covers ds self.old → Covers ds self.new }
+        ensures covers { (known : Option (List ℤ)) (ds : List Decision)
+            → Covers known ds self.old → Covers known ds self.new }
         ensures answer { IfOk result (λ status. IsStatus status self.new) }
         ensures lines { IfOk result
             (λ status. HaveLines status self.new.model.constraints self.new.doms) }

@@ -69,11 +69,11 @@ moves c law current some =
     (λ a satisfies better. sym (ap (λ b. times_below c.after.edges a (cond b 1 0)) current ∙ times_next c.after.edges a some))
     (λ h. proper_next c.model.variables [] c.after.edges h)
 
-only_counts : (c : Account) (x a : List ℤ) → c.after.current_open ≡ true → IsOnly c.model c.after.edges x → Satisfies c.model a → MeetsTaken c.after.edges a ⊎ (MeetsTaken c.after.edges a → ⊥)
+only_counts : (c : Account) (x a : List ℤ) → c.after.current_open ≡ true → IsOnly c.model c.after.edges c.witness x → Satisfies c.model a → Betters c.model a c.witness → MeetsTaken c.after.edges a ⊎ (MeetsTaken c.after.edges a → ⊥)
     → one_if (is_same a x) + times_in (closed c.after) a ≡ times_in c.after a
-only_counts c x a current only satisfies (inl met) =
-    omega (arith, alike a x (only.only a satisfies met), times_met c.after.edges a met, open_counts c.after a current)
-only_counts c x a current only satisfies (inr unmet) =
+only_counts c x a current only satisfies better (inl met) =
+    omega (arith, alike a x (only.only a satisfies better met), times_met c.after.edges a met, open_counts c.after a current)
+only_counts c x a current only satisfies better (inr unmet) =
     let other : one_if (is_same a x) ≡ 0 = differ a x (λ e. unmet (subst (MeetsTaken c.after.edges) (sym e) only.taken)) in
     omega (arith, other, times_unmet c.after.edges a 0 1 unmet, open_counts c.after a current)
 
@@ -81,13 +81,13 @@ suits_found : (mode : Mode) (found more : List (List ℤ)) (witness : Option (Li
 suits_found All found more witness is suits = suits
 suits_found Best found more witness is suits = absurd (cc is)
 
-pub adds : (c : Account) (x : List ℤ) → AccountLaw c → c.mode ≡ All → c.after.current_open ≡ true → IsOnly c.model c.after.edges x → AccountLaw (with_found c x)
+pub adds : (c : Account) (x : List ℤ) → AccountLaw c → c.mode ≡ All → c.after.current_open ≡ true → IsOnly c.model c.after.edges c.witness x → AccountLaw (with_found c x)
 adds c x law all current only = record {
   own_mode = law.own_mode;
   sound = all_push (Satisfies c.model) c.found x law.sound only.satisfies;
   witness = law.witness;
   suits = suits_found c.mode c.found (c.found ++ x ∷ []) c.witness all law.suits;
-  sums = λ a satisfies better. omega (arith, law.sums a satisfies better, one_more c.mode c.model a x c.found, only_counts c x a current only satisfies (meets_cases c.after.edges a));
+  sums = λ a satisfies better. omega (arith, law.sums a satisfies better, one_more c.mode c.model a x c.found, only_counts c x a current only satisfies better (meets_cases c.after.edges a));
   edges = law.edges;
   proper = law.proper;
 }

@@ -14,7 +14,8 @@ use Rattle.fz_tree.specs.Account.{Account, AccountLaw, SuitsMode, times_found}
 use Rattle.fz_tree.specs.Book.{Part, Book, BookLaw, SuitsRecord, incumbent_of, incumbent, times_recorded_in, times_recorded, times_open, claimed_part, opening, IsAt, Claims, Takes, AddsIn, AddsWitness, left_of, parts_after, taken, with_recorded}
 use Rattle.fz_tree.proofs.Times.{times_of_none}
 use Rattle.fz_tree.proofs.Orders.{better_than_others, betters_before}
-use Rattle.fz_tree.proofs.Same.{found_both, all_push, all_both}
+use Rattle.fz_tree.proofs.Same.{found_both, all_push}
+use Rattle.fz_sets.proofs.Lists.{all_both, all_get, all_map}
 
 -- ---- lists
 
@@ -23,20 +24,11 @@ all_set P [] i y h p = tt
 all_set P (x ∷ xs) zero y h p = (p, h.1)
 all_set P (x ∷ xs) (suc i) y h p = (h.0, all_set P xs i y h.1 p)
 
-all_at : {X : Type 0} (P : X → Type 0) (xs : List X) (i : ℕ) (d : X) → i < length xs → AllByRecursion P xs → P (get_or xs i d)
-all_at P [] i d lt h = absurd (omega (arith, lt))
-all_at P (x ∷ xs) zero d lt h = h.0
-all_at P (x ∷ xs) (suc i) d lt h = all_at P xs i d (omega (arith, lt)) h.1
-
 all_remove : {X : Type 0} (P : X → Type 0) (xs : List X) (i : ℕ) → AllByRecursion P xs → AllByRecursion P (remove xs i)
 all_remove P [] zero h = tt
 all_remove P [] (suc i) h = tt
 all_remove P (x ∷ xs) zero h = h.1
 all_remove P (x ∷ xs) (suc i) h = (h.0, all_remove P xs i h.1)
-
-all_map : {X Y : Type 0} (P : Y → Type 0) (f : X → Y) (xs : List X) → AllByRecursion (λ (x : X). P (f x)) xs → AllByRecursion P (map f xs)
-all_map P f [] h = tt
-all_map P f (x ∷ xs) h = (h.0, all_map P f xs h.1)
 
 -- ---- the incumbent
 
@@ -91,9 +83,9 @@ claims b f new law c = subst BookLaw (sym c.is) (record {
   improving = law.improving;
   sums = λ a satisfies better. same_sums a (law.sums a satisfies better);
   edges = all_set (λ (p : Part). AreEdges p.frontier.edges) b.parts c.place (claimed_part f) law.edges
-      (subst (λ (g : Frontier). AreEdges g.edges) (c.open_at.is (claimed_part f)) (all_at (λ (p : Part). AreEdges p.frontier.edges) b.parts c.place (claimed_part f) c.open_at.within law.edges));
+      (subst (λ (g : Frontier). AreEdges g.edges) (c.open_at.is (claimed_part f)) (all_get (λ (p : Part). AreEdges p.frontier.edges) b.parts c.place (claimed_part f) c.open_at.within law.edges));
   proper = all_set (λ (p : Part). IsProper b.model.variables p.frontier) b.parts c.place (claimed_part f) law.proper
-      (subst (λ (g : Frontier). IsProper b.model.variables g) (c.open_at.is (claimed_part f)) (all_at (λ (p : Part). IsProper b.model.variables p.frontier) b.parts c.place (claimed_part f) c.open_at.within law.proper));
+      (subst (λ (g : Frontier). IsProper b.model.variables g) (c.open_at.is (claimed_part f)) (all_get (λ (p : Part). IsProper b.model.variables p.frontier) b.parts c.place (claimed_part f) c.open_at.within law.proper));
 })
   where
     same_sums : (a : List ℤ) → times_recorded b a + times_open b.parts a ≡ 1 → times_recorded b a + times_open (set b.parts c.place (claimed_part f)) a ≡ 1
@@ -218,7 +210,7 @@ taken_at b c place added law of_c model mode at adds =
     let was : IsRecord b.mode b.model b.recorded b.parts = record { sound = law.sound; improving = law.improving; sums = law.sums } in
     let new = taken_record b.mode b.model b.recorded added b.parts place c was sums of_found of_witness suits at adds in
     let before : IsProper b.model.variables c.before =
-    subst (λ (f : Frontier). IsProper b.model.variables f) (at.is (claimed_part c.before)) (all_at (λ (p : Part). IsProper b.model.variables p.frontier) b.parts place (claimed_part c.before) at.within law.proper) in
+    subst (λ (f : Frontier). IsProper b.model.variables f) (at.is (claimed_part c.before)) (all_get (λ (p : Part). IsProper b.model.variables p.frontier) b.parts place (claimed_part c.before) at.within law.proper) in
     let proper = subst (λ (m : Instance). IsProper m.variables c.before → AllByRecursion (IsProper m.variables) c.given × IsProper m.variables c.after) model of_c.proper before in
     record {
       own_mode = law.own_mode;

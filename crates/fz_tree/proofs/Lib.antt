@@ -4,6 +4,7 @@ pub mod Times
 pub mod Cuts
 pub mod Propers
 pub mod Orders
+pub mod Onlies
 pub mod Same
 pub mod Accounts
 pub mod Books

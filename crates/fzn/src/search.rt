@@ -46,7 +46,8 @@ pub(crate) fn search<S: Space>(
     let mode = mode_of(model.goal());
     let mut book = begin(alloc, model, mode)?;
     let mut path: Path<S> = Path::idle(alloc, model.clone()?, mode, distance, ADAPTIVE_DISTANCE)?;
-    finish(&mut book, &mut path, enough_for(model.goal(), options))?;
+    let enough = enough_for(model.goal(), options);
+    finish(&mut book, &mut path, enough, options.all())?;
     Ok(book)
 }
 

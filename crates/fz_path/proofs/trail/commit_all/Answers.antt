@@ -5,8 +5,8 @@ use Rattle.fz_path.proofs.trail.commit_all.Goals as goal
 pub edges-preserved : goal.edges-preserved
 edges-preserved g c = (
   c.in_ok-commit.ensures.model ∙ c.edges.invariant.0,
-  (λ ds covers.
-      commit_code c.args.edges.now c.edges.edge-index (record { choice = c.edge.inside.choice; taken = c.edge.inside.taken; last = c.edge.inside.last }) c.edge-item.result ds
+  (λ known ds covers.
+      commit_code c.args.edges.now c.edges.edge-index (record { choice = c.edge.inside.choice; taken = c.edge.inside.taken; last = c.edge.inside.last }) c.edge-item.result known ds
       (g.S.Space.spaced c.edges.space) (g.S.Space.spaced c.commit.new.self) c.edges-test.true (c.edge.view_is ∙ c.edge-item.is) c.requires
-      c.in_ok-commit.ensures.covers (c.edges.invariant.1 ds covers)),
+      (c.in_ok-commit.ensures.covers known) (c.edges.invariant.1 known ds covers)),
 )

@@ -1,6 +1,6 @@
-use Rattle.std.proofs.Common.{◌≡◌, ◌∙◌, ℕ, [], sym, subst, length, arith}
+use Rattle.std.proofs.Common.{◌≡◌, ◌∙◌, [], sym, subst, length, arith}
+use Rattle.fz_sets.proofs.Lists.{same_at}
 use Rattle.fz_strength.specs.Domains.{dom_at}
-use Rattle.fz_agenda.proofs.Places.{same_at}
 use Rattle.fz_space.specs.Alive.{FrontFixed}
 use Rattle.fz_space.proofs.Fronts.{front_more}
 use Rattle.fz_space.proofs.rest.first_open.Goals as goal

@@ -1,4 +1,4 @@
-use Rattle.std.proofs.Common.{◌≡◌, ◌++◌, ◌∷◌, [], sym, subst}
+use Rattle.std.proofs.Common.{◌++◌, ◌∷◌, [], sym, subst}
 use Rattle.std.proofs.lemmas.Result.{on_ok_weaker}
 use Rattle.std.specs.Arc.{arc_value}
 use Rattle.fz_tree.specs.declared.decision.Decision.{Decision}
@@ -18,9 +18,9 @@ returns-clause-covers c =
     let m = (arc_value c.self.inside.plan).model in
     let after = spaced m c.take.new.store c.take.new.failed in
     on_ok_weaker c.take.result
-    (λ covers ds d at before.
+    (λ covers known ds d at before.
     let is = at_some c.args.choice.now c.args.alternative d c.decision.result at c.decision.ensures in
-    subst (λ (e : Decision). Covers (ds ++ e ∷ []) after) is (covers m ds (subst (λ (s : Spaced). Covers ds s) (sym c.self.view_is) before)))
+    subst (λ (e : Decision). Covers known (ds ++ e ∷ []) after) is (covers m known ds (subst (λ (s : Spaced). Covers known ds s) (sym c.self.view_is) before)))
     c.take.ensures.covers
 
 pub returns-clause-lacking : goal.returns-clause-lacking

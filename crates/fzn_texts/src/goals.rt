@@ -1,0 +1,46 @@
+//! Models with a goal, and the solutions that a run with `-a` prints: each better than the one before it, and the best last.
+use crate::running::expect_printed;
+use std::test::Fail;
+
+/// A text, and what is printed of it.
+type Row = (&'static str, &'static str);
+
+const ROWS: [Row; 7] = [
+    ("var 1..2: x; solve minimize 3;", "----------\n==========\n"),
+    (
+        "var 4..4: x :: output_var; var 0..1: y; solve maximize x;",
+        "x = 4;\n----------\n==========\n",
+    ),
+    (
+        "var 1..2: x; constraint int_le(3,x); solve minimize x;",
+        "=====UNSATISFIABLE=====\n",
+    ),
+    (
+        "var int: x :: output_var; solve :: int_search([x],input_order,indomain_min,complete) minimize x;",
+        "x = -2147483646;\n----------\n==========\n",
+    ),
+    (
+        "var 1..3: x :: output_var; solve :: int_search([x],input_order,indomain_min,complete) maximize x;",
+        "x = 1;\n----------\nx = 2;\n----------\nx = 3;\n----------\n==========\n",
+    ),
+    (
+        "var -3..1: x :: output_var; constraint int_ne(x,-3); constraint int_ne(x,0); solve :: int_search([x],input_order,indomain_max,complete) minimize x;",
+        "x = 1;\n----------\nx = -1;\n----------\nx = -2;\n----------\n==========\n",
+    ),
+    (
+        "var 0..1: x :: output_var; var 2..3: y; array [1..3] of var int: a :: output_array([1..3]) = [x,y,5]; constraint int_lin_eq([1,1],[x,y],3); solve :: int_search(a,input_order,indomain_min,complete) minimize y;",
+        "x = 0;\na = array1d(1..3, [0, 3, 5]);\n----------\nx = 1;\na = array1d(1..3, [1, 2, 5]);\n----------\n==========\n",
+    ),
+];
+
+fn rows() -> &'static [Row] {
+    &ROWS
+}
+
+#[test]
+fn each_better_solution_is_printed(rt: HostRuntime) -> Result<(), Fail> {
+    for (text, printed) in rows() {
+        expect_printed(&rt, rt.alloc(), text.as_bytes(), printed)?;
+    }
+    Ok(())
+}
