@@ -34,20 +34,22 @@ fn satisfy(alloc: Global, variables: Vec<Variable>) -> Model
     )
 }
 
-/// `int_plus(x, y, 5)`, which waits.
-fn sum(alloc: Global) -> Result<Awaiting, AllocError>
+/// `fzn_table_int([x, y], [1, 4, 2, 3])`, which waits.
+fn pairs(alloc: Global) -> Result<Awaiting, AllocError>
     ensures below { IfOk result (λ p. AreBelow (waits p) 2) }
 {
+    let mut terms = Vec::new(alloc);
+    terms.push(Term::Var(0))?;
+    terms.push(Term::Var(1))?;
     let mut arguments = Vec::new(alloc);
-    arguments.push(Argument::One(Term::Var(0)))?;
-    arguments.push(Argument::One(Term::Var(1)))?;
-    arguments.push(Argument::One(Term::Num(5)))?;
-    Awaiting::new(alloc, &Constraint::new(Builtin::IntPlus, arguments))
+    arguments.push(Argument::Terms(terms))?;
+    arguments.push(Argument::Numbers(Vec::from_slice(alloc, &[1, 4, 2, 3])?))?;
+    Awaiting::new(alloc, &Constraint::new(Builtin::FznTableInt, arguments))
 }
 
 /// Looks at a store of two variables once x and y have these values, where they are given.
 fn look(alloc: Global, x: Option<i32>, y: Option<i32>) -> Result<Option<Answer>, AllocError> {
-    let waiting = sum(alloc)?.copy()?;
+    let waiting = pairs(alloc)?.copy()?;
     let Some(mut store) = Store::new(alloc, &model(alloc)?)? else {
         return Ok(None);
     };
