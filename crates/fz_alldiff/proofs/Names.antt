@@ -10,7 +10,8 @@ use Rattle.fz_strength.specs.Costs.{cost_of}
 use Rattle.fz_strength.specs.declared.event.Event.TheVariants.{Fixed}
 use Rattle.fz_strength.specs.Differences.{IsDifference, AreApart}
 use Rattle.fz_strength.specs.Events.{Wait, AllFixed, AreBelow, AreFixed, variables_of}
-use Rattle.fz_strength.specs.Lines.{RestsOnceFixed, waits, Rests}
+use Rattle.fz_strength.specs.Lines.{RestsOfParity, waits, Rests}
+use Rattle.fz_strength.specs.Parities.{parity_of}
 use Rattle.fz_strength.specs.Promises.{IsCorrect}
 use Rattle.fz_strength.proofs.Differences.{difference_line, difference_truth, difference_waits}
 use Rattle.fz_strength.proofs.Waits.{terms_fixed, variables_waited, event_waited}
@@ -29,7 +30,7 @@ differing name xs = record { name = name; arguments = Terms xs ∷ [] }
 named : (name : Builtin) (xs : List Term) → IsDifference name → IsSame (IsDifferent xs) (λ a. IsTrueOf a (differing name xs)) (AreApart xs) (Rests (differing name xs))
 named name xs is = record {
   truth = λ a. let e = difference_truth name (term_values a xs) is in rw e ((λ h. h), (λ h. h));
-  line = λ ds h. difference_line (RestsOnceFixed name (Terms xs ∷ []) ds) name xs ds is h;
+  line = λ ds h. difference_line (RestsOfParity name (Terms xs ∷ []) (parity_of name (Terms xs ∷ [])) ds) name xs ds is h;
 }
 
 pub answer_is : (name : Builtin) (xs : List Term) (answer : Answer) (ds es : List (List (ℤ × ℤ))) → IsDifference name → IsAnswerOf answer (IsDifferent xs) (AreApart xs) ds es

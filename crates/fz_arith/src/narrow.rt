@@ -10,7 +10,7 @@ ghost use Rattle.fz_prop.specs.Stores.{Shrinks, IsStore, IsTermOf, IsTermChange,
 ghost use Rattle.fz_arith.specs.Narrowing.{IsClamped, IsDivided, IsStep, AreSteps, IsRested};
 
 use crate::bounds::bounds_at;
-use fz_prop::terms::{remove, value_of};
+use fz_prop::terms::{are_fixed, remove, value_of};
 use fz_prop::{Answer, Change, Store};
 use fz_spec::term::Term;
 use fz_strength::operation::{Bounds, Operation};
@@ -170,17 +170,4 @@ fn rested(store: &Store, changed: bool, operands: &[Term], value: Term) -> Answe
     } else {
         Answer::Fix
     }
-}
-
-/// Whether one number is left of each of these terms.
-fn are_fixed(store: &Store, terms: &[Term]) -> bool
-    requires { AllByRecursion (IsTermOf (length store.now.doms)) terms.now }
-    ensures { IsTrue result ↔ AllFixed store.now.doms terms.now }
-{
-    for term in terms {
-        if value_of(store, *term).is_none() {
-            return false;
-        }
-    }
-    true
 }

@@ -34,22 +34,21 @@ fn satisfy(alloc: Global, variables: Vec<Variable>) -> Model
     )
 }
 
-/// `fzn_table_int([x, y], [1, 4, 2, 3])`, which waits.
-fn pairs(alloc: Global) -> Result<Awaiting, AllocError>
+/// `int_lin_le_reif([2, 1], [x, 1], y, true)`, which waits, since its right side is a variable. No model has such a constraint.
+fn sum(alloc: Global) -> Result<Awaiting, AllocError>
     ensures below { IfOk result (λ p. AreBelow (waits p) 2) }
 {
-    let mut terms = Vec::new(alloc);
-    terms.push(Term::Var(0))?;
-    terms.push(Term::Var(1))?;
     let mut arguments = Vec::new(alloc);
-    arguments.push(Argument::Terms(terms))?;
-    arguments.push(Argument::Numbers(Vec::from_slice(alloc, &[1, 4, 2, 3])?))?;
-    Awaiting::new(alloc, &Constraint::new(Builtin::FznTableInt, arguments))
+    arguments.push(Argument::Numbers(Vec::from_slice(alloc, &[2, 1])?))?;
+    arguments.push(Argument::Terms(Vec::from_slice(alloc, &[Term::Var(0), Term::Num(1)])?))?;
+    arguments.push(Argument::One(Term::Var(1)))?;
+    arguments.push(Argument::One(Term::Num(1)))?;
+    Awaiting::new(alloc, &Constraint::new(Builtin::IntLinLeReif, arguments))
 }
 
 /// Looks at a store of two variables once x and y have these values, where they are given.
 fn look(alloc: Global, x: Option<i32>, y: Option<i32>) -> Result<Option<Answer>, AllocError> {
-    let waiting = pairs(alloc)?.copy()?;
+    let waiting = sum(alloc)?.copy()?;
     let Some(mut store) = Store::new(alloc, &model(alloc)?)? else {
         return Ok(None);
     };
@@ -72,9 +71,9 @@ fn a_constraint_is_true_or_false_once_its_terms_are_fixed(rt: HostRuntime) -> Re
         (None, None, Answer::Fix),
         (Some(1), None, Answer::Fix),
         (None, Some(3), Answer::Fix),
-        (Some(1), Some(3), Answer::Failed),
+        (Some(1), Some(3), Answer::Subsumed),
         (Some(1), Some(4), Answer::Subsumed),
-        (Some(2), Some(3), Answer::Subsumed),
+        (Some(2), Some(3), Answer::Failed),
         (Some(2), Some(4), Answer::Failed),
     ];
     for (x, y, answer) in rows {

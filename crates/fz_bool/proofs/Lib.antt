@@ -3,3 +3,5 @@ pub mod Within
 pub mod Falsing
 pub mod Clausal
 pub mod Names
+pub mod Odd
+pub mod Parities

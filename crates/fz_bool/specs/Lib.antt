@@ -1,3 +1,4 @@
 pub mod Looks
 pub mod Clausal
 pub mod Parts
+pub mod Parity

@@ -6,7 +6,7 @@ ghost use Rattle.fz_strength.specs.Events.{AreBelow};
 ghost use Rattle.fz_strength.specs.Lines.{waits};
 ghost use Rattle.fz_strength.specs.Promises.{IsTruth, Suits};
 
-use crate::Clause;
+use crate::{Clause, Parity};
 use fz_dom::Dom;
 use fz_model::{Argument, Constraint, Goal, Kind, Model, Term, Variable};
 use fz_prop::{Answer, Propagator, Store};
@@ -49,24 +49,31 @@ fn clause(alloc: Global) -> Result<Option<Clause>, AllocError>
     Clause::of(alloc, &Constraint::new(Builtin::BoolClauseReif, arguments))
 }
 
-/// Runs a copy of that clause.
-fn run(alloc: Global, store: &mut Store) -> Result<Option<Answer>, AllocError> {
+/// `bool_xor(r, x, y)`.
+fn parity(alloc: Global) -> Result<Option<Parity>, AllocError>
+    ensures below { IfOk result (λ o. IfSome o (λ p. AreBelow (waits p) 3)) }
+    ensures suits { IfOk result (λ o. IfSome o (λ p. (ds : List (List (ℤ × ℤ)))
+        → AllByRecursion (IsTruth ds) (Term.Var 2 ∷ Term.Var 0 ∷ Term.Var 1 ∷ []) → Suits p ds)) }
+{
+    let mut arguments = Vec::new(alloc);
+    arguments.push(Argument::One(Term::Var(2)))?;
+    arguments.push(Argument::One(Term::Var(0)))?;
+    arguments.push(Argument::One(Term::Var(1)))?;
+    Parity::of(alloc, &Constraint::new(Builtin::BoolXor, arguments))
+}
+
+/// Runs a copy of a propagator.
+fn run<P: Propagator>(propagator: &P, store: &mut Store) -> Result<Option<Answer>, AllocError>
+    requires below { AreBelow (waits (P.constraint propagator.now)) 3 }
+    requires suits { (ds : List (List (ℤ × ℤ)))
+        → AllByRecursion (IsTruth ds) (Term.Var 2 ∷ Term.Var 0 ∷ Term.Var 1 ∷ [])
+        → Suits (P.constraint propagator.now) ds }
+{
     if store.doms().len() != 3 || !are_truths(store) {
         return Ok(None);
     }
-    let Some(first) = clause(alloc)? else {
-        return Ok(None);
-    };
-    Ok(Some(run_copy(&first, store)?))
-}
-
-/// Runs a copy of a clause.
-fn run_copy(clause: &Clause, store: &mut Store) -> Result<Answer, AllocError>
-    requires below { AreBelow (waits clause.now) (length store.old.doms) }
-    requires suits { Suits clause.now store.old.doms }
-{
-    let mut copy = clause.copy()?;
-    copy.propagate(store)
+    let mut copy = propagator.copy()?;
+    Ok(Some(copy.propagate(store)?))
 }
 
 /// Whether only 0 and 1 are left of the three variables.
@@ -104,31 +111,76 @@ fn ends(store: &Store, variable: u32) -> (i32, i32) {
     (dom.min(), dom.max())
 }
 
+/// What is left of the three variables, what a run answers, and what is left then.
+type Row = ([(i32, i32); 3], Answer, [(i32, i32); 3]);
+
+/// Whether a run of a propagator does what a row says.
+fn does<P: Propagator>(
+    alloc: Global,
+    model: &Model,
+    propagator: &P,
+    row: Row,
+) -> Result<bool, AllocError>
+    requires below { AreBelow (waits (P.constraint propagator.now)) 3 }
+    requires suits { (ds : List (List (ℤ × ℤ)))
+        → AllByRecursion (IsTruth ds) (Term.Var 2 ∷ Term.Var 0 ∷ Term.Var 1 ∷ [])
+        → Suits (P.constraint propagator.now) ds }
+{
+    let (before, answer, after) = row;
+    let Some(mut store) = Store::new(alloc, model)? else {
+        return Ok(false);
+    };
+    keep(&mut store, 0, before[0])?;
+    keep(&mut store, 1, before[1])?;
+    keep(&mut store, 2, before[2])?;
+    let given = run(propagator, &mut store)?;
+    let left = [ends(&store, 0), ends(&store, 1), ends(&store, 2)];
+    Ok(given == Some(answer) && left == after)
+}
+
+const BOTH: (i32, i32) = (0, 1);
+
+const ONE: (i32, i32) = (1, 1);
+
+const ZERO: (i32, i32) = (0, 0);
+
 #[test]
 fn a_literal_says_whether_one_is_true(rt: HostRuntime) -> Result<(), Fail> {
-    let alloc = rt.alloc();
-    let (both, one, zero) = ((0, 1), (1, 1), (0, 0));
     let rows = [
-        (both, both, one, Answer::Fix, both, both, one),
-        (zero, both, one, Answer::Subsumed, zero, zero, one),
-        (both, one, one, Answer::Subsumed, one, one, one),
-        (zero, one, one, Answer::Failed, zero, one, one),
-        (both, both, zero, Answer::Subsumed, zero, one, zero),
-        (both, zero, zero, Answer::Failed, zero, zero, zero),
-        (both, zero, both, Answer::Subsumed, both, zero, one),
-        (zero, one, both, Answer::Subsumed, zero, one, zero),
-        (both, one, both, Answer::Fix, both, one, both),
+        ([BOTH, BOTH, ONE], Answer::Fix, [BOTH, BOTH, ONE]),
+        ([ZERO, BOTH, ONE], Answer::Subsumed, [ZERO, ZERO, ONE]),
+        ([BOTH, ONE, ONE], Answer::Subsumed, [ONE, ONE, ONE]),
+        ([ZERO, ONE, ONE], Answer::Failed, [ZERO, ONE, ONE]),
+        ([BOTH, BOTH, ZERO], Answer::Subsumed, [ZERO, ONE, ZERO]),
+        ([BOTH, ZERO, ZERO], Answer::Failed, [ZERO, ZERO, ZERO]),
+        ([BOTH, ZERO, BOTH], Answer::Subsumed, [BOTH, ZERO, ONE]),
+        ([ZERO, ONE, BOTH], Answer::Subsumed, [ZERO, ONE, ZERO]),
+        ([BOTH, ONE, BOTH], Answer::Fix, [BOTH, ONE, BOTH]),
     ];
-    let model = model(alloc)?;
-    for (x, y, r, answer, new_x, new_y, new_r) in rows {
-        let mut store = Store::new(alloc, &model)?.expect(&rt, "a store");
-        keep(&mut store, 0, x)?;
-        keep(&mut store, 1, y)?;
-        keep(&mut store, 2, r)?;
-        assert_eq!(rt; run(alloc, &mut store)?, Some(answer));
-        assert_eq!(rt; ends(&store, 0), new_x);
-        assert_eq!(rt; ends(&store, 1), new_y);
-        assert_eq!(rt; ends(&store, 2), new_r);
+    let model = model(rt.alloc())?;
+    let clause = clause(rt.alloc())?.expect(&rt, "a clause");
+    for row in rows {
+        assert!(rt; does(rt.alloc(), &model, &clause, row)?);
+    }
+    Ok(())
+}
+
+#[test]
+fn the_last_open_term_makes_the_parity(rt: HostRuntime) -> Result<(), Fail> {
+    let rows = [
+        ([BOTH, BOTH, ONE], Answer::Fix, [BOTH, BOTH, ONE]),
+        ([BOTH, ZERO, BOTH], Answer::Fix, [BOTH, ZERO, BOTH]),
+        ([ZERO, BOTH, ONE], Answer::Subsumed, [ZERO, ONE, ONE]),
+        ([ONE, BOTH, ONE], Answer::Subsumed, [ONE, ZERO, ONE]),
+        ([ONE, ONE, BOTH], Answer::Subsumed, [ONE, ONE, ZERO]),
+        ([ZERO, ZERO, BOTH], Answer::Subsumed, [ZERO, ZERO, ZERO]),
+        ([ONE, ZERO, ONE], Answer::Subsumed, [ONE, ZERO, ONE]),
+        ([ONE, ZERO, ZERO], Answer::Failed, [ONE, ZERO, ZERO]),
+    ];
+    let model = model(rt.alloc())?;
+    let parity = parity(rt.alloc())?.expect(&rt, "a parity");
+    for row in rows {
+        assert!(rt; does(rt.alloc(), &model, &parity, row)?);
     }
     Ok(())
 }

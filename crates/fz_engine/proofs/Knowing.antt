@@ -8,7 +8,7 @@ use Rattle.fz_sets.specs.Sets.{IsWithinLimits, IsInSet, IsInRange}
 use Rattle.fz_spec.specs.declared.kind.Kind.{Kind}
 use Rattle.fz_spec.specs.declared.kind.Kind.TheVariants as kinds
 use Rattle.fz_spec.specs.declared.builtin.Builtin.{Builtin}
-use Rattle.fz_spec.specs.declared.builtin.Builtin.TheVariants.{BoolLinEq, BoolLinLe, IntLinEq, IntLinEqReif, IntLinLe, IntLinLeReif, IntLinNe, IntLinNeReif, ArrayBoolAnd, ArrayBoolOr, BoolAnd, BoolClause, BoolClauseReif, BoolOr, BoolEqReif, BoolLeReif, BoolLtReif, IntEqReif, IntLeReif, IntLtReif, IntNeReif, SetIn, SetInReif, ArrayBoolElement, ArrayIntElement, ArrayIntMaximum, ArrayIntMinimum, IntAbs, IntDiv, IntMax, IntMin, IntMod, IntPlus, IntTimes}
+use Rattle.fz_spec.specs.declared.builtin.Builtin.TheVariants.{BoolLinEq, BoolLinLe, IntLinEq, IntLinEqReif, IntLinLe, IntLinLeReif, IntLinNe, IntLinNeReif, ArrayBoolAnd, ArrayBoolOr, ArrayBoolXor, BoolXor, BoolAnd, BoolClause, BoolClauseReif, BoolOr, BoolEqReif, BoolLeReif, BoolLtReif, IntEqReif, IntLeReif, IntLtReif, IntNeReif, FznCumulative, FznTableBool, FznTableInt, SetIn, SetInReif, ArrayBoolElement, ArrayIntElement, ArrayIntMaximum, ArrayIntMinimum, ArrayVarBoolElement, ArrayVarIntElement, IntAbs, IntDiv, IntMax, IntMin, IntMod, IntPlus, IntTimes}
 use Rattle.fz_spec.specs.declared.term.Term.{Term}
 use Rattle.fz_spec.specs.declared.term.Term.TheVariants.{Num, Var}
 use Rattle.fz_spec.specs.declared.asked.Element.{Element}
@@ -25,6 +25,7 @@ use Rattle.fz_strength.specs.declared.event.Event.{Event}
 use Rattle.fz_strength.specs.declared.event.Event.TheVariants.{Any, Bound, Fixed}
 use Rattle.fz_strength.specs.declared.relation.Relation.{Relation}
 use Rattle.fz_strength.specs.Elements.{waits_of_selection}
+use Rattle.fz_strength.specs.VariableElements.{waits_of_variable_selection}
 use Rattle.fz_strength.specs.Events.{Wait, wait_for, waits_for, AreBelow}
 use Rattle.fz_strength.specs.Relations.{relation_of, reified_of, event_of, reified_event}
 use Rattle.fz_strength.specs.Sums.{sum_relation_of, left_terms, sum_event_of}
@@ -33,10 +34,13 @@ use Rattle.fz_strength.specs.Lines.{terms_among, waits, waits_of, waits_of_two, 
 use Rattle.fz_strength.specs.declared.operation.Operation.{Operation}
 use Rattle.fz_strength.specs.declared.operation.Operation.TheVariants.{Plus, Times, Quotient, Remainder, Abs, Min, Max}
 use Rattle.fz_strength.specs.Operations.{Equation, equation, equation_of, equation_terms, waits_of_equation}
+use Rattle.fz_strength.specs.Tables.{waits_of_table}
+use Rattle.fz_strength.specs.Cumulatives.{waits_of_tasks}
 use Rattle.fz_strength.specs.Domains.{dom_at}
 use Rattle.fz_strength.specs.declared.literal.Literal.{Literal}
 use Rattle.fz_strength.specs.Clauses.{Clause, clause_of}
-use Rattle.fz_strength.specs.Promises.{truths_of_clause, truth_of_reified, truths_of, IsTruth}
+use Rattle.fz_strength.specs.Parities.{Parity, parity_of}
+use Rattle.fz_strength.specs.Promises.{truths_of_parity, truths_of_clause, truths_otherwise, truth_of_reified, truths_of, IsTruth}
 use Rattle.fz_strength.proofs.Clauses.{clause_all}
 use Rattle.fz_strength.proofs.Terms.{is_single}
 use Rattle.fz_sets.proofs.Lists.{all_left, all_both, all_at, some_is, all_map}
@@ -278,6 +282,23 @@ selection_below W ArrayIntElement k c n general first third = all_both (λ (w : 
 selection_below W ArrayBoolElement k c n general first third = all_both (λ (w : Wait). w.variable < n) (wait_for Any k) (wait_for Any c) (wait_below Any k n first) (wait_below Any c n third)
 selection_below W name k c n general first third = general
 
+tasks_below : (W : List Wait) (name : Builtin) (ts : List Term) (n : ℕ) → AreBelow W n → AllByRecursion (IsTermOf n) ts → AreBelow (waits_of_tasks W name ts) n
+tasks_below W FznCumulative ts n general all = waits_below Bound ts n all
+tasks_below W name ts n general all = general
+
+table_below : (W : List Wait) (name : Builtin) (xs : List Term) (n : ℕ) → AreBelow W n → AllByRecursion (IsTermOf n) xs → AreBelow (waits_of_table W name xs) n
+table_below W FznTableInt xs n general all = waits_below Any xs n all
+table_below W FznTableBool xs n general all = waits_below Any xs n all
+table_below W name xs n general all = general
+
+variable_selection_below : (W : List Wait) (name : Builtin) (xs : List Term) (k c : Term) (n : ℕ) → AreBelow W n → IsTermOf n k → AllByRecursion (IsTermOf n) xs → IsTermOf n c
+    → AreBelow (waits_of_variable_selection W name xs k c) n
+variable_selection_below W ArrayVarIntElement xs k c n general first all third =
+    all_both (λ (w : Wait). w.variable < n) (wait_for Any k) (waits_for Bound (c ∷ xs)) (wait_below Any k n first) (waits_below Bound (c ∷ xs) n (third, all))
+variable_selection_below W ArrayVarBoolElement xs k c n general first all third =
+    all_both (λ (w : Wait). w.variable < n) (wait_for Any k) (waits_for Bound (c ∷ xs)) (wait_below Any k n first) (waits_below Bound (c ∷ xs) n (third, all))
+variable_selection_below W name xs k c n general first all third = general
+
 sum_below : (W : List Wait) (o : Option Relation) (ts : List Term) (n : ℕ) → AreBelow W n → AllByRecursion (IsTermOf n) ts → AreBelow (waits_of_sum W o ts) n
 sum_below W None ts n general all = general
 sum_below W (Some relation) ts n general all = waits_below (sum_event_of relation) ts n all
@@ -300,6 +321,9 @@ below_of name (One x ∷ Set set ∷ One r ∷ []) n among =
     set_reified_below (waits_for Fixed (x ∷ r ∷ [])) name x r n (general_below (One x ∷ Set set ∷ One r ∷ []) n among) among.0 among.1.1.0
 below_of name (One k ∷ Numbers xs ∷ One c ∷ []) n among =
     selection_below (waits_for Fixed (k ∷ c ∷ [])) name k c n (general_below (One k ∷ Numbers xs ∷ One c ∷ []) n among) among.0 among.1.1.0
+below_of name (One k ∷ Terms xs ∷ One c ∷ []) n among =
+    let at = One k ∷ Terms xs ∷ One c ∷ [] in
+    variable_selection_below (waits_for Fixed (terms_among at)) name xs k c n (general_below at n among) among.0 among.1.0 among.1.1.0
 below_of name (Numbers ks ∷ Terms ts ∷ One c ∷ []) n among =
     let at = Numbers ks ∷ Terms ts ∷ One c ∷ [] in
     sum_below (waits_for Fixed (terms_among at)) (sum_relation_of name) (left_terms ts c) n (general_below at n among) (left_among ts c n among.1.0 among.1.1.0)
@@ -307,6 +331,11 @@ below_of name (Numbers ks ∷ Terms ts ∷ One (Num c) ∷ One r ∷ []) n among
     let at = Numbers ks ∷ Terms ts ∷ One (Num c) ∷ One r ∷ [] in
     reified_sum_below (waits_for Fixed (terms_among at)) (reified_sum_of name) ts r n (general_below at n among) among.1.0 among.1.1.1.0
 below_of name (Terms xs ∷ []) n among = general_below (Terms xs ∷ []) n among
+below_of name (Terms xs ∷ Numbers table ∷ []) n among =
+    let at = Terms xs ∷ Numbers table ∷ [] in table_below (waits_for Fixed (terms_among at)) name xs n (general_below at n among) among.0
+below_of name (Terms ss ∷ Terms dd ∷ Terms us ∷ One b ∷ []) n among =
+    let at = Terms ss ∷ Terms dd ∷ Terms us ∷ One b ∷ [] in
+    tasks_below (waits_for Fixed (terms_among at)) name (terms_among at) n (general_below at n among) (terms_below n at among)
 below_of name arguments n among = otherwise_below name arguments n among
 
 pub below : (m : Instance) (i : ℕ) (c : Constraint) → IsModel m → slice_get m.constraints i ≡ Some c → AreBelow (waits c) (length m.variables)
@@ -370,9 +399,27 @@ bools_truths : (vs : List Variable) (ts : List Term) → AllByRecursion IsVariab
 bools_truths vs [] sets are = tt
 bools_truths vs (t ∷ ts) sets are = (bool_truth vs t sets are.0, bools_truths vs ts sets are.1)
 
+-- all terms of a parity are Booleans
+none_parity : (p : Parity) → None ≡ Some p → ⊥
+none_parity p is = cc
+
+parity_bools : (vs : List Variable) (name : Builtin) (arguments : List Argument) (p : Parity) → parity_of name arguments ≡ Some p → MatchOption (row_of name) ⊥ (λ row. FitsRow vs row arguments)
+    → AllByRecursion (kept.IsTermOf vs kinds.Bool) p.terms
+parity_bools vs ArrayBoolXor (Terms ts ∷ []) p is fits =
+    subst (λ (q : Parity). AllByRecursion (kept.IsTermOf vs kinds.Bool) q.terms) (some_is (record { terms = ts; odd = true }) p is) fits.fit.0.1
+parity_bools vs BoolXor (One x ∷ One y ∷ One r ∷ []) p is fits =
+    subst (λ (q : Parity). AllByRecursion (kept.IsTermOf vs kinds.Bool) q.terms) (some_is (record { terms = x ∷ y ∷ r ∷ []; odd = false }) p is)
+    (bool_element vs x fits.fit.0, (bool_element vs y fits.fit.1.0, (bool_element vs r fits.fit.1.1.0, tt)))
+parity_bools vs name arguments p is fits = absurd (none_parity p is)
+
+suits_parity : (vs : List Variable) (name : Builtin) (arguments : List Argument) (o : Option Parity) → parity_of name arguments ≡ o → AllByRecursion IsVariable vs
+    → MatchOption (row_of name) ⊥ (λ row. FitsRow vs row arguments) → AllByRecursion (IsTruth (declared_sets vs)) (truths_of_parity o)
+suits_parity vs name arguments None is sets fits = tt
+suits_parity vs name arguments (Some p) is sets fits = bools_truths vs p.terms sets (parity_bools vs name arguments p is fits)
+
 suits_clause : (vs : List Variable) (name : Builtin) (arguments : List Argument) (o : Option Clause) → clause_of name arguments ≡ o → AllByRecursion IsVariable vs
-    → MatchOption (row_of name) ⊥ (λ row. FitsRow vs row arguments) → AllByRecursion (IsTruth (declared_sets vs)) (truths_of_clause o)
-suits_clause vs name arguments None is sets fits = tt
+    → MatchOption (row_of name) ⊥ (λ row. FitsRow vs row arguments) → AllByRecursion (IsTruth (declared_sets vs)) (truths_of_clause (truths_of_parity (parity_of name arguments)) o)
+suits_clause vs name arguments None is sets fits = suits_parity vs name arguments (parity_of name arguments) refl sets fits
 suits_clause vs name arguments (Some c) is sets fits =
     let truth : Term → Type 0 = IsTruth (declared_sets vs) in
     let all = clause_all truth name arguments c is (bool_truth vs (Num (pos 1)) sets (omega (arith, ints), omega (arith, ints)))
@@ -394,7 +441,7 @@ suits_of : (vs : List Variable) (name : Builtin) (arguments : List Argument) →
     → AllByRecursion (IsTruth (declared_sets vs)) (truths_of name arguments)
 suits_of vs name (One x ∷ One y ∷ One r ∷ []) sets fits =
     let at = One x ∷ One y ∷ One r ∷ [] in
-    suits_reified (truths_of_clause (clause_of name at)) vs name (reified_of name) x y r refl sets fits (suits_clause vs name at (clause_of name at) refl sets fits)
+    suits_reified (truths_otherwise name at) vs name (reified_of name) x y r refl sets fits (suits_clause vs name at (clause_of name at) refl sets fits)
 suits_of vs name (Numbers ks ∷ Terms ts ∷ One (Num c) ∷ One r ∷ []) sets fits = suits_sum vs name (reified_sum_of name) ks ts c r refl sets fits
 suits_of vs SetInReif (One x ∷ Set set ∷ One r ∷ []) sets fits = (bool_truth vs r sets (set_third_bool vs x r set fits), tt)
 suits_of vs name arguments sets fits = suits_clause vs name arguments (clause_of name arguments) refl sets fits

@@ -11,7 +11,10 @@ ghost use Rattle.fz_strength.specs.Elements.{IsSelection};
 ghost use Rattle.fz_strength.specs.Events.{Wait, AreBelow};
 ghost use Rattle.fz_strength.specs.Lines.{waits, HasOwnLine, IsComparing};
 ghost use Rattle.fz_strength.specs.Operations.{equation_of};
+ghost use Rattle.fz_strength.specs.Parities.{parity_of};
 ghost use Rattle.fz_strength.specs.Promises.{IsCorrect, Suits};
+ghost use Rattle.fz_strength.specs.Tables.{IsTable};
+ghost use Rattle.fz_strength.specs.VariableElements.{IsVariableSelection};
 ghost use Rattle.fz_prop.specs.Answers.{IsAnswer};
 ghost use Rattle.fz_prop.specs.Stores.{Shrinks, IsStore, FitsTerm};
 ghost use Rattle.fz_engine.specs.Known.{IsOwn, IsCompared, HaveLimits, IsKept};
@@ -19,7 +22,8 @@ ghost use Rattle.fz_engine.specs.Known.{IsOwn, IsCompared, HaveLimits, IsKept};
 use fz_alldiff::AllDifferent;
 use fz_arith::Arithmetic;
 use fz_await::Awaiting;
-use fz_bool::Clause;
+use fz_bool::{Clause, Parity};
+use fz_cumul::Cumulative;
 use fz_dom::Dom;
 use fz_element::Element;
 use fz_linear::Linear;
@@ -30,6 +34,8 @@ use fz_rel::{Comparison, Membership, ReifiedComparison, ReifiedMembership};
 use fz_spec::builtin::Builtin;
 use fz_spec::term::Term;
 use fz_strength::relation::Relation;
+use fz_table::Table;
+use fz_varelement::VariableElement;
 use std::alloc::{AllocError, Global};
 use std::marker::Model;
 
@@ -48,7 +54,11 @@ enum Form {
     ReifiedMembership(ReifiedMembership),
     AllDifferent(AllDifferent),
     Clause(Clause),
+    Parity(Parity),
     Element(Element),
+    Table(Table),
+    VariableElement(VariableElement),
+    Cumulative(Cumulative),
     Linear(Linear),
     ReifiedLinear(ReifiedLinear),
     Awaiting(Awaiting),
@@ -91,7 +101,11 @@ impl Kind {
             Form::ReifiedMembership(membership) => membership.vars(),
             Form::AllDifferent(different) => different.vars(),
             Form::Clause(clause) => clause.vars(),
+            Form::Parity(parity) => parity.vars(),
             Form::Element(element) => element.vars(),
+            Form::Table(table) => table.vars(),
+            Form::VariableElement(element) => element.vars(),
+            Form::Cumulative(cumulative) => cumulative.vars(),
             Form::Linear(linear) => linear.vars(),
             Form::ReifiedLinear(linear) => linear.vars(),
             Form::Awaiting(awaiting) => awaiting.vars(),
@@ -111,7 +125,11 @@ impl Kind {
             Form::ReifiedMembership(membership) => membership.event(place),
             Form::AllDifferent(different) => different.event(place),
             Form::Clause(clause) => clause.event(place),
+            Form::Parity(parity) => parity.event(place),
             Form::Element(element) => element.event(place),
+            Form::Table(table) => table.event(place),
+            Form::VariableElement(element) => element.event(place),
+            Form::Cumulative(cumulative) => cumulative.event(place),
             Form::Linear(linear) => linear.event(place),
             Form::ReifiedLinear(linear) => linear.event(place),
             Form::Awaiting(awaiting) => awaiting.event(place),
@@ -130,7 +148,11 @@ impl Kind {
             Form::ReifiedMembership(membership) => membership.cost(),
             Form::AllDifferent(different) => different.cost(),
             Form::Clause(clause) => clause.cost(),
+            Form::Parity(parity) => parity.cost(),
             Form::Element(element) => element.cost(),
+            Form::Table(table) => table.cost(),
+            Form::VariableElement(element) => element.cost(),
+            Form::Cumulative(cumulative) => cumulative.cost(),
             Form::Linear(linear) => linear.cost(),
             Form::ReifiedLinear(linear) => linear.cost(),
             Form::Awaiting(awaiting) => awaiting.cost(),
@@ -157,7 +179,11 @@ impl Kind {
             Form::ReifiedMembership(membership) => membership.run(store),
             Form::AllDifferent(different) => different.run(store),
             Form::Clause(clause) => clause.run(store),
+            Form::Parity(parity) => parity.run(store),
             Form::Element(element) => element.run(store),
+            Form::Table(table) => table.run(store),
+            Form::VariableElement(element) => element.run(store),
+            Form::Cumulative(cumulative) => cumulative.run(store),
             Form::Linear(linear) => linear.run(store),
             Form::ReifiedLinear(linear) => linear.run(store),
             Form::Awaiting(awaiting) => awaiting.run(store),
@@ -190,14 +216,17 @@ fn own(alloc: Global, constraint: &Constraint) -> Result<Option<Kind>, AllocErro
     }
 }
 
-/// The propagator of a constraint that says a clause or an equation; `None` where it says none.
+/// The propagator of a constraint that says a clause, an equation or a parity; `None` where it says none.
 fn saying(alloc: Global, constraint: &Constraint) -> Result<Option<Kind>, AllocError>
     requires { IsComparing constraint.now.name constraint.now.arguments → ⊥ }
     ensures { IfOk result (λ o. IsOwn o constraint.now.name constraint.now.arguments) }
 {
-    match clause(alloc, constraint)? {
+    if let Some(kind) = clause(alloc, constraint)? {
+        return Ok(Some(kind));
+    }
+    match equation(alloc, constraint)? {
         Some(kind) => Ok(Some(kind)),
-        None => equation(alloc, constraint),
+        None => parity(alloc, constraint),
     }
 }
 
@@ -224,6 +253,20 @@ fn equation(alloc: Global, constraint: &Constraint) -> Result<Option<Kind>, Allo
     match Arithmetic::of(alloc, constraint)? {
         Some(arithmetic) => Ok(Some(Kind {
             form: Form::Arithmetic(arithmetic),
+        })),
+        None => Ok(None),
+    }
+}
+
+/// The propagator of a constraint that says a parity; `None` where it says none.
+fn parity(alloc: Global, constraint: &Constraint) -> Result<Option<Kind>, AllocError>
+    ensures { IfOk result (λ o. MatchOption o
+        (parity_of constraint.now.name constraint.now.arguments ≡ None)
+        (λ k. k ≡ constraint.now)) }
+{
+    match Parity::of(alloc, constraint)? {
+        Some(parity) => Ok(Some(Kind {
+            form: Form::Parity(parity),
         })),
         None => Ok(None),
     }
@@ -279,6 +322,7 @@ fn of_term(
         [Argument::One(y), tail @ ..] => Ok(of_terms(name, x, *y, tail)),
         [Argument::Set(set), tail @ ..] => of_set(alloc, name, x, set, tail),
         [Argument::Numbers(numbers), tail @ ..] => of_numbers(alloc, name, x, numbers, tail),
+        [Argument::Terms(terms), tail @ ..] => of_choices(alloc, name, x, terms, tail),
         _ => Ok(None),
     }
 }
@@ -375,6 +419,26 @@ fn of_value(
     }
 }
 
+/// The propagator of a constraint that compares whose first two arguments are a term and a list of terms.
+fn of_choices(
+    alloc: Global,
+    name: Builtin,
+    index: Term,
+    terms: &[Term],
+    rest: &[Argument],
+) -> Result<Option<Kind>, AllocError>
+    requires { FitsTerm index }
+    ensures { IfOk result (λ o. IsCompared o name
+        (meaning.One index ∷ meaning.Terms terms.now ∷ map argument_of rest.now)) }
+{
+    match (name, rest) {
+        (Builtin::ArrayVarIntElement | Builtin::ArrayVarBoolElement, [Argument::One(value)]) => Ok(
+            Some(variable_element(alloc, name, index, terms, *value)?),
+        ),
+        _ => Ok(None),
+    }
+}
+
 /// The propagator of a constraint that compares whose first argument is a list of terms.
 fn of_list(
     alloc: Global,
@@ -385,9 +449,99 @@ fn of_list(
     ensures { IfOk result
         (λ o. IsCompared o name (meaning.Terms terms.now ∷ map argument_of rest.now)) }
 {
-    match (name, rest) {
-        (Builtin::AllDifferentInt | Builtin::FznAllDifferentInt, []) => {
+    match rest {
+        [] => of_all(alloc, name, terms),
+        [Argument::Numbers(numbers)] => of_rows(alloc, name, terms, numbers),
+        [Argument::Terms(durations), tail @ ..] => of_lists(alloc, name, terms, durations, tail),
+        _ => Ok(None),
+    }
+}
+
+/// The propagator of a constraint that compares whose one argument is a list of terms.
+fn of_all(alloc: Global, name: Builtin, terms: &[Term]) -> Result<Option<Kind>, AllocError>
+    ensures { IfOk result (λ o. IsCompared o name (meaning.Terms terms.now ∷ [])) }
+{
+    match name {
+        Builtin::AllDifferentInt | Builtin::FznAllDifferentInt => {
             Ok(Some(different(alloc, name, terms)?))
+        }
+        _ => Ok(None),
+    }
+}
+
+/// The propagator of a constraint that compares a list of terms with a list of numbers.
+fn of_rows(
+    alloc: Global,
+    name: Builtin,
+    terms: &[Term],
+    numbers: &[i32],
+) -> Result<Option<Kind>, AllocError>
+    ensures { IfOk result (λ o. IsCompared o name
+        (meaning.Terms terms.now ∷ meaning.Numbers numbers.now ∷ [])) }
+{
+    match name {
+        Builtin::FznTableInt | Builtin::FznTableBool => {
+            Ok(Some(tabled(alloc, name, terms, numbers)?))
+        }
+        _ => Ok(None),
+    }
+}
+
+/// The propagator of a constraint that compares whose first two arguments are lists of terms.
+fn of_lists(
+    alloc: Global,
+    name: Builtin,
+    starts: &[Term],
+    durations: &[Term],
+    rest: &[Argument],
+) -> Result<Option<Kind>, AllocError>
+    ensures { IfOk result (λ o. IsCompared o name
+        (meaning.Terms starts.now ∷ meaning.Terms durations.now ∷ map argument_of rest.now)) }
+{
+    match rest {
+        [Argument::Terms(usages), tail @ ..] => {
+            of_three_lists(alloc, name, starts, durations, usages, tail)
+        }
+        _ => Ok(None),
+    }
+}
+
+/// The propagator of a constraint that compares whose first three arguments are lists of terms.
+fn of_three_lists(
+    alloc: Global,
+    name: Builtin,
+    starts: &[Term],
+    durations: &[Term],
+    usages: &[Term],
+    rest: &[Argument],
+) -> Result<Option<Kind>, AllocError>
+    ensures { IfOk result (λ o. IsCompared o name (meaning.Terms starts.now
+        ∷ meaning.Terms durations.now ∷ meaning.Terms usages.now ∷ map argument_of rest.now)) }
+{
+    match rest {
+        [Argument::One(bound)] => of_tasks(alloc, name, starts, durations, usages, *bound),
+        _ => Ok(None),
+    }
+}
+
+/// The propagator of a constraint that compares what tasks use with a bound.
+fn of_tasks(
+    alloc: Global,
+    name: Builtin,
+    starts: &[Term],
+    durations: &[Term],
+    usages: &[Term],
+    bound: Term,
+) -> Result<Option<Kind>, AllocError>
+    ensures { IfOk result (λ o. IsCompared o name (meaning.Terms starts.now
+        ∷ meaning.Terms durations.now ∷ meaning.Terms usages.now ∷ meaning.One bound ∷ [])) }
+{
+    match name {
+        Builtin::FznCumulative => {
+            let cumulative = Cumulative::new(alloc, starts, durations, usages, bound)?;
+            Ok(Some(Kind {
+                form: Form::Cumulative(cumulative),
+            }))
         }
         _ => Ok(None),
     }
@@ -429,6 +583,20 @@ fn different(alloc: Global, name: Builtin, terms: &[Term]) -> Result<Kind, Alloc
     })
 }
 
+/// The propagator of terms whose values are a row of a table.
+fn tabled(alloc: Global, name: Builtin, terms: &[Term], numbers: &[i32]) -> Result<Kind, AllocError>
+    requires { IsTable name }
+    ensures { IfOk result (λ k. k ≡ record {
+      name = name;
+      arguments = meaning.Terms terms.now ∷ meaning.Numbers numbers.now ∷ [];
+    }) }
+{
+    let table = Table::new(alloc, name, terms, numbers)?;
+    Ok(Kind {
+        form: Form::Table(table),
+    })
+}
+
 /// The propagator of an index into a list of numbers.
 fn element(
     alloc: Global,
@@ -448,6 +616,27 @@ fn element(
     let element = Element::new(alloc, name, index, numbers, value)?;
     Ok(Kind {
         form: Form::Element(element),
+    })
+}
+
+/// The propagator of an index into a list of terms.
+fn variable_element(
+    alloc: Global,
+    name: Builtin,
+    index: Term,
+    terms: &[Term],
+    value: Term,
+) -> Result<Kind, AllocError>
+    requires name { IsVariableSelection name }
+    requires fits { FitsTerm index }
+    ensures { IfOk result (λ k. k ≡ record {
+      name = name;
+      arguments = meaning.One index ∷ meaning.Terms terms.now ∷ meaning.One value ∷ [];
+    }) }
+{
+    let element = VariableElement::new(alloc, name, index, terms, value)?;
+    Ok(Kind {
+        form: Form::VariableElement(element),
     })
 }
 

@@ -6,5 +6,6 @@ pub mod Twice
 pub mod Settling
 pub mod Answering
 pub mod Filled
+pub mod Grown
 pub mod Reifying
 pub mod Numbers

@@ -1,9 +1,10 @@
 //! Terms over a store: a variable has its domain, a number itself alone.
-ghost use Rattle.std.specs.Prelude.{◌≡◌, ◌≢◌, ℤ, ◌≤ℤ◌, List, length, IfOk, OnErr, MatchOption};
+ghost use Rattle.std.specs.Prelude.{◌≡◌, ◌≢◌, ◌↔◌, ℤ, ◌≤ℤ◌, List, length, IfOk, OnErr, IsTrue, MatchOption};
+ghost use Rattle.std.specs.List.{AllByRecursion};
 ghost use Rattle.fz_sets.specs.Sets.{IsInSet, IsWithinLimits};
 ghost use Rattle.fz_dom.specs.Shape.{least, greatest};
 ghost use Rattle.fz_strength.specs.Domains.{term_set};
-ghost use Rattle.fz_strength.specs.Events.{IsOnly};
+ghost use Rattle.fz_strength.specs.Events.{IsOnly, AllFixed};
 ghost use Rattle.fz_prop.specs.Stores.{Shrinks, IsTermOf, FitsTerm, IsTermChange};
 
 use crate::store::Store;
@@ -56,6 +57,30 @@ pub fn value_of(store: &Store, term: Term) -> Option<i32>
         }
         Term::Num(number) => Some(number),
     }
+}
+
+/// Whether a number is left of a term.
+pub fn has(store: &Store, term: Term, number: i32) -> bool
+    requires { IsTermOf (length store.now.doms) term }
+    ensures { IsTrue result ↔ IsInSet (term_set store.now.doms term) number }
+{
+    match term {
+        Term::Var(variable) => store.dom(variable).contains(number),
+        Term::Num(only) => number == only,
+    }
+}
+
+/// Whether one number is left of each of these terms.
+pub fn are_fixed(store: &Store, terms: &[Term]) -> bool
+    requires { AllByRecursion (IsTermOf (length store.now.doms)) terms.now }
+    ensures { IsTrue result ↔ AllFixed store.now.doms terms.now }
+{
+    for term in terms {
+        if value_of(store, *term).is_none() {
+            return false;
+        }
+    }
+    true
 }
 
 /// Keeps the numbers of a term at or above a value.

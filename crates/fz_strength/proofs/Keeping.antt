@@ -5,24 +5,28 @@ use Rattle.fz_sets.specs.Sets.{IsInSet}
 use Rattle.fz_spec.specs.declared.builtin.Builtin.{Builtin}
 use Rattle.fz_spec.specs.declared.builtin.Builtin.TheVariants.{SetIn, SetInReif}
 use Rattle.fz_spec.specs.declared.term.Term.{Term}
-use Rattle.fz_spec.specs.declared.term.Term.TheVariants.{Num, Var}
+use Rattle.fz_spec.specs.declared.term.Term.TheVariants.{Num}
 use Rattle.fz_spec.specs.Constraints.{Argument, One, Terms, Set, Numbers}
 use Rattle.fz_strength.specs.declared.relation.Relation.{Relation}
 use Rattle.fz_strength.specs.declared.relation.Relation.TheVariants.{Equal, NotEqual, AtMost, Below}
 use Rattle.fz_strength.specs.declared.event.Event.TheVariants.{Any, Fixed}
 use Rattle.fz_strength.specs.Clauses.{Clause, clause_of}
+use Rattle.fz_strength.specs.Parities.{Parity, parity_of}
 use Rattle.fz_strength.specs.Domains.{dom_at, term_set, AreDomains, IsNarrower}
 use Rattle.fz_strength.specs.Events.{IsQuiet, Wait, wait_for, waits_for, AreQuiet}
 use Rattle.fz_strength.specs.Relations.{relation_of, reified_of, RestsAs, event_of, reified_event}
 use Rattle.fz_strength.specs.Sums.{sum_relation_of, left_factors, left_terms, right_number}
 use Rattle.fz_strength.specs.ReifiedSums.{reified_sum_of}
-use Rattle.fz_strength.specs.Lines.{terms_among, RestsOnceFixed, RestsOfTwo, RestsReified, RestsOfSet, RestsOfSetReified, RestsOf, waits_of_two, waits_of_reified, waits_of_set, waits_of_set_reified, waits_of, RestsOfClause, RestsOtherwise, waits_otherwise}
+use Rattle.fz_strength.specs.Lines.{terms_among, RestsOnceFixed, RestsOfTwo, RestsReified, RestsOfSet, RestsOfSetReified, RestsOf, waits_of_two, waits_of_reified, waits_of_set, waits_of_set_reified, waits_of, RestsOfClause, RestsOnceOneLeft, RestsOfParity, RestsOtherwise, waits_otherwise}
 use Rattle.fz_strength.specs.Operations.{Equation, equation_of, RestsOfEquation, waits_of_equation}
 use Rattle.fz_strength.specs.Laws.{KeptWhereQuiet}
-use Rattle.fz_sets.proofs.Lists.{all_left, all_right}
+use Rattle.fz_sets.proofs.Lists.{all_at, all_left, all_right}
 use Rattle.fz_strength.proofs.Differences.{kept_differences}
 use Rattle.fz_strength.proofs.Elements.{kept_selection}
-use Rattle.fz_strength.proofs.Terms.{term_narrower, term_quiet, terms_quiet, all_fixed_before, within_before}
+use Rattle.fz_strength.proofs.Terms.{term_narrower, term_quiet, terms_quiet, fixed_before, all_fixed_before, within_before}
+use Rattle.fz_strength.proofs.Tables.{kept_table}
+use Rattle.fz_strength.proofs.Cumulatives.{kept_tasks}
+use Rattle.fz_strength.proofs.VariableElements.{kept_variable_selection}
 use Rattle.fz_strength.proofs.SumLaws.{kept_sum}
 use Rattle.fz_strength.proofs.ReifiedSumLaws.{kept_sum_reified}
 use Rattle.fz_strength.proofs.OperationLaws.{kept_equation, clause_alone}
@@ -95,13 +99,27 @@ kept_clause : (G H : Type 0) (o : Option Clause) (ds es : List (List (ℤ × ℤ
 kept_clause G H None ds es general kept h = general h
 kept_clause G H (Some clause) ds es general kept h = kept clause refl h
 
+kept_one_left : (name : Builtin) (arguments : List Argument) (ds es : List (List (ℤ × ℤ))) → IsNarrower ds es → AreQuiet (waits_for Fixed (terms_among arguments)) ds es
+    → RestsOnceOneLeft name arguments ds → RestsOnceOneLeft name arguments es
+kept_one_left name arguments ds es narrower quiet h = λ i others a within.
+    let ts = terms_among arguments in
+    let calm : Term → Type 0 = λ (t : Term). IsQuiet Fixed (term_set ds t) (term_set es t) in
+    h i (λ j t at ne. fixed_before t ds es (all_at calm ts j t (terms_quiet Fixed ts ds es quiet) at) (others j t at ne)) a (within_before ds es a narrower within)
+
+kept_parity : (name : Builtin) (arguments : List Argument) (o : Option Parity) (ds es : List (List (ℤ × ℤ))) → IsNarrower ds es → AreQuiet (waits_for Fixed (terms_among arguments)) ds es
+    → RestsOfParity name arguments o ds → RestsOfParity name arguments o es
+kept_parity name arguments None ds es narrower quiet h = kept_once_fixed name arguments ds es narrower quiet h
+kept_parity name arguments (Some parity) ds es narrower quiet h = kept_one_left name arguments ds es narrower quiet h
+
 kept_otherwise : (name : Builtin) (arguments : List Argument) (ds es : List (List (ℤ × ℤ))) → AreDomains es → IsNarrower ds es → AreQuiet (waits_otherwise name arguments) ds es
     → RestsOtherwise name arguments ds → RestsOtherwise name arguments es
 kept_otherwise name arguments ds es domains narrower quiet h =
     let W = waits_for Fixed (terms_among arguments) in
-    kept_clause (RestsOfEquation (RestsOnceFixed name arguments ds) (equation_of name arguments) ds) (RestsOfEquation (RestsOnceFixed name arguments es) (equation_of name arguments) es)
-    (clause_of name arguments) ds es
-    (kept_equation (RestsOnceFixed name arguments ds) (RestsOnceFixed name arguments es) W (equation_of name arguments) ds es narrower (kept_once_fixed name arguments ds es narrower) quiet)
+    let o = parity_of name arguments in
+    let G = RestsOfParity name arguments o ds in
+    let H = RestsOfParity name arguments o es in
+    kept_clause (RestsOfEquation G (equation_of name arguments) ds) (RestsOfEquation H (equation_of name arguments) es) (clause_of name arguments) ds es
+    (kept_equation G H W (equation_of name arguments) ds es narrower (kept_parity name arguments o ds es narrower) quiet)
     (λ c is. rw is (clause_lasts name arguments c ds es is domains narrower
     (terms_quiet Fixed (terms_among arguments) ds es (subst (λ (o : Option Equation). AreQuiet (waits_of_equation W o) ds es) (clause_alone name arguments c is) quiet)))) h
 
@@ -122,8 +140,16 @@ arguments_kept name (One x ∷ Set set ∷ One r ∷ []) ds es domains narrower 
 arguments_kept name (One k ∷ Numbers xs ∷ One c ∷ []) ds es domains narrower quiet h =
     let at = One k ∷ Numbers xs ∷ One c ∷ [] in
     kept_selection (RestsOnceFixed name at ds) (RestsOnceFixed name at es) (waits_for Fixed (terms_among at)) name xs k c ds es (kept_once_fixed name at ds es narrower) quiet h
+arguments_kept name (One k ∷ Terms xs ∷ One c ∷ []) ds es domains narrower quiet h =
+    let at = One k ∷ Terms xs ∷ One c ∷ [] in
+    kept_variable_selection (RestsOnceFixed name at ds) (RestsOnceFixed name at es) (waits_for Fixed (terms_among at)) name xs k c ds es (kept_once_fixed name at ds es narrower) quiet h
 arguments_kept name (Terms xs ∷ []) ds es domains narrower quiet h =
-    let at = Terms xs ∷ [] in kept_differences (RestsOnceFixed name at ds) (RestsOnceFixed name at es) name xs ds es narrower (kept_once_fixed name at ds es narrower) quiet h
+    let at = Terms xs ∷ [] in
+    let o = parity_of name at in
+    kept_differences (RestsOfParity name at o ds) (RestsOfParity name at o es) name xs ds es narrower (kept_parity name at o ds es narrower) quiet h
+arguments_kept name (Terms xs ∷ Numbers table ∷ []) ds es domains narrower quiet h =
+    let at = Terms xs ∷ Numbers table ∷ [] in
+    kept_table (RestsOnceFixed name at ds) (RestsOnceFixed name at es) (waits_for Fixed (terms_among at)) name xs table ds es (kept_once_fixed name at ds es narrower) quiet h
 arguments_kept name (Numbers ks ∷ Terms ts ∷ One c ∷ []) ds es domains narrower quiet h =
     let at = Numbers ks ∷ Terms ts ∷ One c ∷ [] in
     kept_sum (RestsOnceFixed name at ds) (RestsOnceFixed name at es) (waits_for Fixed (terms_among at)) (sum_relation_of name) (left_factors ks c) (left_terms ts c) (right_number c) ds es narrower
@@ -131,6 +157,9 @@ arguments_kept name (Numbers ks ∷ Terms ts ∷ One c ∷ []) ds es domains nar
 arguments_kept name (Numbers ks ∷ Terms ts ∷ One (Num c) ∷ One r ∷ []) ds es domains narrower quiet h =
     let at = Numbers ks ∷ Terms ts ∷ One (Num c) ∷ One r ∷ [] in
     kept_sum_reified (RestsOnceFixed name at ds) (RestsOnceFixed name at es) (waits_for Fixed (terms_among at)) (reified_sum_of name) ks ts c r ds es narrower (kept_once_fixed name at ds es narrower) quiet h
+arguments_kept name (Terms ss ∷ Terms dd ∷ Terms us ∷ One b ∷ []) ds es domains narrower quiet h =
+    let at = Terms ss ∷ Terms dd ∷ Terms us ∷ One b ∷ [] in
+    kept_tasks (RestsOnceFixed name at ds) (RestsOnceFixed name at es) (waits_for Fixed (terms_among at)) name ss dd us b ds es (kept_once_fixed name at ds es narrower) quiet h
 arguments_kept name arguments ds es domains narrower quiet h = kept_otherwise name arguments ds es domains narrower quiet h
 
 pub kept_where_quiet : KeptWhereQuiet

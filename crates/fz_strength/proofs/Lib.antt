@@ -1,9 +1,12 @@
 pub mod Terms
+pub mod Cumulatives
 pub mod Waits
 pub mod Differences
 pub mod SumLaws
 pub mod ReifiedSumLaws
 pub mod Elements
+pub mod Tables
+pub mod VariableElements
 pub mod OperationLaws
 pub mod Truths
 pub mod Clauses

@@ -14,15 +14,19 @@ use Rattle.fz_strength.specs.declared.relation.Relation.{Relation}
 use Rattle.fz_strength.specs.declared.relation.Relation.TheVariants.{Equal, NotEqual, AtMost, Below}
 use Rattle.fz_strength.specs.declared.event.Event.TheVariants.{Any, Fixed}
 use Rattle.fz_strength.specs.Clauses.{Clause, clause_of}
+use Rattle.fz_strength.specs.Parities.{Parity, parity_of}
 use Rattle.fz_strength.specs.Domains.{term_set, Alone}
-use Rattle.fz_strength.specs.Events.{Wait, wait_for, waits_for, AreBelow}
+use Rattle.fz_strength.specs.Events.{IsFixedIn, Wait, wait_for, waits_for, AreBelow}
 use Rattle.fz_strength.specs.Relations.{relation_of, reified_of, Relates, RestsAs, RestsAgainst, IsShown, IsRefuted, event_of, reified_event}
-use Rattle.fz_strength.specs.Lines.{IsReifiedLine, terms_among, RestsOnceFixed, RestsOfTwo, RestsReified, LiesIn, LiesOutside, RestsOfSet, RestsOfSetReified, RestsOfClause, RestsOtherwise, RestsOf, waits_of_two, waits_of_reified, waits_of_set, waits_of_set_reified, waits_of, waits_otherwise}
+use Rattle.fz_strength.specs.Lines.{IsReifiedLine, terms_among, RestsOnceFixed, RestsOfTwo, RestsReified, LiesIn, LiesOutside, RestsOfSet, RestsOfSetReified, RestsOfClause, RestsOfParity, RestsOtherwise, RestsOf, waits_of_two, waits_of_reified, waits_of_set, waits_of_set_reified, waits_of, waits_otherwise}
 use Rattle.fz_strength.specs.Laws.{TrueWhereAlone}
 use Rattle.fz_strength.specs.Operations.{Equation, equation_of, RestsOfEquation, waits_of_equation}
 use Rattle.fz_strength.proofs.Differences.{true_differences}
 use Rattle.fz_strength.proofs.Elements.{true_selection}
-use Rattle.fz_sets.proofs.Lists.{some_is, all_left, all_right}
+use Rattle.fz_strength.proofs.Tables.{true_table}
+use Rattle.fz_strength.proofs.Cumulatives.{true_tasks}
+use Rattle.fz_strength.proofs.VariableElements.{true_variable_selection}
+use Rattle.fz_sets.proofs.Lists.{some_is, all_at, all_left, all_right}
 use Rattle.fz_strength.proofs.SumLaws.{true_sum}
 use Rattle.fz_strength.proofs.ReifiedSumLaws.{true_sum_reified}
 use Rattle.fz_strength.proofs.OperationLaws.{true_equation, clause_alone}
@@ -144,13 +148,21 @@ by_clause : (G H : Type 0) (o : Option Clause) (ds : List (List (ℤ × ℤ))) �
 by_clause G H None ds general truth h = general h
 by_clause G H (Some clause) ds general truth h = truth clause refl h
 
+by_parity : (name : Builtin) (arguments : List Argument) (o : Option Parity) (ds : List (List (ℤ × ℤ))) (a : List ℤ) → Alone ds a → AreBelow (waits_for Fixed (terms_among arguments)) (length ds)
+    → RestsOfParity name arguments o ds → Holds name arguments a
+by_parity name arguments None ds a alone below h = once_fixed name arguments ds a alone below h
+by_parity name arguments (Some parity) ds a alone below h =
+    let ts = terms_among arguments in
+    let fixed = all_fixed_alone ts ds a (terms_alone Fixed ts ds a below alone) in h 0 (λ j t at ne. all_at (IsFixedIn ds) ts j t fixed at) a (within_alone ds a alone)
+
 otherwise : (name : Builtin) (arguments : List Argument) (ds : List (List (ℤ × ℤ))) (a : List ℤ) → Alone ds a → AreBelow (waits_otherwise name arguments) (length ds)
     → RestsOtherwise name arguments ds → Holds name arguments a
 otherwise name arguments ds a alone below h =
-    let G = RestsOnceFixed name arguments ds in
+    let o = parity_of name arguments in
+    let G = RestsOfParity name arguments o ds in
     let W = waits_for Fixed (terms_among arguments) in
     by_clause (RestsOfEquation G (equation_of name arguments) ds) (Holds name arguments a) (clause_of name arguments) ds
-    (true_equation name arguments G W (equation_of name arguments) ds a refl (once_fixed name arguments ds a alone) below alone)
+    (true_equation name arguments G W (equation_of name arguments) ds a refl (by_parity name arguments o ds a alone) below alone)
     (λ c is. rw is (clause_true name arguments c ds a is
     (terms_alone Fixed (terms_among arguments) ds a (subst (λ (o : Option Equation). AreBelow (waits_of_equation W o) (length ds)) (clause_alone name arguments c is) below) alone))) h
 
@@ -167,14 +179,25 @@ arguments_true name (One x ∷ Set s ∷ One r ∷ []) ds a below alone h =
 arguments_true name (One k ∷ Numbers xs ∷ One c ∷ []) ds a below alone h =
     let at = One k ∷ Numbers xs ∷ One c ∷ [] in
     true_selection (RestsOnceFixed name at ds) (waits_for Fixed (terms_among at)) name xs k c ds a (once_fixed name at ds a alone) below alone h
+arguments_true name (One k ∷ Terms xs ∷ One c ∷ []) ds a below alone h =
+    let at = One k ∷ Terms xs ∷ One c ∷ [] in
+    true_variable_selection (RestsOnceFixed name at ds) (waits_for Fixed (terms_among at)) name xs k c ds a (once_fixed name at ds a alone) below alone h
 arguments_true name (Terms xs ∷ []) ds a below alone h =
-    let at = Terms xs ∷ [] in true_differences (RestsOnceFixed name at ds) name xs ds a (once_fixed name at ds a alone) below alone h
+    let at = Terms xs ∷ [] in
+    let o = parity_of name at in
+    true_differences (RestsOfParity name at o ds) name xs ds a (by_parity name at o ds a alone) below alone h
+arguments_true name (Terms xs ∷ Numbers table ∷ []) ds a below alone h =
+    let at = Terms xs ∷ Numbers table ∷ [] in
+    true_table (RestsOnceFixed name at ds) (waits_for Fixed (terms_among at)) name xs table ds a (once_fixed name at ds a alone) below alone h
 arguments_true name (Numbers ks ∷ Terms ts ∷ One (Num c) ∷ One r ∷ []) ds a below alone h =
     let at = Numbers ks ∷ Terms ts ∷ One (Num c) ∷ One r ∷ [] in
     true_sum_reified (RestsOnceFixed name at ds) (waits_for Fixed (terms_among at)) name ks ts c r ds a (once_fixed name at ds a alone) below alone h
 arguments_true name (Numbers ks ∷ Terms ts ∷ One c ∷ []) ds a below alone h =
     let at = Numbers ks ∷ Terms ts ∷ One c ∷ [] in
     true_sum (RestsOnceFixed name at ds) (waits_for Fixed (terms_among at)) name ks ts c ds a (once_fixed name at ds a alone) below alone h
+arguments_true name (Terms ss ∷ Terms dd ∷ Terms us ∷ One b ∷ []) ds a below alone h =
+    let at = Terms ss ∷ Terms dd ∷ Terms us ∷ One b ∷ [] in
+    true_tasks (RestsOnceFixed name at ds) (waits_for Fixed (terms_among at)) name ss dd us b ds a (once_fixed name at ds a alone) below alone h
 arguments_true name arguments ds a below alone h = otherwise name arguments ds a alone below h
 
 pub true_where_alone : TrueWhereAlone

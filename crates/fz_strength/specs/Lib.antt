@@ -5,7 +5,11 @@ pub mod Differences
 pub mod Sums
 pub mod ReifiedSums
 pub mod Clauses
+pub mod Cumulatives
 pub mod Elements
+pub mod Parities
+pub mod Tables
+pub mod VariableElements
 pub mod Operations
 pub mod Lines
 pub mod Laws

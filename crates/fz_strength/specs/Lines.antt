@@ -1,21 +1,26 @@
 -- For each constraint the line that holds of the domains where its propagator rests, and the changes that may break the line.
-use Rattle.std.specs.Prelude.{◌≡◌, ℤ, pos, List, [], ◌∷◌, ◌++◌, ◌⊎◌, flat_map, Option, Some, None, IsSome}
+use Rattle.std.specs.Prelude.{◌≡◌, ◌≢◌, ℕ, ℤ, pos, List, [], ◌∷◌, ◌++◌, ◌⊎◌, flat_map, Option, Some, None, IsSome}
+use Rattle.std.specs.List.{slice_get}
 use Rattle.fz_sets.specs.Sets.{IsInSet}
 use Rattle.fz_spec.specs.declared.builtin.Builtin.{Builtin}
-use Rattle.fz_spec.specs.declared.builtin.Builtin.TheVariants.{SetIn, SetInReif}
+use Rattle.fz_spec.specs.declared.builtin.Builtin.TheVariants.{FznCumulative, SetIn, SetInReif}
 use Rattle.fz_spec.specs.declared.term.Term.{Term}
 use Rattle.fz_spec.specs.declared.term.Term.TheVariants.{Num}
 use Rattle.fz_spec.specs.Constraints.{Argument, One, Numbers, Terms, Set, Constraint, Holds}
 use Rattle.fz_strength.specs.declared.relation.Relation.{Relation}
 use Rattle.fz_strength.specs.declared.event.Event.TheVariants.{Any, Bound, Fixed}
 use Rattle.fz_strength.specs.Domains.{term_set, Within}
-use Rattle.fz_strength.specs.Events.{IsOnly, AllFixed, Wait, wait_for, waits_for}
+use Rattle.fz_strength.specs.Events.{IsOnly, IsFixedIn, AllFixed, Wait, wait_for, waits_for}
 use Rattle.fz_strength.specs.Clauses.{Clause, clause_of, IsClauseLine}
+use Rattle.fz_strength.specs.Parities.{Parity, parity_of}
+use Rattle.fz_strength.specs.Cumulatives.{RestsOfTasks, waits_of_tasks}
 use Rattle.fz_strength.specs.Relations.{relation_of, reified_of, RestsAs, RestsAgainst, IsShown, IsRefuted, event_of, reified_event}
 use Rattle.fz_strength.specs.Differences.{IsDifference, RestsOfDifferences}
 use Rattle.fz_strength.specs.Sums.{sum_relation_of, left_factors, left_terms, right_number, RestsSum, sum_event_of}
 use Rattle.fz_strength.specs.ReifiedSums.{reified_sum_of, IsSumShown, IsSumRefuted, RestsSumAgainst}
 use Rattle.fz_strength.specs.Elements.{IsSelection, RestsOfSelection, waits_of_selection}
+use Rattle.fz_strength.specs.Tables.{IsTable, RestsOfTable, waits_of_table}
+use Rattle.fz_strength.specs.VariableElements.{IsVariableSelection, RestsOfVariableSelection, waits_of_variable_selection}
 use Rattle.fz_strength.specs.Operations.{equation_of, RestsOfEquation, waits_of_equation}
 
 -- Where what is left decides, r is fixed; where r is fixed, the line of that side holds.
@@ -84,10 +89,21 @@ abbrev pub RestsOfClause : Type 0 → Option Clause → List (List (ℤ × ℤ))
 RestsOfClause G None ds = G
 RestsOfClause G (Some clause) ds = IsClauseLine clause ds
 
+-- The line of a parity: where all terms but one at most are fixed, each assignment within the domains makes it true.
+abbrev pub AreOthersFixed : List (List (ℤ × ℤ)) → List Term → ℕ → Type 0
+AreOthersFixed ds ts i = (j : ℕ) (t : Term) → slice_get ts j ≡ Some t → j ≢ i → IsFixedIn ds t
+
+abbrev pub RestsOnceOneLeft : Builtin → List Argument → List (List (ℤ × ℤ)) → Type 0
+RestsOnceOneLeft name arguments ds = (i : ℕ) → AreOthersFixed ds (terms_among arguments) i → (a : List ℤ) → Within ds a → Holds name arguments a
+
+abbrev pub RestsOfParity : Builtin → List Argument → Option Parity → List (List (ℤ × ℤ)) → Type 0
+RestsOfParity name arguments None ds = RestsOnceFixed name arguments ds
+RestsOfParity name arguments (Some parity) ds = RestsOnceOneLeft name arguments ds
+
 -- of a constraint that is no comparison and no membership
 abbrev pub RestsOtherwise : Builtin → List Argument → List (List (ℤ × ℤ)) → Type 0
 RestsOtherwise name arguments ds =
-    RestsOfClause (RestsOfEquation (RestsOnceFixed name arguments ds) (equation_of name arguments) ds) (clause_of name arguments) ds
+    RestsOfClause (RestsOfEquation (RestsOfParity name arguments (parity_of name arguments) ds) (equation_of name arguments) ds) (clause_of name arguments) ds
 
 -- The line of a constraint.
 abbrev pub RestsOf : Builtin → List Argument → List (List (ℤ × ℤ)) → Type 0
@@ -99,28 +115,35 @@ RestsOf name (One x ∷ Set set ∷ One r ∷ []) ds =
     RestsOfSetReified (RestsOnceFixed name (One x ∷ Set set ∷ One r ∷ []) ds) name (term_set ds x) set (term_set ds r)
 RestsOf name (One k ∷ Numbers xs ∷ One c ∷ []) ds =
     RestsOfSelection (RestsOnceFixed name (One k ∷ Numbers xs ∷ One c ∷ []) ds) name xs (term_set ds k) (term_set ds c)
-RestsOf name (Terms xs ∷ []) ds = RestsOfDifferences (RestsOnceFixed name (Terms xs ∷ []) ds) name xs ds
+RestsOf name (One k ∷ Terms xs ∷ One c ∷ []) ds = RestsOfVariableSelection (RestsOnceFixed name (One k ∷ Terms xs ∷ One c ∷ []) ds) name xs k c ds
+RestsOf name (Terms xs ∷ []) ds = RestsOfDifferences (RestsOfParity name (Terms xs ∷ []) (parity_of name (Terms xs ∷ [])) ds) name xs ds
+RestsOf name (Terms xs ∷ Numbers table ∷ []) ds = RestsOfTable (RestsOnceFixed name (Terms xs ∷ Numbers table ∷ []) ds) name xs table ds
 RestsOf name (Numbers ks ∷ Terms ts ∷ One c ∷ []) ds =
     RestsOfSum (RestsOnceFixed name (Numbers ks ∷ Terms ts ∷ One c ∷ []) ds) (sum_relation_of name) ds (left_factors ks c) (left_terms ts c) (right_number c)
 RestsOf name (Numbers ks ∷ Terms ts ∷ One (Num c) ∷ One r ∷ []) ds =
     RestsOfSumReified (RestsOnceFixed name (Numbers ks ∷ Terms ts ∷ One (Num c) ∷ One r ∷ []) ds) (reified_sum_of name) ds ks ts c (term_set ds r)
+RestsOf name (Terms ss ∷ Terms dd ∷ Terms us ∷ One b ∷ []) ds = RestsOfTasks (RestsOnceFixed name (Terms ss ∷ Terms dd ∷ Terms us ∷ One b ∷ []) ds) name ds ss dd us b
 RestsOf name arguments ds = RestsOtherwise name arguments ds
 
--- the constraints that compare terms, or a term with a set or with an element of a list, all terms with one another, or a sum with a term
+-- the constraints that compare terms, or a term with a set or with an element of a list, all terms with one another or with the rows
+-- of a table, a sum with a term, or tasks with a bound
 abbrev pub IsComparing : Builtin → List Argument → Type 0
 IsComparing name (One x ∷ One y ∷ []) = IsSome (relation_of name)
 IsComparing name (One x ∷ One y ∷ One r ∷ []) = IsSome (reified_of name)
 IsComparing name (One x ∷ Set set ∷ []) = name ≡ SetIn
 IsComparing name (One x ∷ Set set ∷ One r ∷ []) = name ≡ SetInReif
 IsComparing name (One k ∷ Numbers xs ∷ One c ∷ []) = IsSelection name
+IsComparing name (One k ∷ Terms xs ∷ One c ∷ []) = IsVariableSelection name
 IsComparing name (Terms xs ∷ []) = IsDifference name
+IsComparing name (Terms xs ∷ Numbers table ∷ []) = IsTable name
 IsComparing name (Numbers ks ∷ Terms ts ∷ One c ∷ []) = IsSome (sum_relation_of name)
 IsComparing name (Numbers ks ∷ Terms ts ∷ One (Num c) ∷ One r ∷ []) = IsSome (reified_sum_of name)
+IsComparing name (Terms ss ∷ Terms dd ∷ Terms us ∷ One b ∷ []) = name ≡ FznCumulative
 IsComparing name arguments = ⊥
 
 -- the constraints that have a line of their own
 abbrev pub HasOwnLine : Builtin → List Argument → Type 0
-HasOwnLine name arguments = IsComparing name arguments ⊎ (IsSome (clause_of name arguments) ⊎ IsSome (equation_of name arguments))
+HasOwnLine name arguments = IsComparing name arguments ⊎ (IsSome (clause_of name arguments) ⊎ (IsSome (equation_of name arguments) ⊎ IsSome (parity_of name arguments)))
 
 abbrev pub Rests : Constraint → List (List (ℤ × ℤ)) → Type 0
 Rests c ds = RestsOf c.name c.arguments ds
@@ -167,7 +190,12 @@ waits_of name (Numbers ks ∷ Terms ts ∷ One c ∷ []) =
 waits_of name (Numbers ks ∷ Terms ts ∷ One (Num c) ∷ One r ∷ []) =
     waits_of_sum_reified (waits_for Fixed (terms_among (Numbers ks ∷ Terms ts ∷ One (Num c) ∷ One r ∷ []))) (reified_sum_of name) ts r
 waits_of name (One k ∷ Numbers xs ∷ One c ∷ []) = waits_of_selection (waits_for Fixed (k ∷ c ∷ [])) name k c
+waits_of name (One k ∷ Terms xs ∷ One c ∷ []) =
+    waits_of_variable_selection (waits_for Fixed (terms_among (One k ∷ Terms xs ∷ One c ∷ []))) name xs k c
 waits_of name (Terms xs ∷ []) = waits_for Fixed (terms_among (Terms xs ∷ []))
+waits_of name (Terms xs ∷ Numbers table ∷ []) = waits_of_table (waits_for Fixed (terms_among (Terms xs ∷ Numbers table ∷ []))) name xs
+waits_of name (Terms ss ∷ Terms dd ∷ Terms us ∷ One b ∷ []) =
+    waits_of_tasks (waits_for Fixed (terms_among (Terms ss ∷ Terms dd ∷ Terms us ∷ One b ∷ []))) name (terms_among (Terms ss ∷ Terms dd ∷ Terms us ∷ One b ∷ []))
 waits_of name arguments = waits_otherwise name arguments
 
 abbrev pub waits : Constraint → List Wait

@@ -1,6 +1,6 @@
 use Rattle.std.proofs.Common.{take}
 use Rattle.fz_strength.specs.Events.{AllFixed}
-use Rattle.fz_arith.proofs.narrow.are_fixed.Given as goal
+use Rattle.fz_prop.proofs.terms.are_fixed.Given as goal
 
 -- those so far are fixed
 abbrev pub invariant-loop-term : goal.invariant-loop-term

@@ -1,0 +1,60 @@
+-- What a run answers that narrowed one term, or found the line to hold.
+use Rattle.std.proofs.Common.{◌≡◌, ◌<◌, ℕ, List, refl, sym, subst, arith, length, inl, inr}
+use Rattle.std.specs.Prelude.{ℤ, pos, ◌≤ℤ◌, ◌<ℤ◌}
+use Rattle.std.specs.List.{AllByRecursion}
+use Rattle.std.proofs.lemmas.Int.{ints}
+use Rattle.fz_sets.specs.Sets.{IsInSet}
+use Rattle.fz_dom.specs.Shape.{least, greatest}
+use Rattle.fz_dom.specs.declared.change.Change.{Change}
+use Rattle.fz_dom.specs.declared.change.Change.TheVariants.{Same, Changed, Wiped}
+use Rattle.fz_dom.proofs.Ranges.{least_member, greatest_member}
+use Rattle.fz_spec.specs.declared.term.Term.{Term}
+use Rattle.fz_spec.specs.declared.term.Term.TheVariants.{Num, Var}
+use Rattle.fz_spec.specs.Constraints.{term_value}
+use Rattle.fz_strength.specs.Domains.{term_set, AreDomains, Within}
+use Rattle.fz_strength.specs.Events.{IsFixedIn}
+use Rattle.fz_strength.proofs.Truths.{is_single}
+use Rattle.fz_prop.specs.declared.answer.Answer.{Answer}
+use Rattle.fz_prop.specs.declared.answer.Answer.TheVariants.{Fix, NoFix, Subsumed, Failed}
+use Rattle.fz_prop.specs.Answers.{IsAnswerOf, IsDecided}
+use Rattle.fz_prop.specs.Stores.{Stored, Shrinks, IsTermOf, IsTermChange}
+use Rattle.fz_prop.proofs.Filled.{term_ranges}
+use Rattle.fz_prop.proofs.TermChanges.{term_within, none_kept, falls_of, fixed_stays}
+use Rattle.fz_cumul.specs.Outcomes.{answer_to, IsNarrowed, Needs}
+
+all_same : (t : Term) (P : ℤ → Type 0) (r s : Stored) → IsTermChange Same t P r s → (x : ℤ) → IsInSet (term_set r.doms t) x → P x
+all_same (Var v) P r s h x is = h.1 x is
+all_same (Num n) P r s h x is = subst P (sym (is_single x n is)) h.1
+
+pub narrowed : (change : Change) (t : Term) (P : ℤ → Type 0) (r s : Stored) (x : ℤ) → IsInSet (term_set r.doms t) x → (P x → ⊥) → IsTermChange change t P r s
+    → IsNarrowed (answer_to change) t P r.doms s.doms
+narrowed Same t P r s x is lacks h = absurd (lacks (all_same t P r s h x is))
+narrowed Changed t P r s x is lacks h = (falls_of t P r s h, λ fixed. fixed_stays t P r s fixed.0 fixed.1 h)
+narrowed Wiped t P r s x is lacks h = λ y in_r holds. none_kept t P r s h y in_r holds
+
+pub narrowed_from : (change : Change) (t : Term) (value : ℤ) (r s : Stored) → IsTermOf (length r.doms) t → AreDomains r.doms → least (term_set r.doms t) <ℤ value
+    → IsTermChange change t (λ x. value ≤ℤ x) r s → IsNarrowed (answer_to change) t (λ x. value ≤ℤ x) r.doms s.doms
+narrowed_from change t value r s of domains below h =
+    let has = term_ranges r.doms t of domains in
+    narrowed change t (λ x. value ≤ℤ x) r s (least (term_set r.doms t)) (least_member (term_set r.doms t) has.some has.ranges).0 (λ above. omega (arith, ints, above, below)) h
+
+pub narrowed_to : (change : Change) (t : Term) (value : ℤ) (r s : Stored) → IsTermOf (length r.doms) t → AreDomains r.doms → value <ℤ greatest (term_set r.doms t)
+    → IsTermChange change t (λ x. x ≤ℤ value) r s → IsNarrowed (answer_to change) t (λ x. x ≤ℤ value) r.doms s.doms
+narrowed_to change t value r s of domains above h =
+    let has = term_ranges r.doms t of domains in
+    narrowed change t (λ x. x ≤ℤ value) r s (greatest (term_set r.doms t)) (greatest_member (term_set r.doms t) has.some has.ranges).0 (λ below. omega (arith, ints, above, below)) h
+
+-- ---- by the truth and the line of the constraint
+
+pub narrowed_answer : (answer : Answer) (T : List ℤ → Type 0) (R : List (List (ℤ × ℤ)) → Type 0) (t : Term) (P : ℤ → Type 0) (ds es : List (List (ℤ × ℤ))) → IsTermOf (length ds) t
+    → Needs T ds t P → IsNarrowed answer t P ds es → IsAnswerOf answer T R ds es
+narrowed_answer Fix T R t P ds es of needs h = absurd h
+narrowed_answer NoFix T R t P ds es of needs h = h.0
+narrowed_answer Subsumed T R t P ds es of needs h = absurd h
+narrowed_answer Failed T R t P ds es of needs h = λ a within holds. h (term_value a t) (term_within ds a t of within) (needs a within holds)
+
+pub narrowed_decided : (answer : Answer) (t : Term) (P : ℤ → Type 0) (ds es : List (List (ℤ × ℤ))) → IsFixedIn ds t → IsNarrowed answer t P ds es → IsDecided answer
+narrowed_decided Fix t P ds es fixed h = absurd h
+narrowed_decided NoFix t P ds es fixed h = absurd (h.1 fixed)
+narrowed_decided Subsumed t P ds es fixed h = absurd h
+narrowed_decided Failed t P ds es fixed h = inr refl

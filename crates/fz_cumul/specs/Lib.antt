@@ -1,0 +1,4 @@
+pub mod Tasks
+pub mod Findings
+pub mod Cumulatives
+pub mod Outcomes

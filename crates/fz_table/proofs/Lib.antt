@@ -1,0 +1,4 @@
+pub mod Slices
+pub mod Starts
+pub mod Keeping
+pub mod Names

@@ -1,0 +1,22 @@
+use Rattle.std.proofs.Common.{◌<◌, length, refl, rules}
+use Rattle.std.proofs.lemmas.Result.{IfOk-weaker}
+use Rattle.fz_strength.specs.Events.{AllFixed}
+use Rattle.fz_strength.specs.Tables.{AreSupported}
+use Rattle.fz_prop.specs.declared.answer.Answer.{Answer}
+use Rattle.fz_prop.specs.Answers.{IsAnswerOf, IsDecided}
+use Rattle.fz_table.specs.Rows.{IsRowAt}
+use Rattle.fz_table.proofs.Keeping.{fixed_answer}
+use Rattle.fz_table.proofs.columns.keep_rows.Goals as goal
+
+pub returns-then-are_fixed-clause-answer : goal.returns-then-are_fixed-clause-answer
+returns-then-are_fixed-clause-answer c =
+    let some : 0 < length c.in_ok-starts.starts.items = search rules in
+    fixed_answer c.args.terms.now c.args.table.now c.args.store.now.doms c.in_ok-starts.starts.items c.requires (c.if-are_fixed.ensures.0 refl) some c.in_ok-starts.ensures
+
+pub returns-clause-checking : goal.returns-clause-checking
+returns-clause-checking c =
+    let xs = c.args.terms.now in
+    let table = c.args.table.now in
+    let before = c.args.store.now.doms in
+    IfOk-weaker c.keep_columns.result (λ (r : Answer). IsAnswerOf r (IsRowAt xs table) (AreSupported xs table) before c.keep_columns.new.store.doms)
+    (λ (r : Answer). AllFixed before xs → IsDecided r) (λ r h fixed. cc (c.if-are_fixed.ensures.1 fixed)) c.keep_columns.ensures.answer

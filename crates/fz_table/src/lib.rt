@@ -1,0 +1,11 @@
+//! The propagator of a list of terms that takes the numbers of a row of a table.
+#![tactic(auto)]
+
+mod columns;
+mod rows;
+pub mod table;
+
+pub use table::Table;
+
+#[cfg(test)]
+mod tests;

@@ -1,0 +1,78 @@
+-- An index into a list of terms: when an assignment makes it true, which terms may be chosen, and what is done of the work on a store.
+use Rattle.std.specs.Prelude.{◌≡◌, ℕ, ◌<◌, ℤ, ◌≤ℤ◌, ◌↔◌, List, ◌∷◌}
+use Rattle.fz_sets.specs.Sets.{IsInSet}
+use Rattle.fz_dom.specs.Shape.{least, greatest}
+use Rattle.fz_dom.specs.declared.change.Change.{Change}
+use Rattle.fz_dom.specs.declared.change.Change.TheVariants.{Same, Changed, Wiped}
+use Rattle.fz_spec.specs.declared.builtin.Builtin.{Builtin}
+use Rattle.fz_spec.specs.declared.term.Term.{Term}
+use Rattle.fz_spec.specs.Constraints.{term_value, term_values}
+use Rattle.fz_spec.specs.Truth.{IsElement}
+use Rattle.fz_strength.specs.Domains.{term_set, Within, room}
+use Rattle.fz_strength.specs.Events.{IsOnly, IsFixedIn, AllFixed, variables_of}
+use Rattle.fz_strength.specs.VariableElements.{IsVariableSelection, StandsAt, IsOverlap, IsVariableElementLine}
+use Rattle.fz_prop.specs.declared.answer.Answer.{Answer}
+use Rattle.fz_prop.specs.declared.answer.Answer.TheVariants.{Fix, Subsumed}
+use Rattle.fz_prop.specs.Stores.{Stored, FitsTerm}
+
+abbrev pub IsChosen : List Term → Term → Term → List ℤ → Type 0
+IsChosen xs k c a = IsElement (term_value a k) (term_values a xs) (term_value a c)
+
+-- ---- which terms may be chosen
+
+-- x stands at the index i, which is left, and its bounds overlap those of c
+pub record IsChoice (xs : List Term) (k c : Term) (ds : List (List (ℤ × ℤ))) (i : ℤ) (x : Term) : Type 0 where
+  pub stands : StandsAt i xs x
+  pub index : IsInSet (term_set ds k) i
+  pub overlap : IsOverlap (term_set ds x) (term_set ds c)
+
+-- a term with these bounds may be chosen at the index i
+abbrev pub IsChoiceBetween : List Term → Term → Term → List (List (ℤ × ℤ)) → ℤ → ℤ → ℤ → Type 0
+IsChoiceBetween xs k c ds i low high = (x : Term) × IsChoice xs k c ds i x × (low ≡ least (term_set ds x)) × (high ≡ greatest (term_set ds x))
+
+-- The indices of all that may be chosen, and the hull of these terms. Where there is none, the hull is nothing.
+pub record AreChoices (xs : List Term) (k c : Term) (ds : List (List (ℤ × ℤ))) (indices : List (ℤ × ℤ)) (low high : ℤ) : Type 0 where
+  pub indices_are : (i : ℤ) → IsInSet indices i ↔ ((x : Term) × IsChoice xs k c ds i x)
+  pub low_is : (i : ℤ) (x : Term) → IsChoice xs k c ds i x → low ≤ℤ least (term_set ds x)
+  pub high_is : (i : ℤ) (x : Term) → IsChoice xs k c ds i x → greatest (term_set ds x) ≤ℤ high
+  pub low_reached : (i : ℤ) → IsInSet indices i → (j : ℤ) × (x : Term) × IsChoice xs k c ds j x × (least (term_set ds x) ≤ℤ low)
+  pub high_reached : (i : ℤ) → IsInSet indices i → (j : ℤ) × (x : Term) × IsChoice xs k c ds j x × (high ≤ℤ greatest (term_set ds x))
+
+-- ---- what is done
+
+-- something left, so that not all terms were fixed
+abbrev pub IsLess : List Term → Term → Term → Stored → Stored → Type 0
+IsLess xs k c s t = (room t.doms < room s.doms) × (AllFixed s.doms (k ∷ c ∷ xs) → ⊥)
+
+abbrev pub IsNeverChosen : List Term → Term → Term → List (List (ℤ × ℤ)) → Type 0
+IsNeverChosen xs k c ds = (a : List ℤ) → Within ds a → IsChosen xs k c a → ⊥
+
+-- where one index is left, all that is left of its term lies within the bounds of c
+abbrev pub IsLastWithin : List Term → Term → Term → List (List (ℤ × ℤ)) → Type 0
+IsLastWithin xs k c ds =
+    (i : ℤ) (x : Term) → IsOnly (term_set ds k) i → StandsAt i xs x → (least (term_set ds c) ≤ℤ least (term_set ds x)) × (greatest (term_set ds x) ≤ℤ greatest (term_set ds c))
+
+-- what became of the last term that may be chosen
+abbrev pub IsLastKept : Change → List Term → Term → Term → Stored → Stored → Type 0
+IsLastKept Same xs k c s t = (t ≡ s) × IsLastWithin xs k c s.doms
+IsLastKept Changed xs k c s t = IsLess xs k c s t
+IsLastKept Wiped xs k c s t = IsNeverChosen xs k c s.doms
+
+-- what became of all terms
+abbrev pub IsNarrowed : Change → List Term → Term → Term → Stored → Stored → Type 0
+IsNarrowed Same xs k c s t = (t ≡ s) × IsVariableElementLine xs k c s.doms
+IsNarrowed Changed xs k c s t = IsLess xs k c s t
+IsNarrowed Wiped xs k c s t = IsNeverChosen xs k c s.doms
+
+-- the answer says whether one index and one value are left
+abbrev pub IsRested : Answer → List (List (ℤ × ℤ)) → Term → Term → Type 0
+IsRested Subsumed ds k c = IsFixedIn ds k × IsFixedIn ds c
+IsRested Fix ds k c = IsFixedIn ds k → IsFixedIn ds c → ⊥
+IsRested answer ds k c = ⊥
+
+-- the name says that the term at the index is the value; an index that is a number is within the limits; and the variables are
+-- listed, those of the index and of the value first
+pub record IsVariableElementOf (name : Builtin) (k : Term) (xs : List Term) (c : Term) (variables : List ℕ) : Type 0 where
+  pub name_is : IsVariableSelection name
+  pub fits : FitsTerm k
+  pub listed : variables ≡ variables_of (k ∷ c ∷ xs)
