@@ -1,5 +1,5 @@
 //! Books.
-ghost use Rattle.std.specs.Prelude.{◌≡◌, ◌≤◌, ◌+◌, ◌-◌, ◌<◌, ◌↔◌, ◌⊎◌, ◌≢◌, ◌++◌, ◌∷◌, [], true, false, length, option_copied, option_map, map, IsTrue, IsSomeAnd, IfOk, IfErr, IfSome, IfNone, OnOk, OnErr};
+ghost use Rattle.std.specs.Prelude.{◌≡◌, ◌≤◌, ◌+◌, ◌-◌, ◌<◌, ◌↔◌, ◌⊎◌, ◌≢◌, ◌++◌, ◌∷◌, [], true, false, length, option_copied, option_map, map, IsTrue, not, IsSomeAnd, IfOk, IfErr, IfSome, IfNone, OnOk, OnErr};
 ghost use Rattle.std.specs.List.{list_all, slice_get, AllByRecursion};
 ghost use Rattle.std.specs.Arc.{arc_value};
 ghost use Rattle.std.specs.Vec.{vec_len, vec_capacity};
@@ -135,6 +135,13 @@ impl Book {
         ensures law { BookLaw self.now.book }
     {
         self.parts.is_empty()
+    }
+
+    /// Whether some frontier is open that nobody has claimed.
+    pub fn has_unclaimed(&self) -> bool
+        ensures { result ≡ not (list_all is_claimed self.now.book.parts) }
+    {
+        unclaimed_place(&self.parts).is_some()
     }
 
     /// Claims the first open frontier that nobody has claimed, and hands out a copy. `None` exactly where there is none; the book

@@ -4,7 +4,7 @@ use Rattle.clap.specs.Simple.{App, new_app, new_rule, with_rule, on_top}
 use Rattle.clap.specs.Walk.{Rule}
 use Rattle.clap.specs.declared.builder.action.ArgAction.TheVariants.{Set, SetTrue}
 use Rattle.clap.specs.declared.builder.value_parser.ValueParser.TheVariants.{Unsigned}
-use Rattle.fz_cmd.specs.declared.options.TheConstants.{COMMIT_DISTANCE_LEAST, COMMIT_DISTANCE_MOST}
+use Rattle.fz_cmd.specs.declared.options.TheConstants.{COMMIT_DISTANCE_LEAST, COMMIT_DISTANCE_MOST, WORKERS_LEAST, WORKERS_MOST}
 
 -- -a
 abbrev pub all_rule : Rule
@@ -14,9 +14,17 @@ all_rule = record (new_rule (codes "all")) { short = Some 97; action = Some SetT
 abbrev pub limit_rule : Rule
 limit_rule = record (new_rule (codes "limit")) { short = Some 110; action = Some Set; parser = Some (Unsigned 0 4294967295) }
 
+-- -p 1..64
+abbrev pub workers_rule : Rule
+workers_rule = record (new_rule (codes "workers")) { short = Some 112; action = Some Set; parser = Some (Unsigned WORKERS_LEAST WORKERS_MOST) }
+
 -- --commit-distance 1..1000000
 abbrev pub distance_rule : Rule
 distance_rule = record (new_rule (codes "commit-distance")) { long = Some (codes "commit-distance"); action = Some Set; parser = Some (Unsigned COMMIT_DISTANCE_LEAST COMMIT_DISTANCE_MOST) }
+
+-- --interleave 0..18446744073709551615
+abbrev pub interleave_rule : Rule
+interleave_rule = record (new_rule (codes "interleave")) { long = Some (codes "interleave"); action = Some Set; parser = Some (Unsigned 0 18446744073709551615) }
 
 -- FILE
 abbrev pub file_rule : Rule
@@ -27,4 +35,4 @@ abbrev pub plain_app : App
 plain_app = on_top (λ s. record s { no_binary_name = true; disable_help_flag = true }) (new_app (codes "fzn"))
 
 abbrev pub fzn_app : App
-fzn_app = fold with_rule plain_app (all_rule ∷ limit_rule ∷ distance_rule ∷ file_rule ∷ [])
+fzn_app = fold with_rule plain_app (all_rule ∷ limit_rule ∷ workers_rule ∷ distance_rule ∷ interleave_rule ∷ file_rule ∷ [])

@@ -5,18 +5,21 @@ use Rattle.std.specs.Str.Parse.{digits_value, without_leading_plus}
 use Rattle.clap.specs.Words.{Row, Text, first_of, matches_of, fault_of}
 use Rattle.clap.specs.ValueTests.{is_unsigned_in}
 use Rattle.clap.specs.Walk.{is_empty}
-use Rattle.fz_cmd.specs.declared.options.TheConstants.{COMMIT_DISTANCE, COMMIT_DISTANCE_LEAST, COMMIT_DISTANCE_MOST}
+use Rattle.fz_cmd.specs.declared.options.TheConstants.{COMMIT_DISTANCE, COMMIT_DISTANCE_LEAST, COMMIT_DISTANCE_MOST, WORKERS, WORKERS_LEAST, WORKERS_MOST}
 use Rattle.fz_cmd.specs.Command.{fzn_app}
 
--- all solutions or not, how many of them, the commit distance, and the text that is read
+-- all solutions or not, how many of them, by how many workers, the commit distance, the seed of the workers' turns, and the text that is read
 pub record Options : Type 0 where
   pub all : Bool
   pub limit : Option ℕ
+  pub workers : ℕ
   pub commit_distance : ℕ
+  pub interleave : Option ℕ
   pub file : List ℕ
 
 -- each number is in its range
 pub record HasRanges (o : Options) : Type 0 where
+  pub workers : (WORKERS_LEAST ≤ o.workers) × (o.workers ≤ WORKERS_MOST)
   pub commit_distance : (COMMIT_DISTANCE_LEAST ≤ o.commit_distance) × (o.commit_distance ≤ COMMIT_DISTANCE_MOST)
 
 -- a flag was given
@@ -39,14 +42,20 @@ number_at rows id least most = given_in least most (first_of id rows)
 abbrev pub read : List Row → Option Options
 read rows =
     option_and_then (λ limit.
+    option_and_then (λ workers.
     option_and_then (λ distance.
+    option_and_then (λ interleave.
     Some (record {
       all = is_on (codes "all") rows;
       limit = limit;
+      workers = unwrap_or workers WORKERS;
       commit_distance = unwrap_or distance COMMIT_DISTANCE;
+      interleave = interleave;
       file = unwrap_or (first_of (codes "file") rows) (codes "-");
     }))
+    (number_at rows (codes "interleave") 0 18446744073709551615))
     (number_at rows (codes "commit-distance") COMMIT_DISTANCE_LEAST COMMIT_DISTANCE_MOST))
+    (number_at rows (codes "workers") WORKERS_LEAST WORKERS_MOST))
     (number_at rows (codes "limit") 0 4294967295)
 
 -- What clap's own rules refuse is refused; else the matches are read.

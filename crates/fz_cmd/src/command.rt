@@ -1,9 +1,9 @@
 //! The command that clap reads the words by.
 ghost use Rattle.std.specs.Prelude.{◌≡◌, false, IfOk, map, string_bytes};
 ghost use Rattle.clap.specs.Words.{app_of, rule_of, rows_of, found_of, matches_of, fault_of, FailsBy};
-ghost use Rattle.fz_cmd.specs.Command.{all_rule, limit_rule, distance_rule, file_rule, plain_app, fzn_app};
+ghost use Rattle.fz_cmd.specs.Command.{all_rule, limit_rule, workers_rule, distance_rule, interleave_rule, file_rule, plain_app, fzn_app};
 
-use crate::options::{COMMIT_DISTANCE_LEAST, COMMIT_DISTANCE_MOST};
+use crate::options::{COMMIT_DISTANCE_LEAST, COMMIT_DISTANCE_MOST, WORKERS_LEAST, WORKERS_MOST};
 use clap::builder::ValueParser;
 use clap::{Arg, ArgAction, ArgMatches, Command, Error};
 use std::alloc::{AllocError, Global};
@@ -27,6 +27,17 @@ fn limit_arg<'a>(alloc: Global) -> Arg<'a>
         .value_parser(ValueParser::Unsigned(0, u32::MAX as u64))
 }
 
+/// `-p NUMBER`
+fn workers_arg<'a>(alloc: Global) -> Arg<'a>
+    ensures rule { rule_of result ≡ workers_rule }
+    ensures local { result.global ≡ false }
+{
+    Arg::new(alloc, "workers")
+        .short('p')
+        .action(ArgAction::Set)
+        .value_parser(ValueParser::Unsigned(WORKERS_LEAST as u64, WORKERS_MOST as u64))
+}
+
 /// `--commit-distance NUMBER`
 fn distance_arg<'a>(alloc: Global) -> Arg<'a>
     ensures rule { rule_of result ≡ distance_rule }
@@ -39,6 +50,17 @@ fn distance_arg<'a>(alloc: Global) -> Arg<'a>
             COMMIT_DISTANCE_LEAST as u64,
             COMMIT_DISTANCE_MOST as u64,
         ))
+}
+
+/// `--interleave SEED`
+fn interleave_arg<'a>(alloc: Global) -> Arg<'a>
+    ensures rule { rule_of result ≡ interleave_rule }
+    ensures local { result.global ≡ false }
+{
+    Arg::new(alloc, "interleave")
+        .long("interleave")
+        .action(ArgAction::Set)
+        .value_parser(ValueParser::Unsigned(0, u64::MAX))
 }
 
 /// FILE
@@ -63,12 +85,16 @@ fn command<'a>(alloc: Global) -> Result<Command<'a>, AllocError>
 {
     let all = all_arg(alloc);
     let limit = limit_arg(alloc);
+    let workers = workers_arg(alloc);
     let distance = distance_arg(alloc);
+    let interleave = interleave_arg(alloc);
     let file = file_arg(alloc);
     let with_all = plain(alloc).arg(all)?;
     let with_limit = with_all.arg(limit)?;
-    let with_distance = with_limit.arg(distance)?;
-    let with_file = with_distance.arg(file)?;
+    let with_workers = with_limit.arg(workers)?;
+    let with_distance = with_workers.arg(distance)?;
+    let with_interleave = with_distance.arg(interleave)?;
+    let with_file = with_interleave.arg(file)?;
     Ok(with_file)
 }
 

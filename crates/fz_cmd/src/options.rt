@@ -5,6 +5,13 @@ ghost use Rattle.fz_cmd.specs.Meaning.{HasRanges};
 use crate::name::Name;
 use std::marker::Model;
 
+/// The least and the greatest number of workers, and the one where none is given.
+pub const WORKERS_LEAST: u32 = 1;
+
+pub const WORKERS_MOST: u32 = 64;
+
+pub const WORKERS: u32 = 1;
+
 /// The least and the greatest commit distance, and the one where none is given.
 pub const COMMIT_DISTANCE_LEAST: u32 = 1;
 
@@ -17,7 +24,9 @@ pub const COMMIT_DISTANCE: u32 = 8;
 pub struct Options {
     pub(crate) all: bool,
     pub(crate) limit: Option<u32>,
+    pub(crate) workers: u32,
     pub(crate) commit_distance: u32,
+    pub(crate) interleave: Option<u64>,
     pub(crate) file: Name,
 }
 
@@ -48,12 +57,27 @@ impl Options {
         self.limit
     }
 
+    /// The number of workers.
+    pub fn workers(&self) -> u32
+        ensures workers { result ≡ self.now.workers }
+        ensures kept { HasRanges self.now }
+    {
+        self.workers
+    }
+
     /// The commit distance, which recomputation keeps copies by.
     pub fn commit_distance(&self) -> u32
         ensures distance { result ≡ self.now.commit_distance }
         ensures kept { HasRanges self.now }
     {
         self.commit_distance
+    }
+
+    /// The seed of `--interleave`: the workers take turns on one thread, by a schedule that it begins.
+    pub fn interleave(&self) -> Option<u64>
+        ensures { result ≡ self.now.interleave }
+    {
+        self.interleave
     }
 
     /// The name of the text to read; `-` is standard input.

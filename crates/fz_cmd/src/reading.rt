@@ -32,6 +32,23 @@ pub(crate) fn number(
     ensures is { result ≡ meaning.number_at (rows_of (found_of matches.now)) id.now least most }
     ensures within { IfSome result (λ n. IfSome n (λ k. (least ≤ k) × (k ≤ most))) }
 {
+    match long_number(matches, id, least as u64, most as u64) {
+        Some(Some(number)) => Some(Some(number as u32)),
+        Some(None) => Some(None),
+        None => None,
+    }
+}
+
+/// The same of a longer number.
+pub(crate) fn long_number(
+    matches: &ArgMatches<'_>,
+    id: &str,
+    least: u64,
+    most: u64,
+) -> Option<Option<u64>>
+    ensures is { result ≡ meaning.number_at (rows_of (found_of matches.now)) id.now least most }
+    ensures within { IfSome result (λ n. IfSome n (λ k. (least ≤ k) × (k ≤ most))) }
+{
     match text(matches, id) {
         Some(text) => match number_in(text, least, most) {
             Some(number) => Some(Some(number)),
@@ -41,11 +58,11 @@ pub(crate) fn number(
     }
 }
 
-fn number_in(text: &str, least: u32, most: u32) -> Option<u32>
+fn number_in(text: &str, least: u64, most: u64) -> Option<u64>
     ensures is { result ≡ meaning.number_in least most text.now }
     ensures within { IfSome result (λ k. (least ≤ k) × (k ≤ most)) }
 {
-    match text.parse::<u32>() {
+    match text.parse::<u64>() {
         Ok(number) => {
             if least <= number && number <= most {
                 Some(number)

@@ -5,14 +5,31 @@ use crate::words::options;
 use std::alloc::{AllocError, Global};
 use std::test::Fail;
 
-/// What words give: all or not, how many, the commit distance, the file.
+/// What words give.
 #[derive(Clone, Copy)]
 struct Given {
     words: &'static [&'static str],
     all: bool,
     limit: Option<u32>,
+    workers: u32,
     commit_distance: u32,
+    interleave: Option<u64>,
     file: &'static str,
+}
+
+impl Given {
+    /// These words, which give what stands where none is given.
+    fn plain(words: &'static [&'static str]) -> Given {
+        Given {
+            words,
+            all: false,
+            limit: None,
+            workers: 1,
+            commit_distance: 8,
+            interleave: None,
+            file: "-",
+        }
+    }
 }
 
 fn of(alloc: Global, words: &[&str]) -> Result<Option<Options>, AllocError> {
@@ -26,39 +43,78 @@ fn of(alloc: Global, words: &[&str]) -> Result<Option<Options>, AllocError> {
 fn gives(options: &Options, given: &Given) -> bool {
     options.all() == given.all
         && options.limit() == given.limit
+        && options.workers() == given.workers
         && options.commit_distance() == given.commit_distance
+        && options.interleave() == given.interleave
         && options.file().as_str() == given.file
-}
-
-fn row(
-    words: &'static [&'static str],
-    all: bool,
-    limit: Option<u32>,
-    commit_distance: u32,
-    file: &'static str,
-) -> Given {
-    Given {
-        words,
-        all,
-        limit,
-        commit_distance,
-        file,
-    }
 }
 
 #[test]
 fn words_give_their_options(rt: HostRuntime) -> Result<(), Fail> {
     let rows = [
-        row(&[], false, None, 8, "-"),
-        row(&["-a", "-"], true, None, 8, "-"),
-        row(&["m.fzn", "-a"], true, None, 8, "m.fzn"),
-        row(&["-n", "0"], false, Some(0), 8, "-"),
-        row(&["-a", "-n", "2"], true, Some(2), 8, "-"),
-        row(&["-n4294967295"], false, Some(u32::MAX), 8, "-"),
-        row(&["-n=3", "m.fzn"], false, Some(3), 8, "m.fzn"),
-        row(&["--commit-distance", "1"], false, None, 1, "-"),
-        row(&["--commit-distance=1000000"], false, None, 1_000_000, "-"),
-        row(&["-a", "--", "-b"], true, None, 8, "-b"),
+        Given::plain(&[]),
+        Given {
+            all: true,
+            ..Given::plain(&["-a", "-"])
+        },
+        Given {
+            all: true,
+            file: "m.fzn",
+            ..Given::plain(&["m.fzn", "-a"])
+        },
+        Given {
+            limit: Some(0),
+            ..Given::plain(&["-n", "0"])
+        },
+        Given {
+            all: true,
+            limit: Some(2),
+            ..Given::plain(&["-a", "-n", "2"])
+        },
+        Given {
+            limit: Some(u32::MAX),
+            ..Given::plain(&["-n4294967295"])
+        },
+        Given {
+            limit: Some(3),
+            file: "m.fzn",
+            ..Given::plain(&["-n=3", "m.fzn"])
+        },
+        Given {
+            workers: 1,
+            ..Given::plain(&["-p", "1"])
+        },
+        Given {
+            all: true,
+            workers: 64,
+            ..Given::plain(&["-ap64"])
+        },
+        Given {
+            commit_distance: 1,
+            ..Given::plain(&["--commit-distance", "1"])
+        },
+        Given {
+            commit_distance: 1_000_000,
+            ..Given::plain(&["--commit-distance=1000000"])
+        },
+        Given {
+            interleave: Some(0),
+            ..Given::plain(&["--interleave", "0"])
+        },
+        Given {
+            interleave: Some(u64::MAX),
+            ..Given::plain(&["--interleave=18446744073709551615"])
+        },
+        Given {
+            workers: 3,
+            interleave: Some(7),
+            ..Given::plain(&["--interleave", "7", "-p", "3"])
+        },
+        Given {
+            all: true,
+            file: "-b",
+            ..Given::plain(&["-a", "--", "-b"])
+        },
     ];
     for given in &rows {
         let options = of(rt.alloc(), given.words)?.expect(&rt, "options");
@@ -69,7 +125,7 @@ fn words_give_their_options(rt: HostRuntime) -> Result<(), Fail> {
 
 #[test]
 fn other_words_are_refused(rt: HostRuntime) -> Result<(), Fail> {
-    let rows: [&[&str]; 16] = [
+    let rows: [&[&str]; 24] = [
         &["-a", "-a"],
         &["-n"],
         &["-n", "-1"],
@@ -80,7 +136,15 @@ fn other_words_are_refused(rt: HostRuntime) -> Result<(), Fail> {
         &["--commit-distance=1000001"],
         &["--commit-distance"],
         &["m.fzn", "n.fzn"],
-        &["-p", "2"],
+        &["-p", "0"],
+        &["-p", "65"],
+        &["-p"],
+        &["-p", "2", "-p", "2"],
+        &["--interleave", "18446744073709551616"],
+        &["--interleave", "-1"],
+        &["--interleave"],
+        &["--interleave=1", "--interleave=1"],
+        &["--generate", "4"],
         &["-s"],
         &["--all"],
         &["-z"],

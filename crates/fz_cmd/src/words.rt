@@ -5,8 +5,11 @@ ghost use Rattle.fz_cmd.specs.Meaning as meaning;
 
 use crate::command::parse;
 use crate::name::Name;
-use crate::options::{COMMIT_DISTANCE, COMMIT_DISTANCE_LEAST, COMMIT_DISTANCE_MOST, Options};
-use crate::reading::{is_on, number, text};
+use crate::options::{
+    COMMIT_DISTANCE, COMMIT_DISTANCE_LEAST, COMMIT_DISTANCE_MOST, Options, WORKERS, WORKERS_LEAST,
+    WORKERS_MOST,
+};
+use crate::reading::{is_on, long_number, number, text};
 use clap::ArgMatches;
 use clap::error::ErrorKind;
 use std::alloc::{AllocError, Global};
@@ -37,6 +40,9 @@ fn read(alloc: Global, matches: &ArgMatches<'_>) -> Result<Option<Options>, Allo
     let Some(limit) = number(matches, "limit", 0, u32::MAX) else {
         return Ok(None);
     };
+    let Some(workers) = number(matches, "workers", WORKERS_LEAST, WORKERS_MOST) else {
+        return Ok(None);
+    };
     let Some(distance) = number(
         matches,
         "commit-distance",
@@ -45,11 +51,16 @@ fn read(alloc: Global, matches: &ArgMatches<'_>) -> Result<Option<Options>, Allo
     ) else {
         return Ok(None);
     };
+    let Some(interleave) = long_number(matches, "interleave", 0, u64::MAX) else {
+        return Ok(None);
+    };
     let file = Name::new(alloc, text(matches, "file").unwrap_or("-"))?;
     Ok(Some(Options {
         all,
         limit,
+        workers: workers.unwrap_or(WORKERS),
         commit_distance: distance.unwrap_or(COMMIT_DISTANCE),
+        interleave,
         file,
     }))
 }

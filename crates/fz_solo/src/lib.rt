@@ -3,4 +3,4 @@
 
 pub mod solo;
 
-pub use solo::{End, finish};
+pub use solo::{End, finish, has_enough};

@@ -27,7 +27,7 @@ pub const FAULTS: [&str; 12] = [
 ];
 
 /// How the program is called.
-pub const USAGE: &str = "usage: fzn [options] [FILE], with -a, -n N, --commit-distance N";
+pub const USAGE: &str = "usage: fzn [-a] [-n N] [-p N] [--interleave N] [options] [FILE]";
 
 /// The line for standard error behind a run of these words, none where it is done.
 pub fn complaint_of(
@@ -39,7 +39,14 @@ pub fn complaint_of(
         ≡ complaints.complaint_of (map string_bytes words.now) status.now) }
 {
     let options = options(alloc, words)?;
-    let name = shown_name(options.as_ref());
+    complaint_about(alloc, shown_name(options.as_ref()), status)
+}
+
+/// The same, by the name of the text.
+fn complaint_about(alloc: Global, name: &str, status: &Status) -> Result<Option<String>, AllocError>
+    ensures { IfOk result (λ line. option_map string_bytes line
+        ≡ complaints.complaint_text name.now status.now) }
+{
     let line = match status {
         Status::Done => return Ok(None),
         Status::Refused(refusal) => refusal_line(alloc, name, refusal)?,

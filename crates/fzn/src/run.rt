@@ -26,14 +26,16 @@ use std::sync::Arc;
 /// Reads a FlatZinc text, searches for its solutions, and prints them.
 ///
 /// `words` are the arguments of the program: `-a` for all solutions, `-n N` for N of them (0 for all), one where neither is given;
-/// `--commit-distance N` for how often a copy of a node is kept; and FILE. The text is that of FILE; no FILE is `-`, standard
-/// input. A text may have 67,108,864 bytes. Printed is a block for each satisfying assignment, in any order, and `==========`;
-/// of `-n N` N different blocks alone, where so many satisfy; of a model with a goal the block of a best assignment and
-/// `==========`, with `-a` behind each better one that was found on the way; where none satisfies, `=====UNSATISFIABLE=====`
-/// alone; of a text that is refused, the place, the code and `=====ERROR=====`. Each block, each last line and each refusal is one
-/// piece for the sink, and one flush comes last, whenever something was written.
+/// `--commit-distance N` for how often a copy of a node is kept; `--interleave SEED` for a search by workers, `-p N` of them (1
+/// where it isn't given), that take turns on one thread by a schedule which the seed begins; and FILE. The text is that of FILE;
+/// no FILE is `-`, standard input. A text may have 67,108,864 bytes. Printed is a block for each satisfying assignment, in any
+/// order, and `==========`; of `-n N` N different blocks alone, where so many satisfy; of a model with a goal the block of a best
+/// assignment and `==========`, with `-a` behind each better one that was found on the way; where none satisfies,
+/// `=====UNSATISFIABLE=====` alone; of a text that is refused, the place, the code and `=====ERROR=====`. Each block, each last
+/// line and each refusal is one piece for the sink, and one flush comes last, whenever something was written.
 ///
-/// `rt` and `gate` are for the threads to come: a run takes no thread yet, and waits for nobody.
+/// `rt` and `gate` are for the threads to come: a run takes no thread yet, and waits for nobody. Without `--interleave` one worker
+/// searches, whatever `-p` says.
 pub fn fzn<T, R: Source, S: Sink, G: Gate>(
     rt: &T,
     alloc: Global,

@@ -11,6 +11,7 @@ ghost use Rattle.fzn.specs.Steps.{enough_for, IsSearched, IsListing, IsShown};
 use fz_account::Mode;
 use fz_book::Book;
 use fz_cmd::Options;
+use fz_machine::Machine;
 use fz_model::assignment::Assignment;
 use fz_model::model::Model;
 use fz_path::{Path, Space};
@@ -42,6 +43,22 @@ pub(crate) fn search<S: Space>(
     ensures { IfOk result (λ b. IsSearched (arc_value model.now)
         (enough_for (arc_value model.now).goal options.now) b.book) }
 {
+    match options.interleave() {
+        Some(seed) => search_by_turns::<S>(alloc, model, options, seed),
+        None => search_alone::<S>(alloc, model, options),
+    }
+}
+
+/// By one worker.
+fn search_alone<S: Space>(
+    alloc: Global,
+    model: &Arc<Model>,
+    options: &Options,
+) -> Result<Book, AllocError>
+    requires accepts { S.accepts (arc_value model.now) }
+    ensures { IfOk result (λ b. IsSearched (arc_value model.now)
+        (enough_for (arc_value model.now).goal options.now) b.book) }
+{
     let distance = options.commit_distance();
     let mode = mode_of(model.goal());
     let mut book = begin(alloc, model, mode)?;
@@ -49,6 +66,45 @@ pub(crate) fn search<S: Space>(
     let enough = enough_for(model.goal(), options);
     finish(&mut book, &mut path, enough, options.all())?;
     Ok(book)
+}
+
+/// By as many workers as are asked for, that take turns on this thread, from this seed on.
+fn search_by_turns<S: Space>(
+    alloc: Global,
+    model: &Arc<Model>,
+    options: &Options,
+    seed: u64,
+) -> Result<Book, AllocError>
+    requires accepts { S.accepts (arc_value model.now) }
+    ensures { IfOk result (λ b. IsSearched (arc_value model.now)
+        (enough_for (arc_value model.now).goal options.now) b.book) }
+{
+    let mode = mode_of(model.goal());
+    let mut machine = new_machine::<S>(alloc, model, mode, options)?;
+    let enough = enough_for(model.goal(), options);
+    machine.run(seed, enough)?;
+    Ok(machine.into_book())
+}
+
+/// As many idle workers as are asked for.
+fn new_machine<S: Space>(
+    alloc: Global,
+    model: &Arc<Model>,
+    mode: Mode,
+    options: &Options,
+) -> Result<Machine<S>, AllocError>
+    requires accepts { S.accepts (arc_value model.now) }
+    requires mode { mode ≡ mode_of (arc_value model.now).goal }
+    ensures { IfOk result (λ m. m.book ≡ opening (arc_value model.now) mode) }
+{
+    Machine::new(
+        alloc,
+        model.clone()?,
+        mode,
+        options.workers(),
+        options.commit_distance(),
+        ADAPTIVE_DISTANCE,
+    )
 }
 
 /// Whether all solutions of a goal are sought, or a best one.

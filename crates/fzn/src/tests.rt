@@ -146,7 +146,7 @@ fn a_failing_source_prints_nothing(rt: HostRuntime) -> Result<(), Fail> {
 #[test]
 fn the_words_are_options_and_at_most_one_file(rt: HostRuntime) -> Result<(), Fail> {
     let alloc = rt.alloc();
-    let accepted: [&[&str]; 8] = [
+    let accepted: [&[&str]; 10] = [
         &[],
         &["-a"],
         &["-a", "-"],
@@ -155,6 +155,8 @@ fn the_words_are_options_and_at_most_one_file(rt: HostRuntime) -> Result<(), Fai
         &["-a", "-n", "2"],
         &["--commit-distance", "1"],
         &["--commit-distance=1000000", "m.fzn"],
+        &["-a", "-p", "64"],
+        &["-p", "64", "--interleave", "18446744073709551615"],
     ];
     for words in accepted {
         let outcome = run(alloc, "solve satisfy;", words)?;
@@ -169,7 +171,7 @@ fn the_words_are_options_and_at_most_one_file(rt: HostRuntime) -> Result<(), Fai
         &["-n", "4294967296"],
         &["--commit-distance", "0"],
         &["--commit-distance", "1000001"],
-        &["-p", "2"],
+        &["-p", "65"],
         &["m.fzn", "m.fzn"],
         &["--a"],
     ];
@@ -252,7 +254,7 @@ fn each_answer_but_done_has_a_line_for_standard_error(rt: HostRuntime) -> Result
         (
             &["-z"],
             Status::Usage,
-            "usage: fzn [options] [FILE], with -a, -n N, --commit-distance N",
+            "usage: fzn [-a] [-n N] [-p N] [--interleave N] [options] [FILE]",
         ),
         (
             &["-a", "m.fzn"],

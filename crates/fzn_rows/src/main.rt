@@ -1,8 +1,9 @@
-//! What spaces, paths and books answer, call by call, of models that are small enough to follow by hand. Each line names what it
+//! What spaces, paths, books and machines answer, call by call, of models that are small enough to follow by hand. Each line names what it
 //! shows.
 #![tactic(auto)]
 
 mod books;
+mod machines;
 mod models;
 mod paths;
 mod show;
@@ -21,5 +22,6 @@ fn main(rt: HostRuntime) -> ExitCode {
 fn all(rt: &HostRuntime) -> Result<(), AllocError> {
     spaces::all(rt)?;
     paths::all(rt)?;
-    books::all(rt)
+    books::all(rt)?;
+    machines::all(rt)
 }

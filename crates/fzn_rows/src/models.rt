@@ -1,5 +1,5 @@
 //! Models, and what searches them.
-ghost use Rattle.std.specs.Prelude.{◌≡◌, ◌⊎◌, ◌∷◌, [], None, IfOk, length};
+ghost use Rattle.std.specs.Prelude.{◌≡◌, ◌≤◌, ◌⊎◌, ◌∷◌, [], None, IfOk, length};
 ghost use Rattle.std.specs.Arc.{arc_value};
 ghost use Rattle.fz_sets.specs.Sets.{IsWithinLimits};
 ghost use Rattle.fz_spec.specs.Constraints as meaning;
@@ -11,6 +11,7 @@ ghost use Rattle.fz_path.specs.Paths.{idle_path};
 use fz_account::Mode;
 use fz_book::Book;
 use fz_dom::Dom;
+use fz_machine::Machine;
 use fz_model::{Argument, Constraint, Goal, Kind, Model, Variable};
 use fz_path::Path;
 use fz_region::Choice;
@@ -122,6 +123,18 @@ pub fn book(alloc: Global, model: &Arc<Model>) -> Result<Book, AllocError>
         Ok(book) => Ok(book),
         Err(_) => Err(AllocError),
     }
+}
+
+/// So many idle workers on a model.
+pub fn machine(
+    alloc: Global,
+    model: &Arc<Model>,
+    workers: u32,
+) -> Result<Machine<Space>, AllocError>
+    requires { 1 ≤ workers }
+{
+    let mode = mode(model.goal());
+    Machine::new(alloc, model.clone()?, mode, workers, 8, 2)
 }
 
 /// The first variable is a value, or it isn't.

@@ -1,4 +1,4 @@
-//! Texts of the language and what a run with `-a` prints of each: tests of the whole program over a source and a sink in memory.
+//! Texts of the language and what a run prints of each, most with `-a`: tests of the whole program over a source and a sink in memory.
 #![tactic(auto)]
 
 #[cfg(test)]
@@ -10,4 +10,8 @@ mod refusals;
 #[cfg(test)]
 mod running;
 #[cfg(test)]
+mod seeds;
+#[cfg(test)]
 mod solutions;
+#[cfg(test)]
+mod turns;

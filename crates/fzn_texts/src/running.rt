@@ -16,18 +16,20 @@ pub(crate) struct Outcome {
     pub printed: Vec<u8>,
 }
 
-/// A run with `-a` over standard input.
-pub(crate) fn run(alloc: Global, text: &[u8]) -> Result<Outcome, AllocError> {
+/// A run with these words over standard input.
+pub(crate) fn run(alloc: Global, text: &[u8], words: &[&str]) -> Result<Outcome, AllocError> {
     let mut texts = Vec::new(alloc);
     texts.push(NamedText {
         name: String::from_str(alloc, "-")?,
         bytes: Vec::from_slice(alloc, text)?,
     })?;
-    let mut words = Vec::new(alloc);
-    words.push(String::from_str(alloc, "-a")?)?;
+    let mut strings = Vec::new(alloc);
+    for word in words {
+        strings.push(String::from_str(alloc, word)?)?;
+    }
     let mut source = MemSource::new(texts, Vec::new(alloc));
     let mut sink = MemSink::new(alloc, Vec::new(alloc));
-    let status = fzn(&(), alloc, &words, &mut source, &mut sink, &NoGate);
+    let status = fzn(&(), alloc, &strings, &mut source, &mut sink, &NoGate);
     Ok(Outcome {
         status,
         printed: Vec::from_slice(alloc, sink.bytes())?,
@@ -35,7 +37,7 @@ pub(crate) fn run(alloc: Global, text: &[u8]) -> Result<Outcome, AllocError> {
 }
 
 /// The pieces between lines of ten dashes, in sorted order, since blocks may come in any.
-fn blocks_of(alloc: Global, printed: &[u8]) -> Result<Vec<String>, Fail> {
+pub(crate) fn blocks_of(alloc: Global, printed: &[u8]) -> Result<Vec<String>, Fail> {
     let text = std::str::from_utf8(printed)?;
     let mut blocks = Vec::new(alloc);
     for block in text.split("----------\n") {
@@ -45,14 +47,25 @@ fn blocks_of(alloc: Global, printed: &[u8]) -> Result<Vec<String>, Fail> {
     Ok(blocks)
 }
 
-/// Runs a text, and compares what is printed, whatever the order of its blocks.
+/// Runs a text with `-a`, and compares what is printed, whatever the order of its blocks.
 pub(crate) fn expect_printed(
     rt: &impl Abort,
     alloc: Global,
     text: &[u8],
     printed: &str,
 ) -> Result<(), Fail> {
-    let outcome = run(alloc, text)?;
+    expect_printed_by(rt, alloc, text, &["-a"], printed)
+}
+
+/// The same of a run with these words.
+pub(crate) fn expect_printed_by(
+    rt: &impl Abort,
+    alloc: Global,
+    text: &[u8],
+    words: &[&str],
+    printed: &str,
+) -> Result<(), Fail> {
+    let outcome = run(alloc, text, words)?;
     assert_eq!(rt; outcome.status, Status::Done);
     let got = blocks_of(alloc, &outcome.printed)?;
     let wanted = blocks_of(alloc, printed.as_bytes())?;
@@ -75,7 +88,7 @@ pub(crate) fn expect_refusal(
     column: u32,
     code: u8,
 ) -> Result<(), Fail> {
-    let outcome = run(alloc, text)?;
+    let outcome = run(alloc, text, &["-a"])?;
     let refusal = Refusal { code, line, column };
     assert_eq!(rt; outcome.status, Status::Refused(refusal));
     Ok(())

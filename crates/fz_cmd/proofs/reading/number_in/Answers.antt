@@ -8,4 +8,4 @@ returns-then-number-most-clause-is c =
     (search rules) (search rules) (search rules)
 
 pub returns-in-Err-clause-is : goal.returns-in-Err-clause-is
-returns-in-Err-clause-is c = unread 32 c.args.least c.args.most c.args.text.now (λ numeral fits. c.in-Err.ensures.value.0 (numeral, fits)) (search rules)
+returns-in-Err-clause-is c = unread 64 c.args.least c.args.most c.args.text.now (λ numeral fits. c.in-Err.ensures.value.0 (numeral, fits)) (search rules)

@@ -4,7 +4,7 @@ use Rattle.fz_spec.specs.declared.goal.Goal.{Goal}
 use Rattle.fz_tree.specs.Book.{Book}
 use Rattle.fzn.specs.Steps.{enough_for}
 use Rattle.fzn.proofs.Searches.{searched}
-use Rattle.fzn.proofs.search.search.Goals as goal
+use Rattle.fzn.proofs.search.search_alone.Goals as goal
 
 pub returns : goal.returns
 returns g c =

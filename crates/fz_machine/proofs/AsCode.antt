@@ -1,0 +1,325 @@
+-- Events as the code says them: s is the machine by its fields, i the number of a worker, read the worker as it is read there.
+use Rattle.std.proofs.Common.{◌≡◌, ◌∙◌, ℕ, ◌<◌, ◌≤◌, ◌^◌, replicate, List, length, set, get_or, Bool, true, false, not, ◌&&◌, eqb, ap, sym, subst, refl, arith, Option, Some, None, IfSome, Result, Ok, Err}
+use Rattle.std.specs.Prelude.{ℤ, is_some, IfOk, OnErr, nat_lt}
+use Rattle.std.specs.List.{slice_get}
+use Rattle.std.proofs.lemmas.List.{set-get_or}
+use Rattle.std.proofs.lemmas.Option.{slice_get_within, get_or_from_slice_get, slice_get_read}
+use Rattle.std.proofs.lemmas.Bool.{and_parts, ltb-true}
+use Rattle.std.proofs.lemmas.Bool.Decides.{Decides-eqb}
+use Rattle.fz_tree.specs.declared.mode.Mode.{Mode}
+use Rattle.fz_tree.specs.declared.mode.Mode.TheVariants.{All, Best}
+use Rattle.fz_tree.specs.Frontier.{Frontier, part_of}
+use Rattle.fz_tree.specs.Account.{Account, with_given}
+use Rattle.fz_spec.specs.Instance.{Instance}
+use Rattle.fz_tree.specs.Better.{mode_of}
+use Rattle.fz_tree.specs.Book.{Book, Claims, Takes, opening}
+use Rattle.fz_account.specs.declared.account.Learned.{Learned}
+use Rattle.fz_path.specs.declared.step.Step as stepping
+use Rattle.fz_path.specs.declared.step.Step.TheVariants as steps
+use Rattle.fz_path.specs.Paths.{Pathed, started, held_behind, with_held, can_cut_held}
+use Rattle.fz_path.specs.Steps.{Steps, StepsTo, Falls, FallsFrom, Stays}
+use Rattle.fz_path.specs.Cuts.{held_behind_cut}
+use Rattle.fz_path.specs.Learns.{Learns}
+use Rattle.fz_machine.specs.declared.event.Event.TheVariants.{Claim, Start, Step, Report, Steal, Learn}
+use Rattle.fz_machine.specs.declared.event.Outcome.{Outcome}
+use Rattle.fz_machine.specs.Cores.{Worker, Core, CoreLaw, idle, worker_at}
+use Rattle.fz_machine.specs.Lawful.{is_lawful, is_free, can_be_cut, has_unclaimed, improving_in, improving}
+use Rattle.fz_machine.specs.Events.{ClaimsAt, StartsAt, StepsAt, ReportsAt, StealsAt, LearnsAt, StaysAt, holding, step_outcome, learned_outcome}
+use Rattle.fz_machine.specs.Slots.{IsReportable}
+use Rattle.fz_machine.proofs.Lawful.{IsFree, CanCut, free, ready, busy, cuttable, some_is_there}
+use Rattle.fz_machine.proofs.Held.{held_is_claimed}
+use Rattle.fz_machine.proofs.Workers.{held_by}
+use Rattle.fz_machine.proofs.Reaching.{start_law}
+use Rattle.fz_machine.proofs.Keeping.{worker_of, get_set_other, event_keeps, refusal_keeps}
+
+pub on_err : {A E : Type 0} (r : Result A E) (P : Type 0) → P → OnErr r P
+on_err (Ok x) P p = tt
+on_err (Err e) P p = p
+
+-- the worker that was read is the one that has the number
+read_is : (s old : Core) (i : ℕ) (w read : Worker) → s ≡ old → worker_at old i ≡ Some w → read ≡ get_or s.workers i read → read ≡ w
+read_is s old i w read view at is = is ∙ get_or_from_slice_get s.workers i w read (subst (λ (x : Core). worker_at x i ≡ Some w) (sym view) at)
+
+-- a worker that is as it was stands in its place, and the book is as it was
+pub unchanged_code : (s old : Core) (i : ℕ) (read now : Worker) (b : Book) → s ≡ old → read ≡ get_or s.workers i read → now ≡ read → b ≡ s.book → let new : Core = record { workers = set s.workers i now; book = b } in new ≡ old
+unchanged_code s old i read now b view is same book =
+    let made : List Worker → Book → Core = λ ws x. record { workers = ws; book = x } in
+    ap (λ (ws : List Worker). made ws b) (ap (set s.workers i) (same ∙ is) ∙ set-get_or s.workers i read) ∙ ap (made s.workers) book ∙ view
+
+-- ---- a claim
+
+pub claim_code : (s old : Core) (i : ℕ) (read : Worker) (path : Pathed) (hand handed : Option Frontier) (task : Frontier) (b : Book) → s ≡ old → is_lawful old (Claim i) ≡ true → read ≡ get_or s.workers i read
+    → (let seen : Worker = record { path = path; hand = hand } in seen ≡ read) → handed ≡ Some task → IfSome handed (λ (f : Frontier). Claims s.book f b) → ClaimsAt i old (record { workers = set s.workers i (record { path = path; hand = Some task }); book = b })
+claim_code s old i read path hand handed task b view lawful is seen some claims =
+    let f = free (worker_at old i) (and_parts (is_free (worker_at old i)) (has_unclaimed old.book) lawful).0 in
+    let same : path ≡ f.worker.path = ap (λ (w : Worker). w.path) (seen ∙ read_is s old i f.worker read view f.at is) in
+    let of_task : Claims s.book task b = subst (λ (o : Option Frontier). IfSome o (λ (x : Frontier). Claims s.book x b)) some claims in
+    let holder : Pathed → Worker = λ p. record { path = p; hand = Some task } in
+    record {
+      worker = f.worker;
+      at = f.at;
+      idle = f.idle;
+      empty = f.empty;
+      task = task;
+      claims = subst (λ (x : Core). Claims x.book task b) view of_task;
+      workers = ap (λ (x : Core). set x.workers i (holder path)) view ∙ ap (λ (p : Pathed). set old.workers i (holder p)) same;
+    }
+
+-- ---- a start
+
+pub start_ready : (s old : Core) (i : ℕ) (read : Worker) → s ≡ old → is_lawful old (Start i) ≡ true → read ≡ get_or s.workers i read → (read.path.held ≡ None) × (is_some read.hand ≡ true)
+start_ready s old i read view lawful is =
+    let r = ready (worker_at old i) lawful in
+    let same = read_is s old i r.worker read view r.at is in
+    (ap (λ (w : Worker). w.path.held) same ∙ r.idle, ap (λ (w : Worker). is_some w.hand) same ∙ r.full)
+
+pub start_code : (s old : Core) (i : ℕ) (read now : Worker) → s ≡ old → is_lawful old (Start i) ≡ true → read ≡ get_or s.workers i read
+    → ((task : Frontier) × (read.hand ≡ Some task) × (now ≡ record { path = started read.path task; hand = None })) → StartsAt i old (record { workers = set s.workers i now; book = s.book })
+start_code s old i read now view lawful is does =
+    let r = ready (worker_at old i) lawful in
+    let same = read_is s old i r.worker read view r.at is in
+    let starter : Worker → Worker = λ w. record { path = started w.path does.0; hand = None } in
+    let made : Core → Worker → Core = λ x w. record { workers = set x.workers i w; book = x.book } in
+    record {
+      worker = r.worker;
+      at = r.at;
+      idle = r.idle;
+      task = does.0;
+      full = ap (λ (w : Worker). w.hand) (sym same) ∙ does.1;
+      is = ap (λ (x : Core). made x now) view ∙ ap (made old) (does.2 ∙ ap starter same);
+    }
+
+-- ---- a step
+
+-- the worker that was read, with what it holds now
+holds_now : (read w : Worker) (path new : Pathed) (hand : Option Frontier) → (let seen : Worker = record { path = path; hand = hand } in seen ≡ read) → read ≡ w → new ≡ with_held path new.held
+    → (let now : Worker = record { path = new; hand = hand } in now ≡ holding w new.held)
+holds_now read w path new hand seen same rest =
+    let made : Pathed → Option Frontier → Worker = λ p h. record { path = p; hand = h } in
+    ap (λ (p : Pathed). made p hand) rest ∙ ap (λ (x : Worker). holding x new.held) (seen ∙ same)
+
+steps_held : (step : stepping.Step) (c : Account) (held new : Option Account) → held ≡ Some c → Steps step held new → FallsFrom step held new → (d : Account) × (new ≡ Some d) × StepsTo step c d × Falls step c d
+steps_held step c held new holds does falls =
+    let from = subst (λ (o : Option Account). Steps step o new) holds does in
+    let less : FallsFrom step (Some c) (Some from.account) = subst (λ (o : Option Account). FallsFrom step (Some c) o) from.holds (subst (λ (o : Option Account). FallsFrom step o new) holds falls) in
+    (from.account, from.holds, from.steps, less)
+
+pub step_code : (s old : Core) (i : ℕ) (read : Worker) (path new : Pathed) (hand : Option Frontier) (step : stepping.Step) (answer : Outcome) → s ≡ old → is_lawful old (Step i) ≡ true → read ≡ get_or s.workers i read
+    → (let seen : Worker = record { path = path; hand = hand } in seen ≡ read) → Steps step path.held new.held → FallsFrom step path.held new.held → new ≡ with_held path new.held → step_outcome step ≡ Some answer
+    → StepsAt i answer old (record { workers = set s.workers i (record { path = new; hand = hand }); book = s.book })
+step_code s old i read path new hand step answer view lawful is seen does falls rest answers =
+    let b = busy (worker_at old i) lawful in
+    let same = read_is s old i b.worker read view b.at is in
+    let holds : path.held ≡ Some b.account = ap (λ (w : Worker). w.path.held) (seen ∙ same) ∙ b.holds in
+    let d = steps_held step b.account path.held new.held holds does falls in
+    let made : Core → Worker → Core = λ x w. record { workers = set x.workers i w; book = x.book } in
+    let now : Worker = record { path = new; hand = hand } in
+    record {
+      worker = b.worker;
+      at = b.at;
+      account = b.account;
+      holds = b.holds;
+      step = step;
+      answers = answers;
+      stepped = d.0;
+      steps = d.2;
+      falls = d.3;
+      is = ap (λ (x : Core). made x now) view ∙ ap (made old) (holds_now read b.worker path new hand seen same rest ∙ ap (holding b.worker) d.1);
+    }
+
+pub stay_code : (s old : Core) (i : ℕ) (read : Worker) (path new : Pathed) (hand : Option Frontier) → s ≡ old → is_lawful old (Step i) ≡ true → read ≡ get_or s.workers i read
+    → (let seen : Worker = record { path = path; hand = hand } in seen ≡ read) → Stays path.held new.held → new ≡ with_held path new.held → StaysAt i old (record { workers = set s.workers i (record { path = new; hand = hand }); book = s.book })
+stay_code s old i read path new hand view lawful is seen stays rest =
+    let b = busy (worker_at old i) lawful in
+    let same = read_is s old i b.worker read view b.at is in
+    let holds : path.held ≡ Some b.account = ap (λ (w : Worker). w.path.held) (seen ∙ same) ∙ b.holds in
+    let made : Core → Worker → Core = λ x w. record { workers = set x.workers i w; book = x.book } in
+    let now : Worker = record { path = new; hand = hand } in
+    record {
+      worker = b.worker;
+      at = b.at;
+      account = b.account;
+      holds = b.holds;
+      held = new.held;
+      stays = subst (λ (o : Option Account). Stays o new.held) holds stays;
+      is = ap (λ (x : Core). made x now) view ∙ ap (made old) (holds_now read b.worker path new hand seen same rest);
+    }
+
+-- a worker that holds a frontier isn't idle at a step
+pub never_idle : (s old : Core) (i : ℕ) (read : Worker) (path new : Pathed) (hand : Option Frontier) (step : stepping.Step) → s ≡ old → is_lawful old (Step i) ≡ true → read ≡ get_or s.workers i read
+    → (let seen : Worker = record { path = path; hand = hand } in seen ≡ read) → Steps step path.held new.held → step_outcome step ≡ None → ⊥
+never_idle s old i read path new hand step view lawful is seen does none =
+    let b = busy (worker_at old i) lawful in
+    let holds : path.held ≡ Some b.account = ap (λ (w : Worker). w.path.held) (seen ∙ read_is s old i b.worker read view b.at is) ∙ b.holds in
+    let from = subst (λ (o : Option Account). Steps step o new.held) holds does in
+    acts step b.account from.account from.steps none
+  where
+    acts : (x : stepping.Step) (a d : Account) → StepsTo x a d → step_outcome x ≡ None → ⊥
+    acts steps.Expanded a d h bad = cc bad
+    acts steps.Found a d h bad = cc bad
+    acts steps.Closed a d h bad = cc bad
+    acts steps.Idle a d h bad = h
+
+-- ---- a report
+
+-- what a worker holds, the book can take
+reportable : (s : Core) (i : ℕ) (w : Worker) (held : Option Account) → CoreLaw s → worker_at s i ≡ Some w → w.path.held ≡ held → IfSome held (IsReportable s.book)
+reportable s i w None law at holds = tt
+reportable s i w (Some c) law at holds =
+    let of_w = worker_of s i w law at in
+    let is = held_by s.book.model w c of_w holds in
+    let k = held_is_claimed s.book.parts s.workers i w c law.held at holds in
+    record { model = sym (is.model ∙ of_w.model); is_open = (k.place, k.at); given = is.given }
+
+-- the same of the worker as it is read
+reportable_read : (s old : Core) (i : ℕ) (w read : Worker) → CoreLaw s → s ≡ old → worker_at old i ≡ Some w → read ≡ get_or s.workers i read → IfSome read.path.held (IsReportable s.book)
+reportable_read s old i w read law view at is =
+    let here : worker_at s i ≡ Some w = subst (λ (x : Core). worker_at x i ≡ Some w) (sym view) at in
+    subst (λ (x : Worker). IfSome x.path.held (IsReportable s.book)) (sym (read_is s old i w read view at is)) (reportable s i w w.path.held law here refl)
+
+pub report_holds : (s old : Core) (i : ℕ) (read : Worker) → s ≡ old → is_lawful old (Report i) ≡ true → read ≡ get_or s.workers i read → is_some read.path.held ≡ true
+report_holds s old i read view lawful is =
+    let b = busy (worker_at old i) lawful in
+    ap (λ (w : Worker). is_some w.path.held) (read_is s old i b.worker read view b.at is) ∙ ap (λ (o : Option Account). is_some o) b.holds
+
+pub report_can : (s old : Core) (i : ℕ) (read : Worker) → CoreLaw s → s ≡ old → is_lawful old (Report i) ≡ true → read ≡ get_or s.workers i read → IfSome read.path.held (IsReportable s.book)
+report_can s old i read law view lawful is = let b = busy (worker_at old i) lawful in reportable_read s old i b.worker read law view b.at is
+
+pub report_code : (s old : Core) (i : ℕ) (read now : Worker) (b : Book) → s ≡ old → is_lawful old (Report i) ≡ true → read ≡ get_or s.workers i read
+    → ((c : Account) × (read.path.held ≡ Some c) × Takes s.book c b × (now ≡ holding read (held_behind c))) → ReportsAt i old (record { workers = set s.workers i now; book = b })
+report_code s old i read now b view lawful is does =
+    let w = busy (worker_at old i) lawful in
+    let same = read_is s old i w.worker read view w.at is in
+    record {
+      worker = w.worker;
+      at = w.at;
+      account = does.0;
+      holds = ap (λ (x : Worker). x.path.held) (sym same) ∙ does.1;
+      takes = subst (λ (x : Core). Takes x.book does.0 b) view does.2;
+      workers = ap (λ (x : Core). set x.workers i now) view ∙ ap (set old.workers i) (does.3 ∙ ap (λ (x : Worker). holding x (held_behind does.0)) same);
+    }
+
+-- ---- a steal
+
+record IsSteal (old : Core) (v w : ℕ) : Type 0 where
+  pub other : v ≡ w → ⊥
+  pub victim : CanCut (worker_at old v)
+  pub thief : IsFree (worker_at old w)
+
+steal_of : (old : Core) (v w : ℕ) → is_lawful old (Steal v w) ≡ true → IsSteal old v w
+steal_of old v w lawful =
+    let all = and_parts (not (eqb v w)) (can_be_cut (worker_at old v) && is_free (worker_at old w)) lawful in
+    let workers = and_parts (can_be_cut (worker_at old v)) (is_free (worker_at old w)) all.1 in
+    record {
+      other = λ same. differs (eqb v w) ((Decides-eqb v w).1 same) all.0;
+      victim = cuttable (worker_at old v) workers.0;
+      thief = free (worker_at old w) workers.1;
+    }
+  where
+    differs : (b : Bool) → b ≡ true → not b ≡ true → ⊥
+    differs true h n = cc n
+    differs false h n = cc h
+
+pub steal_within : (s old : Core) (v w : ℕ) → s ≡ old → is_lawful old (Steal v w) ≡ true → v < length s.workers
+steal_within s old v w view lawful =
+    let h = steal_of old v w lawful in
+    slice_get_within s.workers v h.victim.worker (subst (λ (x : Core). worker_at x v ≡ Some h.victim.worker) (sym view) h.victim.at)
+
+pub thief_within : (s old : Core) (v w : ℕ) → s ≡ old → is_lawful old (Steal v w) ≡ true → w < length s.workers
+thief_within s old v w view lawful =
+    let h = steal_of old v w lawful in
+    slice_get_within s.workers w h.thief.worker (subst (λ (x : Core). worker_at x w ≡ Some h.thief.worker) (sym view) h.thief.at)
+
+pub steal_can : (s old : Core) (v w : ℕ) (read : Worker) → s ≡ old → is_lawful old (Steal v w) ≡ true → read ≡ get_or s.workers v read → can_cut_held read.path.held ≡ true
+steal_can s old v w read view lawful is =
+    let h = (steal_of old v w lawful).victim in
+    ap (λ (x : Worker). can_cut_held x.path.held) (read_is s old v h.worker read view h.at is) ∙ ap can_cut_held h.holds ∙ h.can
+
+pub steal_reports : (s old : Core) (v w : ℕ) (read : Worker) → CoreLaw s → s ≡ old → is_lawful old (Steal v w) ≡ true → read ≡ get_or s.workers v read → IfSome read.path.held (IsReportable s.book)
+steal_reports s old v w read law view lawful is = let h = (steal_of old v w lawful).victim in reportable_read s old v h.worker read law view h.at is
+
+pub steal_code : (s old : Core) (v w : ℕ) (read now other : Worker) (path : Pathed) (hand : Option Frontier) (task : Frontier) (b : Book) → s ≡ old → is_lawful old (Steal v w) ≡ true → read ≡ get_or s.workers v read
+    → ((c : Account) × (read.path.held ≡ Some c) × (task ≡ part_of c.after) × Takes s.book (with_given c) b × (now ≡ holding read (held_behind_cut c)))
+    → other ≡ get_or (set s.workers v now) w other → (let seen : Worker = record { path = path; hand = hand } in seen ≡ other) → StealsAt v w old (record { workers = set (set s.workers v now) w (record { path = path; hand = Some task }); book = b })
+steal_code s old v w read now other path hand task b view lawful is does at seen =
+    let h = steal_of old v w lawful in
+    let c = does.0 in
+    let same = read_is s old v h.victim.worker read view h.victim.at is in
+    let at_thief : slice_get s.workers w ≡ Some h.thief.worker = subst (λ (x : Core). worker_at x w ≡ Some h.thief.worker) (sym view) h.thief.at in
+    let behind : slice_get (set s.workers v now) w ≡ Some h.thief.worker = get_set_other s.workers v w now (λ e. h.other (sym e)) ∙ at_thief in
+    let same_path : path ≡ h.thief.worker.path = ap (λ (x : Worker). x.path) (seen ∙ at ∙ get_or_from_slice_get (set s.workers v now) w h.thief.worker other behind) in
+    let thief : Pathed → Frontier → Worker = λ p f. record { path = p; hand = Some f } in
+    let both : Core → Worker → Worker → List Worker = λ x y z. set (set x.workers v y) w z in
+    record {
+      victim = h.victim.worker;
+      at_victim = h.victim.at;
+      account = c;
+      holds = ap (λ (x : Worker). x.path.held) (sym same) ∙ does.1;
+      can = ap can_cut_held (sym does.1) ∙ steal_can s old v w read view lawful is;
+      other = h.other;
+      thief = h.thief.worker;
+      at_thief = h.thief.at;
+      idle = h.thief.idle;
+      empty = h.thief.empty;
+      takes = subst (λ (x : Core). Takes x.book (with_given c) b) view does.3;
+      workers = ap (λ (x : Core). both x now (thief path task)) view ∙ ap (λ (y : Worker). both old y (thief path task)) (does.4 ∙ ap (λ (x : Worker). holding x (held_behind_cut c)) same)
+          ∙ ap (λ (p : Pathed). both old (holding h.victim.worker (held_behind_cut c)) (thief p task)) same_path ∙ ap (λ (f : Frontier). both old (holding h.victim.worker (held_behind_cut c)) (thief h.thief.worker.path f)) does.2;
+    }
+
+-- ---- what is learnt
+
+told_in : (mode : Mode) (recorded : List (List ℤ)) (i : ℕ) (a : List ℤ) → nat_lt i (length (improving_in mode recorded)) ≡ true → a ≡ get_or recorded i a → slice_get (improving_in mode recorded) i ≡ Some a
+told_in All recorded i a within is = absurd (omega (arith, ltb-true i 0 within))
+told_in Best recorded i a within is = slice_get_read recorded (length recorded) i a refl (ltb-true i (length recorded) within) is
+
+pub learn_code : (s old : Core) (i number : ℕ) (read : Worker) (path new : Pathed) (hand : Option Frontier) (recorded : List (List ℤ)) (a : List ℤ) (learned : Learned) (answer : Outcome) → s ≡ old → is_lawful old (Learn i number) ≡ true → read ≡ get_or s.workers i read
+    → (let seen : Worker = record { path = path; hand = hand } in seen ≡ read) → recorded ≡ s.book.recorded → a ≡ get_or recorded number a → Learns learned path a new → learned_outcome learned ≡ answer
+    → LearnsAt i number answer old (record { workers = set s.workers i (record { path = new; hand = hand }); book = s.book })
+learn_code s old i number read path new hand recorded a learned answer view lawful is seen reads at learns answers =
+    let parts = and_parts (is_some (worker_at old i)) (nat_lt number (length (improving old.book))) lawful in
+    let w = some_is_there (worker_at old i) parts.0 in
+    let same : record { path = path; hand = hand } ≡ w.0 = seen ∙ read_is s old i w.0 read view w.1 is in
+    let list : recorded ≡ old.book.recorded = reads ∙ ap (λ (x : Core). x.book.recorded) view in
+    let made : Core → Option Frontier → Core = λ x h. record { workers = set x.workers i (record { path = new; hand = h }); book = x.book } in
+    record {
+      worker = w.0;
+      at = w.1;
+      assignment = a;
+      told = told_in old.book.mode old.book.recorded number a parts.1 (subst (λ (l : List (List ℤ)). a ≡ get_or l number a) list at);
+      learned = learned;
+      answers = answers;
+      path = new;
+      learns = subst (λ (p : Pathed). Learns learned p a new) (ap (λ (x : Worker). x.path) same) learns;
+      is = ap (λ (x : Core). made x hand) view ∙ ap (made old) (ap (λ (x : Worker). x.hand) same);
+    }
+
+pub unlearned_code : (s old : Core) (i : ℕ) (read : Worker) (path new : Pathed) (hand : Option Frontier) → s ≡ old → read ≡ get_or s.workers i read → (let seen : Worker = record { path = path; hand = hand } in seen ≡ read) → new ≡ path
+    → (let now : Core = record { workers = set s.workers i (record { path = new; hand = hand }); book = s.book } in now ≡ old)
+unlearned_code s old i read path new hand view is seen same =
+    let made : Pathed → Worker = λ p. record { path = p; hand = hand } in
+    unchanged_code s old i read (made new) s.book view is (ap made same ∙ seen) refl
+
+-- a step keeps the law, whatever it answered
+pub step_law : {E : Type 0} (s old : Core) (i : ℕ) (read : Worker) (path new : Pathed) (hand : Option Frontier) (r : Result stepping.Step E) → CoreLaw s → s ≡ old → is_lawful old (Step i) ≡ true → read ≡ get_or s.workers i read
+    → (let seen : Worker = record { path = path; hand = hand } in seen ≡ read) → IfOk r (λ step. Steps step path.held new.held) → IfOk r (λ step. FallsFrom step path.held new.held) → OnErr r (Stays path.held new.held) → new ≡ with_held path new.held
+    → CoreLaw (record { workers = set s.workers i (record { path = new; hand = hand }); book = s.book })
+step_law s old i read path new hand (Ok step) law view lawful is seen does falls err rest =
+    answered (step_outcome step) refl
+  where
+    answered : (o : Option Outcome) → step_outcome step ≡ o → CoreLaw (record { workers = set s.workers i (record { path = new; hand = hand }); book = s.book })
+    answered (Some answer) answers =
+        event_keeps (Step i) answer old (record { workers = set s.workers i (record { path = new; hand = hand }); book = s.book }) (subst CoreLaw view law) (step_code s old i read path new hand step answer view lawful is seen does falls rest answers)
+    answered None none = absurd (never_idle s old i read path new hand step view lawful is seen does none)
+step_law s old i read path new hand (Err e) law view lawful is seen does falls err rest =
+    refusal_keeps (Step i) old (record { workers = set s.workers i (record { path = new; hand = hand }); book = s.book }) (subst CoreLaw view law) (stay_code s old i read path new hand view lawful is seen err rest)
+
+-- ---- the start
+
+-- slots are the workers that were made, and made the number of the one that would come next
+pub new_law : (m : Instance) (mode : Mode) (n made commit adaptive : ℕ) (slots : List Worker) (b : Book) → mode ≡ mode_of m.goal → 1 ≤ n → n < 2 ^ 32 → 1 ≤ commit → 1 ≤ adaptive → slots ≡ replicate made (idle m mode commit adaptive) → made ≡ n → b ≡ opening m mode
+    → CoreLaw (record { workers = slots; book = b })
+new_law m mode n made commit adaptive slots b own several numbered one two is all book =
+    let core : List Worker → Book → Core = λ ws x. record { workers = ws; book = x } in
+    subst CoreLaw
+    (sym (ap (λ (ws : List Worker). core ws b) (is ∙ ap (λ k. replicate k (idle m mode commit adaptive)) all) ∙ ap (core (replicate n (idle m mode commit adaptive))) book))
+    (start_law m mode n commit adaptive own several numbered one two)

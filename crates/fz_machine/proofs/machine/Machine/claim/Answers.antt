@@ -1,0 +1,18 @@
+use Rattle.std.proofs.Common.{refl, subst}
+use Rattle.fz_machine.specs.declared.event.Event.TheVariants.{Claim}
+use Rattle.fz_machine.specs.declared.event.Outcome.TheVariants.{Moved}
+use Rattle.fz_machine.specs.Cores.{Core, CoreLaw}
+use Rattle.fz_machine.proofs.Keeping.{event_keeps}
+use Rattle.fz_machine.proofs.AsCode.{claim_code}
+use Rattle.fz_machine.proofs.machine.Machine.claim.Goals as goal
+
+pub invariant_of-self-2 : goal.invariant_of-self-2
+invariant_of-self-2 g c =
+    let s : Core = record { workers = c.self.inside.workers.items; book = c.self.inside.book.book } in
+    event_keeps (Claim c.args.worker) Moved c.args.self.now _ (subst CoreLaw c.self.view_is c.self.invariant)
+    (refl, claim_code s c.args.self.now c.args.worker c.index_mut.result.now c.behind-self.inside.path c.behind-self.inside.hand c.in_ok-task.field-0 c.in-Some.task c.claim.new.self.book c.self.view_is c.requires c.index_mut.ensures.value c.behind-self.view_is c.in-Some.is c.in_ok-task.ensures.some)
+
+pub returns-clause-ok : goal.returns-clause-ok
+returns-clause-ok g c =
+    let s : Core = record { workers = c.self.inside.workers.items; book = c.self.inside.book.book } in
+    (refl, claim_code s c.args.self.now c.args.worker c.index_mut.result.now c.behind-self.inside.path c.behind-self.inside.hand c.in_ok-task.field-0 c.in-Some.task c.claim.new.self.book c.self.view_is c.requires c.index_mut.ensures.value c.behind-self.view_is c.in-Some.is c.in_ok-task.ensures.some)

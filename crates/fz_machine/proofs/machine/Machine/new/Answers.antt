@@ -1,0 +1,9 @@
+use Rattle.std.proofs.Common.{arith}
+use Rattle.std.specs.Arc.{arc_value}
+use Rattle.fz_machine.proofs.AsCode.{new_law}
+use Rattle.fz_machine.proofs.machine.Machine.new.Goals as goal
+
+pub invariant_of-result : goal.invariant_of-result
+invariant_of-result g c =
+    new_law (arc_value c.args.model) c.args.mode c.args.workers c.loop-worker._worker c.args.commit_distance c.args.adaptive_distance c.loop-worker.slots.items c.in-Ok.book.book c.requires.mode c.requires.workers (omega arith) c.requires.commit_distance c.requires.adaptive_distance
+    c.loop-worker.invariant (omega arith) c.in-Ok.ensures.ok

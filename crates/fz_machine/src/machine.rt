@@ -1,0 +1,296 @@
+//! Machines.
+ghost use Rattle.std.specs.Prelude.{◌≡◌, ◌≤◌, ◌<◌, true, length, option_copied, option_map, is_some, IfOk, OnErr};
+ghost use Rattle.std.specs.Arc.{arc_value};
+ghost use Rattle.fz_tree.specs.Better.{mode_of};
+ghost use Rattle.fz_tree.specs.Book.{BookLaw};
+ghost use Rattle.fz_machine.specs.Cores.{CoreLaw, starting, worker_at};
+ghost use Rattle.fz_machine.specs.Lawful.{is_lawful, is_free, is_ready, is_busy, can_be_cut, has_unclaimed, improving};
+ghost use Rattle.fz_machine.specs.Events.{Happens, Refuses};
+ghost use Rattle.fz_machine.specs.Runs.{Answers};
+
+use crate::event::{Answer, Event, Outcome, outcome_of_learned, outcome_of_step};
+use crate::slot::Slot;
+use fz_account::Mode;
+use fz_book::Book;
+use fz_model::Assignment;
+use fz_path::{Path, Space};
+use fz_region::Frontier;
+use std::alloc::{AllocError, Global};
+use std::marker::Model;
+use std::sync::Arc;
+
+/// Several workers on one book. Workers have numbers from 0.
+#[derive(Drop)]
+pub struct Machine<S: Space> {
+    workers: Vec<Slot<S>>,
+    book: Book,
+}
+
+impl<S: Space> Model for Machine<S> {
+    ghost use Rattle.fz_machine.specs.Cores as cores;
+
+    ghost Value = { cores.Core };
+
+    ghost view = { λ m. record { workers = m.workers.items; book = m.book.book } };
+
+    ghost invariant = { λ m. cores.CoreLaw
+        (record { workers = m.workers.items; book = m.book.book }) };
+}
+
+impl<S: Space> Machine<S> {
+    /// So many idle workers, and a book of which the whole tree is open and unclaimed.
+    ///
+    /// # Errors
+    /// `AllocError` where there is no memory.
+    pub fn new(
+        alloc: Global,
+        model: Arc<fz_model::Model>,
+        mode: Mode,
+        workers: u32,
+        commit_distance: u32,
+        adaptive_distance: u32,
+    ) -> Result<Machine<S>, AllocError>
+        requires accepts { S.accepts (arc_value model) }
+        requires mode { mode ≡ mode_of (arc_value model).goal }
+        requires workers { 1 ≤ workers }
+        requires commit_distance { 1 ≤ commit_distance }
+        requires adaptive_distance { 1 ≤ adaptive_distance }
+        ensures { IfOk result (λ m. m
+            ≡ starting (arc_value model) mode workers commit_distance adaptive_distance) }
+    {
+        let mut slots = Vec::new(alloc);
+        for _worker in 0..workers {
+            let shared = model.clone()?;
+            slots.push(Slot::idle(alloc, shared, mode, commit_distance, adaptive_distance)?)?;
+        }
+        match Book::begin(alloc, model, mode) {
+            Ok(book) => Ok(Machine {
+                workers: slots,
+                book,
+            }),
+            Err(_) => Err(AllocError),
+        }
+    }
+
+    /// Lets an event happen, and says what came of it: `Unlawful` exactly where it isn't lawful; then nothing changes.
+    ///
+    /// # Errors
+    /// `AllocError` where there is no memory; nothing has changed, but that a worker that was to look at a node may have moved
+    /// there.
+    pub fn apply(&mut self, event: Event) -> Result<Answer, AllocError>
+        ensures ok { IfOk result (λ answer. Answers answer event self.old self.new) }
+        ensures err { OnErr result (Refuses event self.old self.new) }
+    {
+        if !self.is_lawful(event) {
+            return Ok(Answer::Unlawful(event));
+        }
+        Ok(Answer::Applied(self.act(event)?))
+    }
+
+    /// Whether an event is lawful.
+    pub fn is_lawful(&self, event: Event) -> bool
+        ensures { result ≡ is_lawful self.now event }
+    {
+        match event {
+            Event::Claim(worker) => self.is_free(worker) && self.has_unclaimed(),
+            Event::Start(worker) => self.is_ready(worker),
+            Event::Step(worker) => self.is_busy(worker),
+            Event::Report(worker) => self.is_busy(worker),
+            Event::Steal(victim, thief) => {
+                victim != thief && (self.can_be_cut(victim) && self.is_free(thief))
+            }
+            Event::Learn(worker, number) => {
+                self.is_worker(worker) && (number as usize) < self.improving().len()
+            }
+        }
+    }
+
+    /// Whether a worker has this number.
+    fn is_worker(&self, worker: u32) -> bool
+        ensures { result ≡ is_some (worker_at self.now worker) }
+    {
+        (worker as usize) < self.workers.len()
+    }
+
+    /// Whether a worker holds nothing and its hand is empty.
+    fn is_free(&self, worker: u32) -> bool
+        ensures { result ≡ is_free (worker_at self.now worker) }
+    {
+        match self.workers.get(worker as usize) {
+            Some(slot) => slot.path.is_idle() && slot.hand.is_none(),
+            None => false,
+        }
+    }
+
+    /// Whether a worker holds nothing and has a task.
+    pub(crate) fn is_ready(&self, worker: u32) -> bool
+        ensures { result ≡ is_ready (worker_at self.now worker) }
+    {
+        match self.workers.get(worker as usize) {
+            Some(slot) => slot.path.is_idle() && slot.hand.is_some(),
+            None => false,
+        }
+    }
+
+    /// Whether a worker holds a frontier.
+    pub(crate) fn is_busy(&self, worker: u32) -> bool
+        ensures { result ≡ is_busy (worker_at self.now worker) }
+    {
+        match self.workers.get(worker as usize) {
+            Some(slot) => !slot.path.is_idle(),
+            None => false,
+        }
+    }
+
+    /// Whether a part can be cut off what a worker holds.
+    pub(crate) fn can_be_cut(&self, worker: u32) -> bool
+        ensures { result ≡ can_be_cut (worker_at self.now worker) }
+    {
+        match self.workers.get(worker as usize) {
+            Some(slot) => slot.path.can_cut(),
+            None => false,
+        }
+    }
+
+    /// Whether some part is open that nobody has claimed.
+    pub(crate) fn has_unclaimed(&self) -> bool
+        ensures { result ≡ has_unclaimed self.now.book }
+    {
+        self.book.has_unclaimed()
+    }
+
+    /// What the book recorded as better ones.
+    pub(crate) fn improving(&self) -> &[Assignment]
+        ensures { result.now ≡ improving self.now.book }
+    {
+        match self.book.mode() {
+            Mode::All => &[],
+            Mode::Best => self.book.recorded(),
+        }
+    }
+
+    /// A lawful event happens.
+    pub(crate) fn act(&mut self, event: Event) -> Result<Outcome, AllocError>
+        requires { is_lawful self.old event ≡ true }
+        ensures ok { IfOk result (λ outcome. Happens event outcome self.old self.new) }
+        ensures err { OnErr result (Refuses event self.old self.new) }
+    {
+        match event {
+            Event::Claim(worker) => self.claim(worker),
+            Event::Start(worker) => self.start(worker),
+            Event::Step(worker) => self.step(worker),
+            Event::Report(worker) => self.report(worker),
+            Event::Steal(victim, thief) => self.steal(victim, thief),
+            Event::Learn(worker, number) => self.learn(worker, number),
+        }
+    }
+
+    fn claim(&mut self, worker: u32) -> Result<Outcome, AllocError>
+        requires { is_lawful self.old (Event.Claim worker) ≡ true }
+        ensures ok { IfOk result (λ outcome.
+            Happens (Event.Claim worker) outcome self.old self.new) }
+        ensures err { OnErr result (self.new ≡ self.old) }
+    {
+        let Some(task) = self.book.claim()? else {
+            unreachable!()
+        };
+        self.workers[worker as usize].hand = Some(task);
+        Ok(Outcome::Moved)
+    }
+
+    fn start(&mut self, worker: u32) -> Result<Outcome, AllocError>
+        requires { is_lawful self.old (Event.Start worker) ≡ true }
+        ensures ok { IfOk result (λ outcome.
+            Happens (Event.Start worker) outcome self.old self.new) }
+        ensures err { OnErr result (self.new ≡ self.old) }
+    {
+        self.workers[worker as usize].start()?;
+        Ok(Outcome::Moved)
+    }
+
+    fn step(&mut self, worker: u32) -> Result<Outcome, AllocError>
+        requires { is_lawful self.old (Event.Step worker) ≡ true }
+        ensures ok { IfOk result (λ outcome.
+            Happens (Event.Step worker) outcome self.old self.new) }
+        ensures err { OnErr result (Refuses (Event.Step worker) self.old self.new) }
+    {
+        let step = self.workers[worker as usize].path.step()?;
+        let Some(outcome) = outcome_of_step(step) else {
+            unreachable!()
+        };
+        Ok(outcome)
+    }
+
+    fn report(&mut self, worker: u32) -> Result<Outcome, AllocError>
+        requires { is_lawful self.old (Event.Report worker) ≡ true }
+        ensures ok { IfOk result (λ outcome.
+            Happens (Event.Report worker) outcome self.old self.new) }
+        ensures err { OnErr result (self.new ≡ self.old) }
+    {
+        self.workers[worker as usize].report(&mut self.book)?;
+        Ok(Outcome::Moved)
+    }
+
+    fn steal(&mut self, victim: u32, thief: u32) -> Result<Outcome, AllocError>
+        requires { is_lawful self.old (Event.Steal victim thief) ≡ true }
+        ensures ok { IfOk result (λ outcome.
+            Happens (Event.Steal victim thief) outcome self.old self.new) }
+        ensures err { OnErr result (self.new ≡ self.old) }
+    {
+        let task = self.workers[victim as usize].cut(&mut self.book)?;
+        self.workers[thief as usize].hand = Some(task);
+        Ok(Outcome::Moved)
+    }
+
+    fn learn(&mut self, worker: u32, number: u32) -> Result<Outcome, AllocError>
+        requires { is_lawful self.old (Event.Learn worker number) ≡ true }
+        ensures ok { IfOk result (λ outcome.
+            Happens (Event.Learn worker number) outcome self.old self.new) }
+        ensures err { OnErr result (self.new ≡ self.old) }
+    {
+        let assignment = &self.book.recorded()[number as usize];
+        let learned = self.workers[worker as usize].path.learn(assignment)?;
+        Ok(outcome_of_learned(learned))
+    }
+
+    /// The book. It keeps its law, so where nothing is open it is complete.
+    pub fn book(&self) -> &Book
+        ensures book { result.now.book ≡ self.now.book }
+        ensures law { CoreLaw self.now }
+    {
+        &self.book
+    }
+
+    /// The book, without the workers.
+    pub fn into_book(self) -> Book
+        ensures book { result.book ≡ self.book }
+        ensures law { BookLaw result.book }
+    {
+        self.book
+    }
+
+    /// How many workers there are.
+    pub fn workers(&self) -> u32
+        ensures workers { result ≡ length self.now.workers }
+        ensures law { CoreLaw self.now }
+    {
+        self.workers.len() as u32
+    }
+
+    /// The path of a worker.
+    pub fn path(&self, worker: u32) -> &Path<S>
+        requires { worker < length self.now.workers }
+        ensures { option_map (λ w. w.path) (worker_at self.now worker) ≡ Some result.now }
+    {
+        &self.workers[worker as usize].path
+    }
+
+    /// The task in the hand of a worker.
+    pub fn hand(&self, worker: u32) -> Option<&Frontier>
+        requires { worker < length self.now.workers }
+        ensures { option_map (λ w. w.hand) (worker_at self.now worker)
+            ≡ Some (option_copied result) }
+    {
+        self.workers[worker as usize].hand.as_ref()
+    }
+}
