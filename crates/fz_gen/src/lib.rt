@@ -1,0 +1,9 @@
+//! A model that is generated: a knapsack of so many items.
+#![tactic(auto)]
+
+pub mod text;
+
+pub use text::knapsack;
+
+#[cfg(test)]
+mod tests;
