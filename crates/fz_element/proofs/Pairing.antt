@@ -7,13 +7,8 @@ use Rattle.std.proofs.lemmas.Bool.Decides.{Decides-int_eq}
 use Rattle.std.proofs.lemmas.Int.{ints, clamps}
 use Rattle.std.proofs.lemmas.Option.{slice_get_within}
 use Rattle.fz_sets.specs.Sets.{IsInSet, IsWithinLimits, AreOneSet, AreWithinLimits}
-use Rattle.fz_dom.proofs.Kept.{limits_of}
-use Rattle.fz_spec.specs.declared.term.Term.{Term}
-use Rattle.fz_spec.specs.declared.term.Term.TheVariants.{Num, Var}
 use Rattle.fz_spec.specs.Truth.{IsElement}
-use Rattle.fz_strength.specs.Domains.{dom_at, term_set, AreDomains}
-use Rattle.fz_strength.proofs.Terms.{is_single}
-use Rattle.fz_prop.specs.Stores.{IsTermOf, FitsTerm}
+use Rattle.fz_prop.proofs.Grown.{in_more, in_before, in_last, limits_more}
 use Rattle.fz_element.specs.Selecting.{IsPair, ArePairs}
 
 -- ---- elements
@@ -35,32 +30,7 @@ element_only k xs n m is_n is_m =
 pub below_min : (k a b m : ℤ) → k ≤ℤ a → k ≤ℤ b → m ≡ int_min a b → k ≤ℤ m
 below_min k a b m to_a to_b is = omega (arith, ints, clamps, to_a, to_b, is)
 
--- ---- a set with one number more
-
-in_more : (rs : List (ℤ × ℤ)) (x y : ℤ) → IsInSet (rs ++ (x, x) ∷ []) y → IsInSet rs y ⊎ (y ≡ x)
-in_more [] x y is = elim is [ inl h ↦ inr (omega (arith, ints, h.0, h.1)) | inr h ↦ absurd h ]
-in_more (r ∷ rs) x y is = elim is [
-  | inl h ↦ inl (inl h)
-  | inr h ↦ elim (in_more rs x y h) [ inl g ↦ inl (inr g) | inr e ↦ inr e ]
-]
-
-in_before : (rs : List (ℤ × ℤ)) (x y : ℤ) → IsInSet rs y → IsInSet (rs ++ (x, x) ∷ []) y
-in_before [] x y is = absurd is
-in_before (r ∷ rs) x y is = elim is [ inl h ↦ inl h | inr h ↦ inr (in_before rs x y h) ]
-
-in_last : (rs : List (ℤ × ℤ)) (x y : ℤ) → y ≡ x → IsInSet (rs ++ (x, x) ∷ []) y
-in_last [] x y e = inl (omega (arith, ints, e), omega (arith, ints, e))
-in_last (r ∷ rs) x y e = inr (in_last rs x y e)
-
-limits_more : (rs : List (ℤ × ℤ)) (x : ℤ) → AreWithinLimits rs → IsWithinLimits x → AreWithinLimits (rs ++ (x, x) ∷ [])
-limits_more [] x all within = (within, within, tt)
-limits_more (r ∷ rs) x all within = (all.0, all.1, limits_more rs x all.2 within)
-
-pub term_limits : (ds : List (List (ℤ × ℤ))) (t : Term) (x : ℤ) → IsTermOf (length ds) t → AreDomains ds → FitsTerm t → IsInSet (term_set ds t) x → IsWithinLimits x
-term_limits ds (Num n) x is domains fits member = subst IsWithinLimits (sym (is_single x n member)) fits
-term_limits ds (Var v) x is domains fits member = limits_of (dom_at ds v) x (domains v is).0 member
-
-same_or_other : (x y : ℤ) → (x ≡ y) ⊎ (x ≢ y)
+pub same_or_other : (x y : ℤ) → (x ≡ y) ⊎ (x ≢ y)
 same_or_other x y = elim (int_eq x y) as (λ b. int_eq x y ≡ b → (x ≡ y) ⊎ (x ≢ y)) [
   | true ↦ λ e. inl ((Decides-int_eq x y).0 e)
   | false ↦ λ e. inr (λ same. let yes = (Decides-int_eq x y).1 same in absurd (cc (yes, e)))

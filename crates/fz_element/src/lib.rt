@@ -2,7 +2,7 @@
 #![tactic(auto)]
 
 pub mod element;
-mod pairs;
+pub mod pairs;
 mod select;
 
 pub use element::Element;

@@ -1,5 +1,5 @@
 //! The indices whose number is left.
-ghost use Rattle.std.specs.Prelude.{◌≡◌, ◌↔◌, ℤ, pos, ◌+ℤ◌, ◌≤ℤ◌, ◌<ℤ◌, List, length, IfOk, IsTrue, MatchOption};
+ghost use Rattle.std.specs.Prelude.{◌≡◌, ℤ, pos, ◌+ℤ◌, ◌≤ℤ◌, ◌<ℤ◌, List, length, IfOk, MatchOption};
 ghost use Rattle.fz_sets.specs.Sets.{IsInSet, GREATEST};
 ghost use Rattle.fz_spec.specs.Truth.{IsElement};
 ghost use Rattle.fz_strength.specs.Domains.{term_set};
@@ -8,7 +8,7 @@ ghost use Rattle.fz_element.specs.Selecting.{IsPair, ArePairs};
 
 use fz_dom::Dom;
 use fz_prop::Store;
-use fz_prop::terms::{greatest_of, least_of};
+use fz_prop::terms::{greatest_of, has, least_of};
 use fz_spec::term::Term;
 use std::alloc::{AllocError, Global};
 
@@ -28,7 +28,7 @@ pub fn pairs_of(
         (term_set store.now.doms index) (term_set store.now.doms value) r.0 r.1) }
 {
     let _ = store.doms();
-    let (first, end) = (first_of(store, index), end_of(store, index, numbers));
+    let (first, end) = (first_of(store, index), end_of(store, index, numbers.len()));
     let mut indices = Vec::new(alloc);
     let mut values = Vec::new(alloc);
     for place in first..end {
@@ -43,21 +43,21 @@ pub fn pairs_of(
 }
 
 /// The first index from 1 that may be left.
-fn first_of(store: &Store, index: Term) -> i32
+pub fn first_of(store: &Store, index: Term) -> i32
     requires { IsTermOf (length store.now.doms) index }
     ensures { (k : ℤ) → pos 1 ≤ℤ k → IsInSet (term_set store.now.doms index) k → result ≤ℤ k }
 {
     least_of(store, index).max(1)
 }
 
-/// What is above each index of the list that is left.
-fn end_of(store: &Store, index: Term, numbers: &[i32]) -> i32
+/// What is above each index of a list of so many that is left.
+pub fn end_of(store: &Store, index: Term, count: usize) -> i32
     requires index { IsTermOf (length store.now.doms) index }
     requires fits { FitsTerm index }
-    ensures { (k : ℤ) → k ≤ℤ pos (length numbers.now)
+    ensures { (k : ℤ) → k ≤ℤ pos count
         → IsInSet (term_set store.now.doms index) k → k <ℤ result }
 {
-    let last = greatest_of(store, index).min(last_index(numbers));
+    let last = greatest_of(store, index).min(last_index(count));
     above(last)
 }
 
@@ -88,17 +88,6 @@ fn paired(store: &Store, index: Term, numbers: &[i32], value: Term, place: i32) 
     }
 }
 
-/// Whether a number is left of a term.
-fn has(store: &Store, term: Term, number: i32) -> bool
-    requires { IsTermOf (length store.now.doms) term }
-    ensures { IsTrue result ↔ IsInSet (term_set store.now.doms term) number }
-{
-    match term {
-        Term::Var(variable) => store.dom(variable).contains(number),
-        Term::Num(only) => number == only,
-    }
-}
-
 /// The number at an index, counted from 1, if there is one.
 fn number_at(numbers: &[i32], index: i32) -> Option<i32>
     ensures { MatchOption result
@@ -111,8 +100,8 @@ fn number_at(numbers: &[i32], index: i32) -> Option<i32>
 }
 
 /// The last index of a list, or the greatest `i32` where the list is longer.
-fn last_index(numbers: &[i32]) -> i32
-    ensures { (k : ℤ) → k ≤ℤ pos 2147483647 → k ≤ℤ pos (length numbers.now) → k ≤ℤ result }
+fn last_index(count: usize) -> i32
+    ensures { (k : ℤ) → k ≤ℤ pos 2147483647 → k ≤ℤ pos count → k ≤ℤ result }
 {
-    i32::try_from(numbers.len()).unwrap_or(i32::MAX)
+    i32::try_from(count).unwrap_or(i32::MAX)
 }

@@ -18,8 +18,7 @@ use Rattle.fz_strength.specs.Domains.{term_set, dom_at}
 use Rattle.fz_strength.specs.Events.{IsOnly, IsFixedIn, Wait, wait_for, waits_for, AreBelow, AreFixed, variable_of}
 use Rattle.fz_strength.specs.Relations.{reified_of, Relates, RestsAs, RestsAgainst, IsShown, IsRefuted, reified_event}
 use Rattle.fz_strength.specs.Lines.{IsReifiedLine, Rests, RestsReified, RestsOtherwise, waits_otherwise, waits_of_reified, waits}
-use Rattle.fz_strength.specs.Promises.{IsCorrect, IsTruth, Suits, truth_of_reified, truths_of_clause}
-use Rattle.fz_strength.specs.Clauses.{clause_of}
+use Rattle.fz_strength.specs.Promises.{IsCorrect, IsTruth, Suits, truth_of_reified, truths_otherwise}
 use Rattle.fz_strength.proofs.Waits.{term_fixed, variable_waited}
 use Rattle.fz_sets.proofs.Lists.{all_left, all_right}
 use Rattle.fz_prop.specs.declared.answer.Answer.{Answer}
@@ -111,7 +110,7 @@ reified_fixed name relation x y r ds is fixed =
 
 pub reified_suits : (name : Builtin) (relation : Relation) (x y r : Term) (ds : List (List (ℤ × ℤ))) → reified_of name ≡ Some relation → Suits (reifying name x y r) ds → IsTruth ds r
 reified_suits name relation x y r ds is suits =
-    (subst (λ (o : Option Relation). AllByRecursion (IsTruth ds) (truth_of_reified (truths_of_clause (clause_of name (One x ∷ One y ∷ One r ∷ []))) o r)) is suits).0
+    (subst (λ (o : Option Relation). AllByRecursion (IsTruth ds) (truth_of_reified (truths_otherwise name (One x ∷ One y ∷ One r ∷ [])) o r)) is suits).0
 
 three : (event : Event) (x y r : Term) → map (λ (w : Wait). w.variable) (wait_for event x ++ (wait_for event y ++ wait_for Any r)) ≡ variables_of x y ++ variable_of r
 three event (Num l) (Num m) r = variable_waited Any r

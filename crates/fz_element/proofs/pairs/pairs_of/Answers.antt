@@ -7,7 +7,8 @@ use mir.Syntax.{w32}
 use Rattle.fz_dom.proofs.Kept.{fits_above}
 use Rattle.fz_strength.specs.Domains.{term_set}
 use Rattle.fz_element.specs.Selecting.{IsPair}
-use Rattle.fz_element.proofs.Pairing.{pairs_passed, pairs_more, pairs_all, term_limits, element_to}
+use Rattle.fz_prop.proofs.Grown.{term_limits}
+use Rattle.fz_element.proofs.Pairing.{pairs_passed, pairs_more, pairs_all, element_to}
 use Rattle.fz_element.proofs.pairs.pairs_of.Goals.{in-Some+in_ok-push+in_ok-push-2, in_default}
 use Rattle.fz_element.proofs.pairs.pairs_of.Goals as goal
 
