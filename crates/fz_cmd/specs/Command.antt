@@ -4,6 +4,7 @@ use Rattle.clap.specs.Simple.{App, new_app, new_rule, with_rule, on_top}
 use Rattle.clap.specs.Walk.{Rule}
 use Rattle.clap.specs.declared.builder.action.ArgAction.TheVariants.{Set, SetTrue}
 use Rattle.clap.specs.declared.builder.value_parser.ValueParser.TheVariants.{Unsigned}
+use Rattle.fz_gen.specs.declared.text.TheConstants.{ITEMS_LEAST, ITEMS_MOST}
 use Rattle.fz_cmd.specs.declared.options.TheConstants.{COMMIT_DISTANCE_LEAST, COMMIT_DISTANCE_MOST, WORKERS_LEAST, WORKERS_MOST}
 
 -- -a
@@ -26,6 +27,14 @@ distance_rule = record (new_rule (codes "commit-distance")) { long = Some (codes
 abbrev pub interleave_rule : Rule
 interleave_rule = record (new_rule (codes "interleave")) { long = Some (codes "interleave"); action = Some Set; parser = Some (Unsigned 0 18446744073709551615) }
 
+-- -s
+abbrev pub stats_rule : Rule
+stats_rule = record (new_rule (codes "stats")) { short = Some 115; action = Some SetTrue }
+
+-- --generate 1..1000
+abbrev pub generate_rule : Rule
+generate_rule = record (new_rule (codes "generate")) { long = Some (codes "generate"); action = Some Set; parser = Some (Unsigned ITEMS_LEAST ITEMS_MOST) }
+
 -- FILE
 abbrev pub file_rule : Rule
 file_rule = record (new_rule (codes "file")) { action = Some Set }
@@ -35,4 +44,4 @@ abbrev pub plain_app : App
 plain_app = on_top (λ s. record s { no_binary_name = true; disable_help_flag = true }) (new_app (codes "fzn"))
 
 abbrev pub fzn_app : App
-fzn_app = fold with_rule plain_app (all_rule ∷ limit_rule ∷ workers_rule ∷ distance_rule ∷ interleave_rule ∷ file_rule ∷ [])
+fzn_app = fold with_rule plain_app (all_rule ∷ limit_rule ∷ workers_rule ∷ distance_rule ∷ interleave_rule ∷ stats_rule ∷ generate_rule ∷ file_rule ∷ [])

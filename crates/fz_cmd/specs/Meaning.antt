@@ -1,26 +1,35 @@
 -- What the words of a command line mean.
-use Rattle.std.specs.Prelude.{ℕ, Bool, false, ◌≤◌, Option, Some, None, List, codes, cond, bytes_eq, option_map, option_and_then, unwrap_or}
+use Rattle.std.specs.Prelude.{ℕ, Bool, false, ◌≤◌, ◌&&◌, Option, Some, None, IfSome, List, codes, cond, bytes_eq, is_some, option_map, option_and_then, unwrap_or}
 use Rattle.std.specs.Option.{option_map_or}
 use Rattle.std.specs.Str.Parse.{digits_value, without_leading_plus}
 use Rattle.clap.specs.Words.{Row, Text, first_of, matches_of, fault_of}
 use Rattle.clap.specs.ValueTests.{is_unsigned_in}
 use Rattle.clap.specs.Walk.{is_empty}
+use Rattle.fz_gen.specs.declared.text.TheConstants.{ITEMS_LEAST, ITEMS_MOST}
+use Rattle.fz_cmd.specs.declared.words.Numbers.{Numbers}
 use Rattle.fz_cmd.specs.declared.options.TheConstants.{COMMIT_DISTANCE, COMMIT_DISTANCE_LEAST, COMMIT_DISTANCE_MOST, WORKERS, WORKERS_LEAST, WORKERS_MOST}
 use Rattle.fz_cmd.specs.Command.{fzn_app}
 
--- all solutions or not, how many of them, by how many workers, the commit distance, the seed of the workers' turns, and the text that is read
+-- All solutions or not, how many of them, by how many workers, the commit distance, the seed of the workers' turns, whether statistics are
+-- printed, of how many items a model is generated, and the text that is read.
 pub record Options : Type 0 where
   pub all : Bool
   pub limit : Option ℕ
   pub workers : ℕ
   pub commit_distance : ℕ
   pub interleave : Option ℕ
+  pub stats : Bool
+  pub generate : Option ℕ
   pub file : List ℕ
 
 -- each number is in its range
-pub record HasRanges (o : Options) : Type 0 where
-  pub workers : (WORKERS_LEAST ≤ o.workers) × (o.workers ≤ WORKERS_MOST)
-  pub commit_distance : (COMMIT_DISTANCE_LEAST ≤ o.commit_distance) × (o.commit_distance ≤ COMMIT_DISTANCE_MOST)
+pub record AreInRange (count distance : ℕ) (items : Option ℕ) : Type 0 where
+  pub workers : (WORKERS_LEAST ≤ count) × (count ≤ WORKERS_MOST)
+  pub commit_distance : (COMMIT_DISTANCE_LEAST ≤ distance) × (distance ≤ COMMIT_DISTANCE_MOST)
+  pub generate : IfSome items (λ n. (ITEMS_LEAST ≤ n) × (n ≤ ITEMS_MOST))
+
+abbrev pub HasRanges : Options → Type 0
+HasRanges o = AreInRange o.workers o.commit_distance o.generate
 
 -- a flag was given
 abbrev pub is_on : Text → List Row → Bool
@@ -38,25 +47,43 @@ given_in least most (Some t) = option_map (λ n. Some n) (number_in least most t
 abbrev pub number_at : List Row → Text → ℕ → ℕ → Option (Option ℕ)
 number_at rows id least most = given_in least most (first_of id rows)
 
--- the options that the matches give
-abbrev pub read : List Row → Option Options
-read rows =
+-- the numbers that the matches give, each within its bounds
+abbrev pub numbers_of : List Row → Option Numbers
+numbers_of rows =
     option_and_then (λ limit.
     option_and_then (λ workers.
     option_and_then (λ distance.
     option_and_then (λ interleave.
+    option_and_then (λ generate.
     Some (record {
-      all = is_on (codes "all") rows;
       limit = limit;
       workers = unwrap_or workers WORKERS;
       commit_distance = unwrap_or distance COMMIT_DISTANCE;
       interleave = interleave;
-      file = unwrap_or (first_of (codes "file") rows) (codes "-");
+      generate = generate;
     }))
+    (number_at rows (codes "generate") ITEMS_LEAST ITEMS_MOST))
     (number_at rows (codes "interleave") 0 18446744073709551615))
     (number_at rows (codes "commit-distance") COMMIT_DISTANCE_LEAST COMMIT_DISTANCE_MOST))
     (number_at rows (codes "workers") WORKERS_LEAST WORKERS_MOST))
     (number_at rows (codes "limit") 0 4294967295)
+
+-- the options that the numbers, the flags and the name of a file give; where a model is generated no file may be named
+abbrev pub with_file : List Row → Numbers → Option Text → Option Options
+with_file rows n file = cond (is_some n.generate && is_some file) None (Some (record {
+  all = is_on (codes "all") rows;
+  limit = n.limit;
+  workers = n.workers;
+  commit_distance = n.commit_distance;
+  interleave = n.interleave;
+  stats = is_on (codes "stats") rows;
+  generate = n.generate;
+  file = unwrap_or file (codes "-");
+}))
+
+-- the options that the matches give
+abbrev pub read : List Row → Option Options
+read rows = option_and_then (λ n. with_file rows n (first_of (codes "file") rows)) (numbers_of rows)
 
 -- What clap's own rules refuse is refused; else the matches are read.
 abbrev pub options_of : List Text → Option Options

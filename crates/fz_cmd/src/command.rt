@@ -1,11 +1,12 @@
 //! The command that clap reads the words by.
 ghost use Rattle.std.specs.Prelude.{◌≡◌, false, IfOk, map, string_bytes};
 ghost use Rattle.clap.specs.Words.{app_of, rule_of, rows_of, found_of, matches_of, fault_of, FailsBy};
-ghost use Rattle.fz_cmd.specs.Command.{all_rule, limit_rule, workers_rule, distance_rule, interleave_rule, file_rule, plain_app, fzn_app};
+ghost use Rattle.fz_cmd.specs.Command.{all_rule, limit_rule, workers_rule, distance_rule, interleave_rule, stats_rule, generate_rule, file_rule, plain_app, fzn_app};
 
 use crate::options::{COMMIT_DISTANCE_LEAST, COMMIT_DISTANCE_MOST, WORKERS_LEAST, WORKERS_MOST};
 use clap::builder::ValueParser;
 use clap::{Arg, ArgAction, ArgMatches, Command, Error};
+use fz_gen::text::{ITEMS_LEAST, ITEMS_MOST};
 use std::alloc::{AllocError, Global};
 
 /// `-a`
@@ -63,6 +64,25 @@ fn interleave_arg<'a>(alloc: Global) -> Arg<'a>
         .value_parser(ValueParser::Unsigned(0, u64::MAX))
 }
 
+/// `-s`
+fn stats_arg<'a>(alloc: Global) -> Arg<'a>
+    ensures rule { rule_of result ≡ stats_rule }
+    ensures local { result.global ≡ false }
+{
+    Arg::new(alloc, "stats").short('s').action(ArgAction::SetTrue)
+}
+
+/// `--generate NUMBER`
+fn generate_arg<'a>(alloc: Global) -> Arg<'a>
+    ensures rule { rule_of result ≡ generate_rule }
+    ensures local { result.global ≡ false }
+{
+    Arg::new(alloc, "generate")
+        .long("generate")
+        .action(ArgAction::Set)
+        .value_parser(ValueParser::Unsigned(ITEMS_LEAST as u64, ITEMS_MOST as u64))
+}
+
 /// FILE
 fn file_arg<'a>(alloc: Global) -> Arg<'a>
     ensures rule { rule_of result ≡ file_rule }
@@ -88,13 +108,17 @@ fn command<'a>(alloc: Global) -> Result<Command<'a>, AllocError>
     let workers = workers_arg(alloc);
     let distance = distance_arg(alloc);
     let interleave = interleave_arg(alloc);
+    let stats = stats_arg(alloc);
+    let generate = generate_arg(alloc);
     let file = file_arg(alloc);
     let with_all = plain(alloc).arg(all)?;
     let with_limit = with_all.arg(limit)?;
     let with_workers = with_limit.arg(workers)?;
     let with_distance = with_workers.arg(distance)?;
     let with_interleave = with_distance.arg(interleave)?;
-    let with_file = with_interleave.arg(file)?;
+    let with_stats = with_interleave.arg(stats)?;
+    let with_generate = with_stats.arg(generate)?;
+    let with_file = with_generate.arg(file)?;
     Ok(with_file)
 }
 

@@ -27,6 +27,8 @@ pub struct Options {
     pub(crate) workers: u32,
     pub(crate) commit_distance: u32,
     pub(crate) interleave: Option<u64>,
+    pub(crate) stats: bool,
+    pub(crate) generate: Option<u32>,
     pub(crate) file: Name,
 }
 
@@ -78,6 +80,21 @@ impl Options {
         ensures { result ≡ self.now.interleave }
     {
         self.interleave
+    }
+
+    /// Whether `-s` was given: statistics behind all else.
+    pub fn stats(&self) -> bool
+        ensures { result ≡ self.now.stats }
+    {
+        self.stats
+    }
+
+    /// The number of `--generate`: no text is read, but a model of so many items generated.
+    pub fn generate(&self) -> Option<u32>
+        ensures generate { result ≡ self.now.generate }
+        ensures kept { HasRanges self.now }
+    {
+        self.generate
     }
 
     /// The name of the text to read; `-` is standard input.

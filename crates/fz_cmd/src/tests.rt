@@ -14,6 +14,8 @@ struct Given {
     workers: u32,
     commit_distance: u32,
     interleave: Option<u64>,
+    stats: bool,
+    generate: Option<u32>,
     file: &'static str,
 }
 
@@ -27,6 +29,8 @@ impl Given {
             workers: 1,
             commit_distance: 8,
             interleave: None,
+            stats: false,
+            generate: None,
             file: "-",
         }
     }
@@ -46,6 +50,8 @@ fn gives(options: &Options, given: &Given) -> bool {
         && options.workers() == given.workers
         && options.commit_distance() == given.commit_distance
         && options.interleave() == given.interleave
+        && options.stats() == given.stats
+        && options.generate() == given.generate
         && options.file().as_str() == given.file
 }
 
@@ -112,6 +118,20 @@ fn words_give_their_options(rt: HostRuntime) -> Result<(), Fail> {
         },
         Given {
             all: true,
+            stats: true,
+            ..Given::plain(&["-as"])
+        },
+        Given {
+            generate: Some(1),
+            ..Given::plain(&["--generate", "1"])
+        },
+        Given {
+            stats: true,
+            generate: Some(1000),
+            ..Given::plain(&["--generate=1000", "-s"])
+        },
+        Given {
+            all: true,
             file: "-b",
             ..Given::plain(&["-a", "--", "-b"])
         },
@@ -125,7 +145,7 @@ fn words_give_their_options(rt: HostRuntime) -> Result<(), Fail> {
 
 #[test]
 fn other_words_are_refused(rt: HostRuntime) -> Result<(), Fail> {
-    let rows: [&[&str]; 24] = [
+    let rows: [&[&str]; 28] = [
         &["-a", "-a"],
         &["-n"],
         &["-n", "-1"],
@@ -144,8 +164,12 @@ fn other_words_are_refused(rt: HostRuntime) -> Result<(), Fail> {
         &["--interleave", "-1"],
         &["--interleave"],
         &["--interleave=1", "--interleave=1"],
-        &["--generate", "4"],
-        &["-s"],
+        &["--generate", "0"],
+        &["--generate", "1001"],
+        &["--generate"],
+        &["--generate", "4", "m.fzn"],
+        &["--generate", "4", "-"],
+        &["-s", "-s"],
         &["--all"],
         &["-z"],
         &["--help"],

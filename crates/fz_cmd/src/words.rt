@@ -1,7 +1,8 @@
 //! The words.
-ghost use Rattle.std.specs.Prelude.{◌≡◌, IfOk, map, string_bytes};
+ghost use Rattle.std.specs.Prelude.{◌≡◌, IfOk, IfSome, map, option_map, string_bytes};
 ghost use Rattle.clap.specs.Words.{rows_of, found_of};
 ghost use Rattle.fz_cmd.specs.Meaning as meaning;
+ghost use Rattle.fz_cmd.specs.Meaning.{AreInRange};
 
 use crate::command::parse;
 use crate::name::Name;
@@ -12,7 +13,18 @@ use crate::options::{
 use crate::reading::{is_on, long_number, number, text};
 use clap::ArgMatches;
 use clap::error::ErrorKind;
+use fz_gen::text::{ITEMS_LEAST, ITEMS_MOST};
 use std::alloc::{AllocError, Global};
+
+/// The numbers of the options.
+#[derive(Clone, Copy)]
+pub(crate) struct Numbers {
+    pub limit: Option<u32>,
+    pub workers: u32,
+    pub commit_distance: u32,
+    pub interleave: Option<u64>,
+    pub generate: Option<u32>,
+}
 
 /// The options that the words of a command line give, those behind the name of the program; `None` where they are refused.
 ///
@@ -36,31 +48,59 @@ pub fn options(alloc: Global, words: &[String]) -> Result<Option<Options>, Alloc
 fn read(alloc: Global, matches: &ArgMatches<'_>) -> Result<Option<Options>, AllocError>
     ensures { IfOk result (λ r. r ≡ meaning.read (rows_of (found_of matches.now))) }
 {
-    let all = is_on(matches, "all");
-    let Some(limit) = number(matches, "limit", 0, u32::MAX) else {
+    match numbers_of(matches) {
+        Some(numbers) => with_file(alloc, matches, numbers, text(matches, "file")),
+        None => Ok(None),
+    }
+}
+
+/// The options that the numbers, the flags and the name of a file give.
+fn with_file(
+    alloc: Global,
+    matches: &ArgMatches<'_>,
+    numbers: Numbers,
+    file: Option<&str>,
+) -> Result<Option<Options>, AllocError>
+    requires { AreInRange numbers.workers numbers.commit_distance numbers.generate }
+    ensures { IfOk result (λ r. r ≡ meaning.with_file (rows_of (found_of matches.now)) numbers
+        (option_map (λ s. s.now) file.entry)) }
+{
+    if numbers.generate.is_some() && file.is_some() {
         return Ok(None);
-    };
-    let Some(workers) = number(matches, "workers", WORKERS_LEAST, WORKERS_MOST) else {
-        return Ok(None);
-    };
-    let Some(distance) = number(
+    }
+    let file = Name::new(alloc, file.unwrap_or("-"))?;
+    Ok(Some(Options {
+        all: is_on(matches, "all"),
+        limit: numbers.limit,
+        workers: numbers.workers,
+        commit_distance: numbers.commit_distance,
+        interleave: numbers.interleave,
+        stats: is_on(matches, "stats"),
+        generate: numbers.generate,
+        file,
+    }))
+}
+
+/// The numbers that the matches give, each within its bounds.
+fn numbers_of(matches: &ArgMatches<'_>) -> Option<Numbers>
+    ensures is { result ≡ meaning.numbers_of (rows_of (found_of matches.now)) }
+    ensures within { IfSome result (λ n. AreInRange n.workers n.commit_distance n.generate) }
+{
+    let limit = number(matches, "limit", 0, u32::MAX)?;
+    let workers = number(matches, "workers", WORKERS_LEAST, WORKERS_MOST)?;
+    let distance = number(
         matches,
         "commit-distance",
         COMMIT_DISTANCE_LEAST,
         COMMIT_DISTANCE_MOST,
-    ) else {
-        return Ok(None);
-    };
-    let Some(interleave) = long_number(matches, "interleave", 0, u64::MAX) else {
-        return Ok(None);
-    };
-    let file = Name::new(alloc, text(matches, "file").unwrap_or("-"))?;
-    Ok(Some(Options {
-        all,
+    )?;
+    let interleave = long_number(matches, "interleave", 0, u64::MAX)?;
+    let generate = number(matches, "generate", ITEMS_LEAST, ITEMS_MOST)?;
+    Some(Numbers {
         limit,
         workers: workers.unwrap_or(WORKERS),
         commit_distance: distance.unwrap_or(COMMIT_DISTANCE),
         interleave,
-        file,
-    }))
+        generate,
+    })
 }

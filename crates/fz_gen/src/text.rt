@@ -6,7 +6,9 @@ ghost use Rattle.fz_gen.specs.Knapsack as texts;
 use itoa::Buffer;
 use std::alloc::{AllocError, Global};
 
-/// The most items of a generated model.
+/// The least and the greatest number of items of a generated model.
+pub const ITEMS_LEAST: u32 = 1;
+
 pub const ITEMS_MOST: u32 = 1000;
 
 #[derive(Clone, Copy)]
@@ -28,8 +30,8 @@ enum Part {
 /// # Errors
 /// `AllocError` where there is no memory.
 pub fn knapsack(alloc: Global, n: u32) -> Result<Vec<u8>, AllocError>
-    requires least { 1 ≤ n }
-    requires most { n ≤ 1000 }
+    requires least { ITEMS_LEAST ≤ n }
+    requires most { n ≤ ITEMS_MOST }
     ensures { IfOk result (λ text. text.items ≡ texts.knapsack n) }
 {
     let mut text = Vec::new(alloc);

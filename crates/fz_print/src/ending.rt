@@ -7,4 +7,6 @@ pub enum Ending {
     Complete,
     /// No assignment satisfies.
     Unsatisfiable,
+    /// As many as were asked for are printed, and nothing is said of others.
+    Plain,
 }

@@ -4,7 +4,7 @@ ghost use Rattle.std.specs.Prelude.{◌≡◌, IfOk};
 use crate::block::block;
 use crate::ending::Ending;
 use crate::refusal::Refusal;
-use crate::trailer::{refusal, trailer};
+use crate::trailer::{refusal, summary, trailer};
 use fz_dom::Dom;
 use fz_model::{Assignment, Goal, Kind, Model, Output, Term, Text, Variable};
 use std::alloc::{AllocError, Global};
@@ -55,10 +55,34 @@ fn a_block_has_a_line_for_each_output_item(rt: HostRuntime) -> Result<(), Fail> 
 #[test]
 fn the_last_line_says_how_the_search_ended(rt: HostRuntime) -> Result<(), Fail> {
     let alloc = rt.alloc();
-    let complete = trailer(alloc, Ending::Complete)?;
-    assert_eq!(rt; complete.as_slice(), b"==========\n".as_slice());
-    let none = trailer(alloc, Ending::Unsatisfiable)?;
-    assert_eq!(rt; none.as_slice(), b"=====UNSATISFIABLE=====\n".as_slice());
+    let rows = [
+        (Ending::Complete, None, b"==========\n".as_slice()),
+        (
+            Ending::Unsatisfiable,
+            None,
+            b"=====UNSATISFIABLE=====\n".as_slice(),
+        ),
+        (
+            Ending::Plain,
+            Some(10),
+            b"%%%mznStat: nSolutions=10\n%%%mznStatEnd\n".as_slice(),
+        ),
+        (
+            Ending::Complete,
+            Some(0),
+            b"==========\n%%%mznStat: nSolutions=0\n%%%mznStatEnd\n".as_slice(),
+        ),
+    ];
+    for (ending, solutions, printed) in rows {
+        assert_eq!(rt; trailer(alloc, ending, solutions)?.as_slice(), printed);
+    }
+    Ok(())
+}
+
+#[test]
+fn a_generated_model_is_summed_up(rt: HostRuntime) -> Result<(), Fail> {
+    let line = summary(rt.alloc(), 4, 17)?;
+    assert_eq!(rt; line.as_slice(), b"items=4 best=17\n".as_slice());
     Ok(())
 }
 

@@ -1,6 +1,6 @@
 //! The last piece of a run.
-ghost use Rattle.std.specs.Prelude.{◌≡◌, IfOk};
-ghost use Rattle.fz_print.specs.Ending.{ending_text};
+ghost use Rattle.std.specs.Prelude.{◌≡◌, ◌++◌, IfOk, OnOk, Some};
+ghost use Rattle.fz_print.specs.Ending.{ending_text, statistics_text, summary_text};
 ghost use Rattle.fz_print.specs.Refusal.{text_of};
 
 use crate::ending::Ending;
@@ -8,14 +8,53 @@ use crate::refusal::Refusal;
 use itoa::Buffer;
 use std::alloc::{AllocError, Global};
 
-/// The line behind the blocks of a search that ends so.
-pub fn trailer(alloc: Global, ending: Ending) -> Result<Vec<u8>, AllocError>
-    ensures { IfOk result (λ text. text.items ≡ ending_text ending) }
+/// The line behind the blocks of a search that ends so, and behind it, where it is given, how many solutions were printed: the lines
+/// `%%%mznStat: nSolutions=1` and `%%%mznStatEnd`.
+pub fn trailer(
+    alloc: Global,
+    ending: Ending,
+    solutions: Option<u64>,
+) -> Result<Vec<u8>, AllocError>
+    ensures { IfOk result (λ text. text.items ≡ ending_text ending ++ statistics_text solutions) }
+{
+    let mut text = Vec::from_slice(alloc, line_of(ending))?;
+    if let Some(count) = solutions {
+        push_statistics(&mut text, count)?;
+    }
+    Ok(text)
+}
+
+/// The line behind the blocks.
+fn line_of(ending: Ending) -> &'static [u8]
+    ensures { result.now ≡ ending_text ending }
 {
     match ending {
-        Ending::Complete => Vec::from_slice(alloc, b"==========\n"),
-        Ending::Unsatisfiable => Vec::from_slice(alloc, b"=====UNSATISFIABLE=====\n"),
+        Ending::Complete => b"==========\n",
+        Ending::Unsatisfiable => b"=====UNSATISFIABLE=====\n",
+        Ending::Plain => b"",
     }
+}
+
+fn push_statistics(text: &mut Vec<u8>, count: u64) -> Result<(), AllocError>
+    ensures { OnOk result (text.new.items ≡ text.old.items ++ statistics_text (Some count)) }
+{
+    text.extend_from_slice(b"%%%mznStat: nSolutions=")?;
+    text.extend_from_slice(Buffer::new().format(count).as_bytes())?;
+    text.extend_from_slice(b"\n%%%mznStatEnd\n")?;
+    Ok(())
+}
+
+/// The line that a generated model of so many items has in place of blocks: `items=4 best=17`, with the value of a best choice.
+pub fn summary(alloc: Global, items: u32, best: i32) -> Result<Vec<u8>, AllocError>
+    ensures { IfOk result (λ text. text.items ≡ summary_text items best) }
+{
+    let mut number = Buffer::new();
+    let mut text = Vec::from_slice(alloc, b"items=")?;
+    text.extend_from_slice(number.format(items).as_bytes())?;
+    text.extend_from_slice(b" best=")?;
+    text.extend_from_slice(number.format(best).as_bytes())?;
+    text.extend_from_slice(b"\n")?;
+    Ok(text)
 }
 
 /// The two lines that a refusal prints, as `% line 1, column 8: E02` and `=====ERROR=====`.
