@@ -69,7 +69,9 @@ fn stats_arg<'a>(alloc: Global) -> Arg<'a>
     ensures rule { rule_of result ≡ stats_rule }
     ensures local { result.global ≡ false }
 {
-    Arg::new(alloc, "stats").short('s').action(ArgAction::SetTrue)
+    Arg::new(alloc, "stats")
+        .short('s')
+        .action(ArgAction::SetTrue)
 }
 
 /// `--generate NUMBER`

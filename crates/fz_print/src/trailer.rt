@@ -10,11 +10,7 @@ use std::alloc::{AllocError, Global};
 
 /// The line behind the blocks of a search that ends so, and behind it, where it is given, how many solutions were printed: the lines
 /// `%%%mznStat: nSolutions=1` and `%%%mznStatEnd`.
-pub fn trailer(
-    alloc: Global,
-    ending: Ending,
-    solutions: Option<u64>,
-) -> Result<Vec<u8>, AllocError>
+pub fn trailer(alloc: Global, ending: Ending, solutions: Option<u64>) -> Result<Vec<u8>, AllocError>
     ensures { IfOk result (λ text. text.items ≡ ending_text ending ++ statistics_text solutions) }
 {
     let mut text = Vec::from_slice(alloc, line_of(ending))?;

@@ -9,19 +9,19 @@ use Rattle.fz_spec.specs.Instance.{Instance}
 use Rattle.fz_language.specs.Reads.{Reads, Reading}
 use Rattle.fz_spec.specs.declared.limits.TheConstants.{TEXT_LIMIT}
 use Rattle.fz_language.specs.Reads as reads
-use Rattle.fz_spec.specs.Run.{refusal_text, blocks}
+use Rattle.fz_spec.specs.Run.{refusal_text}
 use Rattle.fz_cmd.specs.Meaning.{Options}
-use Rattle.fzn.specs.Runs.{PrintsFor}
 use Rattle.fz_language.proofs.ReadProofs.{reading_is_one}
+use Rattle.fz_gen.specs.Knapsack.{knapsack}
 use Rattle.fz_io.specs.Outside.{with_more}
 use Rattle.fz_print.specs.declared.refusal.Refusal.{Refusal}
 use Rattle.fz_print.specs.Refusal.{text_of, code_digits}
 use Rattle.fzn.specs.declared.status.Status.{Status}
 use Rattle.fzn.specs.declared.status.Status.TheVariants.{Done, Refused, Usage, SourceFault, SinkFault, NoMemory}
-use Rattle.fzn.specs.Promises.{AnswersAccepted, AnswersRefused, HasItsCause, HasReadAll, IsDoneOrShort, IsFront, IsRefusedOrShort, IsRefusedRun, IsRun, IsStrictFront, IsWholeRun, Prints, Runs}
-use Rattle.fzn.specs.Steps.{Answers, AnswersShown, Flushes, IsShown, IsReadOf, IsRefusal, LeavesNothing, PrintsOf, TakesFront, ending}
+use Rattle.fzn.specs.Promises.{AnswersAccepted, AnswersRefused, HasItsCause, HasReadAll, IsDoneOrShort, IsFront, IsRefusedOrShort, IsRefusedRun, IsRun, IsStrictFront, IsWholeRun, Prints, Runs, generated_or, text_for}
+use Rattle.fzn.specs.Steps.{Answers, AnswersShown, Flushes, HasSinkCause, IsShown, IsReadOf, IsRefusal, LeavesNothing, PrintsOf, TakesFront, run_text, shown_text}
 use Rattle.fzn.proofs.Readings.{read_of_front}
-use Rattle.fzn.proofs.Searches.{shown_text}
+use Rattle.fzn.proofs.Searches.{shown_prints}
 
 pub no_more : (taken : Option (List ℕ)) → taken ≡ with_more taken []
 no_more None = refl
@@ -71,9 +71,14 @@ prints_wanted s text m o before after r a = elim a [
   | inr found ↦
       let l = found.0 in
       let complete = found.1 in
-      let whole = blocks m l ++ ending complete l in
+      let whole = run_text o m l complete in
       let run : (u : List ℕ) → whole ≡ u → IsRun text o u =
-      λ u e. record { model = m; listed = l; accepted = r; run = subst (λ (v : List ℕ). PrintsFor m.goal o m l v) e (shown_text m.goal m o l complete found.2) } in
+      λ u e. record {
+        model = m;
+        listed = l;
+        accepted = r;
+        run = record { shown = shown_text m.goal o.generate m l complete; prints = shown_prints m.goal m o l complete found.2; text = sym e };
+      } in
       elim found.3 [
         | inl all ↦ elim all.0 [
           | inl done ↦ at_status s Done text o before after done (whole, all.1, run whole refl)
@@ -85,7 +90,7 @@ prints_wanted s text m o before after r a = elim a [
 
 -- all that is shown was taken
 pub shown : (s : Status) (m : Instance) (o : Options) (l : List (List ℤ)) (complete : Bool) (before middle after : Option (List ℕ)) (flushed c d : ℕ) → IsShown m.goal o m l complete
-    → middle ≡ with_more before (blocks m l ++ ending complete l) → after ≡ middle → Flushes Done s after flushed c d → AnswersShown s m o before after
+    → middle ≡ with_more before (run_text o m l complete) → after ≡ middle → Flushes Done s after flushed c d → AnswersShown s m o before after
 shown s m o l complete before middle after flushed c d listing taken same cases =
     inr (l, complete, listing, inl (elim cases [ inl done ↦ inl done.0 | inr fault ↦ inr fault.0 ], same ∙ taken))
 
@@ -145,6 +150,26 @@ runs_source_fault o file before = record { text = unwrap_or file []; printed = [
 pub runs_short : (o : Options) (file before : Option (List ℕ)) → Runs NoMemory o file before before
 runs_short o file before = record { text = unwrap_or file []; printed = []; read = told file; taken = no_more before; prints = inl refl }
 
+-- a generated text, or the file's
+pub runs_generated : (s : Status) (o : Options) (items : ℕ) (file before after : Option (List ℕ)) → o.generate ≡ Some items → PrintsOf s (knapsack items) o before after → Runs s o (text_for o file) before after
+runs_generated s o items file before after is p =
+    subst (λ (g : Option ℕ). Runs s o (generated_or g file) before after) (sym is) (record { text = knapsack items; printed = p.0; read = refl; taken = p.1; prints = p.2 })
+
+pub runs_read : (s : Status) (o : Options) (file before after : Option (List ℕ)) → o.generate ≡ None → Runs s o file before after → Runs s o (text_for o file) before after
+runs_read s o file before after is r = subst (λ (g : Option ℕ). Runs s o (generated_or g file) before after) (sym is) r
+
+-- a run that makes no call of the source
+pub its_cause : (s : Status) (a c d : ℕ) → HasSinkCause s c d → HasItsCause s a a c d
+its_cause Done a c d h = (refl, h)
+its_cause (Refused r) a c d h = (refl, h)
+its_cause Usage a c d h = absurd h
+its_cause SourceFault a c d h = absurd h
+its_cause SinkFault a c d h = (refl, h)
+its_cause NoMemory a c d h = (refl, h)
+
+pub not_usage : (s : Status) (c d : ℕ) → HasSinkCause s c d → s ≢ Usage
+not_usage s c d h is = subst (λ (t : Status). HasSinkCause t c d) is h
+
 -- an accepted text is done, where nothing failed and memory was there
 not_both : (t : List ℕ) (m : Instance) (code : Code) (line column : ℕ) → Reads t (reads.Accepted m) → Reads t (reads.Refused code line column) → ⊥
 not_both t m code line column h k = let e = reading_is_one t (reads.Accepted m) (reads.Refused code line column) h k in cc
@@ -197,3 +222,7 @@ at_options o P p e h = subst (λ (q : Option Options). IfSome q P) e h
 pub whatever : (o : Option Options) (P : Options → Type 0) → ((p : Options) → P p) → IfSome o P
 whatever None P h = tt
 whatever (Some p) P h = h p
+
+pub whichever : {P : Type 0} (n : Option ℕ) → P → IfSome n (λ _. P)
+whichever None p = tt
+whichever (Some n) p = p

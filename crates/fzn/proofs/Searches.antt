@@ -6,6 +6,7 @@ use Rattle.std.proofs.lemmas.List.{length-take-le}
 use Rattle.std.proofs.lemmas.List.Sums.{sum_by-take-le}
 use Rattle.fz_spec.specs.Instance.{Instance, AreDeclared, Satisfies, IsBetter, AreImproving, occurrences, is_same}
 use Rattle.fz_spec.specs.Run.{blocks}
+use Rattle.fz_spec.specs.declared.term.Term.{Term}
 use Rattle.fz_spec.specs.declared.goal.Goal.{Goal}
 use Rattle.fz_spec.specs.declared.goal.Goal.TheVariants as goals
 use Rattle.fz_tree.specs.declared.mode.Mode.{Mode}
@@ -16,8 +17,8 @@ use Rattle.fz_solo.specs.declared.solo.End.{End}
 use Rattle.fz_solo.specs.declared.solo.End.TheVariants as ends
 use Rattle.fz_tree.proofs.Books.{closed_lists, closed_is_best}
 use Rattle.fz_cmd.specs.Meaning.{Options}
-use Rattle.fzn.specs.Runs.{AreSome, EndsBest, AreBest, PrintsWanted, PrintsBest, PrintsFor, wanted}
-use Rattle.fzn.specs.Steps.{HasEnded, IsSearched, IsListing, IsShown, ending}
+use Rattle.fzn.specs.Runs.{AreSome, EndsBest, AreBest, PrintsWanted, PrintsBest, PrintsGoal, PrintsFor, wanted}
+use Rattle.fzn.specs.Steps.{HasEnded, IsSearched, IsListing, IsShown, best_text, listing_text, shown_text, shows_all}
 
 -- ---- the first so many of a list
 
@@ -131,17 +132,22 @@ shown_declared (goals.Minimize t) m o l complete h = all_declared m l h.1.sound
 shown_declared (goals.Maximize t) m o l complete h = all_declared m l h.1.sound
 
 -- and its text is what is printed
-listing_text : (m : Instance) (w : Option ℕ) (l : List (List ℤ)) (complete : Bool) → IsListing m w l complete → PrintsWanted w m l (blocks m l ++ ending complete l)
-listing_text m None l true h = record { lists = h; text = refl }
-listing_text m None l false h = absurd h
-listing_text m (Some n) l true h = inr (h.0, record { lists = h.1; text = refl })
-listing_text m (Some n) l false h = inl (record { are = h; text = append-nil (blocks m l) })
+listing_prints : (m : Instance) (w : Option ℕ) (l : List (List ℤ)) (complete : Bool) → IsListing m w l complete → PrintsWanted w m l (listing_text m l complete)
+listing_prints m None l true h = record { lists = h; text = refl }
+listing_prints m None l false h = absurd h
+listing_prints m (Some n) l true h = inr (h.0, record { lists = h.1; text = refl })
+listing_prints m (Some n) l false h = inl (record { are = h; text = append-nil (blocks m l) })
 
-best_text : (all : Bool) (m : Instance) (l : List (List ℤ)) (complete : Bool) → complete ≡ true → AreBest all m l → PrintsBest all m l (blocks m l ++ ending complete l)
-best_text all m l true is best = record { are = best; text = refl }
-best_text all m l false is best = absurd (cc is)
+best_prints : (all : Bool) (m : Instance) (l : List (List ℤ)) (complete : Bool) → complete ≡ true → AreBest all m l → PrintsBest all m l (listing_text m l complete)
+best_prints all m l true is best = record { are = best; text = refl }
+best_prints all m l false is best = absurd (cc is)
 
-pub shown_text : (goal : Goal) (m : Instance) (o : Options) (l : List (List ℤ)) (complete : Bool) → IsShown goal o m l complete → PrintsFor goal o m l (blocks m l ++ ending complete l)
-shown_text goals.Satisfy m o l complete h = listing_text m (wanted o) l complete h
-shown_text (goals.Minimize t) m o l complete h = best_text o.all m l complete h.0 h.1
-shown_text (goals.Maximize t) m o l complete h = best_text o.all m l complete h.0 h.1
+goal_prints : (generate : Option ℕ) (all : Bool) (t : Term) (m : Instance) (l : List (List ℤ)) (complete : Bool) → complete ≡ true → AreBest (shows_all generate all) m l
+    → PrintsGoal generate all t m l (best_text generate t m l complete)
+goal_prints None all t m l complete is best = best_prints all m l complete is best
+goal_prints (Some items) all t m l complete is best = record { are = best; text = refl }
+
+pub shown_prints : (goal : Goal) (m : Instance) (o : Options) (l : List (List ℤ)) (complete : Bool) → IsShown goal o m l complete → PrintsFor goal o m l (shown_text goal o.generate m l complete)
+shown_prints goals.Satisfy m o l complete h = listing_prints m (wanted o) l complete h
+shown_prints (goals.Minimize t) m o l complete h = goal_prints o.generate o.all t m l complete h.0 h.1
+shown_prints (goals.Maximize t) m o l complete h = goal_prints o.generate o.all t m l complete h.0 h.1

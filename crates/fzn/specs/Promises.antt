@@ -1,5 +1,5 @@
 -- What a run promises: what each answer says of the text that was read and of what was printed. `fzn` cites these alone.
-use Rattle.std.specs.Prelude.{◌≡◌, ℕ, ℤ, ◌<◌, ◌⊎◌, Bool, IsTrue, Option, Some, IfSome, List, [], ◌++◌, length}
+use Rattle.std.specs.Prelude.{◌≡◌, ℕ, ℤ, ◌<◌, ◌⊎◌, Bool, IsTrue, Option, Some, None, IfSome, List, [], ◌++◌, length}
 use Rattle.fz_spec.specs.declared.code.Code.{Code}
 use Rattle.fz_spec.specs.Codes.{code_number}
 use Rattle.fz_spec.specs.Instance.{Instance}
@@ -8,6 +8,7 @@ use Rattle.fz_cmd.specs.Meaning.{Options}
 use Rattle.fzn.specs.Runs.{IsRunText}
 use Rattle.fz_language.specs.Reads.{Reads, Accepted}
 use Rattle.fz_language.specs.Reads as reads
+use Rattle.fz_gen.specs.Knapsack.{knapsack}
 use Rattle.fz_io.specs.Outside.{one_more, with_more, AllFlushed}
 use Rattle.fz_print.specs.declared.refusal.Refusal.{Refusal}
 use Rattle.fzn.specs.declared.status.Status.{Status}
@@ -57,7 +58,15 @@ Prints SourceFault text o printed = printed ≡ []
 Prints SinkFault text o printed = IsFront text o printed
 Prints NoMemory text o printed = IsStrictFront text o printed
 
--- The text is the file's, where the source tells it; what was printed is what the sink took in this call, where it tells that.
+-- the text that is run: a generated one, or the file's, where the source tells it
+abbrev pub generated_or : Option ℕ → Option (List ℕ) → Option (List ℕ)
+generated_or None file = file
+generated_or (Some items) file = Some (knapsack items)
+
+abbrev pub text_for : Options → Option (List ℕ) → Option (List ℕ)
+text_for o file = generated_or o.generate file
+
+-- The text is this one, where it is told; what was printed is what the sink took in this call, where it tells that.
 pub record Runs (status : Status) (o : Options) (file before after : Option (List ℕ)) : Type 0 where
   pub text : List ℕ
   pub printed : List ℕ

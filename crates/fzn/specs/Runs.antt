@@ -1,11 +1,14 @@
 -- What a run prints, by what is asked for.
 use Rattle.std.specs.Prelude.{◌≡◌, ◌⊎◌, ℕ, zero, suc, ◌<◌, ◌≤◌, ℤ, Bool, true, false, Option, Some, None, List, [], ◌∷◌, ◌++◌, length}
 use Rattle.std.specs.List.{AllByRecursion}
+use Rattle.fz_spec.specs.Constraints.{term_value}
+use Rattle.fz_spec.specs.declared.term.Term.{Term}
 use Rattle.fz_spec.specs.declared.goal.Goal.{Goal}
 use Rattle.fz_spec.specs.declared.goal.Goal.TheVariants.{Satisfy, Minimize, Maximize}
 use Rattle.fz_spec.specs.Instance.{Instance, Satisfies, AreImproving, IsBest, occurrences}
 use Rattle.fz_spec.specs.Run.{PrintsAll, blocks, closing}
 use Rattle.fz_cmd.specs.Meaning.{Options}
+use Rattle.fz_print.specs.Ending.{statistics_text, summary_text}
 
 -- How many solutions are asked for, none where it is all of them. The number of `-n` decides where it is given, and 0 stands for
 -- all; else `-a` asks for all; else one is asked for.
@@ -52,12 +55,34 @@ pub record PrintsBest (all : Bool) (m : Instance) (l : List (List ℤ)) (printed
   pub are : AreBest all m l
   pub text : printed ≡ blocks m l ++ closing l
 
+-- in place of the block of a best one, and of the closing line, its value by the goal
+abbrev pub summary_of : ℕ → Term → List (List ℤ) → List ℕ
+summary_of items goal [] = closing []
+summary_of items goal (a ∷ l) = summary_text items (term_value a goal)
+
+-- a best one of a generated model of so many items, summed up
+pub record PrintsSummary (items : ℕ) (goal : Term) (m : Instance) (l : List (List ℤ)) (printed : List ℕ) : Type 0 where
+  pub are : AreBest false m l
+  pub text : printed ≡ summary_of items goal l
+
+-- a best one, by whether a model is generated and whether all better ones are to be shown
+abbrev pub PrintsGoal : Option ℕ → Bool → Term → Instance → List (List ℤ) → List ℕ → Type 0
+PrintsGoal None all goal m l printed = PrintsBest all m l printed
+PrintsGoal (Some items) all goal m l printed = PrintsSummary items goal m l printed
+
 -- By the goal: solutions, as many as are asked for; or a best one, where `-n` says nothing.
 abbrev pub PrintsFor : Goal → Options → Instance → List (List ℤ) → List ℕ → Type 0
 PrintsFor Satisfy o m l printed = PrintsWanted (wanted o) m l printed
-PrintsFor (Minimize term) o m l printed = PrintsBest o.all m l printed
-PrintsFor (Maximize term) o m l printed = PrintsBest o.all m l printed
+PrintsFor (Minimize goal) o m l printed = PrintsGoal o.generate o.all goal m l printed
+PrintsFor (Maximize goal) o m l printed = PrintsGoal o.generate o.all goal m l printed
+
+-- how many are listed, where statistics are asked for
+abbrev pub counted : Bool → List (List ℤ) → Option ℕ
+counted true l = Some (length l)
+counted false l = None
 
 -- the text of a whole run that lists these assignments, by the goal and the options
-abbrev pub IsRunText : Instance → Options → List (List ℤ) → List ℕ → Type 0
-IsRunText m o l printed = PrintsFor m.goal o m l printed
+pub record IsRunText (m : Instance) (o : Options) (l : List (List ℤ)) (printed : List ℕ) : Type 0 where
+  pub shown : List ℕ
+  pub prints : PrintsFor m.goal o m l shown
+  pub text : printed ≡ shown ++ statistics_text (counted o.stats l)

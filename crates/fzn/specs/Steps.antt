@@ -9,7 +9,9 @@ use Rattle.fz_spec.specs.declared.goal.Goal.{Goal}
 use Rattle.fz_spec.specs.declared.goal.Goal.TheVariants.{Satisfy, Minimize, Maximize}
 use Rattle.fz_tree.specs.Book.{Book, BookLaw}
 use Rattle.fz_cmd.specs.Meaning.{Options}
-use Rattle.fzn.specs.Runs.{AreSome, AreBest, wanted}
+use Rattle.fz_print.specs.Ending.{statistics_text}
+use Rattle.fz_spec.specs.declared.term.Term.{Term}
+use Rattle.fzn.specs.Runs.{AreSome, AreBest, counted, summary_of, wanted}
 use Rattle.fz_language.specs.Grammar.{Spells}
 use Rattle.fz_language.specs.Reads.{Reads, IsRefusedAt}
 use Rattle.fz_language.specs.Reads as reads
@@ -116,21 +118,43 @@ IsListing m None l false = ⊥
 IsListing m (Some n) l true = (length l < n) × Lists m l
 IsListing m (Some n) l false = AreSome m n l
 
+-- whether all better ones are shown: none but the best of a generated model
+abbrev pub shows_all : Option ℕ → Bool → Bool
+shows_all None all = all
+shows_all (Some items) all = false
+
 -- the same by the goal: a best one comes with a closing line always
 abbrev pub IsShown : Goal → Options → Instance → List (List ℤ) → Bool → Type 0
 IsShown Satisfy o m l complete = IsListing m (wanted o) l complete
-IsShown (Minimize term) o m l complete = (complete ≡ true) × AreBest o.all m l
-IsShown (Maximize term) o m l complete = (complete ≡ true) × AreBest o.all m l
+IsShown (Minimize term) o m l complete = (complete ≡ true) × AreBest (shows_all o.generate o.all) m l
+IsShown (Maximize term) o m l complete = (complete ≡ true) × AreBest (shows_all o.generate o.all) m l
 
 -- the closing line, where there is one
 abbrev pub ending : Bool → List (List ℤ) → List ℕ
 ending complete l = if complete then closing l else []
 
+abbrev pub listing_text : Instance → List (List ℤ) → Bool → List ℕ
+listing_text m l complete = blocks m l ++ ending complete l
+
+-- what is shown, by the goal and whether a model is generated
+abbrev pub best_text : Option ℕ → Term → Instance → List (List ℤ) → Bool → List ℕ
+best_text None goal m l complete = listing_text m l complete
+best_text (Some items) goal m l complete = summary_of items goal l
+
+abbrev pub shown_text : Goal → Option ℕ → Instance → List (List ℤ) → Bool → List ℕ
+shown_text Satisfy generate m l complete = listing_text m l complete
+shown_text (Minimize goal) generate m l complete = best_text generate goal m l complete
+shown_text (Maximize goal) generate m l complete = best_text generate goal m l complete
+
+-- and behind it the statistics
+abbrev pub run_text : Options → Instance → List (List ℤ) → Bool → List ℕ
+run_text o m l complete = shown_text m.goal o.generate m l complete ++ statistics_text (counted o.stats l)
+
 -- the same of what is shown of a model's search, by its goal and the options
 abbrev pub AnswersShown : Status → Instance → Options → Option (List ℕ) → Option (List ℕ) → Type 0
 AnswersShown status m o before after =
     ((status ≡ NoMemory) × (after ≡ before))
-    ⊎ ((l : List (List ℤ)) × (complete : Bool) × IsShown m.goal o m l complete × Answers status Done (blocks m l ++ ending complete l) before after)
+    ⊎ ((l : List (List ℤ)) × (complete : Bool) × IsShown m.goal o m l complete × Answers status Done (run_text o m l complete) before after)
 
 -- all is flushed and the answer is as it was to be, or the sink failed
 abbrev pub Flushes : Status → Status → Option (List ℕ) → ℕ → ℕ → ℕ → Type 0

@@ -1,18 +1,21 @@
 //! The top call.
-ghost use Rattle.std.specs.Prelude.{◌≡◌, ◌≢◌, ◌⊎◌, ℕ, ◌-◌, ◌^◌, ◌<◌, None, IfSome, IfOk, length, map, string_bytes};
+ghost use Rattle.std.specs.Prelude.{◌≡◌, ◌≢◌, ◌⊎◌, ℕ, ◌-◌, ◌^◌, ◌<◌, ◌≤◌, None, IfSome, IfOk, length, map, string_bytes};
 ghost use Rattle.fz_io.specs.Outside.{one_more};
 ghost use Rattle.fz_print.specs.Refusal.{text_of};
 ghost use Rattle.fz_cmd.specs.Meaning.{options_of};
-ghost use Rattle.fzn.specs.Promises.{AnswersAccepted, AnswersRefused, HasItsCause, HasReadAll, HasSelected, IsFlushed, Runs, SelectsOnce};
+ghost use Rattle.fz_gen.specs.Knapsack as texts;
+ghost use Rattle.fzn.specs.Promises.{AnswersAccepted, AnswersRefused, HasItsCause, HasReadAll, HasSelected, IsFlushed, Runs, SelectsOnce, text_for};
 ghost use Rattle.fzn.specs.Steps.{enough_for, Answers, AnswersShown, Flushes, HasSinkCause, HasStopCause, IsReadOf, IsSearched, LeavesNothing, PrintsOf, SelectsAt};
 
-use crate::printer::{Stop, print_listing, print_refusal};
+use crate::printer::{Stop, print_refusal, print_run};
 use crate::reader::model_of;
 use crate::search::{listing_of, search};
 use crate::status::Status;
 use fz_book::Book;
 use fz_cmd::Options;
 use fz_cmd::words::options;
+use fz_gen::knapsack;
+use fz_gen::text::{ITEMS_LEAST, ITEMS_MOST};
 use fz_io::gate::Gate;
 use fz_io::outside::{Sink, Source};
 use fz_io::whole::{Whole, read_all};
@@ -27,12 +30,14 @@ use std::sync::Arc;
 ///
 /// `words` are the arguments of the program: `-a` for all solutions, `-n N` for N of them (0 for all), one where neither is given;
 /// `--commit-distance N` for how often a copy of a node is kept; `--interleave SEED` for a search by workers, `-p N` of them (1
-/// where it isn't given), that take turns on one thread by a schedule which the seed begins; and FILE. The text is that of FILE;
-/// no FILE is `-`, standard input. A text may have 67,108,864 bytes. Printed is a block for each satisfying assignment, in any
-/// order, and `==========`; of `-n N` N different blocks alone, where so many satisfy; of a model with a goal the block of a best
-/// assignment and `==========`, with `-a` behind each better one that was found on the way; where none satisfies,
-/// `=====UNSATISFIABLE=====` alone; of a text that is refused, the place, the code and `=====ERROR=====`. Each block, each last
-/// line and each refusal is one piece for the sink, and one flush comes last, whenever something was written.
+/// where it isn't given), that take turns on one thread by a schedule which the seed begins; `-s` for statistics; `--generate N`
+/// for a model that is generated, a knapsack of N items, in place of one that is read; and FILE. The text is that of FILE; no FILE
+/// is `-`, standard input. A text may have 67,108,864 bytes. Printed is a block for each satisfying assignment, in any order, and
+/// `==========`; of `-n N` N different blocks alone, where so many satisfy; of a model with a goal the block of a best assignment
+/// and `==========`, with `-a` behind each better one that was found on the way; of a generated model `items=N best=V` in place of
+/// both; where none satisfies, `=====UNSATISFIABLE=====` alone; of a text that is refused, the place, the code and
+/// `=====ERROR=====`. Behind all but a refusal `-s` prints how many assignments were listed. Each block, each last line, the two
+/// lines of statistics and each refusal is one piece for the sink, and one flush comes last, whenever something was written.
 ///
 /// `rt` and `gate` are for the threads to come: a run takes no thread yet, and waits for nobody. Without `--interleave` one worker
 /// searches, whatever `-p` says.
@@ -54,16 +59,23 @@ pub fn fzn<T, R: Source, S: Sink, G: Gate>(
     ensures untouched { options_of (map string_bytes words.now) ≡ None
         → (source.new ≡ source.old) × (sink.new ≡ sink.old) }
 
-    // Every other run selects one text, once: that of FILE. No call changes the source's texts.
-    ensures once { SelectsOnce result (R.selections source.old) (R.selections source.new) }
-    ensures selected { IfSome (options_of (map string_bytes words.now)) (λ o. HasSelected result
-        (R.selections source.old) (R.selections source.new) (R.is_selected source.new o.file)) }
+    // A run that generates its model makes no call of the source. Every other one selects one text, once: that of FILE. No call
+    // changes the source's texts.
+    ensures generated { IfSome (options_of (map string_bytes words.now)) (λ o.
+        IfSome o.generate (λ _. source.new ≡ source.old)) }
+    ensures once { IfSome (options_of (map string_bytes words.now)) (λ o. o.generate ≡ None
+        → SelectsOnce result (R.selections source.old) (R.selections source.new)) }
+    ensures selected { IfSome (options_of (map string_bytes words.now)) (λ o. o.generate ≡ None
+        → HasSelected result (R.selections source.old) (R.selections source.new)
+        (R.is_selected source.new o.file)) }
     ensures texts { R.texts source.new ≡ R.texts source.old }
-    ensures whole { HasReadAll result (R.left source.new) }
+    ensures whole { IfSome (options_of (map string_bytes words.now)) (λ o. o.generate ≡ None
+        → HasReadAll result (R.left source.new)) }
 
-    // What is printed of the file's text: at Done the run of it, at Refused its first refusal; else a front.
+    // What is printed of the text, the file's or the generated one: at Done the run of it, at Refused its first refusal; else a
+    // front.
     ensures printed { IfSome (options_of (map string_bytes words.now)) (λ o.
-        Runs result o (R.texts source.old o.file) (S.taken sink.old) (S.taken sink.new)) }
+        Runs result o (text_for o (R.texts source.old o.file)) (S.taken sink.old) (S.taken sink.new)) }
     ensures flushed { IsFlushed result (S.taken sink.old) (S.taken sink.new) (S.flushed sink.new) }
 
     // Each answer has its cause: Done and Refused come only where no count rose, a fault only where its own did.
@@ -74,15 +86,62 @@ pub fn fzn<T, R: Source, S: Sink, G: Gate>(
     ensures accepted { R.faults source.new ≡ R.faults source.old
         → S.faults sink.new ≡ S.faults sink.old
         → IfSome (options_of (map string_bytes words.now)) (λ o.
-        AnswersAccepted result (R.texts source.old o.file)) }
+        AnswersAccepted result (text_for o (R.texts source.old o.file))) }
     ensures refused { R.faults source.new ≡ R.faults source.old
         → S.faults sink.new ≡ S.faults sink.old
         → IfSome (options_of (map string_bytes words.now)) (λ o.
-        AnswersRefused result (R.texts source.old o.file)) }
+        AnswersRefused result (text_for o (R.texts source.old o.file))) }
 {
     match options(alloc, words) {
-        Ok(Some(options)) => run_file(alloc, &options, source, sink),
+        Ok(Some(options)) => run_options(alloc, &options, source, sink),
         Ok(None) => Status::Usage,
+        Err(_) => Status::NoMemory,
+    }
+}
+
+/// The run of these options: of a generated text, or of one file's.
+fn run_options<R: Source, S: Sink>(
+    alloc: Global,
+    options: &Options,
+    source: &mut R,
+    sink: &mut S,
+) -> Status
+    requires source { R.faults source.old < 2 ^ 64 - 1 }
+    requires sink { S.faults sink.old < 2 ^ 64 - 1 }
+    ensures generated { IfSome options.now.generate (λ _. source.new ≡ source.old) }
+    ensures once { options.now.generate ≡ None
+        → SelectsOnce result (R.selections source.old) (R.selections source.new) }
+    ensures selected { options.now.generate ≡ None
+        → HasSelected result (R.selections source.old) (R.selections source.new)
+        (R.is_selected source.new options.now.file) }
+    ensures texts { R.texts source.new ≡ R.texts source.old }
+    ensures whole { options.now.generate ≡ None → HasReadAll result (R.left source.new) }
+    ensures printed { Runs result options.now
+        (text_for options.now (R.texts source.old options.now.file))
+        (S.taken sink.old) (S.taken sink.new) }
+    ensures flushed { IsFlushed result (S.taken sink.old) (S.taken sink.new) (S.flushed sink.new) }
+    ensures cause { HasItsCause result (R.faults source.old) (R.faults source.new)
+        (S.faults sink.old) (S.faults sink.new) }
+    ensures used { result ≢ Status.Usage }
+{
+    match options.generate() {
+        Some(items) => run_generated(alloc, items, options, sink),
+        None => run_file(alloc, options, source, sink),
+    }
+}
+
+/// The run of a generated model of so many items.
+fn run_generated<S: Sink>(alloc: Global, items: u32, options: &Options, sink: &mut S) -> Status
+    requires least { ITEMS_LEAST ≤ items }
+    requires most { items ≤ ITEMS_MOST }
+    requires faults { S.faults sink.old < 2 ^ 64 - 1 }
+    ensures printed { PrintsOf result (texts.knapsack items) options.now
+        (S.taken sink.old) (S.taken sink.new) }
+    ensures flushed { IsFlushed result (S.taken sink.old) (S.taken sink.new) (S.flushed sink.new) }
+    ensures cause { HasSinkCause result (S.faults sink.old) (S.faults sink.new) }
+{
+    match knapsack(alloc, items) {
+        Ok(generated) => run_text(alloc, &generated, options, sink),
         Err(_) => Status::NoMemory,
     }
 }
@@ -204,7 +263,7 @@ fn show<S: Sink>(alloc: Global, book: &Book, options: &Options, sink: &mut S) ->
     ensures cause { HasSinkCause result (S.faults sink.old) (S.faults sink.new) }
 {
     let listing = listing_of(book, options);
-    match print_listing(alloc, sink, book.model(), listing.found, listing.complete) {
+    match print_run(alloc, sink, book.model(), options, listing) {
         Ok(()) => flush(sink, Status::Done),
         Err(Stop::Memory) => flush(sink, Status::NoMemory),
         Err(Stop::Fault) => Status::SinkFault,

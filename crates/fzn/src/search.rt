@@ -6,6 +6,7 @@ ghost use Rattle.fz_tree.specs.Better.{mode_of};
 ghost use Rattle.fz_tree.specs.Book.{opening};
 ghost use Rattle.fzn.specs.Runs as runs;
 ghost use Rattle.fzn.specs.Runs.{AreBest};
+ghost use Rattle.fzn.specs.Steps as steps;
 ghost use Rattle.fzn.specs.Steps.{enough_for, IsSearched, IsListing, IsShown};
 
 use fz_account::Mode;
@@ -64,7 +65,7 @@ fn search_alone<S: Space>(
     let mut book = begin(alloc, model, mode)?;
     let mut path: Path<S> = Path::idle(alloc, model.clone()?, mode, distance, ADAPTIVE_DISTANCE)?;
     let enough = enough_for(model.goal(), options);
-    finish(&mut book, &mut path, enough, options.all())?;
+    finish(&mut book, &mut path, enough, shows_all(options))?;
     Ok(book)
 }
 
@@ -150,6 +151,13 @@ pub(crate) fn wanted(options: &Options) -> Option<u32>
     }
 }
 
+/// Whether all better ones are shown on the way to a best one: where `-a` asks for them, and never of a generated model.
+fn shows_all(options: &Options) -> bool
+    ensures { result ≡ steps.shows_all options.now.generate options.now.all }
+{
+    options.all() && options.generate().is_none()
+}
+
 /// What is shown of a search that has ended.
 pub(crate) fn listing_of<'a>(book: &'a Book, options: &Options) -> Listing<'a>
     requires { IsSearched book.now.book.model
@@ -159,8 +167,8 @@ pub(crate) fn listing_of<'a>(book: &'a Book, options: &Options) -> Listing<'a>
 {
     match book.model().goal() {
         Goal::Satisfy => solutions_of(book, wanted(options)),
-        Goal::Minimize(_) => best_of(book, options.all()),
-        Goal::Maximize(_) => best_of(book, options.all()),
+        Goal::Minimize(_) => best_of(book, shows_all(options)),
+        Goal::Maximize(_) => best_of(book, shows_all(options)),
     }
 }
 
