@@ -1,5 +1,6 @@
 //! Texts at the limits of the language.
-use crate::running::{expect_printed, expect_refusal};
+use crate::running::{expect_printed, expect_printed_by, expect_refusal, run};
+use fzn::Status;
 use std::alloc::{AllocError, Global};
 use std::test::Fail;
 
@@ -43,4 +44,35 @@ fn the_first_element_over_the_limit_is_refused(rt: HostRuntime) -> Result<(), Fa
     expect_refusal(&rt, alloc, many.as_bytes(), 1, 2_000_033, 11)?;
     let fine = zeros(alloc, 1_000_000)?;
     expect_printed(&rt, alloc, fine.as_bytes(), "----------\n==========\n")
+}
+
+/// Whether lines of ten dashes alone stand before this end.
+fn are_dashes(printed: &[u8], end: &[u8]) -> bool {
+    match printed.strip_suffix(end) {
+        Some(blocks) => blocks
+            .chunks(11)
+            .all(|line| line == b"----------\n".as_slice()),
+        None => false,
+    }
+}
+
+#[test]
+fn a_million_solutions_are_listed(rt: HostRuntime) -> Result<(), Fail> {
+    let text = b"var 1..1000002: x; solve satisfy;";
+    let all = run(rt.alloc(), text, &["-a"])?;
+    assert_eq!(rt; all.status, Status::Done);
+    assert_eq!(rt; all.printed.len(), 11 * 1_000_002 + 11);
+    assert!(rt; are_dashes(&all.printed, b"==========\n"));
+    let some = run(rt.alloc(), text, &["-n", "1000000"])?;
+    assert_eq!(rt; some.status, Status::Done);
+    assert_eq!(rt; some.printed.len(), 11 * 1_000_000);
+    assert!(rt; are_dashes(&some.printed, b""));
+    Ok(())
+}
+
+#[test]
+fn a_path_of_a_million_edges_is_no_deeper_call(rt: HostRuntime) -> Result<(), Fail> {
+    let text = b"var 1..1000001: x :: output_var; solve maximize x;";
+    let printed = "x = 1000001;\n----------\n==========\n";
+    expect_printed_by(&rt, rt.alloc(), text, &["-p", "1"], printed)
 }

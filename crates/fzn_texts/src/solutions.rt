@@ -21,7 +21,7 @@ const ROWS: [Row; 15] = [
         "=====UNSATISFIABLE=====\n",
     ),
     (
-        "var -2..2: b :: output_var; var -7..7: c :: output_var; constraint int_div(-7,b,c); solve satisfy;",
+        "var -2..2: b :: output_var; var int: c :: output_var; constraint int_div(-7,b,c); solve satisfy;",
         "b = -2;\nc = 3;\n----------\nb = -1;\nc = 7;\n----------\nb = 1;\nc = -7;\n----------\nb = 2;\nc = -3;\n----------\n==========\n",
     ),
     (

@@ -71,7 +71,7 @@ fn the_same_is_printed(rt: HostRuntime) -> Result<(), Fail> {
 }
 
 #[test]
-fn a_path_of_a_million_edges_is_no_deeper_call(rt: HostRuntime) -> Result<(), Fail> {
+fn a_worker_s_path_of_a_million_edges_is_no_deeper_call(rt: HostRuntime) -> Result<(), Fail> {
     let text = b"var 1..1000001: x :: output_var; solve maximize x;";
     let printed = "x = 1000001;\n----------\n==========\n";
     expect_printed_by(&rt, rt.alloc(), text, &["--interleave", "3"], printed)
