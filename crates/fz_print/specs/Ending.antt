@@ -10,10 +10,14 @@ ending_text Complete = codes "==========\n"
 ending_text Unsatisfiable = codes "=====UNSATISFIABLE=====\n"
 ending_text Plain = []
 
--- how many solutions were printed, in two lines, where that is asked for
+-- how many solutions were printed, in two lines
+abbrev pub count_text : ℕ → List ℕ
+count_text count = codes "%%%mznStat: nSolutions=" ++ decimal count ++ codes "\n%%%mznStatEnd\n"
+
+-- the same where that is asked for
 abbrev pub statistics_text : Option ℕ → List ℕ
 statistics_text None = []
-statistics_text (Some count) = codes "%%%mznStat: nSolutions=" ++ decimal count ++ codes "\n%%%mznStatEnd\n"
+statistics_text (Some count) = count_text count
 
 -- "items=4 best=17"
 abbrev pub summary_text : ℕ → ℤ → List ℕ

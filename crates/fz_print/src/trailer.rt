@@ -1,6 +1,6 @@
 //! The last piece of a run.
-ghost use Rattle.std.specs.Prelude.{◌≡◌, ◌++◌, IfOk, OnOk, Some};
-ghost use Rattle.fz_print.specs.Ending.{ending_text, statistics_text, summary_text};
+ghost use Rattle.std.specs.Prelude.{◌≡◌, ◌++◌, IfOk};
+ghost use Rattle.fz_print.specs.Ending.{count_text, ending_text, statistics_text, summary_text};
 ghost use Rattle.fz_print.specs.Refusal.{text_of};
 
 use crate::ending::Ending;
@@ -13,31 +13,32 @@ use std::alloc::{AllocError, Global};
 pub fn trailer(alloc: Global, ending: Ending, solutions: Option<u64>) -> Result<Vec<u8>, AllocError>
     ensures { IfOk result (λ text. text.items ≡ ending_text ending ++ statistics_text solutions) }
 {
-    let mut text = Vec::from_slice(alloc, line_of(ending))?;
+    let mut text = line_of(alloc, ending)?;
     if let Some(count) = solutions {
-        push_statistics(&mut text, count)?;
+        text.extend_from_slice(&statistics(alloc, count)?)?;
     }
     Ok(text)
 }
 
 /// The line behind the blocks.
-fn line_of(ending: Ending) -> &'static [u8]
-    ensures { result.now ≡ ending_text ending }
+fn line_of(alloc: Global, ending: Ending) -> Result<Vec<u8>, AllocError>
+    ensures { IfOk result (λ text. text.items ≡ ending_text ending) }
 {
     match ending {
-        Ending::Complete => b"==========\n",
-        Ending::Unsatisfiable => b"=====UNSATISFIABLE=====\n",
-        Ending::Plain => b"",
+        Ending::Complete => Vec::from_slice(alloc, b"==========\n"),
+        Ending::Unsatisfiable => Vec::from_slice(alloc, b"=====UNSATISFIABLE=====\n"),
+        Ending::Plain => Ok(Vec::new(alloc)),
     }
 }
 
-fn push_statistics(text: &mut Vec<u8>, count: u64) -> Result<(), AllocError>
-    ensures { OnOk result (text.new.items ≡ text.old.items ++ statistics_text (Some count)) }
+/// The two lines of statistics.
+fn statistics(alloc: Global, count: u64) -> Result<Vec<u8>, AllocError>
+    ensures { IfOk result (λ text. text.items ≡ count_text count) }
 {
-    text.extend_from_slice(b"%%%mznStat: nSolutions=")?;
+    let mut text = Vec::from_slice(alloc, b"%%%mznStat: nSolutions=")?;
     text.extend_from_slice(Buffer::new().format(count).as_bytes())?;
     text.extend_from_slice(b"\n%%%mznStatEnd\n")?;
-    Ok(())
+    Ok(text)
 }
 
 /// The line that a generated model of so many items has in place of blocks: `items=4 best=17`, with the value of a best choice.
