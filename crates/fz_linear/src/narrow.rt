@@ -1,5 +1,5 @@
 //! Sums in 64 bits, where the factors are so small that none overflows.
-ghost use Rattle.std.specs.Prelude.{◌≡◌, ◌↔◌, ℕ, ◌+◌, ◌^◌, ◌≤◌, pos, ◌+ℤ◌, length, sum_by, unsigned_abs};
+ghost use Rattle.std.specs.Prelude.{◌≡◌, ◌↔◌, ℕ, ◌+◌, ◌^◌, ◌≤◌, pos, ◌+ℤ◌, length, unsigned_abs};
 ghost use Rattle.fz_spec.specs.declared.limits.TheConstants.{ELEMENT_LIMIT};
 ghost use Rattle.fz_strength.specs.Domains.{AreDomains};
 ghost use Rattle.fz_strength.specs.Sums.{least_sum, greatest_sum, AreNear};
