@@ -1,6 +1,7 @@
 pub mod Spans
 pub mod Slacks
 pub mod Summing
+pub mod Narrowing
 pub mod Tight
 pub mod Passing
 pub mod Bounds

@@ -3,4 +3,5 @@ pub mod Sides
 pub mod Passes
 pub mod Sums
 pub mod Gaps
+pub mod Precisions
 pub mod Linears

@@ -9,6 +9,8 @@ use Rattle.fz_strength.specs.declared.relation.Relation.{Relation}
 use Rattle.fz_strength.specs.Events.{variables_of}
 use Rattle.fz_strength.specs.Sums.{sum_relation_of, left_factors, left_terms, right_number}
 use Rattle.fz_prop.specs.Stores.{FitsTerm}
+use Rattle.fz_linear.specs.Precisions.{Allows}
+use Rattle.fz_linear.specs.declared.narrow.Precision.{Precision}
 
 -- what stands on the left without the term that the sum is related to
 abbrev pub given : {X : Type 0} → Term → List X → List X
@@ -22,11 +24,12 @@ pub record IsMoved (last : Term) (factors : List ℤ) (terms : List Term) (numbe
   pub number_is : number ≡ right_number last
 
 -- Its relation is that of its name; it has a factor for each term, not too many, with numbers within the limits, the term that the
--- sum is related to among them; and its variables stand in a list.
-pub record IsLinear (name : Builtin) (relation : Relation) (factors : List ℤ) (terms : List Term) (number : ℤ) (last : Term) (variables : List ℕ) : Type 0 where
+-- sum is related to among them; its variables stand in a list; and its factors allow the bits in which its sum is added up.
+pub record IsLinear (name : Builtin) (relation : Relation) (factors : List ℤ) (terms : List Term) (number : ℤ) (last : Term) (variables : List ℕ) (precision : Precision) : Type 0 where
   pub relation_is : sum_relation_of name ≡ Some relation
   pub same : length factors ≡ length terms
   pub few : length terms ≤ ELEMENT_LIMIT + 1
   pub fits : AllByRecursion FitsTerm terms
   pub moved : IsMoved last factors terms number
   pub variables_are : variables ≡ variables_of terms
+  pub allowed : Allows precision factors

@@ -9,10 +9,12 @@ ghost use Rattle.fz_prop.specs.declared.answer.Answer.TheVariants.{Fix};
 ghost use Rattle.fz_prop.specs.Answers.{IsCorrectOf, IsDecided};
 ghost use Rattle.fz_prop.specs.Stores.{Shrinks, IsTermOf, FitsTerm};
 ghost use Rattle.fz_linear.specs.Terms.{AreTermsOf};
+ghost use Rattle.fz_linear.specs.Precisions.{Allows};
 ghost use Rattle.fz_linear.specs.Sums.{SumTruth, IsAnswerSum};
 ghost use Rattle.fz_linear.specs.Gaps.{IsUnfixed, IsExcluded, AllOthersFixed, others_sum};
 
-use crate::sums::{Ends, product, product_ends, sum_ends};
+use crate::narrow::{Precision, ends_of};
+use crate::sums::{Ends, product, product_ends};
 use fz_num::floor_div;
 use fz_prop::terms::{remove, value_of};
 use fz_prop::{Answer, Store};
@@ -38,12 +40,14 @@ pub enum Excluded {
 /// Narrows a store so that a sum isn't a number: where all terms but one are fixed, one number leaves that one.
 pub fn keep_apart(
     store: &mut Store,
+    precision: Precision,
     factors: &[i32],
     terms: &[Term],
     number: i32,
 ) -> Result<Answer, AllocError>
     requires same { length factors.now ≡ length terms.now }
     requires few { length terms.now ≤ ELEMENT_LIMIT + 1 }
+    requires allowed { Allows precision factors.now }
     requires inside { AreTermsOf (length store.old.doms) terms.now }
     requires fits { AllByRecursion FitsTerm terms.now }
     ensures shrinks { Shrinks store.old store.new }
@@ -56,8 +60,8 @@ pub fn keep_apart(
 {
     match count_unfixed(store, terms) {
         Unfixed::Several => Ok(Answer::Fix),
-        Unfixed::One(place) => exclude(store, factors, terms, number, place),
-        Unfixed::None => Ok(compare(store, factors, terms, number)),
+        Unfixed::One(place) => exclude(store, precision, factors, terms, number, place),
+        Unfixed::None => Ok(compare(store, precision, factors, terms, number)),
     }
 }
 
@@ -95,16 +99,23 @@ fn count_unfixed(store: &Store, terms: &[Term]) -> Unfixed
 }
 
 /// Whether a sum of fixed terms is a number.
-fn compare(store: &Store, factors: &[i32], terms: &[Term], number: i32) -> Answer
+fn compare(
+    store: &Store,
+    precision: Precision,
+    factors: &[i32],
+    terms: &[Term],
+    number: i32,
+) -> Answer
     requires same { length factors.now ≡ length terms.now }
     requires few { length terms.now ≤ ELEMENT_LIMIT + 1 }
+    requires allowed { Allows precision factors.now }
     requires inside { AreTermsOf (length store.now.doms) terms.now }
     requires fixed { AllFixed store.now.doms terms.now }
     ensures answer { IsAnswerSum NotEqual factors.now terms.now number result
         store.now.doms store.now.doms }
     ensures decided { IsDecided result }
 {
-    if sum_ends(store, factors, terms).least == i128::from(number) {
+    if ends_of(store, precision, factors, terms).least == i128::from(number) {
         Answer::Failed
     } else {
         Answer::Subsumed
@@ -138,16 +149,24 @@ fn divide(factor: i32, product: i128) -> Excluded
 }
 
 /// What a term with its factor must not be for the sum not to be a number, where all other terms are fixed.
-fn forbidden(store: &Store, factors: &[i32], terms: &[Term], number: i32, place: usize) -> i128
+fn forbidden(
+    store: &Store,
+    precision: Precision,
+    factors: &[i32],
+    terms: &[Term],
+    number: i32,
+    place: usize,
+) -> i128
     requires same { length factors.now ≡ length terms.now }
     requires few { length terms.now ≤ ELEMENT_LIMIT + 1 }
+    requires allowed { Allows precision factors.now }
     requires inside { AreTermsOf (length store.now.doms) terms.now }
     requires place { place < length terms.now }
     ensures domains { AreDomains store.now.doms }
     ensures product { result ≡ number -ℤ others_sum store.now.doms factors.now terms.now place }
     ensures near { unsigned_abs result ≤ 2 ^ 100 }
 {
-    let Ends { least, .. } = sum_ends(store, factors, terms);
+    let Ends { least, .. } = ends_of(store, precision, factors, terms);
     let (low, _) = product_ends(store, factors[place], terms[place]);
     without(number, least, low)
 }
@@ -164,6 +183,7 @@ fn without(number: i32, sum: i128, product: i64) -> i128
 /// Removes from the one term that isn't fixed the number that would make the sum a number.
 fn exclude(
     store: &mut Store,
+    precision: Precision,
     factors: &[i32],
     terms: &[Term],
     number: i32,
@@ -171,6 +191,7 @@ fn exclude(
 ) -> Result<Answer, AllocError>
     requires same { length factors.now ≡ length terms.now }
     requires few { length terms.now ≤ ELEMENT_LIMIT + 1 }
+    requires allowed { Allows precision factors.now }
     requires inside { AreTermsOf (length store.old.doms) terms.now }
     requires fits { AllByRecursion FitsTerm terms.now }
     requires place { place < length terms.now }
@@ -182,7 +203,7 @@ fn exclude(
         (λ r. IsAnswerSum NotEqual factors.now terms.now number r store.old.doms store.new.doms) }
     ensures decided { IfOk result (λ r. IsDecided r) }
 {
-    let product = forbidden(store, factors, terms, number, place);
+    let product = forbidden(store, precision, factors, terms, number, place);
     match divide(factors[place], product) {
         Excluded::None => Ok(Answer::Subsumed),
         Excluded::Each => Ok(Answer::Failed),

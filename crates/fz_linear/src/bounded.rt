@@ -7,8 +7,10 @@ ghost use Rattle.fz_prop.specs.declared.answer.Answer.TheVariants.{Fix};
 ghost use Rattle.fz_prop.specs.Answers.{IsCorrectOf, IsDecided};
 ghost use Rattle.fz_prop.specs.Stores.{Shrinks};
 ghost use Rattle.fz_linear.specs.Terms.{AreTermsOf};
+ghost use Rattle.fz_linear.specs.Precisions.{Allows};
 ghost use Rattle.fz_linear.specs.Sums.{SumTruth, SumFalse, IsAnswerSum, IsAnswerAgainst};
 
+use crate::narrow::{Precision, ends_of};
 use crate::pass::{tighten_all, tighten_between};
 use crate::side::Side;
 use crate::sums::{Ends, are_loose, gap, is_loose, sum_ends};
@@ -19,12 +21,14 @@ use std::alloc::AllocError;
 /// Narrows a store so that a sum is at most a number.
 pub fn keep_at_most(
     store: &mut Store,
+    precision: Precision,
     factors: &[i32],
     terms: &[Term],
     number: i32,
 ) -> Result<Answer, AllocError>
     requires same { length factors.now ≡ length terms.now }
     requires few { length terms.now ≤ ELEMENT_LIMIT + 1 }
+    requires allowed { Allows precision factors.now }
     requires inside { AreTermsOf (length store.old.doms) terms.now }
     ensures shrinks { Shrinks store.old store.new }
     ensures correct { IsCorrectOf (SumTruth AtMost factors.now terms.now number)
@@ -38,7 +42,7 @@ pub fn keep_at_most(
         least,
         greatest,
         widest,
-    } = sum_ends(store, factors, terms);
+    } = ends_of(store, precision, factors, terms);
     let number = i128::from(number);
     if number < least {
         return Ok(Answer::Failed);
@@ -107,12 +111,14 @@ pub fn keep_above(
 /// Narrows a store so that a sum is a number.
 pub fn keep_equal(
     store: &mut Store,
+    precision: Precision,
     factors: &[i32],
     terms: &[Term],
     number: i32,
 ) -> Result<Answer, AllocError>
     requires same { length factors.now ≡ length terms.now }
     requires few { length terms.now ≤ ELEMENT_LIMIT + 1 }
+    requires allowed { Allows precision factors.now }
     requires inside { AreTermsOf (length store.old.doms) terms.now }
     ensures shrinks { Shrinks store.old store.new }
     ensures correct { IsCorrectOf (SumTruth Equal factors.now terms.now number)
@@ -126,7 +132,7 @@ pub fn keep_equal(
         least,
         greatest,
         widest,
-    } = sum_ends(store, factors, terms);
+    } = ends_of(store, precision, factors, terms);
     let number = i128::from(number);
     if number < least {
         return Ok(Answer::Failed);

@@ -10,7 +10,8 @@ ghost use Rattle.fz_strength.specs.Promises.{IsCorrect, Suits};
 ghost use Rattle.fz_prop.specs.Answers.{IsAnswer, IsDecided};
 ghost use Rattle.fz_prop.specs.Stores.{Shrinks, FitsTerm};
 
-use crate::relate::relate;
+use crate::narrow::{Precision, precision_of};
+use crate::relate::relate_within;
 use fz_prop::variables::variables_of;
 use fz_prop::{Answer, Cost, Event, Propagator, Store};
 use fz_spec::builtin::Builtin;
@@ -31,6 +32,8 @@ pub struct Linear {
     /// What the sum is related to.
     last: Term,
     variables: Vec<u32>,
+    /// In how many bits the sum is added up.
+    precision: Precision,
 }
 
 impl Model for Linear {
@@ -47,7 +50,7 @@ impl Model for Linear {
     } };
 
     ghost invariant = { λ p. IsLinear p.name p.relation p.factors.items p.terms.items
-        p.number p.last p.variables.items };
+        p.number p.last p.variables.items p.precision };
 }
 
 impl Linear {
@@ -75,6 +78,7 @@ impl Linear {
         let factors = factors_left(alloc, factors, last)?;
         let terms = terms_left(alloc, terms, last)?;
         let variables = variables_of(alloc, &terms)?;
+        let precision = precision_of(&factors);
         Ok(Linear {
             name,
             relation,
@@ -83,6 +87,7 @@ impl Linear {
             number: number_right(last),
             last,
             variables,
+            precision,
         })
     }
 }
@@ -135,8 +140,9 @@ impl Linear {
         ensures checking { IfOk result
             (λ r. AreFixed (waits self.now) store.old.doms → IsDecided r) }
     {
-        relate(
+        relate_within(
             store,
+            self.precision,
             self.relation,
             &self.factors,
             &self.terms,
@@ -184,6 +190,7 @@ impl Propagator for Linear {
             number: self.number,
             last: self.last,
             variables,
+            precision: self.precision,
         })
     }
 }

@@ -8,19 +8,54 @@ ghost use Rattle.fz_prop.specs.declared.answer.Answer.TheVariants.{Fix};
 ghost use Rattle.fz_prop.specs.Answers.{IsCorrectOf, IsDecided};
 ghost use Rattle.fz_prop.specs.Stores.{Shrinks, FitsTerm};
 ghost use Rattle.fz_linear.specs.Terms.{AreTermsOf};
+ghost use Rattle.fz_linear.specs.Precisions.{Allows};
 ghost use Rattle.fz_linear.specs.Sums.{SumTruth, SumFalse, IsAnswerSum, IsAnswerAgainst};
 
 use crate::apart::keep_apart;
 use crate::bounded::{keep_above, keep_at_most, keep_equal};
+use crate::narrow::Precision;
 use fz_prop::{Answer, Store};
 use fz_spec::term::Term;
 use fz_strength::relation::Relation;
 use std::alloc::AllocError;
 
-/// Narrows a store by how a sum relates to a number.
+/// Narrows a store by how a sum relates to a number. The sum is added up in as many bits as is said.
 ///
 /// # Errors
 /// `AllocError` where there is no memory for a domain; the store is then narrower, and no assignment is lost.
+pub fn relate_within(
+    store: &mut Store,
+    precision: Precision,
+    relation: Relation,
+    factors: &[i32],
+    terms: &[Term],
+    number: i32,
+) -> Result<Answer, AllocError>
+    requires bounded { relation ≢ Below }
+    requires same { length factors.now ≡ length terms.now }
+    requires few { length terms.now ≤ ELEMENT_LIMIT + 1 }
+    requires allowed { Allows precision factors.now }
+    requires inside { AreTermsOf (length store.old.doms) terms.now }
+    requires fits { AllByRecursion FitsTerm terms.now }
+    ensures shrinks { Shrinks store.old store.new }
+    ensures correct { IsCorrectOf (SumTruth relation factors.now terms.now number)
+        store.old.doms store.new.doms }
+    ensures answer { IfOk result
+        (λ r. IsAnswerSum relation factors.now terms.now number r store.old.doms store.new.doms) }
+    ensures still { IfOk result (λ r. r ≡ Fix → store.new ≡ store.old) }
+    ensures checking { IfOk result (λ r. AllFixed store.old.doms terms.now → IsDecided r) }
+{
+    match relation {
+        Relation::Equal => keep_equal(store, precision, factors, terms, number),
+        Relation::NotEqual => keep_apart(store, precision, factors, terms, number),
+        _ => keep_at_most(store, precision, factors, terms, number),
+    }
+}
+
+/// Narrows a store by how a sum relates to a number.
+///
+/// # Errors
+/// As `relate_within`.
 pub fn relate(
     store: &mut Store,
     relation: Relation,
@@ -41,17 +76,13 @@ pub fn relate(
     ensures still { IfOk result (λ r. r ≡ Fix → store.new ≡ store.old) }
     ensures checking { IfOk result (λ r. AllFixed store.old.doms terms.now → IsDecided r) }
 {
-    match relation {
-        Relation::Equal => keep_equal(store, factors, terms, number),
-        Relation::NotEqual => keep_apart(store, factors, terms, number),
-        _ => keep_at_most(store, factors, terms, number),
-    }
+    relate_within(store, Precision::Wide, relation, factors, terms, number)
 }
 
 /// Narrows a store so that a sum doesn't so relate to a number.
 ///
 /// # Errors
-/// As `relate`.
+/// As `relate_within`.
 pub fn relate_against(
     store: &mut Store,
     relation: Relation,
@@ -73,8 +104,8 @@ pub fn relate_against(
     ensures checking { IfOk result (λ r. AllFixed store.old.doms terms.now → IsDecided r) }
 {
     match relation {
-        Relation::Equal => keep_apart(store, factors, terms, number),
-        Relation::NotEqual => keep_equal(store, factors, terms, number),
+        Relation::Equal => keep_apart(store, Precision::Wide, factors, terms, number),
+        Relation::NotEqual => keep_equal(store, Precision::Wide, factors, terms, number),
         _ => keep_above(store, factors, terms, number),
     }
 }

@@ -12,7 +12,8 @@ use fz_spec::term::Term;
 
 /// A product, which fits.
 pub fn product(factor: i32, number: i32) -> i64
-    ensures { result ≡ factor *ℤ number }
+    ensures product { result ≡ factor *ℤ number }
+    ensures near { unsigned_abs result ≤ unsigned_abs factor * 2 ^ 31 }
 {
     i64::from(factor) * i64::from(number)
 }
@@ -22,6 +23,8 @@ pub fn product_ends(store: &Store, factor: i32, term: Term) -> (i64, i64)
     requires { IsTermOf (length store.now.doms) term }
     ensures least { result.0 ≡ least_product factor (term_set store.now.doms term) }
     ensures greatest { result.1 ≡ greatest_product factor (term_set store.now.doms term) }
+    ensures near { unsigned_abs result.0 ≤ unsigned_abs factor * 2 ^ 31 }
+    ensures near_greatest { unsigned_abs result.1 ≤ unsigned_abs factor * 2 ^ 31 }
 {
     let (low, high) = (least_of(store, term), greatest_of(store, term));
     if factor < 0 {
@@ -53,14 +56,14 @@ pub struct Ends {
 }
 
 /// How far a number may be above another at most.
-fn width(low: i64, high: i64) -> u64
+pub fn width(low: i64, high: i64) -> u64
     ensures { high ≤ℤ (low +ℤ pos result) }
 {
     high.abs_diff(low)
 }
 
 /// The greater of two widths.
-fn wider(first: u64, second: u64) -> u64
+pub fn wider(first: u64, second: u64) -> u64
     ensures first { first ≤ result }
     ensures second { second ≤ result }
 {

@@ -151,6 +151,14 @@ fn each_relation_narrows(rt: HostRuntime) -> Result<(), Fail> {
         ),
         Row(
             Relation::AtMost,
+            [2_000_000_000, 1_500_000_000],
+            2_000_000_000,
+            [all, all],
+            Answer::NoFix,
+            [(0, 1), (0, 1)],
+        ),
+        Row(
+            Relation::AtMost,
             [-1, 1],
             -5,
             [all, all],

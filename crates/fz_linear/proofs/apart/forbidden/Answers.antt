@@ -19,9 +19,9 @@ returns-clause-product c =
     let k = slice_index_or ks i (pos 0) in
     let t = slice_index_or ts i (Num (pos 0)) in
     let fits_factor : SFits w32 k = search rules in
-    let fits_sum : SFits w128 c.sum_ends-least.result.least = search rules in
+    let fits_sum : SFits w128 c.ends_of-least.result.least = search rules in
     let fits_low : SFits w64 c.product_ends-low.result.0 = search rules in
     let low : c.product_ends-low.result.0 ≡ least_product k (term_set ds t) = rw (to_z-of_z fits_factor) at c.product_ends-low.ensures.least in
-    let rest : c.without.result ≡ c.args.number -ℤ (c.sum_ends-least.result.least -ℤ c.product_ends-low.result.0) = rw (to_z-of_z c.ranges.number, to_z-of_z fits_sum, to_z-of_z fits_low) at c.without.ensures.rest in
+    let rest : c.without.result ≡ c.args.number -ℤ (c.ends_of-least.result.least -ℤ c.product_ends-low.result.0) = rw (to_z-of_z c.ranges.number, to_z-of_z fits_sum, to_z-of_z fits_low) at c.without.ensures.rest in
     let all = with_others ks ts i k t ds (at_place ks ts i c.requires.same (omega (arith, c.requires.same, c.requires.place))) in
-    omega (arith, ints, rest, low, all, c.sum_ends-least.ensures.least)
+    omega (arith, ints, rest, low, all, c.ends_of-least.ensures.least)
