@@ -1,5 +1,5 @@
 //! Printing, a piece at a time.
-ghost use Rattle.std.specs.Prelude.{◌≡◌, ◌≢◌, ◌<◌, ◌^◌, ◌-◌, ◌++◌, List, ℤ, OnOk, OnErr, IfErr, MatchResult};
+ghost use Rattle.std.specs.Prelude.{◌≡◌, ◌≢◌, ◌<◌, ◌^◌, ◌-◌, ◌++◌, OnOk, OnErr, IfErr, MatchResult};
 ghost use Rattle.std.specs.List.{AllByRecursion};
 ghost use Rattle.fz_spec.specs.Instance.{AreDeclared};
 ghost use Rattle.fz_spec.specs.Run.{block, blocks, closing};
@@ -9,7 +9,6 @@ ghost use Rattle.fz_print.specs.Ending.{statistics_text};
 ghost use Rattle.fzn.specs.Runs.{counted, summary_of};
 ghost use Rattle.fzn.specs.Steps.{TakesFront, HasStopCause, ending, best_text, listing_text, run_text, shown_text};
 
-use crate::search::Listing;
 use fz_cmd::Options;
 use fz_io::outside::Sink;
 use fz_io::whole::put_all;
@@ -36,19 +35,20 @@ pub(crate) fn print_run<S: Sink>(
     sink: &mut S,
     model: &Model,
     options: &Options,
-    listing: Listing<'_>,
+    found: &[Assignment],
+    complete: bool,
 ) -> Result<(), Stop>
     requires faults { S.faults sink.old < 2 ^ 64 - 1 }
-    requires declared { AllByRecursion (AreDeclared model.now.variables) listing.found.now }
+    requires declared { AllByRecursion (AreDeclared model.now.variables) found.now }
     ensures taken { OnOk result (S.taken sink.new ≡ with_more (S.taken sink.old)
-        (run_text options.now model.now listing.found.now listing.complete)) }
+        (run_text options.now model.now found.now complete)) }
     ensures front { OnErr result
-        (TakesFront (run_text options.now model.now listing.found.now listing.complete)
+        (TakesFront (run_text options.now model.now found.now complete)
         (S.taken sink.old) (S.taken sink.new)) }
     ensures cause { HasStopCause (S.faults sink.old) (S.faults sink.new) result }
 {
-    print_shown(alloc, sink, model, options.generate(), listing)?;
-    put_statistics(alloc, sink, options.stats(), listing.found)
+    print_shown(alloc, sink, model, options.generate(), found, complete)?;
+    put_statistics(alloc, sink, options.stats(), found)
 }
 
 /// Prints what is shown of a search, by the goal.
@@ -57,21 +57,22 @@ fn print_shown<S: Sink>(
     sink: &mut S,
     model: &Model,
     generate: Option<u32>,
-    listing: Listing<'_>,
+    found: &[Assignment],
+    complete: bool,
 ) -> Result<(), Stop>
     requires faults { S.faults sink.old < 2 ^ 64 - 1 }
-    requires declared { AllByRecursion (AreDeclared model.now.variables) listing.found.now }
+    requires declared { AllByRecursion (AreDeclared model.now.variables) found.now }
     ensures taken { OnOk result (S.taken sink.new ≡ with_more (S.taken sink.old)
-        (shown_text model.now.goal generate model.now listing.found.now listing.complete)) }
+        (shown_text model.now.goal generate model.now found.now complete)) }
     ensures front { OnErr result
-        (TakesFront (shown_text model.now.goal generate model.now listing.found.now listing.complete)
+        (TakesFront (shown_text model.now.goal generate model.now found.now complete)
         (S.taken sink.old) (S.taken sink.new)) }
     ensures cause { HasStopCause (S.faults sink.old) (S.faults sink.new) result }
 {
     match model.goal() {
-        Goal::Satisfy => print_listing(alloc, sink, model, listing),
-        Goal::Minimize(goal) => print_best(alloc, sink, model, generate, *goal, listing),
-        Goal::Maximize(goal) => print_best(alloc, sink, model, generate, *goal, listing),
+        Goal::Satisfy => print_listing(alloc, sink, model, found, complete),
+        Goal::Minimize(goal) => print_best(alloc, sink, model, generate, *goal, found, complete),
+        Goal::Maximize(goal) => print_best(alloc, sink, model, generate, *goal, found, complete),
     }
 }
 
@@ -82,20 +83,21 @@ fn print_best<S: Sink>(
     model: &Model,
     generate: Option<u32>,
     goal: Term,
-    listing: Listing<'_>,
+    found: &[Assignment],
+    complete: bool,
 ) -> Result<(), Stop>
     requires faults { S.faults sink.old < 2 ^ 64 - 1 }
-    requires declared { AllByRecursion (AreDeclared model.now.variables) listing.found.now }
+    requires declared { AllByRecursion (AreDeclared model.now.variables) found.now }
     ensures taken { OnOk result (S.taken sink.new ≡ with_more (S.taken sink.old)
-        (best_text generate goal model.now listing.found.now listing.complete)) }
+        (best_text generate goal model.now found.now complete)) }
     ensures front { OnErr result
-        (TakesFront (best_text generate goal model.now listing.found.now listing.complete)
+        (TakesFront (best_text generate goal model.now found.now complete)
         (S.taken sink.old) (S.taken sink.new)) }
     ensures cause { HasStopCause (S.faults sink.old) (S.faults sink.new) result }
 {
     match generate {
-        Some(items) => put_summary(alloc, sink, items, goal, listing.found),
-        None => print_listing(alloc, sink, model, listing),
+        Some(items) => put_summary(alloc, sink, items, goal, found),
+        None => print_listing(alloc, sink, model, found, complete),
     }
 }
 
@@ -151,19 +153,20 @@ fn print_listing<S: Sink>(
     alloc: Global,
     sink: &mut S,
     model: &Model,
-    listing: Listing<'_>,
+    found: &[Assignment],
+    complete: bool,
 ) -> Result<(), Stop>
     requires faults { S.faults sink.old < 2 ^ 64 - 1 }
-    requires declared { AllByRecursion (AreDeclared model.now.variables) listing.found.now }
+    requires declared { AllByRecursion (AreDeclared model.now.variables) found.now }
     ensures taken { OnOk result (S.taken sink.new ≡ with_more (S.taken sink.old)
-        (listing_text model.now listing.found.now listing.complete)) }
+        (listing_text model.now found.now complete)) }
     ensures front { OnErr result
-        (TakesFront (listing_text model.now listing.found.now listing.complete)
+        (TakesFront (listing_text model.now found.now complete)
         (S.taken sink.old) (S.taken sink.new)) }
     ensures cause { HasStopCause (S.faults sink.old) (S.faults sink.new) result }
 {
-    put_blocks(alloc, sink, model, listing.found)?;
-    put_ending(alloc, sink, listing.found, listing.complete)
+    put_blocks(alloc, sink, model, found)?;
+    put_ending(alloc, sink, found, complete)
 }
 
 /// Prints the closing line, where there is one.

@@ -263,7 +263,14 @@ fn show<S: Sink>(alloc: Global, book: &Book, options: &Options, sink: &mut S) ->
     ensures cause { HasSinkCause result (S.faults sink.old) (S.faults sink.new) }
 {
     let listing = listing_of(book, options);
-    match print_run(alloc, sink, book.model(), options, listing) {
+    match print_run(
+        alloc,
+        sink,
+        book.model(),
+        options,
+        listing.found,
+        listing.complete,
+    ) {
         Ok(()) => flush(sink, Status::Done),
         Err(Stop::Memory) => flush(sink, Status::NoMemory),
         Err(Stop::Fault) => Status::SinkFault,

@@ -1,6 +1,6 @@
-use Rattle.std.proofs.Common.{refl, inr}
+use Rattle.std.proofs.Common.{◌≡◌, None, refl, inr}
 use Rattle.fzn.specs.declared.status.Status.TheVariants.{NoMemory}
-use Rattle.fzn.specs.Promises.{AnswersAccepted, AnswersRefused, text_for}
+use Rattle.fzn.specs.Promises.{AnswersAccepted, AnswersRefused, HasReadAll, HasSelected, SelectsOnce, text_for}
 use Rattle.fzn.proofs.Outcomes.{answers_accepted, answers_refused, at_options, runs_short, whatever, whichever}
 use Rattle.fzn.proofs.run.fzn.Goals as goal
 
@@ -15,13 +15,17 @@ returns-in-Ok-Some-clause-refused g c = λ source sink.
     (answers_refused c.run_options.result _ _ _ _ _ _ _ _ c.run_options.ensures.printed c.run_options.ensures.cause c.run_options.ensures.used source sink)
 
 pub returns-in-Err-clause-selected : goal.returns-in-Err-clause-selected
-returns-in-Err-clause-selected g c = whatever _ _ (λ o none. inr refl)
+returns-in-Err-clause-selected g c =
+    let was = g.R.Source.selections c.args.source.now in
+    whatever _ (λ o. o.generate ≡ None → HasSelected NoMemory was was (g.R.Source.is_selected c.args.source.now o.file)) (λ o none. inr refl)
 
 pub returns-in-Err-clause-once : goal.returns-in-Err-clause-once
-returns-in-Err-clause-once g c = whatever _ _ (λ o none. inr refl)
+returns-in-Err-clause-once g c =
+    let was = g.R.Source.selections c.args.source.now in
+    whatever _ (λ o. o.generate ≡ None → SelectsOnce NoMemory was was) (λ o none. inr refl)
 
 pub returns-in-Err-clause-whole : goal.returns-in-Err-clause-whole
-returns-in-Err-clause-whole g c = whatever _ _ (λ o none done. absurd (cc done))
+returns-in-Err-clause-whole g c = whatever _ (λ o. o.generate ≡ None → HasReadAll NoMemory (g.R.Source.left c.args.source.now)) (λ o none done. absurd (cc done))
 
 pub returns-in-Err-clause-generated : goal.returns-in-Err-clause-generated
 returns-in-Err-clause-generated g c = whatever _ _ (λ o. whichever o.generate refl)

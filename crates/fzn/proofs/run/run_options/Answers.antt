@@ -1,10 +1,13 @@
-use Rattle.std.proofs.Common.{◌∙◌, sym}
+use Rattle.std.proofs.Common.{◌≡◌, None, Some}
 use Rattle.fzn.proofs.Outcomes.{its_cause, not_usage, runs_generated, runs_read}
 use Rattle.fzn.proofs.run.run_options.Goals as goal
 
 pub returns-in-Some-clause-printed : goal.returns-in-Some-clause-printed
 returns-in-Some-clause-printed g c =
-    runs_generated c.run_generated.result c.args.options.now c.in-Some.items _ _ _ (sym c.generate.ensures.generate ∙ sym c.in-Some.field-0-is) c.run_generated.ensures.printed
+    let told = c.generate.ensures.generate in
+    let is = c.in-Some.is in
+    let asked : c.args.options.now.generate ≡ Some c.in-Some.items = cc in
+    runs_generated c.run_generated.result c.args.options.now c.in-Some.items _ _ _ asked c.run_generated.ensures.printed
 
 pub returns-in-Some-clause-cause : goal.returns-in-Some-clause-cause
 returns-in-Some-clause-cause g c = its_cause c.run_generated.result _ _ _ c.run_generated.ensures.cause
@@ -14,4 +17,7 @@ returns-in-Some-clause-used g c = not_usage c.run_generated.result _ _ c.run_gen
 
 pub returns-in-None-clause-printed : goal.returns-in-None-clause-printed
 returns-in-None-clause-printed g c =
-    runs_read c.run_file.result c.args.options.now _ _ _ (sym c.generate.ensures.generate) c.run_file.ensures.printed
+    let told = c.generate.ensures.generate in
+    let is = c.in-None.is in
+    let asked : c.args.options.now.generate ≡ None = cc in
+    runs_read c.run_file.result c.args.options.now _ _ _ asked c.run_file.ensures.printed
