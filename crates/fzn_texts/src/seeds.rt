@@ -38,11 +38,13 @@ fn machine(rt: &impl Abort, alloc: Global, workers: u32) -> Result<Machine<Space
 
 /// The four values as one number from 0 to 15.
 fn number_of(assignment: &Assignment) -> usize {
-    let mut number = 0;
+    let mut number = 0usize;
     for value in assignment.values() {
-        number = (number * 2 + usize::from(*value == 1)) % 16;
+        number = number
+            .wrapping_mul(2)
+            .wrapping_add(usize::from(*value == 1));
     }
-    number
+    number % 16
 }
 
 /// Whether each of the 16 assignments is there once.

@@ -105,7 +105,10 @@ fn as_many_are_printed_as_are_asked_for(rt: HostRuntime) -> Result<(), Fail> {
     // Each block of a line of seven bytes and the one of dashes, and nothing behind them.
     assert_eq!(rt; outcome.printed.len(), 36);
     let blocks = blocks_of(alloc, &outcome.printed)?;
-    assert!(rt; blocks[1] != blocks[2]);
+    let (Some(first), Some(second)) = (blocks.get(1), blocks.get(2)) else {
+        panic!(rt; "two blocks");
+    };
+    assert!(rt; first != second);
     let words = ["-n", "4", "-p", "4", "--interleave", "2"];
     let printed = format!(in alloc; "{THREE_PRINTED}==========\n")?;
     expect_printed_by(&rt, alloc, THREE_VALUES.as_bytes(), &words, &printed)
