@@ -1,12 +1,12 @@
 //! Whether what a space leaves is what the assignments say.
 use crate::numbers::Declared;
+use crate::reader::model_of;
 use crate::rows::Rest;
 use fz_dom::Dom;
 use fz_model::{Assignment, Model};
 use fz_path::{Space as Spaces, Status};
 use fz_space::Space;
 use fz_truth::holds;
-use fzn::model_of;
 use std::alloc::{AllocError, Global};
 use std::sync::Arc;
 
@@ -27,8 +27,8 @@ pub fn judge(
     rest: Rest,
 ) -> Result<Option<Judgement>, AllocError> {
     let model = match model_of(alloc, text.as_bytes())? {
-        Ok(model) => shared(alloc, model)?,
-        Err(_) => return Ok(None),
+        Some(model) => shared(alloc, model)?,
+        None => return Ok(None),
     };
     let solutions = solutions(alloc, &model, assignments)?;
     let mut space = <Space as Spaces>::root(alloc, model)?;

@@ -5,6 +5,7 @@
 
 mod judge;
 mod numbers;
+mod reader;
 mod rows;
 mod table;
 
