@@ -55,6 +55,7 @@ static GROUPS: [Group; 18] = [
             "int_lt_reif(x, y, z)",
             "int_lin_le_reif([2, -1], [x, y], 0, z)",
             "int_lin_le_reif([-1, -2], [x, y], 1, z)",
+            "int_lin_le_reif([2147483646, -2147483646], [x, y], 0, z)",
         ],
     },
     Group {
@@ -65,6 +66,7 @@ static GROUPS: [Group; 18] = [
             "int_ne_reif(x, y, z)",
             "int_lin_eq_reif([2, -1], [x, y], 0, z)",
             "int_lin_ne_reif([2, -1], [x, y], 0, z)",
+            "int_lin_eq_reif([2147483646, -2147483646], [x, y], 0, z)",
         ],
     },
     Group {
@@ -129,8 +131,10 @@ static GROUPS: [Group; 18] = [
         constraints: &[
             "int_lin_le([1, 2, -1], [x, y, z], 0)",
             "int_lin_le([2, -3, 1], [x, y, z], -1)",
+            "int_lin_le([2147483646, -2147483646, 1], [x, y, z], 0)",
             "int_lin_ne([1, 2, -1], [x, y, z], 0)",
             "int_lin_ne([2, -3, 1], [x, y, z], 1)",
+            "int_lin_ne([2147483646, -2147483646, 1], [x, y, z], 0)",
         ],
     },
     Group {
@@ -139,6 +143,7 @@ static GROUPS: [Group; 18] = [
         constraints: &[
             "int_lin_eq([1, 1, -1], [x, y, z], 0)",
             "int_lin_eq([2, -3, 1], [x, y, z], 1)",
+            "int_lin_eq([2147483646, -2147483646, 1], [x, y, z], -1)",
             "int_plus(x, y, z)",
             "int_times(x, y, z)",
             "int_div(x, y, z)",
