@@ -1,0 +1,236 @@
+//! The constraints, by the numbers of their variables x, y and z and by what is to be left of these.
+use crate::numbers::Numbers;
+
+/// What is to be left at rest.
+#[derive(Clone, Copy, PartialEq, Eq)]
+pub enum Rest {
+    /// The numbers of solutions, and no others: where the line of the constraint says so of any domains.
+    Exact,
+    /// The numbers of solutions, and maybe others.
+    Sound,
+}
+
+/// Constraints over variables of the same numbers.
+#[derive(Clone, Copy)]
+pub struct Group {
+    pub numbers: [Numbers; 3],
+    pub rest: Rest,
+    pub constraints: &'static [&'static str],
+}
+
+const SIGNED: Numbers = Numbers::Signed;
+
+const COUNTING: Numbers = Numbers::Counting;
+
+const BOOLEAN: Numbers = Numbers::Boolean;
+
+const ZERO: Numbers = Numbers::Zero;
+
+static GROUPS: [Group; 18] = [
+    Group {
+        numbers: [SIGNED, SIGNED, ZERO],
+        rest: Rest::Exact,
+        constraints: &[
+            "int_eq(x, y)",
+            "int_ne(x, y)",
+            "int_le(x, y)",
+            "int_lt(x, y)",
+        ],
+    },
+    Group {
+        numbers: [SIGNED, ZERO, BOOLEAN],
+        rest: Rest::Exact,
+        constraints: &[
+            "bool2int(z, x)",
+            "set_in(x, {-2, 0})",
+            "set_in_reif(x, {-2, 0}, z)",
+            "set_in_reif(x, -1..0, z)",
+        ],
+    },
+    Group {
+        numbers: [SIGNED, SIGNED, BOOLEAN],
+        rest: Rest::Exact,
+        constraints: &[
+            "int_le_reif(x, y, z)",
+            "int_lt_reif(x, y, z)",
+            "int_lin_le_reif([2, -1], [x, y], 0, z)",
+            "int_lin_le_reif([-1, -2], [x, y], 1, z)",
+            "int_lin_le_reif([2147483646, -2147483646], [x, y], 0, z)",
+        ],
+    },
+    Group {
+        numbers: [SIGNED, SIGNED, BOOLEAN],
+        rest: Rest::Sound,
+        constraints: &[
+            "int_eq_reif(x, y, z)",
+            "int_ne_reif(x, y, z)",
+            "int_lin_eq_reif([2, -1], [x, y], 0, z)",
+            "int_lin_ne_reif([2, -1], [x, y], 0, z)",
+            "int_lin_eq_reif([2147483646, -2147483646], [x, y], 0, z)",
+        ],
+    },
+    Group {
+        numbers: [BOOLEAN, BOOLEAN, ZERO],
+        rest: Rest::Exact,
+        constraints: &[
+            "bool_eq(x, y)",
+            "bool_le(x, y)",
+            "bool_lt(x, y)",
+            "bool_not(x, y)",
+            "bool_xor(x, y)",
+        ],
+    },
+    Group {
+        numbers: [BOOLEAN, BOOLEAN, BOOLEAN],
+        rest: Rest::Exact,
+        constraints: &[
+            "bool_eq_reif(x, y, z)",
+            "bool_le_reif(x, y, z)",
+            "bool_lt_reif(x, y, z)",
+            "bool_and(x, y, z)",
+            "bool_or(x, y, z)",
+            "bool_xor(x, y, z)",
+            "array_bool_and([x, y], z)",
+            "array_bool_and([x, y, z], false)",
+            "array_bool_or([x, y], z)",
+            "array_bool_or([x, y, z], true)",
+            "array_bool_xor([x, y, z])",
+            "array_bool_xor([x, true, y, z])",
+            "bool_clause([x, y], [z])",
+            "bool_clause([], [x, y, z])",
+            "bool_clause_reif([x, y], [], z)",
+            "bool_clause_reif([x], [y], z)",
+            "bool_lin_le([2, -3, 1], [x, y, z], 0)",
+            "fzn_table_bool([x, y, z], [false, true, true, true, true, false, true, false, true])",
+        ],
+    },
+    Group {
+        numbers: [BOOLEAN, BOOLEAN, BOOLEAN],
+        rest: Rest::Sound,
+        constraints: &[
+            "bool_lin_eq([1, 2, 3], [x, y, z], 3)",
+            "bool_clause([x], [x, y])",
+            "bool_clause_reif([x], [y], x)",
+            "bool_eq_reif(x, y, x)",
+            "bool_and(x, y, x)",
+            "bool_or(x, x, y)",
+            "bool_xor(x, y, x)",
+            "array_bool_and([x, y, x], y)",
+            "array_bool_or([x, y, z], x)",
+            "array_bool_xor([x, y, x])",
+        ],
+    },
+    Group {
+        numbers: [BOOLEAN, BOOLEAN, SIGNED],
+        rest: Rest::Sound,
+        constraints: &["bool_lin_eq([2, -1], [x, y], z)"],
+    },
+    Group {
+        numbers: [SIGNED, SIGNED, SIGNED],
+        rest: Rest::Exact,
+        constraints: &[
+            "int_lin_le([1, 2, -1], [x, y, z], 0)",
+            "int_lin_le([2, -3, 1], [x, y, z], -1)",
+            "int_lin_le([2147483646, -2147483646, 1], [x, y, z], 0)",
+            "int_lin_ne([1, 2, -1], [x, y, z], 0)",
+            "int_lin_ne([2, -3, 1], [x, y, z], 1)",
+            "int_lin_ne([2147483646, -2147483646, 1], [x, y, z], 0)",
+        ],
+    },
+    Group {
+        numbers: [SIGNED, SIGNED, SIGNED],
+        rest: Rest::Sound,
+        constraints: &[
+            "int_lin_eq([1, 1, -1], [x, y, z], 0)",
+            "int_lin_eq([2, -3, 1], [x, y, z], 1)",
+            "int_lin_eq([2147483646, -2147483646, 1], [x, y, z], -1)",
+            "int_plus(x, y, z)",
+            "int_times(x, y, z)",
+            "int_div(x, y, z)",
+            "int_mod(x, y, z)",
+            "int_min(x, y, z)",
+            "int_max(x, y, z)",
+            "array_int_minimum(x, [y, z])",
+            "array_int_maximum(x, [y, z])",
+        ],
+    },
+    Group {
+        numbers: [SIGNED, SIGNED, ZERO],
+        rest: Rest::Sound,
+        constraints: &[
+            "int_abs(x, y)",
+            "int_abs(x, x)",
+            "int_plus(x, x, y)",
+            "int_plus(x, y, x)",
+            "int_times(x, x, y)",
+            "int_times(x, y, x)",
+            "int_div(x, x, y)",
+            "int_div(x, y, x)",
+            "int_mod(x, x, y)",
+            "int_mod(x, y, x)",
+            "int_min(x, y, x)",
+            "array_int_minimum(x, [])",
+            "array_int_maximum(x, [y, -1, x])",
+            "int_lin_eq([1, 2, 1], [x, y, x], 0)",
+            "int_lin_ne([1, 1, -1], [x, y, x], 0)",
+            "int_lin_le([1, 0, -2], [x, y, x], 0)",
+            "int_lt(x, x)",
+        ],
+    },
+    Group {
+        numbers: [COUNTING, SIGNED, ZERO],
+        rest: Rest::Exact,
+        constraints: &["array_int_element(x, [1, -2, 1], y)"],
+    },
+    Group {
+        numbers: [COUNTING, BOOLEAN, ZERO],
+        rest: Rest::Exact,
+        constraints: &["array_bool_element(x, [true, false, true], y)"],
+    },
+    Group {
+        numbers: [COUNTING, SIGNED, SIGNED],
+        rest: Rest::Sound,
+        constraints: &[
+            "array_var_int_element(x, [y, 0, z], -1)",
+            "array_var_int_element(x, [y, 0], z)",
+        ],
+    },
+    Group {
+        numbers: [COUNTING, BOOLEAN, BOOLEAN],
+        rest: Rest::Sound,
+        constraints: &[
+            "array_var_bool_element(x, [y, false], z)",
+            "array_var_bool_element(x, [y, z, y], true)",
+        ],
+    },
+    Group {
+        numbers: [COUNTING, COUNTING, COUNTING],
+        rest: Rest::Exact,
+        constraints: &["fzn_table_int([x, y, z], [0, 1, 2, 1, 1, 3, 3, 0, 0, 2, 2, 2, 0, 1, 3])"],
+    },
+    Group {
+        numbers: [COUNTING, COUNTING, COUNTING],
+        rest: Rest::Sound,
+        constraints: &[
+            "fzn_table_int([x, y, x, z], [0, 1, 2, 1, 1, 3, 1, 0, 0, 2, 0, 2, 3, 1, 3, 1])",
+            "array_var_int_element(x, [y, x], z)",
+            "all_different_int([x, y, z, 2])",
+            "fzn_all_different_int([x, y, z])",
+            "fzn_cumulative([x, y, z], [2, 1, 1], [1, 1, 1], 1)",
+            "fzn_cumulative([x, y], [2, 3], [1, 2], z)",
+        ],
+    },
+    Group {
+        numbers: [COUNTING, COUNTING, SIGNED],
+        rest: Rest::Sound,
+        constraints: &[
+            "fzn_cumulative([x, y], [z, 2], [1, 1], 1)",
+            "fzn_cumulative([x, y], [2, 2], [1, z], 1)",
+            "fzn_cumulative([x, 1], [y, 2], [1, 1], z)",
+        ],
+    },
+];
+
+pub fn groups() -> &'static [Group] {
+    &GROUPS
+}
