@@ -2,9 +2,10 @@
 
 What both programs do alike: sums narrow bounds, elements of numbers and tables keep the values that have a partner, all_different
 is asked for its values alone. So the models are made of these, and of machines that do one job at a time as two reified orders and
-a clause. What they don't: of a sum that leaves two equal variables once it has dropped what is fixed at the start, fzn-gecode
-narrows whole domains (the rulers, `tardiness`); and each has a strength of its own of cumulative (`project`) and of elements of
-variables (`tour_by_successor`, `open_stacks`).
+a clause. What they don't: fzn decides `int_eq_reif` by the ends of what is left, fzn-gecode by holes as well (the models that
+count, `open_stacks`); of a sum that leaves two equal variables once it has dropped what is fixed at the start, fzn-gecode narrows
+whole domains (the rulers); and each has a strength of its own of cumulative (`project`) and of elements of variables
+(`tour_by_successor`).
 """
 import random
 
@@ -406,7 +407,10 @@ def open_stacks(products, customers, seed):
     text.different(at)
     text.different(place)
     for i, name in enumerate(place, 1):
-        text.add(f"array_var_int_element({name},{listed(at)},{i})")
+        for t, product in enumerate(at, 1):
+            same = text.hidden(f"same{i}_{t}", "bool")
+            text.add(f"int_eq_reif({name},{t},{same})")
+            text.add(f"int_eq_reif({product},{i},{same})")
     stacks = text.variable("stacks", f"0..{customers}")
     waiting = [[] for _ in at]
     for c in range(customers):

@@ -61,7 +61,7 @@ MEASURED = {
     "queens_12_all_different": (lambda: silent(queens_of_three(12)), ["-a"]),
     "three_sat_110": (lambda: silent(three_sat(110, 469, 9)), ["-a"]),
     "crossword_5": (lambda: crossword(5, 400, 1), ["-a"]),
-    "packing_8": (lambda: silent(packing(8, 10, 4, 2)), ["-a"]),
+    "packing_8": (lambda: silent(packing(8, 8, 5, 5)), ["-a"]),
 }
 GROWING = {
     "tables_of_10": (lambda: network(26, 32, 1, 1), ["-a"]),

@@ -92,7 +92,8 @@ def surroundings(program):
     with open("/proc/cpuinfo", encoding="ascii") as file:
         processor = re.search(r"^model name\s*: (.*)$", file.read(), re.M)
     version = re.search(r"Version: ([0-9.]+)", answer("fzn-gecode", "--help"))
-    commit = answer("git", "-C", os.path.dirname(os.path.abspath(program)), "log", "-1", "--format=%h, commit of %cs")
+    built = f"--before=@{int(os.path.getmtime(program))}"
+    commit = answer("git", "-C", os.path.dirname(os.path.abspath(program)), "log", "-1", built, "--format=commit %h")
     return (
         f"On {time.strftime('%-d %B %Y')}, {os.cpu_count()} processors ({processor[1] if processor else 'unknown'}) with a load of "
         f"{os.getloadavg()[1]:.1f}; fzn of {commit or 'an unknown commit'} ({answer('rt', 'version')}); "

@@ -44,11 +44,10 @@ class Text:
         return name
 
     def whether_is(self, name, number):
-        """A number that is 1 where a variable is that number, and else 0. Both decide `set_in_reif` by the whole domain; of
-        `int_eq_reif` fzn looks at the ends alone."""
+        """A number that is 1 where a variable is that number, and else 0, as the MiniZinc compiler writes it."""
         truth = self.hidden(f"{name}_is_{number}", "bool")
         one = self.hidden(f"{name}_one_{number}", "0..1")
-        self.add(f"set_in_reif({name},{number}..{number},{truth})")
+        self.add(f"int_eq_reif({name},{number},{truth})")
         self.add(f"bool2int({truth},{one})")
         return one
 
