@@ -1,0 +1,110 @@
+"""The tables of bench/search, as plain lines and as Markdown."""
+import math
+import os
+import re
+import subprocess
+import time
+
+LONG = 0.1
+NOTES = "## Notes"
+BY_NODE = ("The time of a node", "Growth")
+INTRODUCTION = (
+    "# Beside fzn-gecode\n\n"
+    "`bench/search --write` runs both programs in turn on texts that it makes, with one search annotation for both, and writes "
+    "these tables. It compares what both print: how many blocks, the number of the goal, the closing line. Times are the "
+    "processor's seconds of whole runs, reading included; a ratio is fzn's time over `fzn-gecode`'s, and a bar has ten `#` where "
+    "both take as long. Nodes are those that `fzn-gecode` counts: fzn may make fewer or more where its propagators are stronger "
+    "or weaker. `bench/goals.py` and `bench/growth.py` say where they are.\n"
+)
+
+
+def ratio(ours, theirs):
+    return ours.seconds / theirs.seconds if ours and theirs else None
+
+
+def bar(number):
+    return "" if number is None else "#" * max(1, min(40, round(10 * number))) + ("+" if number > 4.05 else "")
+
+
+def shown(run):
+    return "more" if run is None else f"{run.seconds:.2f}"
+
+
+def differs(ours, theirs):
+    return bool(ours and theirs and ours.said != theirs.said)
+
+
+def plain(name, ours, theirs):
+    number = ratio(ours, theirs)
+    told = "" if number is None else f"{number:8.2f} {bar(number)}"
+    return f"{name:26} {shown(ours):>8} {shown(theirs):>8} {told}{'  DIFFERENT' if differs(ours, theirs) else ''}"
+
+
+def alone(name, theirs):
+    return f"{name:26} {shown(theirs):>8} {theirs.nodes if theirs else '':>10}"
+
+
+def mean(numbers):
+    return math.exp(sum(math.log(number) for number in numbers) / len(numbers))
+
+
+def mean_of(rows):
+    """The geometric mean of the ratios, in words, and that of the longer runs."""
+    both = [pair for pair in rows.values() if None not in pair]
+    if not both:
+        return "No model that both end."
+    told = f"{len(both)} models that both end, geometric mean {mean([ratio(*pair) for pair in both]):.2f}"
+    longer = [ratio(*pair) for pair in both if pair[1].seconds >= LONG]
+    if not longer or len(longer) == len(both):
+        return told + "."
+    return told + f"; of the {len(longer)} that take fzn-gecode {LONG} seconds or more, {mean(longer):.2f}."
+
+
+def row(name, ours, theirs, by_node):
+    number = ratio(ours, theirs)
+    cells = [f"`{name}`", shown(ours), shown(theirs), f"{number:.2f}" if number else "", theirs.nodes if theirs else ""]
+    if by_node:
+        cells += [round(1e9 * run.seconds / theirs.nodes) if run and theirs else "" for run in (ours, theirs)]
+    cells.append(f"`{bar(number)}`" + (" different" if differs(ours, theirs) else "") if number else "")
+    return "| " + " | ".join(str(cell) for cell in cells) + " |"
+
+
+def table(title, rows):
+    by_node = title in BY_NODE
+    heads = ["model", "fzn", "fzn-gecode", "ratio", "nodes"]
+    heads += ["fzn, ns a node", "fzn-gecode, ns a node"] if by_node else []
+    lines = ["| " + " | ".join(heads) + " | |", "|---" + "|---:" * (len(heads) - 1) + "|---|"]
+    lines += [row(name, *pair, by_node) for name, pair in rows.items()]
+    return f"## {title}\n\n" + "\n".join(lines) + f"\n\n{mean_of(rows)}\n"
+
+
+def answer(*command):
+    """What a command prints, on standard error too, or nothing where it fails or isn't there."""
+    try:
+        done = subprocess.run(command, stdout=subprocess.PIPE, stderr=subprocess.STDOUT, text=True, check=True)
+        return done.stdout.strip()
+    except (OSError, subprocess.CalledProcessError):
+        return ""
+
+
+def surroundings(program):
+    """The day, the machine, and what was compared."""
+    with open("/proc/cpuinfo", encoding="ascii") as file:
+        processor = re.search(r"^model name\s*: (.*)$", file.read(), re.M)
+    version = re.search(r"Version: ([0-9.]+)", answer("fzn-gecode", "--help"))
+    built = f"--before=@{int(os.path.getmtime(program))}"
+    commit = answer("git", "-C", os.path.dirname(os.path.abspath(program)), "log", "-1", built, "--format=commit %h")
+    return (
+        f"On {time.strftime('%-d %B %Y')}, {os.cpu_count()} processors ({processor[1] if processor else 'unknown'}) with a load of "
+        f"{os.getloadavg()[1]:.1f}; fzn of {commit or 'an unknown commit'} ({answer('rt', 'version')}); "
+        f"fzn-gecode {version[1] if version else 'of an unknown version'}.\n"
+    )
+
+
+def write(path, tables, program):
+    """Writes the tables over those in a file, and keeps its notes."""
+    with open(path, encoding="utf-8") as file:
+        _, head, notes = file.read().partition(NOTES)
+    parts = [INTRODUCTION, surroundings(program)] + [table(title, rows) for title, rows in tables.items() if rows]
+    with open(path, "w", encoding="utf-8") as file:
+        file.write("\n".join(parts) + "\n" + head + notes)
