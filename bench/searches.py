@@ -255,36 +255,50 @@ def packing(tasks, width, height, seed):
     return text
 
 
+def knights_tour(n):
+    """The squares of a board in the order in which a knight visits each once, from a corner on."""
+    text = Text()
+    x = [text.variable(f"x{i}", f"1..{n * n}") for i in range(n * n)]
+    squares = [(row, column) for row in range(n) for column in range(n)]
+    leaps = [(i + 1, j + 1) for i, (a, b) in enumerate(squares) for j, (c, d) in enumerate(squares) if {abs(a - c), abs(b - d)} == {1, 2}]
+    text.add(f"int_eq({x[0]},1)")
+    for first, second in zip(x, x[1:]):
+        text.table([first, second], leaps)
+    text.different(x)
+    return text
+
+
 # A model, and the words it is run with.
 MODELS = {
-    "colouring_60": (lambda: colouring(60, 300, 4, 3), ["-n", "20000"]),
-    "colouring_70": (lambda: colouring(70, 330, 4, 5), ["-n", "20000"]),
     "colouring_80": (lambda: colouring(80, 400, 4, 1), ["-n", "20000"]),
-    "queens_8_pairs": (lambda: queens(8), ["-a"]),
-    "queens_10_pairs": (lambda: queens(10), ["-a"]),
+    "colouring_90": (lambda: colouring(90, 460, 4, 1), ["-n", "20000"]),
+    "colouring_100": (lambda: colouring(100, 470, 4, 2), ["-n", "20000"]),
+    "queens_11_pairs": (lambda: queens(11), ["-a"]),
+    "queens_12_pairs": (lambda: queens(12), ["-a"]),
     "queens_22_pairs": (lambda: queens(22), []),
-    "queens_8_all_different": (lambda: queens_of_three(8), ["-a"]),
-    "queens_10_all_different": (lambda: queens_of_three(10), ["-a"]),
-    "magic_square_3": (lambda: magic_square(3, False), ["-a"]),
-    "magic_square_4_pairs": (lambda: magic_square(4, True), ["-n", "50"]),
-    "magic_square_4": (lambda: magic_square(4, False), ["-n", "50"]),
-    "magic_sequence_9": (lambda: magic_sequence(9), ["-a"]),
-    "langford_7": (lambda: langford(7), ["-a"]),
-    "langford_8": (lambda: langford(8), ["-a"]),
-    "all_interval_9": (lambda: all_interval(9), ["-a"]),
-    "costas_8": (lambda: costas(8), ["-a"]),
-    "ruler_7_25": (lambda: ruler(7, 25), ["-a"]),
-    "three_sat_60": (lambda: three_sat(60, 255, 2), ["-a"]),
+    "queens_11_all_different": (lambda: queens_of_three(11), ["-a"]),
+    "magic_square_4_pairs": (lambda: magic_square(4, True), ["-n", "1000"]),
+    "magic_square_4": (lambda: magic_square(4, False), ["-n", "1000"]),
+    "magic_sequence_60": (lambda: magic_sequence(60), ["-a"]),
+    "langford_9": (lambda: langford(9), ["-a"]),
+    "all_interval_10": (lambda: all_interval(10), ["-a"]),
+    "all_interval_11": (lambda: all_interval(11), ["-a"]),
+    "costas_9": (lambda: costas(9), ["-a"]),
+    "ruler_8_34": (lambda: ruler(8, 34), ["-a"]),
     "three_sat_80": (lambda: three_sat(80, 345, 7), ["-a"]),
-    "pigeons_9_pairs": (lambda: pigeons(9, 8, True), ["-a"]),
-    "pigeons_9": (lambda: pigeons(9, 8, False), ["-a"]),
+    "three_sat_90": (lambda: three_sat(90, 387, 2), ["-a"]),
+    "pigeons_10_pairs": (lambda: pigeons(10, 9, True), ["-a"]),
+    "pigeons_10": (lambda: pigeons(10, 9, False), ["-a"]),
     "latin_square_6": (lambda: latin_square(6), ["-n", "50000"]),
-    "quasigroup_5": (lambda: quasigroup(5), ["-a"]),
+    "quasigroup_7": (lambda: quasigroup(7), ["-a"]),
+    "knights_tour_5": (lambda: knights_tour(5), ["-n", "100"]),
     "subset_sum_22": (lambda: subset_sum(22, 1, 0.5), ["-a"]),
     "partition_10": (lambda: partition(10), ["-a"]),
-    "schur_13_3": (lambda: schur(13, 3), ["-a"]),
-    "graceful_8": (lambda: graceful(8), ["-a"]),
-    "send_more": (lambda: puzzle(["SEND", "MORE"], "MONEY", "SENDMORY"), ["-a"]),
+    "partition_12": (lambda: partition(12), ["-a"]),
+    "schur_30_4": (lambda: schur(30, 4), ["-n", "20000"]),
+    "graceful_9": (lambda: graceful(9), ["-a"]),
+    "graceful_10": (lambda: graceful(10), ["-a"]),
     "donald_gerald": (lambda: puzzle(["DONALD", "GERALD"], "ROBERT", "DONALGERBT"), ["-a"]),
     "packing_6": (lambda: packing(6, 9, 4, 3), ["-a"]),
+    "packing_8": (lambda: packing(8, 10, 4, 5), ["-a"]),
 }
