@@ -10,3 +10,4 @@ pub mod Kept
 pub mod Shared
 pub mod Windows
 pub mod Left
+pub mod Gathered

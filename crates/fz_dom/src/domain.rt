@@ -6,9 +6,10 @@ ghost use Rattle.fz_dom.specs.Shape.{IsDomain, least, greatest, IsNextFrom, IsNe
 ghost use Rattle.fz_dom.specs.Changes.{IsChange, IsFromTo};
 ghost use Rattle.fz_dom.specs.Kept.{kept_ranges, IsKept};
 ghost use Rattle.fz_dom.specs.Wide.{IsPart};
-ghost use Rattle.fz_dom.specs.Places.{IsBit};
+ghost use Rattle.fz_dom.specs.Places.{IsBit, bit_ranges};
 
 use crate::change::Change;
+use crate::close::{Close, close_word};
 use crate::head::Head;
 use crate::meet::{base_of, moved, shared};
 use crate::range_iter::RangeIter;
@@ -59,11 +60,34 @@ impl Dom {
         match ranges {
             [] => Ok(Dom::empty(alloc)),
             [(low, high)] => Ok(Dom::interval(alloc, *low, *high)),
-            _ => {
-                let union = union_of(alloc, ranges)?;
-                Dom::from_union(alloc, &union)
-            }
+            _ => match close_word(ranges) {
+                Some(close) => Ok(Dom::close(alloc, close)),
+                None => Dom::far(alloc, ranges),
+            },
         }
+    }
+
+    /// The numbers of a word.
+    fn close(alloc: Global, close: Close) -> Dom
+        requires floor { LEAST ≤ℤ close.base }
+        requires ceiling { (close.base +ℤ pos 63) ≤ℤ GREATEST }
+        requires some { 0 < close.bits }
+        ensures { result ≡ bit_ranges close.base close.bits }
+    {
+        Dom {
+            head: Head::from_word(close.base, close.bits),
+            rest: SmallVec::new(alloc),
+        }
+    }
+
+    /// The union of ranges, however far apart they are.
+    fn far(alloc: Global, ranges: &[(i32, i32)]) -> Result<Dom, AllocError>
+        requires { AreWithinLimits ranges.now }
+        ensures ranges { IfOk result (λ d. AreRanges d) }
+        ensures one_set { IfOk result (λ d. AreOneSet d ranges.now) }
+    {
+        let union = union_of(alloc, ranges)?;
+        Dom::from_union(alloc, &union)
     }
 
     fn empty(alloc: Global) -> Dom

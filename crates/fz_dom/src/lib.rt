@@ -4,6 +4,7 @@
 #![tactic(auto)]
 
 mod change;
+mod close;
 mod domain;
 mod head;
 mod meet;

@@ -9,7 +9,7 @@ use smallvec::SmallVec;
 use std::alloc::{AllocError, Global};
 
 /// The least number within the limits.
-const LOWEST: i32 = -2147483646;
+pub const LOWEST: i32 = -2147483646;
 
 /// A bound moved by a shift, and stopped at the end of its type where it would pass it: it bounds the same numbers.
 pub fn moved(value: i32, shift: i32) -> i32

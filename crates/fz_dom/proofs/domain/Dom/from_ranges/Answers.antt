@@ -1,7 +1,8 @@
 use Rattle.std.proofs.Common.{◌≡◌, ◌∙◌, ℤ, pos, List, [], ◌∷◌, get_or, arith, rules, w32, to_z, of_z}
 use Rattle.std.proofs.lemmas.List.{nil_from_length}
-use Rattle.std.proofs.lemmas.Result.{IfOk-weaker}
 use Rattle.fz_sets.specs.Sets.{AreRanges, AreOneSet, interval}
+use Rattle.fz_dom.specs.Places.{bit_ranges}
+use Rattle.fz_dom.proofs.Gathered.{IfOk-both, close_one_set, close_ranges}
 use Rattle.fz_dom.proofs.Merging.{unique, interval_one_set, interval_ranges, one_range}
 use Rattle.fz_dom.proofs.domain.Dom.from_ranges.Goals as goal
 
@@ -32,10 +33,16 @@ returns-in-len1-clause-unique c =
     let e : rs ≡ (l, u) ∷ [] = rw (p, q) (one_range rs d (omega arith)) in
     rw c.interval.ensures (λ s h one. unique (interval l u) s rs (interval_ranges l u) (interval_one_set rs l u e) h one)
 
-pub returns-in_ok-union-in_default-clause-unique : goal.returns-in_ok-union-in_default-clause-unique
-returns-in_ok-union-in_default-clause-unique c =
+pub returns-in-Some-clause-one_set : goal.returns-in-Some-clause-one_set
+returns-in-Some-clause-one_set c = rw c.close.ensures (close_one_set c.in-Some.close.base c.in-Some.close.bits c.args.ranges.now c.in-Some.ensures.one_set)
+
+pub returns-in-Some-clause-unique : goal.returns-in-Some-clause-unique
+returns-in-Some-clause-unique c =
+    let w = c.in-Some.close in
+    rw c.close.ensures (λ s h one. unique (bit_ranges w.base w.bits) s c.args.ranges.now (close_ranges w.base w.bits) (close_one_set w.base w.bits c.args.ranges.now c.in-Some.ensures.one_set) h one)
+
+pub returns-in-None-clause-unique : goal.returns-in-None-clause-unique
+returns-in-None-clause-unique c =
     let rs = c.args.ranges.now in
-    let u = c.in_ok-union-in_default.union.items in
-    let e = c.in_ok-union-in_default.ensures in
-    IfOk-weaker c.from_union.result (λ d. d ≡ c.deref.result.now) (λ d. (s : List (ℤ × ℤ)) → AreRanges s → AreOneSet s rs → d ≡ s)
-    (λ d f s h one. let g : d ≡ u = f ∙ c.deref.ensures.value in rw g (unique u s rs e.ranges e.one_set h one)) c.from_union.ensures
+    IfOk-both c.far.result (λ d. AreRanges d) (λ d. AreOneSet d rs) (λ d. (s : List (ℤ × ℤ)) → AreRanges s → AreOneSet s rs → d ≡ s)
+    (λ d r o s h one. unique d s rs r o h one) c.far.ensures.ranges c.far.ensures.one_set
