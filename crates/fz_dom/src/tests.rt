@@ -22,6 +22,9 @@ fn ranges_that_touch_are_one(rt: HostRuntime) -> Result<(), Fail> {
     assert_eq!(rt; copy.range_count(), 1);
     assert_eq!(rt; copy.range_at(0), (1, 7));
     assert!(rt; copy.same(&dom));
+    let far = Dom::from_ranges(rt.alloc(), &[(500, 700), (1, 3), (4, 499)])?;
+    assert_eq!(rt; far.range_count(), 1);
+    assert_eq!(rt; far.range_at(0), (1, 700));
     Ok(())
 }
 
