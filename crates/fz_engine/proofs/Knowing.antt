@@ -28,7 +28,7 @@ use Rattle.fz_strength.specs.Elements.{waits_of_selection}
 use Rattle.fz_strength.specs.VariableElements.{waits_of_variable_selection}
 use Rattle.fz_strength.specs.Events.{Wait, wait_for, waits_for, AreBelow}
 use Rattle.fz_strength.specs.Relations.{relation_of, reified_of, event_of, reified_event}
-use Rattle.fz_strength.specs.Sums.{sum_relation_of, left_terms, sum_event_of}
+use Rattle.fz_strength.specs.Sums.{sum_relation_of, left_factors, left_terms, sum_event_of}
 use Rattle.fz_strength.specs.ReifiedSums.{reified_sum_of}
 use Rattle.fz_strength.specs.Lines.{terms_among, waits, waits_of, waits_of_two, waits_of_reified, waits_of_set, waits_of_set_reified, waits_of_sum, waits_of_sum_reified, IsComparing, waits_otherwise}
 use Rattle.fz_strength.specs.declared.operation.Operation.{Operation}
@@ -299,9 +299,9 @@ variable_selection_below W ArrayVarBoolElement xs k c n general first all third 
     all_both (λ (w : Wait). w.variable < n) (wait_for Any k) (waits_for Bound (c ∷ xs)) (wait_below Any k n first) (waits_below Bound (c ∷ xs) n (third, all))
 variable_selection_below W name xs k c n general first all third = general
 
-sum_below : (W : List Wait) (o : Option Relation) (ts : List Term) (n : ℕ) → AreBelow W n → AllByRecursion (IsTermOf n) ts → AreBelow (waits_of_sum W o ts) n
-sum_below W None ts n general all = general
-sum_below W (Some relation) ts n general all = waits_below (sum_event_of relation) ts n all
+sum_below : (W : List Wait) (o : Option Relation) (ks : List ℤ) (ts : List Term) (n : ℕ) → AreBelow W n → AllByRecursion (IsTermOf n) ts → AreBelow (waits_of_sum W o ks ts) n
+sum_below W None ks ts n general all = general
+sum_below W (Some relation) ks ts n general all = waits_below (sum_event_of relation ks) ts n all
 
 left_among : (ts : List Term) (c : Term) (n : ℕ) → AllByRecursion (IsTermOf n) ts → IsTermOf n c → AllByRecursion (IsTermOf n) (left_terms ts c)
 left_among ts (Num c) n all last = all
@@ -326,7 +326,7 @@ below_of name (One k ∷ Terms xs ∷ One c ∷ []) n among =
     variable_selection_below (waits_for Fixed (terms_among at)) name xs k c n (general_below at n among) among.0 among.1.0 among.1.1.0
 below_of name (Numbers ks ∷ Terms ts ∷ One c ∷ []) n among =
     let at = Numbers ks ∷ Terms ts ∷ One c ∷ [] in
-    sum_below (waits_for Fixed (terms_among at)) (sum_relation_of name) (left_terms ts c) n (general_below at n among) (left_among ts c n among.1.0 among.1.1.0)
+    sum_below (waits_for Fixed (terms_among at)) (sum_relation_of name) (left_factors ks c) (left_terms ts c) n (general_below at n among) (left_among ts c n among.1.0 among.1.1.0)
 below_of name (Numbers ks ∷ Terms ts ∷ One (Num c) ∷ One r ∷ []) n among =
     let at = Numbers ks ∷ Terms ts ∷ One (Num c) ∷ One r ∷ [] in
     reified_sum_below (waits_for Fixed (terms_among at)) (reified_sum_of name) ts r n (general_below at n among) among.1.0 among.1.1.1.0

@@ -13,7 +13,7 @@ use Rattle.fz_strength.specs.declared.event.Event.TheVariants.{Bound, Fixed}
 use Rattle.fz_strength.specs.Costs.{cost_of}
 use Rattle.fz_strength.specs.Events.{Wait, waits_for, AreBelow, AreFixed, variables_of, AllFixed}
 use Rattle.fz_strength.specs.Relations.{Relates}
-use Rattle.fz_strength.specs.Sums.{sum_relation_of, left_terms, sum_event_of}
+use Rattle.fz_strength.specs.Sums.{sum_relation_of, left_factors, left_terms, sum_event_of}
 use Rattle.fz_strength.specs.Lines.{Rests, terms_among, waits_of_sum, waits}
 use Rattle.fz_strength.specs.Promises.{IsCorrect}
 use Rattle.fz_strength.proofs.Waits.{terms_fixed, variables_waited, event_waited}
@@ -79,34 +79,33 @@ correct_is name relation ks ts c last ds es is moved h =
 
 -- ---- its variables
 
-pub waits_are : (name : Builtin) (relation : Relation) (ks : List ℤ) (ts : List Term) (last : Term) → sum_relation_of name ≡ Some relation → ts ≡ left_terms (given last ts) last
-    → waits (linear_of name ks ts last) ≡ waits_for (sum_event_of relation) ts
-waits_are name relation ks ts last is moved =
+pub waits_are : (name : Builtin) (relation : Relation) (ks : List ℤ) (ts : List Term) (last : Term) → sum_relation_of name ≡ Some relation → ks ≡ left_factors (given last ks) last
+    → ts ≡ left_terms (given last ts) last
+    → waits (linear_of name ks ts last) ≡ waits_for (sum_event_of relation ks) ts
+waits_are name relation ks ts last is factors moved =
     let W = waits_for Fixed (terms_among (Numbers (given last ks) ∷ Terms (given last ts) ∷ One last ∷ [])) in
-    ap (λ (o : Option Relation). waits_of_sum W o (left_terms (given last ts) last)) is ∙ sym (ap (waits_for (sum_event_of relation)) moved)
+    ap (λ (o : Option Relation). waits_of_sum W o (left_factors (given last ks) last) (left_terms (given last ts) last)) is
+    ∙ rw (← factors) (sym (ap (waits_for (sum_event_of relation ks)) moved))
 
-pub terms_are : (name : Builtin) (relation : Relation) (ks : List ℤ) (ts : List Term) (last : Term) (n : ℕ) → sum_relation_of name ≡ Some relation → ts ≡ left_terms (given last ts) last
-    → AreBelow (waits (linear_of name ks ts last)) n → AreTermsOf n ts
-terms_are name relation ks ts last n is moved below = terms_below (sum_event_of relation) ts n (subst (λ (ws : List Wait). AreBelow ws n) (waits_are name relation ks ts last is moved) below)
+pub terms_are : (name : Builtin) (relation : Relation) (ks : List ℤ) (ts : List Term) (last : Term) (n : ℕ) → sum_relation_of name ≡ Some relation → ks ≡ left_factors (given last ks) last
+    → ts ≡ left_terms (given last ts) last → AreBelow (waits (linear_of name ks ts last)) n → AreTermsOf n ts
+terms_are name relation ks ts last n is factors moved below =
+    terms_below (sum_event_of relation ks) ts n (subst (λ (ws : List Wait). AreBelow ws n) (waits_are name relation ks ts last is factors moved) below)
 
 pub fixed_are : (name : Builtin) (relation : Relation) (ks : List ℤ) (ts : List Term) (last : Term) (ds : List (List (ℤ × ℤ))) → sum_relation_of name ≡ Some relation
-    → ts ≡ left_terms (given last ts) last → AreFixed (waits (linear_of name ks ts last)) ds → AllFixed ds ts
-fixed_are name relation ks ts last ds is moved fixed = terms_fixed (sum_event_of relation) ts ds (subst (λ (ws : List Wait). AreFixed ws ds) (waits_are name relation ks ts last is moved) fixed)
+    → ks ≡ left_factors (given last ks) last → ts ≡ left_terms (given last ts) last → AreFixed (waits (linear_of name ks ts last)) ds → AllFixed ds ts
+fixed_are name relation ks ts last ds is factors moved fixed =
+    terms_fixed (sum_event_of relation ks) ts ds (subst (λ (ws : List Wait). AreFixed ws ds) (waits_are name relation ks ts last is factors moved) fixed)
 
-pub variables_are : (name : Builtin) (relation : Relation) (ks : List ℤ) (ts : List Term) (last : Term) → sum_relation_of name ≡ Some relation → ts ≡ left_terms (given last ts) last
-    → map (λ (w : Wait). w.variable) (waits (linear_of name ks ts last)) ≡ variables_of ts
-variables_are name relation ks ts last is moved = rw (waits_are name relation ks ts last is moved) (variables_waited (sum_event_of relation) ts)
+pub variables_are : (name : Builtin) (relation : Relation) (ks : List ℤ) (ts : List Term) (last : Term) → sum_relation_of name ≡ Some relation → ks ≡ left_factors (given last ks) last
+    → ts ≡ left_terms (given last ts) last → map (λ (w : Wait). w.variable) (waits (linear_of name ks ts last)) ≡ variables_of ts
+variables_are name relation ks ts last is factors moved = rw (waits_are name relation ks ts last is factors moved) (variables_waited (sum_event_of relation ks) ts)
 
 pub events_are : (name : Builtin) (relation : Relation) (ks : List ℤ) (ts : List Term) (last : Term) (place : ℕ) (w : Wait) → sum_relation_of name ≡ Some relation
-    → ts ≡ left_terms (given last ts) last → slice_get (waits (linear_of name ks ts last)) place ≡ Some w → sum_event_of relation ≡ w.event
-events_are name relation ks ts last place w is moved at =
-    event_waited (sum_event_of relation) ts place w (subst (λ (ws : List Wait). slice_get ws place ≡ Some w) (waits_are name relation ks ts last is moved) at)
-
-pub bound_else : (relation : Relation) → (relation ≡ NotEqual → ⊥) → sum_event_of relation ≡ Bound
-bound_else Equal h = refl
-bound_else NotEqual h = absurd (h refl)
-bound_else AtMost h = refl
-bound_else Below h = refl
+    → ks ≡ left_factors (given last ks) last → ts ≡ left_terms (given last ts) last → slice_get (waits (linear_of name ks ts last)) place ≡ Some w
+    → sum_event_of relation ks ≡ w.event
+events_are name relation ks ts last place w is factors moved at =
+    event_waited (sum_event_of relation ks) ts place w (subst (λ (ws : List Wait). slice_get ws place ≡ Some w) (waits_are name relation ks ts last is factors moved) at)
 
 -- ---- its cost
 

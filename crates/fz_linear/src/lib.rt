@@ -4,6 +4,7 @@
 
 mod apart;
 mod bounded;
+mod difference;
 pub mod linear;
 pub mod narrow;
 mod pass;

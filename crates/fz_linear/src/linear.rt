@@ -10,6 +10,7 @@ ghost use Rattle.fz_strength.specs.Promises.{IsCorrect, Suits};
 ghost use Rattle.fz_prop.specs.Answers.{IsAnswer, IsDecided};
 ghost use Rattle.fz_prop.specs.Stores.{Shrinks, FitsTerm};
 
+use crate::difference::event_of;
 use crate::narrow::{Precision, precision_of};
 use crate::relate::relate_within;
 use fz_prop::variables::variables_of;
@@ -160,10 +161,7 @@ impl Propagator for Linear {
 
     fn event(&self, place: usize) -> Event {
         let _ = place;
-        match self.relation {
-            Relation::NotEqual => Event::Fixed,
-            _ => Event::Bound,
-        }
+        event_of(self.relation, &self.factors)
     }
 
     fn cost(&self) -> Cost {

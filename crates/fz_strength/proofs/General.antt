@@ -116,9 +116,9 @@ waits_set_reified : (W : List Wait) (name : Builtin) (x r : Term) → (name ≡ 
 waits_set_reified W SetInReif x r none = absurd (none refl)
 waits_set_reified W name x r none = refl
 
-waits_sum : (W : List Wait) (o : Option Relation) (ts : List Term) → (IsSome o → ⊥) → waits_of_sum W o ts ≡ W
-waits_sum W None ts none = refl
-waits_sum W (Some relation) ts none = absurd (none refl)
+waits_sum : (W : List Wait) (o : Option Relation) (ks : List ℤ) (ts : List Term) → (IsSome o → ⊥) → waits_of_sum W o ks ts ≡ W
+waits_sum W None ks ts none = refl
+waits_sum W (Some relation) ks ts none = absurd (none refl)
 
 waits_sum_reified : (W : List Wait) (o : Option Relation) (ts : List Term) (r : Term) → (IsSome o → ⊥) → waits_of_sum_reified W o ts r ≡ W
 waits_sum_reified W None ts r none = refl
@@ -139,7 +139,7 @@ general_waits name (One x ∷ One y ∷ One r ∷ []) none =
 general_waits name (One x ∷ Set set ∷ []) none = waits_set (waits_for Fixed (x ∷ [])) name x (λ own. none (inl own))
 general_waits name (One x ∷ Set set ∷ One r ∷ []) none = waits_set_reified (waits_for Fixed (x ∷ r ∷ [])) name x r (λ own. none (inl own))
 general_waits name (Numbers ks ∷ Terms ts ∷ One c ∷ []) none =
-    waits_sum (waits_for Fixed (terms_among (Numbers ks ∷ Terms ts ∷ One c ∷ []))) (sum_relation_of name) (left_terms ts c) (λ own. none (inl own))
+    waits_sum (waits_for Fixed (terms_among (Numbers ks ∷ Terms ts ∷ One c ∷ []))) (sum_relation_of name) (left_factors ks c) (left_terms ts c) (λ own. none (inl own))
 general_waits name (Numbers ks ∷ Terms ts ∷ One (Num c) ∷ One r ∷ []) none =
     waits_sum_reified (waits_for Fixed (terms_among (Numbers ks ∷ Terms ts ∷ One (Num c) ∷ One r ∷ []))) (reified_sum_of name) ts r (λ own. none (inl own))
 general_waits name (One k ∷ Numbers xs ∷ One c ∷ []) none = waits_selection (waits_for Fixed (k ∷ c ∷ [])) name k c (λ own. none (inl own))

@@ -20,7 +20,7 @@ use Rattle.fz_strength.specs.ReifiedSums.{reified_sum_of, IsSumShown, IsSumRefut
 use Rattle.fz_strength.specs.Lines.{RestsOfSumReified, waits_of_sum_reified}
 use Rattle.fz_sets.proofs.Lists.{all_left, all_right}
 use Rattle.fz_strength.proofs.Terms.{AreQuietAt, term_quiet, terms_quiet, terms_alone, term_alone}
-use Rattle.fz_strength.proofs.SumLaws.{least_sums_same, greatest_sums_same, at_most_kept, sum_kept, least_alone, greatest_alone, sum_true}
+use Rattle.fz_strength.proofs.SumLaws.{least_sums_same, greatest_sums_same, at_most_kept, sum_kept, equal_kept, least_alone, greatest_alone, sum_true}
 use Rattle.fz_sets.specs.Sets.{single}
 
 -- ---- what lasts
@@ -39,7 +39,7 @@ fixed_quiet (t ∷ ts) ds es quiet = (quiet.0.2, fixed_quiet ts ds es quiet.1)
 
 line_after : (relation : Relation) (ks : List ℤ) (ts : List Term) (c : ℤ) (ds es : List (List (ℤ × ℤ))) → IsNarrower ds es → AreQuietAt Bound ds es ts
     → RestsSum relation ds ks ts c → RestsSum relation es ks ts c
-line_after Equal ks ts c ds es narrower quiet h = sum_kept Equal ks ts c ds es narrower quiet h
+line_after Equal ks ts c ds es narrower quiet h = equal_kept ks ts c ds es quiet h
 line_after NotEqual ks ts c ds es narrower quiet h = sum_kept NotEqual ks ts c ds es narrower (fixed_quiet ts ds es quiet) h
 line_after AtMost ks ts c ds es narrower quiet h = sum_kept AtMost ks ts c ds es narrower quiet h
 line_after Below ks ts c ds es narrower quiet h = absurd h

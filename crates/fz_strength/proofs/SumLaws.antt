@@ -1,6 +1,6 @@
 -- The line of a linear constraint lasts while nothing happens that may break it, and tells the truth where one number is left of each term.
 use Rattle.std.proofs.Common.{◌≡◌, zero, suc, ◌<◌, List, [], ◌∷◌, ◌*◌, refl, sym, ap, ◌∙◌, arith, length, inl, inr}
-use Rattle.std.specs.Prelude.{ℤ, pos, negsuc, neg_ℤ, ◌+ℤ◌, ◌-ℤ◌, ◌*ℤ◌, ◌≤ℤ◌, ◌↔◌, Option, Some, None}
+use Rattle.std.specs.Prelude.{Bool, true, false, if◌then◌else◌, ℤ, pos, negsuc, neg_ℤ, ◌+ℤ◌, ◌-ℤ◌, ◌*ℤ◌, ◌≤ℤ◌, ◌↔◌, Option, Some, None}
 use Rattle.std.specs.List.{AllByRecursion}
 use Rattle.std.proofs.lemmas.Int.{ints}
 use Rattle.std.proofs.Math.IntN.{zero-*ℤ, pos-*ℤ-pos, pos-*ℤ-negsuc, negsuc-*ℤ-pos, negsuc-*ℤ-negsuc}
@@ -13,11 +13,11 @@ use Rattle.fz_spec.specs.Truth.{weighted_sum, HoldsOfSum}
 use Rattle.fz_strength.specs.declared.relation.Relation.{Relation}
 use Rattle.fz_strength.specs.declared.relation.Relation.TheVariants.{Equal, NotEqual, AtMost, Below}
 use Rattle.fz_strength.specs.declared.event.Event.{Event}
-use Rattle.fz_strength.specs.declared.event.Event.TheVariants.{Bound, Fixed}
+use Rattle.fz_strength.specs.declared.event.Event.TheVariants.{Any, Bound, Fixed}
 use Rattle.fz_strength.specs.Domains.{dom_at, term_set, Within, Alone, IsNarrower, number_at}
 use Rattle.fz_strength.specs.Events.{IsQuiet, AllFixed, Wait, waits_for, AreQuiet, AreBelow, AreSingle}
 use Rattle.fz_strength.specs.Relations.{Relates}
-use Rattle.fz_strength.specs.Sums.{sum_relation_of, left_factors, left_terms, right_number, least_product, greatest_product, least_sum, greatest_sum, AreNear, RestsAtMost, negated, AllButOneFixed, RestsApart, RestsSum, sum_event_of}
+use Rattle.fz_strength.specs.Sums.{sum_relation_of, left_factors, left_terms, right_number, least_product, greatest_product, least_sum, greatest_sum, AreNear, RestsAtMost, negated, AllButOneFixed, RestsApart, RestsSum, is_difference, sum_event_of}
 use Rattle.fz_strength.specs.Lines.{RestsOfSum, waits_of_sum}
 use Rattle.fz_strength.proofs.Terms.{AreQuietAt, terms_quiet, fixed_before, all_fixed_before, terms_alone, all_fixed_alone, within_alone, within_before}
 use Rattle.fz_sets.specs.Sets.{single}
@@ -68,17 +68,29 @@ pub apart_narrower : (ks : List ℤ) (ts : List Term) (ds es : List (List (ℤ �
     → RestsApart ds ks ts c → RestsApart es ks ts c
 apart_narrower ks ts ds es c narrower before h = λ fixed a within. h (before fixed) a (within_before ds es a narrower within)
 
-pub sum_kept : (relation : Relation) (ks : List ℤ) (ts : List Term) (c : ℤ) (ds es : List (List (ℤ × ℤ))) → IsNarrower ds es → AreQuietAt (sum_event_of relation) ds es ts
+pub equal_kept : (ks : List ℤ) (ts : List Term) (c : ℤ) (ds es : List (List (ℤ × ℤ))) → AreQuietAt Bound ds es ts → RestsSum Equal ds ks ts c → RestsSum Equal es ks ts c
+equal_kept ks ts c ds es quiet h = (at_most_kept ks ts ds es c quiet h.0, at_most_kept (negated ks) ts ds es (neg_ℤ c) quiet h.1)
+
+-- where nothing changed no bound did
+bounds_quiet : (any : Bool) (ts : List Term) (ds es : List (List (ℤ × ℤ))) → AreQuietAt (if any then Any else Bound) ds es ts → AreQuietAt Bound ds es ts
+bounds_quiet false ts ds es quiet = quiet
+bounds_quiet true [] ds es quiet = tt
+bounds_quiet true (t ∷ ts) ds es quiet = (
+  rw (quiet.0) (refl, refl, λ x only. refl),
+  bounds_quiet true ts ds es quiet.1,
+)
+
+pub sum_kept : (relation : Relation) (ks : List ℤ) (ts : List Term) (c : ℤ) (ds es : List (List (ℤ × ℤ))) → IsNarrower ds es → AreQuietAt (sum_event_of relation ks) ds es ts
     → RestsSum relation ds ks ts c → RestsSum relation es ks ts c
-sum_kept Equal ks ts c ds es narrower quiet h = (at_most_kept ks ts ds es c quiet h.0, at_most_kept (negated ks) ts ds es (neg_ℤ c) quiet h.1)
+sum_kept Equal ks ts c ds es narrower quiet h = equal_kept ks ts c ds es (bounds_quiet (is_difference ks) ts ds es quiet) h
 sum_kept NotEqual ks ts c ds es narrower quiet h = apart_narrower ks ts ds es c narrower (all_but_one_before ts ds es quiet) h
 sum_kept AtMost ks ts c ds es narrower quiet h = at_most_kept ks ts ds es c quiet h
 sum_kept Below ks ts c ds es narrower quiet h = absurd h
 
 pub kept_sum : (G H : Type 0) (W : List Wait) (o : Option Relation) (ks : List ℤ) (ts : List Term) (c : ℤ) (ds es : List (List (ℤ × ℤ))) → IsNarrower ds es
-    → (AreQuiet W ds es → G → H) → AreQuiet (waits_of_sum W o ts) ds es → RestsOfSum G o ds ks ts c → RestsOfSum H o es ks ts c
+    → (AreQuiet W ds es → G → H) → AreQuiet (waits_of_sum W o ks ts) ds es → RestsOfSum G o ds ks ts c → RestsOfSum H o es ks ts c
 kept_sum G H W None ks ts c ds es narrower general quiet h = general quiet h
-kept_sum G H W (Some relation) ks ts c ds es narrower general quiet h = sum_kept relation ks ts c ds es narrower (terms_quiet (sum_event_of relation) ts ds es quiet) h
+kept_sum G H W (Some relation) ks ts c ds es narrower general quiet h = sum_kept relation ks ts c ds es narrower (terms_quiet (sum_event_of relation ks) ts ds es quiet) h
 
 -- ---- products and sums of single numbers
 
@@ -151,14 +163,14 @@ pub moved_truth : (relation : Relation) (ks : List ℤ) (ts : List Term) (c : Te
 moved_truth relation ks ts (Num c) a = ((λ h. h), (λ h. h))
 moved_truth relation ks ts (Var v) a = moved relation (weighted_sum ks (term_values a ts)) (term_value a (Var v))
 
-related : (relation : Relation) (ks : List ℤ) (ts : List Term) (c : Term) (ds : List (List (ℤ × ℤ))) (a : List ℤ) → AreBelow (waits_for (sum_event_of relation) (left_terms ts c)) (length ds) → Alone ds a
+related : (relation : Relation) (ks : List ℤ) (ts : List Term) (c : Term) (ds : List (List (ℤ × ℤ))) (a : List ℤ) → AreBelow (waits_for (sum_event_of relation (left_factors ks c)) (left_terms ts c)) (length ds) → Alone ds a
     → RestsSum relation ds (left_factors ks c) (left_terms ts c) (right_number c) → Relates relation (weighted_sum ks (term_values a ts)) (term_value a c)
 related relation ks ts c ds a below alone h =
-    (moved_truth relation ks ts c a).0 (sum_true relation (left_factors ks c) (left_terms ts c) (right_number c) ds a (terms_alone (sum_event_of relation) (left_terms ts c) ds a below alone) alone h)
+    (moved_truth relation ks ts c a).0 (sum_true relation (left_factors ks c) (left_terms ts c) (right_number c) ds a (terms_alone (sum_event_of relation (left_factors ks c)) (left_terms ts c) ds a below alone) alone h)
 
 pub true_sum : (G : Type 0) (W : List Wait) (name : Builtin) (ks : List ℤ) (ts : List Term) (c : Term) (ds : List (List (ℤ × ℤ))) (a : List ℤ)
     → (AreBelow W (length ds) → G → HoldsOfSum name (weighted_sum ks (term_values a ts)) (term_value a c))
-    → AreBelow (waits_of_sum W (sum_relation_of name) (left_terms ts c)) (length ds) → Alone ds a
+    → AreBelow (waits_of_sum W (sum_relation_of name) (left_factors ks c) (left_terms ts c)) (length ds) → Alone ds a
     → RestsOfSum G (sum_relation_of name) ds (left_factors ks c) (left_terms ts c) (right_number c) → HoldsOfSum name (weighted_sum ks (term_values a ts)) (term_value a c)
 true_sum G W IntLinEq ks ts c ds a general below alone h = related Equal ks ts c ds a below alone h
 true_sum G W IntLinNe ks ts c ds a general below alone h = related NotEqual ks ts c ds a below alone h

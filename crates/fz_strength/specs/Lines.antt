@@ -167,9 +167,9 @@ abbrev pub waits_of_set_reified : List Wait → Builtin → Term → Term → Li
 waits_of_set_reified W SetInReif x r = wait_for Any x ++ wait_for Any r
 waits_of_set_reified W name x r = W
 
-abbrev pub waits_of_sum : List Wait → Option Relation → List Term → List Wait
-waits_of_sum W None ts = W
-waits_of_sum W (Some relation) ts = waits_for (sum_event_of relation) ts
+abbrev pub waits_of_sum : List Wait → Option Relation → List ℤ → List Term → List Wait
+waits_of_sum W None ks ts = W
+waits_of_sum W (Some relation) ks ts = waits_for (sum_event_of relation ks) ts
 
 abbrev pub waits_of_sum_reified : List Wait → Option Relation → List Term → Term → List Wait
 waits_of_sum_reified W None ts r = W
@@ -186,7 +186,7 @@ waits_of name (One x ∷ One y ∷ One r ∷ []) = waits_of_reified (waits_other
 waits_of name (One x ∷ Set set ∷ []) = waits_of_set (waits_for Fixed (x ∷ [])) name x
 waits_of name (One x ∷ Set set ∷ One r ∷ []) = waits_of_set_reified (waits_for Fixed (x ∷ r ∷ [])) name x r
 waits_of name (Numbers ks ∷ Terms ts ∷ One c ∷ []) =
-    waits_of_sum (waits_for Fixed (terms_among (Numbers ks ∷ Terms ts ∷ One c ∷ []))) (sum_relation_of name) (left_terms ts c)
+    waits_of_sum (waits_for Fixed (terms_among (Numbers ks ∷ Terms ts ∷ One c ∷ []))) (sum_relation_of name) (left_factors ks c) (left_terms ts c)
 waits_of name (Numbers ks ∷ Terms ts ∷ One (Num c) ∷ One r ∷ []) =
     waits_of_sum_reified (waits_for Fixed (terms_among (Numbers ks ∷ Terms ts ∷ One (Num c) ∷ One r ∷ []))) (reified_sum_of name) ts r
 waits_of name (One k ∷ Numbers xs ∷ One c ∷ []) = waits_of_selection (waits_for Fixed (k ∷ c ∷ [])) name k c

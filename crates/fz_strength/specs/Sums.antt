@@ -1,6 +1,6 @@
 -- Weighted sums over what is left of terms: the least and the greatest that they may be, and what is left where a propagator of a
 -- linear constraint rests (Schulte, Stuckey: "When do bounds and domain propagation lead to the same search space?").
-use Rattle.std.specs.Prelude.{◌≢◌, ◌⊎◌, ℤ, pos, negsuc, neg_ℤ, ◌+ℤ◌, ◌-ℤ◌, ◌*ℤ◌, ◌≤ℤ◌, List, [], ◌∷◌, map, Option, Some, None}
+use Rattle.std.specs.Prelude.{◌≢◌, ◌⊎◌, ℕ, zero, suc, Bool, true, false, if◌then◌else◌, ℤ, pos, negsuc, neg_ℤ, ◌+ℤ◌, ◌-ℤ◌, ◌*ℤ◌, ◌≤ℤ◌, List, [], ◌∷◌, map, Option, Some, None}
 use Rattle.std.specs.List.{AllByRecursion}
 use Rattle.fz_dom.specs.Shape.{least, greatest}
 use Rattle.fz_spec.specs.declared.builtin.Builtin.{Builtin}
@@ -12,7 +12,7 @@ use Rattle.fz_spec.specs.Truth.{weighted_sum}
 use Rattle.fz_strength.specs.declared.relation.Relation.{Relation}
 use Rattle.fz_strength.specs.declared.relation.Relation.TheVariants.{Equal, NotEqual, AtMost, Below}
 use Rattle.fz_strength.specs.declared.event.Event.{Event}
-use Rattle.fz_strength.specs.declared.event.Event.TheVariants.{Bound, Fixed}
+use Rattle.fz_strength.specs.declared.event.Event.TheVariants.{Any, Bound, Fixed}
 use Rattle.fz_strength.specs.Domains.{term_set, Within}
 use Rattle.fz_strength.specs.Events.{IsFixedIn, AllFixed}
 
@@ -89,9 +89,16 @@ RestsSum NotEqual ds ks ts c = RestsApart ds ks ts c
 RestsSum AtMost ds ks ts c = RestsAtMost ds ks ts c
 RestsSum Below ds ks ts c = ⊥
 
--- the kind of change that may break the line
-abbrev pub sum_event_of : Relation → Event
-sum_event_of Equal = Bound
-sum_event_of NotEqual = Fixed
-sum_event_of AtMost = Bound
-sum_event_of Below = Bound
+-- a difference of two terms: their factors are 1 and -1, in this order or the other
+abbrev pub is_difference : List ℤ → Bool
+is_difference (pos (suc zero) ∷ negsuc zero ∷ []) = true
+is_difference (negsuc zero ∷ pos (suc zero) ∷ []) = true
+is_difference ks = false
+
+-- The kind of change that is waited for: one that may break the line; but of two terms whose difference is to be a number any, so
+-- that each can keep the numbers that have a partner in the other.
+abbrev pub sum_event_of : Relation → List ℤ → Event
+sum_event_of Equal ks = if is_difference ks then Any else Bound
+sum_event_of NotEqual ks = Fixed
+sum_event_of AtMost ks = Bound
+sum_event_of Below ks = Bound

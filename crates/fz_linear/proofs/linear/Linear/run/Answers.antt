@@ -18,7 +18,7 @@ pub relate_within-requires-clause-inside : goal.relate_within-requires-clause-in
 relate_within-requires-clause-inside c =
     let p = c.self.inside in
     rw c.deref-2.ensures.value
-    (terms_are p.name p.relation p.factors.items p.terms.items p.last (length c.args.store.now.doms) c.self.invariant.relation_is c.self.invariant.moved.terms_are (rw (← c.self.view_is) at c.requires.inside))
+    (terms_are p.name p.relation p.factors.items p.terms.items p.last (length c.args.store.now.doms) c.self.invariant.relation_is c.self.invariant.moved.factors_are c.self.invariant.moved.terms_are (rw (← c.self.view_is) at c.requires.inside))
 
 pub returns-clause-correct : goal.returns-clause-correct
 returns-clause-correct c =
@@ -44,5 +44,5 @@ returns-clause-checking c =
     rw (← c.self.view_is)
     (IfOk-weaker c.relate_within.result (λ (r : Answer). AllFixed c.args.store.now.doms p.terms.items → IsDecided r)
     (λ (r : Answer). AreFixed (waits (linear_of p.name p.factors.items p.terms.items p.last)) c.args.store.now.doms → IsDecided r)
-    (λ r h fixed. h (fixed_are p.name p.relation p.factors.items p.terms.items p.last c.args.store.now.doms c.self.invariant.relation_is c.self.invariant.moved.terms_are fixed))
+    (λ r h fixed. h (fixed_are p.name p.relation p.factors.items p.terms.items p.last c.args.store.now.doms c.self.invariant.relation_is c.self.invariant.moved.factors_are c.self.invariant.moved.terms_are fixed))
     (rw c.deref-2.ensures.value at c.relate_within.ensures.checking))
