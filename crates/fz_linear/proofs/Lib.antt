@@ -9,3 +9,4 @@ pub mod Above
 pub mod Names
 pub mod Factors
 pub mod Gaps
+pub mod Differences

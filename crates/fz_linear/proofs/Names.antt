@@ -9,7 +9,7 @@ use Rattle.fz_spec.specs.Truth.{weighted_sum, HoldsOfSum}
 use Rattle.fz_strength.specs.declared.cost.Cost.TheVariants as costs
 use Rattle.fz_strength.specs.declared.relation.Relation.{Relation}
 use Rattle.fz_strength.specs.declared.relation.Relation.TheVariants.{Equal, NotEqual, AtMost, Below}
-use Rattle.fz_strength.specs.declared.event.Event.TheVariants.{Bound, Fixed}
+use Rattle.fz_strength.specs.declared.event.Event.TheVariants.{Fixed}
 use Rattle.fz_strength.specs.Costs.{cost_of}
 use Rattle.fz_strength.specs.Events.{Wait, waits_for, AreBelow, AreFixed, variables_of, AllFixed}
 use Rattle.fz_strength.specs.Relations.{Relates}

@@ -5,3 +5,4 @@ pub mod Sums
 pub mod Gaps
 pub mod Precisions
 pub mod Linears
+pub mod Differences

@@ -1,10 +1,30 @@
-//! Differences of two variables.
-ghost use Rattle.std.specs.Prelude.{◌≡◌};
+//! Differences of two variables that are a number, or aren't: propagators of two variables, on whole domains.
+ghost use Rattle.std.specs.Prelude.{◌≡◌, ◌≢◌, ◌↔◌, ◌<◌, ℤ, neg_ℤ, ◌-ℤ◌, ◌+ℤ◌, List, length, IfOk, IfSome, OnErr};
+ghost use Rattle.fz_sets.specs.Sets.{IsInSet, IsWithinLimits};
+ghost use Rattle.fz_spec.specs.declared.term.Term.TheVariants.{Var};
+ghost use Rattle.fz_strength.specs.declared.relation.Relation.TheVariants.{Equal, NotEqual};
+ghost use Rattle.fz_strength.specs.Domains.{dom_at};
+ghost use Rattle.fz_strength.specs.Events.{IsOnly, IsFixedIn};
 ghost use Rattle.fz_strength.specs.Sums.{sum_event_of};
 ghost use Rattle.fz_strength.specs.Sums as sums;
+ghost use Rattle.fz_prop.specs.Answers.{IsCorrectOf, IsDecided};
+ghost use Rattle.fz_prop.specs.Stores.{Shrinks, IsStore, IsChangeAt};
+ghost use Rattle.fz_linear.specs.Differences.{IsDifferenceOf, DifferenceTruth, IsAnswerDifference};
 
-use fz_prop::Event;
+use fz_prop::terms::value_of;
+use fz_prop::{Answer, Change, Event, Store};
+use fz_spec::term::Term;
 use fz_strength::relation::Relation;
+use std::alloc::AllocError;
+
+/// Two variables, and how far the first is to be above the second, and the second above the first.
+#[derive(Clone, Copy)]
+pub struct Difference {
+    pub first: u32,
+    pub second: u32,
+    pub above: i32,
+    pub below: i32,
+}
 
 /// Whether these are the factors of a difference: 1 and -1, in this order or the other.
 fn is_difference(factors: &[i32]) -> bool
@@ -22,4 +42,181 @@ pub fn event_of(relation: Relation, factors: &[i32]) -> Event
         Relation::NotEqual => Event::Fixed,
         _ => Event::Bound,
     }
+}
+
+/// The difference that a sum is, if it is one of two variables.
+pub fn difference_of(factors: &[i32], terms: &[Term], number: i32) -> Option<Difference>
+    ensures sum { IfSome result (λ d. IsDifferenceOf d.first d.second factors.now terms.now) }
+    ensures apart { IfSome result (λ d. d.first ≢ d.second) }
+    ensures above { IfSome result (λ d. d.above ≡ number) }
+    ensures below { IfSome result (λ d. d.below ≡ neg_ℤ number) }
+{
+    let (first, second) = pair_of(factors, terms)?;
+    if first == second {
+        return None;
+    }
+    Some(Difference {
+        first,
+        second,
+        above: number,
+        below: number.checked_neg()?,
+    })
+}
+
+/// The two variables, the first of which less the second a sum is.
+fn pair_of(factors: &[i32], terms: &[Term]) -> Option<(u32, u32)>
+    ensures { IfSome result (λ p. IsDifferenceOf p.0 p.1 factors.now terms.now) }
+{
+    match (factors, terms) {
+        ([1, -1], [Term::Var(first), Term::Var(second)]) => Some((*first, *second)),
+        ([-1, 1], [Term::Var(second), Term::Var(first)]) => Some((*first, *second)),
+        _ => None,
+    }
+}
+
+/// Narrows a store so that a variable is so far above another: each keeps the numbers that have a partner in the other.
+pub fn keep_above_by(store: &mut Store, d: Difference) -> Result<Answer, AllocError>
+    requires first { d.first < length store.old.doms }
+    requires second { d.second < length store.old.doms }
+    requires apart { d.first ≢ d.second }
+    requires turned { d.below ≡ neg_ℤ d.above }
+    ensures shrinks { Shrinks store.old store.new }
+    ensures correct { IsCorrectOf (DifferenceTruth Equal d.first d.second d.above)
+        store.old.doms store.new.doms }
+    ensures answer { IfOk result (λ r.
+        IsAnswerDifference Equal d.first d.second d.above r store.old.doms store.new.doms) }
+    ensures checking { IfOk result
+        (λ r. IsFixedIn store.old.doms (Var d.first) → IsDecided r) }
+{
+    match keep_partners(store, d.first, d.second, d.above)? {
+        Change::Wiped => Ok(Answer::Failed),
+        _ => keep_below_by(store, d),
+    }
+}
+
+/// The same, where each number of the first has its partner in the second.
+fn keep_below_by(store: &mut Store, d: Difference) -> Result<Answer, AllocError>
+    requires first { d.first < length store.old.doms }
+    requires second { d.second < length store.old.doms }
+    requires apart { d.first ≢ d.second }
+    requires turned { d.below ≡ neg_ℤ d.above }
+    requires partners { (z : ℤ) → IsInSet (dom_at store.old.doms d.first) z
+        → IsInSet (dom_at store.old.doms d.second) (z -ℤ d.above) }
+    ensures shrinks { Shrinks store.old store.new }
+    ensures correct { IsCorrectOf (DifferenceTruth Equal d.first d.second d.above)
+        store.old.doms store.new.doms }
+    ensures answer { IfOk result (λ r.
+        IsAnswerDifference Equal d.first d.second d.above r store.old.doms store.new.doms) }
+    ensures checking { IfOk result
+        (λ r. IsFixedIn store.old.doms (Var d.first) → IsDecided r) }
+    ensures old_store { IsStore store.old }
+{
+    match keep_partners(store, d.second, d.first, d.below)? {
+        Change::Wiped => Ok(Answer::Failed),
+        _ => Ok(partnered(store, d)),
+    }
+}
+
+/// Keeps the numbers of a variable that lie so far above those of another.
+fn keep_partners(
+    store: &mut Store,
+    variable: u32,
+    other: u32,
+    above: i32,
+) -> Result<Change, AllocError>
+    requires variable { variable < length store.old.doms }
+    requires other { other < length store.old.doms }
+    ensures shrinks { Shrinks store.old store.new }
+    ensures change { IfOk result (λ r. IsChangeAt r variable
+        (λ z. IsInSet (dom_at store.old.doms other) (z -ℤ above)) store.old store.new) }
+    ensures err { OnErr result (store.new ≡ store.old) }
+    ensures old_store { IsStore store.old }
+{
+    let others = store.dom(other).copy()?;
+    let change = store.keep_shifted(variable, &others, above)?;
+    Ok(change)
+}
+
+/// What is known of two variables each of whose numbers has its partner in the other.
+fn partnered(store: &Store, d: Difference) -> Answer
+    requires first { d.first < length store.now.doms }
+    requires second { d.second < length store.now.doms }
+    requires partners { (z : ℤ) → IsInSet (dom_at store.now.doms d.first) z
+        → IsInSet (dom_at store.now.doms d.second) (z -ℤ d.above) }
+    requires back { (z : ℤ) → IsInSet (dom_at store.now.doms d.second) z
+        → IsInSet (dom_at store.now.doms d.first) (z +ℤ d.above) }
+    ensures answer { IsAnswerDifference Equal d.first d.second d.above result
+        store.now.doms store.now.doms }
+    ensures checking { IsFixedIn store.now.doms (Var d.first) → IsDecided result }
+    ensures store { IsStore store.now }
+{
+    if store.dom(d.first).is_fixed() {
+        Answer::Subsumed
+    } else {
+        Answer::Fix
+    }
+}
+
+/// Narrows a store so that a variable isn't so far above another: where one is fixed, its partner leaves the other.
+pub fn keep_apart_by(store: &mut Store, d: Difference) -> Result<Answer, AllocError>
+    requires first { d.first < length store.old.doms }
+    requires second { d.second < length store.old.doms }
+    requires turned { d.below ≡ neg_ℤ d.above }
+    ensures shrinks { Shrinks store.old store.new }
+    ensures correct { IsCorrectOf (DifferenceTruth NotEqual d.first d.second d.above)
+        store.old.doms store.new.doms }
+    ensures answer { IfOk result (λ r.
+        IsAnswerDifference NotEqual d.first d.second d.above r store.old.doms store.new.doms) }
+    ensures checking { IfOk result
+        (λ r. IsFixedIn store.old.doms (Var d.first) → IsDecided r) }
+{
+    if let Some(value) = value_of(store, Term::Var(d.first)) {
+        return exclude_below(store, d, value);
+    }
+    if let Some(value) = value_of(store, Term::Var(d.second)) {
+        return exclude_above(store, d, value);
+    }
+    Ok(Answer::Fix)
+}
+
+/// Removes from the second variable the partner of the first, which is fixed.
+fn exclude_below(store: &mut Store, d: Difference, value: i32) -> Result<Answer, AllocError>
+    requires first { d.first < length store.old.doms }
+    requires second { d.second < length store.old.doms }
+    requires turned { d.below ≡ neg_ℤ d.above }
+    requires only { IsOnly (dom_at store.old.doms d.first) value }
+    ensures shrinks { Shrinks store.old store.new }
+    ensures correct { IsCorrectOf (DifferenceTruth NotEqual d.first d.second d.above)
+        store.old.doms store.new.doms }
+    ensures answer { IfOk result (λ r.
+        IsAnswerDifference NotEqual d.first d.second d.above r store.old.doms store.new.doms) }
+    ensures decided { IfOk result (λ r. IsDecided r) }
+{
+    let _ = store.doms();
+    let change = store.remove(d.second, partner(value, d.below))?;
+    Ok(Answer::settled(change))
+}
+
+/// Removes from the first variable the partner of the second, which is fixed.
+fn exclude_above(store: &mut Store, d: Difference, value: i32) -> Result<Answer, AllocError>
+    requires first { d.first < length store.old.doms }
+    requires second { d.second < length store.old.doms }
+    requires only { IsOnly (dom_at store.old.doms d.second) value }
+    ensures shrinks { Shrinks store.old store.new }
+    ensures correct { IsCorrectOf (DifferenceTruth NotEqual d.first d.second d.above)
+        store.old.doms store.new.doms }
+    ensures answer { IfOk result (λ r.
+        IsAnswerDifference NotEqual d.first d.second d.above r store.old.doms store.new.doms) }
+    ensures decided { IfOk result (λ r. IsDecided r) }
+{
+    let _ = store.doms();
+    let change = store.remove(d.first, partner(value, d.above))?;
+    Ok(Answer::settled(change))
+}
+
+/// The number so far above another, or one beyond the limits where that is.
+fn partner(value: i32, above: i32) -> i32
+    ensures { (z : ℤ) → IsWithinLimits z → (result ≡ z) ↔ (value +ℤ above ≡ z) }
+{
+    value.saturating_add(above)
 }

@@ -12,7 +12,7 @@ ghost use Rattle.fz_prop.specs.Stores.{Shrinks, FitsTerm};
 
 use crate::difference::event_of;
 use crate::narrow::{Precision, precision_of};
-use crate::relate::relate_within;
+use crate::relate::relate_whole;
 use fz_prop::variables::variables_of;
 use fz_prop::{Answer, Cost, Event, Propagator, Store};
 use fz_spec::builtin::Builtin;
@@ -141,7 +141,7 @@ impl Linear {
         ensures checking { IfOk result
             (λ r. AreFixed (waits self.now) store.old.doms → IsDecided r) }
     {
-        relate_within(
+        relate_whole(
             store,
             self.precision,
             self.relation,

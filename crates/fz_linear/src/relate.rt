@@ -13,6 +13,7 @@ ghost use Rattle.fz_linear.specs.Sums.{SumTruth, SumFalse, IsAnswerSum, IsAnswer
 
 use crate::apart::keep_apart;
 use crate::bounded::{keep_above, keep_at_most, keep_equal};
+use crate::difference::{difference_of, keep_above_by, keep_apart_by};
 use crate::narrow::Precision;
 use fz_prop::{Answer, Store};
 use fz_spec::term::Term;
@@ -49,6 +50,39 @@ pub fn relate_within(
         Relation::Equal => keep_equal(store, precision, factors, terms, number),
         Relation::NotEqual => keep_apart(store, precision, factors, terms, number),
         _ => keep_at_most(store, precision, factors, terms, number),
+    }
+}
+
+/// Narrows a store by how a sum relates to a number, as `relate_within` does; where the sum is the difference of two variables,
+/// which is to be the number or isn't, on whole domains.
+///
+/// # Errors
+/// As `relate_within`.
+pub fn relate_whole(
+    store: &mut Store,
+    precision: Precision,
+    relation: Relation,
+    factors: &[i32],
+    terms: &[Term],
+    number: i32,
+) -> Result<Answer, AllocError>
+    requires bounded { relation ≢ Below }
+    requires same { length factors.now ≡ length terms.now }
+    requires few { length terms.now ≤ ELEMENT_LIMIT + 1 }
+    requires allowed { Allows precision factors.now }
+    requires inside { AreTermsOf (length store.old.doms) terms.now }
+    requires fits { AllByRecursion FitsTerm terms.now }
+    ensures shrinks { Shrinks store.old store.new }
+    ensures correct { IsCorrectOf (SumTruth relation factors.now terms.now number)
+        store.old.doms store.new.doms }
+    ensures answer { IfOk result
+        (λ r. IsAnswerSum relation factors.now terms.now number r store.old.doms store.new.doms) }
+    ensures checking { IfOk result (λ r. AllFixed store.old.doms terms.now → IsDecided r) }
+{
+    match (relation, difference_of(factors, terms, number)) {
+        (Relation::Equal, Some(difference)) => keep_above_by(store, difference),
+        (Relation::NotEqual, Some(difference)) => keep_apart_by(store, difference),
+        _ => relate_within(store, precision, relation, factors, terms, number),
     }
 }
 

@@ -182,6 +182,46 @@ fn each_relation_narrows(rt: HostRuntime) -> Result<(), Fail> {
             [all, all],
         ),
         Row(
+            Relation::Equal,
+            [1, -1],
+            3,
+            [all, all],
+            Answer::Fix,
+            [(3, 9), (0, 6)],
+        ),
+        Row(
+            Relation::Equal,
+            [-1, 1],
+            3,
+            [(2, 2), all],
+            Answer::Subsumed,
+            [(2, 2), (5, 5)],
+        ),
+        Row(
+            Relation::Equal,
+            [1, -1],
+            10,
+            [all, all],
+            Answer::Failed,
+            [all, all],
+        ),
+        Row(
+            Relation::NotEqual,
+            [-1, 1],
+            7,
+            [(2, 2), all],
+            Answer::Subsumed,
+            [(2, 2), (0, 8)],
+        ),
+        Row(
+            Relation::NotEqual,
+            [1, -1],
+            -2147483648,
+            [(2, 2), all],
+            Answer::Subsumed,
+            [(2, 2), all],
+        ),
+        Row(
             Relation::NotEqual,
             [1, 1],
             5,
@@ -219,6 +259,33 @@ fn each_relation_narrows(rt: HostRuntime) -> Result<(), Fail> {
         assert_eq!(rt; ends(&store, 0), behind[0]);
         assert_eq!(rt; ends(&store, 1), behind[1]);
     }
+    Ok(())
+}
+
+/// Takes a range from a variable that the store has.
+fn remove(store: &mut Store, variable: u32, range: (i32, i32)) -> Result<(), AllocError> {
+    if (variable as usize) < store.doms().len() {
+        store.remove_range(variable, range.0, range.1)?;
+    }
+    Ok(())
+}
+
+/// Whether a variable of the store has a number left.
+fn has(store: &Store, variable: u32, number: i32) -> bool {
+    (variable as usize) < store.doms().len() && store.dom(variable).contains(number)
+}
+
+#[test]
+fn a_difference_keeps_what_has_a_partner(rt: HostRuntime) -> Result<(), Fail> {
+    let alloc = rt.alloc();
+    let mut store = Store::new(alloc, &model(alloc)?)?.expect(&rt, "a store");
+    remove(&mut store, 0, (2, 4))?;
+    let answer = run(&mut store, alloc, Relation::Equal, [-1, 1], 2)?;
+    assert_eq!(rt; answer, Some(Answer::Fix));
+    for (number, is_left) in [(2, true), (3, true), (4, false), (6, false), (7, true)] {
+        assert_eq!(rt; has(&store, 1, number), is_left);
+    }
+    assert_eq!(rt; ends(&store, 0), (0, 7));
     Ok(())
 }
 

@@ -11,11 +11,11 @@ use Rattle.fz_linear.specs.Sums.{IsAnswerSum}
 use Rattle.fz_linear.proofs.Names.{linear_of, never_below, terms_are, fixed_are, answer_is, correct_is}
 use Rattle.fz_linear.proofs.linear.Linear.run.Goals as goal
 
-pub relate_within-requires-clause-bounded : goal.relate_within-requires-clause-bounded
-relate_within-requires-clause-bounded c = never_below c.self.inside.name c.self.inside.relation c.self.invariant.relation_is
+pub relate_whole-requires-clause-bounded : goal.relate_whole-requires-clause-bounded
+relate_whole-requires-clause-bounded c = never_below c.self.inside.name c.self.inside.relation c.self.invariant.relation_is
 
-pub relate_within-requires-clause-inside : goal.relate_within-requires-clause-inside
-relate_within-requires-clause-inside c =
+pub relate_whole-requires-clause-inside : goal.relate_whole-requires-clause-inside
+relate_whole-requires-clause-inside c =
     let p = c.self.inside in
     rw c.deref-2.ensures.value
     (terms_are p.name p.relation p.factors.items p.terms.items p.last (length c.args.store.now.doms) c.self.invariant.relation_is c.self.invariant.moved.factors_are c.self.invariant.moved.terms_are (rw (← c.self.view_is) at c.requires.inside))
@@ -25,24 +25,24 @@ returns-clause-correct c =
     let p = c.self.inside in
     let fits : SFits w32 p.number = search rules in
     rw (← c.self.view_is)
-    (correct_is p.name p.relation p.factors.items p.terms.items p.number p.last c.args.store.now.doms c.relate_within.new.store.doms c.self.invariant.relation_is c.self.invariant.moved
-    (rw (c.deref.ensures.value, c.deref-2.ensures.value, to_z-of_z fits) at c.relate_within.ensures.correct))
+    (correct_is p.name p.relation p.factors.items p.terms.items p.number p.last c.args.store.now.doms c.relate_whole.new.store.doms c.self.invariant.relation_is c.self.invariant.moved
+    (rw (c.deref.ensures.value, c.deref-2.ensures.value, to_z-of_z fits) at c.relate_whole.ensures.correct))
 
 pub returns-clause-answer : goal.returns-clause-answer
 returns-clause-answer c =
     let p = c.self.inside in
     let fits : SFits w32 p.number = search rules in
     rw (← c.self.view_is)
-    (IfOk-weaker c.relate_within.result (λ (r : Answer). IsAnswerSum p.relation p.factors.items p.terms.items p.number r c.args.store.now.doms c.relate_within.new.store.doms)
-    (λ (r : Answer). IsAnswer r (linear_of p.name p.factors.items p.terms.items p.last) c.args.store.now.doms c.relate_within.new.store.doms)
-    (λ r h. answer_is p.name p.relation p.factors.items p.terms.items p.number p.last r c.args.store.now.doms c.relate_within.new.store.doms c.self.invariant.relation_is c.self.invariant.moved h)
-    (rw (c.deref.ensures.value, c.deref-2.ensures.value, to_z-of_z fits) at c.relate_within.ensures.answer))
+    (IfOk-weaker c.relate_whole.result (λ (r : Answer). IsAnswerSum p.relation p.factors.items p.terms.items p.number r c.args.store.now.doms c.relate_whole.new.store.doms)
+    (λ (r : Answer). IsAnswer r (linear_of p.name p.factors.items p.terms.items p.last) c.args.store.now.doms c.relate_whole.new.store.doms)
+    (λ r h. answer_is p.name p.relation p.factors.items p.terms.items p.number p.last r c.args.store.now.doms c.relate_whole.new.store.doms c.self.invariant.relation_is c.self.invariant.moved h)
+    (rw (c.deref.ensures.value, c.deref-2.ensures.value, to_z-of_z fits) at c.relate_whole.ensures.answer))
 
 pub returns-clause-checking : goal.returns-clause-checking
 returns-clause-checking c =
     let p = c.self.inside in
     rw (← c.self.view_is)
-    (IfOk-weaker c.relate_within.result (λ (r : Answer). AllFixed c.args.store.now.doms p.terms.items → IsDecided r)
+    (IfOk-weaker c.relate_whole.result (λ (r : Answer). AllFixed c.args.store.now.doms p.terms.items → IsDecided r)
     (λ (r : Answer). AreFixed (waits (linear_of p.name p.factors.items p.terms.items p.last)) c.args.store.now.doms → IsDecided r)
     (λ r h fixed. h (fixed_are p.name p.relation p.factors.items p.terms.items p.last c.args.store.now.doms c.self.invariant.relation_is c.self.invariant.moved.factors_are c.self.invariant.moved.terms_are fixed))
-    (rw c.deref-2.ensures.value at c.relate_within.ensures.checking))
+    (rw c.deref-2.ensures.value at c.relate_whole.ensures.checking))

@@ -1,0 +1,193 @@
+-- Two variables whose difference is a number, or isn't.
+use Rattle.std.proofs.Common.{◌≡◌, ◌≢◌, ◌⊎◌, ℕ, ◌<◌, List, [], ◌∷◌, sym, ap, subst, ◌∙◌, arith, length, inl, inr}
+use Rattle.std.specs.Prelude.{ℤ, pos, negsuc, neg_ℤ, ◌+ℤ◌, ◌-ℤ◌, ◌≤ℤ◌, ◌↔◌}
+use Rattle.std.proofs.lemmas.Int.{ints}
+use Rattle.fz_sets.specs.Sets.{IsInSet, IsWithinLimits}
+use Rattle.fz_dom.specs.Shape.{least, greatest}
+use Rattle.fz_dom.specs.declared.change.Change.{Change}
+use Rattle.fz_dom.specs.declared.change.Change.TheVariants.{Same, Changed, Wiped}
+use Rattle.fz_spec.specs.declared.term.Term.{Term}
+use Rattle.fz_spec.specs.declared.term.Term.TheVariants.{Var}
+use Rattle.fz_spec.specs.Truth.{weighted_sum}
+use Rattle.fz_strength.specs.declared.relation.Relation.{Relation}
+use Rattle.fz_strength.specs.declared.relation.Relation.TheVariants.{Equal, NotEqual}
+use Rattle.fz_strength.specs.Domains.{dom_at, number_at, AreDomains, Within}
+use Rattle.fz_strength.specs.Events.{IsOnly, IsFixedIn}
+use Rattle.fz_strength.specs.Sums.{RestsAtMost, AllButOneFixed}
+use Rattle.fz_strength.proofs.SumLaws.{neg_product}
+use Rattle.fz_prop.specs.declared.answer.Answer.TheVariants.{Subsumed, Failed}
+use Rattle.fz_prop.specs.Answers.{IsAnswerOf, IsCorrectOf}
+use Rattle.fz_prop.specs.Stores.{Stored, Shrinks, IsChangeAt}
+use Rattle.fz_prop.specs.Truths.{IsAbout, IsSame}
+use Rattle.fz_prop.proofs.Grown.{term_limits}
+use Rattle.fz_prop.proofs.TermChanges.{only_in, within_kept, kept_term, none_kept}
+use Rattle.fz_linear.specs.Differences.{IsDifferenceOf, DifferenceTruth, IsCloseAbove, DifferenceLine, IsAnswerDifference}
+use Rattle.fz_linear.specs.Sums.{SumTruth, SumLine}
+use Rattle.fz_linear.proofs.Spans.{spanned, ends_rise}
+
+-- ---- a difference is a sum
+
+abbrev pub IsSameSum : Relation → ℕ → ℕ → ℤ → List ℤ → List Term → Type 0
+IsSameSum relation x y c ks ts = IsSame (DifferenceTruth relation x y c) (SumTruth relation ks ts c) (DifferenceLine relation x y c) (SumLine relation ks ts c)
+
+sum_of_two : (u w : ℤ) → weighted_sum (pos 1 ∷ negsuc 0 ∷ []) (u ∷ w ∷ []) ≡ (u -ℤ w)
+sum_of_two u w = let p = neg_product (pos 1) w in omega (arith, ints, p)
+
+sum_of_turned : (u w : ℤ) → weighted_sum (negsuc 0 ∷ pos 1 ∷ []) (w ∷ u ∷ []) ≡ (u -ℤ w)
+sum_of_turned u w = let p = neg_product (pos 1) w in omega (arith, ints, p)
+
+-- the line of an order over the two
+close_line : (ds : List (List (ℤ × ℤ))) (x y : ℕ) (c : ℤ) → IsCloseAbove ds x y c → RestsAtMost ds (pos 1 ∷ negsuc 0 ∷ []) (Var x ∷ Var y ∷ []) c
+close_line ds x y c h =
+    let p = neg_product (pos 1) (greatest (dom_at ds y)) in
+    let q = neg_product (pos 1) (least (dom_at ds y)) in
+    record {
+      reached = let r = h.reached in omega (arith, ints, p, r);
+      near = ((let r = h.greatest_end in omega (arith, ints, p, r)), ((let r = h.least_end in omega (arith, ints, p, q, r)), tt));
+    }
+
+close_turned : (ds : List (List (ℤ × ℤ))) (x y : ℕ) (c : ℤ) → IsCloseAbove ds x y c → RestsAtMost ds (negsuc 0 ∷ pos 1 ∷ []) (Var y ∷ Var x ∷ []) c
+close_turned ds x y c h =
+    let p = neg_product (pos 1) (greatest (dom_at ds y)) in
+    let q = neg_product (pos 1) (least (dom_at ds y)) in
+    record {
+      reached = let r = h.reached in omega (arith, ints, p, r);
+      near = ((let r = h.least_end in omega (arith, ints, p, q, r)), ((let r = h.greatest_end in omega (arith, ints, p, r)), tt));
+    }
+
+-- one of two that are fixed but for one at most
+one_of_two : (ds : List (List (ℤ × ℤ))) (s t : Term) → AllButOneFixed ds (s ∷ t ∷ []) → IsFixedIn ds s ⊎ IsFixedIn ds t
+one_of_two ds s t h = elim h [ inl behind ↦ inr behind.0 | inr first ↦ inl first.0 ]
+
+turned_sum : (ds : List (List (ℤ × ℤ))) (s t : Term) → IsFixedIn ds s ⊎ IsFixedIn ds t → IsFixedIn ds t ⊎ IsFixedIn ds s
+turned_sum ds s t h = elim h [ inl a ↦ inr a | inr b ↦ inl b ]
+
+pub equal_sum : (x y : ℕ) (c : ℤ) (ks : List ℤ) (ts : List Term) → IsDifferenceOf x y ks ts → IsSameSum Equal x y c ks ts
+equal_sum x y c ks ts h = elim h [
+  | inl is ↦ rw (is.0, is.1) (record {
+    truth = λ a. let s = sum_of_two (number_at a x) (number_at a y) in ((λ e. s ∙ e), (λ e. sym s ∙ e));
+    line = λ ds l. (close_line ds x y c l.0, close_turned ds y x (neg_ℤ c) l.1);
+  })
+  | inr is ↦ rw (is.0, is.1) (record {
+    truth = λ a. let s = sum_of_turned (number_at a x) (number_at a y) in ((λ e. s ∙ e), (λ e. sym s ∙ e));
+    line = λ ds l. (close_turned ds x y c l.0, close_line ds y x (neg_ℤ c) l.1);
+  })
+]
+
+pub apart_sum : (x y : ℕ) (c : ℤ) (ks : List ℤ) (ts : List Term) → IsDifferenceOf x y ks ts → IsSameSum NotEqual x y c ks ts
+apart_sum x y c ks ts h = elim h [
+  | inl is ↦ rw (is.0, is.1) (record {
+    truth = λ a. let s = sum_of_two (number_at a x) (number_at a y) in ((λ n e. n (sym s ∙ e)), (λ n e. n (s ∙ e)));
+    line = λ ds l fixed a within e. l (one_of_two ds (Var x) (Var y) fixed) a within (sym (sum_of_two (number_at a x) (number_at a y)) ∙ e);
+  })
+  | inr is ↦ rw (is.0, is.1) (record {
+    truth = λ a. let s = sum_of_turned (number_at a x) (number_at a y) in ((λ n e. n (sym s ∙ e)), (λ n e. n (s ∙ e)));
+    line = λ ds l fixed a within e.
+        l (turned_sum ds (Var y) (Var x) (one_of_two ds (Var y) (Var x) fixed)) a within (sym (sum_of_turned (number_at a x) (number_at a y)) ∙ e);
+  })
+]
+
+-- ---- a number that leaves the other
+
+-- Where f is fixed, it is about the numbers of o that aren't the one that makes the difference c.
+pub apart_about : (x y f o : ℕ) (c v t p : ℤ) (ds : List (List (ℤ × ℤ))) → AreDomains ds → f < length ds → o < length ds → IsOnly (dom_at ds f) v
+    → ((z : ℤ) → IsWithinLimits z → (p ≡ z) ↔ (t ≡ z))
+    → ((a : List ℤ) → number_at a f ≡ v → DifferenceTruth Equal x y c a ↔ (t ≡ number_at a o))
+    → IsAbout (Var o) (λ u. u ≢ p) (DifferenceTruth NotEqual x y c) (DifferenceLine NotEqual x y c) ds
+apart_about x y f o c v t p ds domains is_f is_o only partner target =
+    let at_f : (a : List ℤ) → Within ds a → number_at a f ≡ v = λ a within. only_in (dom_at ds f) v (number_at a f) only (within.members f is_f) in
+    let limits : (a : List ℤ) → Within ds a → IsWithinLimits (number_at a o) = λ a within. term_limits ds (Var o) (number_at a o) is_o domains tt (within.members o is_o) in
+    let apart : (a : List ℤ) → Within ds a → number_at a o ≢ p → DifferenceTruth NotEqual x y c a =
+    λ a within other e. other (sym ((partner (number_at a o) (limits a within)).1 ((target a (at_f a within)).0 e))) in
+    record {
+      needs = λ a within differs e. differs ((target a (at_f a within)).1 ((partner (number_at a o) (limits a within)).0 (sym e)));
+      enough = apart;
+      line = λ es narrowed narrower all fixed a within.
+          let before : Within ds a = record {
+            size = within.size ∙ narrower.size;
+            members = λ u inside. narrower.members u (number_at a u) (within.members u (subst (λ (n : ℕ). u < n) (sym narrower.size) inside));
+          } in
+          apart a before (all (number_at a o) (within.members o (subst (λ (n : ℕ). o < n) (sym narrower.size) is_o)));
+    }
+
+-- ---- partners
+
+-- the domain of another variable stays
+pub other_stays : (change : Change) (v u : ℕ) (P : ℤ → Type 0) (r s : Stored) → IsChangeAt change v P r s → u ≢ v → dom_at s.doms u ≡ dom_at r.doms u
+other_stays Same v u P r s h ne = ap (λ (t : Stored). dom_at t.doms u) h.0
+other_stays Wiped v u P r s h ne = ap (λ (t : Stored). dom_at t.doms u) h.0
+other_stays Changed v u P r s h ne = h.others u ne
+
+-- what has the property is kept
+kept_in : (change : Change) (v : ℕ) (P : ℤ → Type 0) (r s : Stored) → IsChangeAt change v P r s → (z : ℤ) → IsInSet (dom_at r.doms v) z → P z → IsInSet (dom_at s.doms v) z
+kept_in Same v P r s h z i p = subst (λ (t : Stored). IsInSet (dom_at t.doms v) z) (sym h.0) i
+kept_in Wiped v P r s h z i p = subst (λ (t : Stored). IsInSet (dom_at t.doms v) z) (sym h.0) i
+kept_in Changed v P r s h z i p = (h.kept z).1 (i, p)
+
+-- after v keeps the numbers so far above those of o, each has its partner in o
+pub partners_after : (change : Change) (v o : ℕ) (c : ℤ) (r s : Stored) → v ≢ o → IsChangeAt change v (λ z. IsInSet (dom_at r.doms o) (z -ℤ c)) r s → (change ≡ Wiped → ⊥)
+    → (z : ℤ) → IsInSet (dom_at s.doms v) z → IsInSet (dom_at s.doms o) (z -ℤ c)
+partners_after change v o c r s apart h not z i =
+    rw (other_stays change v o (λ w. IsInSet (dom_at r.doms o) (w -ℤ c)) r s h (λ e. apart (sym e)))
+    ((kept_term change (Var v) (λ w. IsInSet (dom_at r.doms o) (w -ℤ c)) r s h not z i).1)
+
+-- and where those of o had theirs in v before, they have them still
+pub partners_still : (change : Change) (v o : ℕ) (c d : ℤ) (r s : Stored) → v ≢ o → d ≡ neg_ℤ c → IsChangeAt change v (λ z. IsInSet (dom_at r.doms o) (z -ℤ d)) r s
+    → ((z : ℤ) → IsInSet (dom_at r.doms o) z → IsInSet (dom_at r.doms v) (z -ℤ c)) → (z : ℤ) → IsInSet (dom_at s.doms o) z → IsInSet (dom_at s.doms v) (z -ℤ c)
+partners_still change v o c d r s apart turned h before z i =
+    let at_o : IsInSet (dom_at r.doms o) z =
+    subst (λ (e : List (ℤ × ℤ)). IsInSet e z) (other_stays change v o (λ w. IsInSet (dom_at r.doms o) (w -ℤ d)) r s h (λ e. apart (sym e))) i in
+    let back : ((z -ℤ c) -ℤ d) ≡ z = omega (arith, ints, turned) in
+    kept_in change v (λ w. IsInSet (dom_at r.doms o) (w -ℤ d)) r s h (z -ℤ c) (before z at_o) (rw back at_o)
+
+-- no assignment is lost whose number of v has its partner in o
+pub correct_partners : (change : Change) (v o : ℕ) (d : ℤ) (T : List ℤ → Type 0) (r s : Stored) → o < length r.doms → IsChangeAt change v (λ z. IsInSet (dom_at r.doms o) (z -ℤ d)) r s
+    → Shrinks r s → ((a : List ℤ) → T a → (number_at a v -ℤ d) ≡ number_at a o) → IsCorrectOf T r.doms s.doms
+correct_partners change v o d T r s is_o h shrinks partner a holds within =
+    within_kept change (Var v) (λ z. IsInSet (dom_at r.doms o) (z -ℤ d)) r s a h shrinks within (rw (partner a holds) (within.members o is_o))
+
+pub failed_partners : (v o : ℕ) (d : ℤ) (T : List ℤ → Type 0) (R : List (List (ℤ × ℤ)) → Type 0) (r s : Stored) → v < length r.doms → o < length r.doms
+    → IsChangeAt Wiped v (λ z. IsInSet (dom_at r.doms o) (z -ℤ d)) r s → ((a : List ℤ) → T a → (number_at a v -ℤ d) ≡ number_at a o) → IsAnswerOf Failed T R r.doms s.doms
+failed_partners v o d T R r s is_v is_o h partner a within holds =
+    none_kept (Var v) (λ z. IsInSet (dom_at r.doms o) (z -ℤ d)) r s h (number_at a v) (within.members v is_v) (rw (partner a holds) (within.members o is_o))
+
+-- ---- the line
+
+line_of_ends : (ds : List (List (ℤ × ℤ))) (x y : ℕ) (c : ℤ) → least (dom_at ds x) ≡ (least (dom_at ds y) +ℤ c) → greatest (dom_at ds x) ≡ (greatest (dom_at ds y) +ℤ c)
+    → least (dom_at ds y) ≤ℤ greatest (dom_at ds y) → DifferenceLine Equal x y c ds
+line_of_ends ds x y c low high rises = (
+  record { least_end = omega (arith, ints, low); greatest_end = omega (arith, ints, high); reached = omega (arith, ints, low, rises) },
+  record { least_end = omega (arith, ints, low); greatest_end = omega (arith, ints, high); reached = omega (arith, ints, high, rises) },
+)
+
+pub partnered_line : (ds : List (List (ℤ × ℤ))) (x y : ℕ) (c : ℤ) → AreDomains ds → x < length ds → y < length ds
+    → ((z : ℤ) → IsInSet (dom_at ds x) z → IsInSet (dom_at ds y) (z -ℤ c)) → ((z : ℤ) → IsInSet (dom_at ds y) z → IsInSet (dom_at ds x) (z +ℤ c)) → DifferenceLine Equal x y c ds
+partnered_line ds x y c domains is_x is_y partners back =
+    let sx = spanned ds (Var x) domains is_x in
+    let sy = spanned ds (Var y) domains is_y in
+    let a = sy.above (least (dom_at ds x) -ℤ c) (partners (least (dom_at ds x)) sx.low) in
+    let b = sx.above (least (dom_at ds y) +ℤ c) (back (least (dom_at ds y)) sy.low) in
+    let d = sy.below (greatest (dom_at ds x) -ℤ c) (partners (greatest (dom_at ds x)) sx.high) in
+    let e = sx.below (greatest (dom_at ds y) +ℤ c) (back (greatest (dom_at ds y)) sy.high) in
+    line_of_ends ds x y c (omega (arith, ints, a, b)) (omega (arith, ints, d, e)) (ends_rise (dom_at ds y) sy)
+
+-- where the first is fixed, and each number of the second has its partner in it
+pub fixed_partners : (ds : List (List (ℤ × ℤ))) (x y : ℕ) (c v : ℤ) → x < length ds → y < length ds → IsOnly (dom_at ds x) v
+    → ((z : ℤ) → IsInSet (dom_at ds y) z → IsInSet (dom_at ds x) (z +ℤ c)) → IsAnswerDifference Equal x y c Subsumed ds ds
+fixed_partners ds x y c v is_x is_y only back =
+    let at_y : (z : ℤ) → IsInSet (dom_at ds y) z → (z +ℤ c) ≡ v = λ z i. only_in (dom_at ds x) v (z +ℤ c) only (back z i) in (
+      (λ a within.
+          let p = only_in (dom_at ds x) v (number_at a x) only (within.members x is_x) in
+          let q = at_y (number_at a y) (within.members y is_y) in
+          omega (arith, ints, p, q)),
+      (λ es domains narrower.
+          let in_x : x < length es = subst (λ (n : ℕ). x < n) (sym narrower.size) is_x in
+          let in_y : y < length es = subst (λ (n : ℕ). y < n) (sym narrower.size) is_y in
+          let sx = spanned es (Var x) domains in_x in
+          let sy = spanned es (Var y) domains in_y in
+          let low = only_in (dom_at ds x) v (least (dom_at es x)) only (narrower.members x (least (dom_at es x)) sx.low) in
+          let high = only_in (dom_at ds x) v (greatest (dom_at es x)) only (narrower.members x (greatest (dom_at es x)) sx.high) in
+          let first = at_y (least (dom_at es y)) (narrower.members y (least (dom_at es y)) sy.low) in
+          let last = at_y (greatest (dom_at es y)) (narrower.members y (greatest (dom_at es y)) sy.high) in
+          line_of_ends es x y c (omega (arith, ints, low, first)) (omega (arith, ints, high, last)) (ends_rise (dom_at es y) sy)),
+    )
