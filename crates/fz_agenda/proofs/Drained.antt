@@ -1,6 +1,6 @@
 -- Draining keeps what is settled.
-use Rattle.std.proofs.Common.{◌≡◌, inl, inr, ℕ, ◌<◌, ◌≤◌, List, [], ◌∷◌, refl, sym, ◌∙◌, ap, subst, arith, length}
-use Rattle.std.specs.Prelude.{slice_get, slice_index, slice_index_or, Some}
+use Rattle.std.proofs.Common.{◌≡◌, inl, inr, ℕ, ◌<◌, List, [], ◌∷◌, refl, sym, ◌∙◌, ap, subst, arith, length}
+use Rattle.std.specs.Prelude.{slice_index, slice_index_or}
 use Rattle.std.specs.List.{AllByRecursion}
 use Rattle.std.proofs.lemmas.Bool.{cases_lt}
 use Rattle.std.proofs.lemmas.Option.{slice_get_within}
@@ -11,7 +11,7 @@ use Rattle.fz_strength.specs.Events.{Wait, level}
 use Rattle.fz_strength.specs.Lines.{waits}
 use Rattle.fz_prop.specs.Stores.{Stored, IsStore, IsListed, IsTaken, mark_at, without_first}
 use Rattle.fz_agenda.specs.Agendas.{IsSettled, AreWoken}
-use Rattle.fz_agenda.specs.Queues.{IsWoken, AreAwake}
+use Rattle.fz_agenda.specs.Queues.{IsWoken}
 use Rattle.fz_agenda.specs.Wakes.{Waking, waiting_at, IsListedAt, IsIndexOf, HaveSize, HasVariable, Extends, AllAwake, IsDraining}
 use Rattle.fz_agenda.proofs.Settled.{may_be_taken}
 use Rattle.fz_agenda.proofs.Woken.{one_awake, settled_woken}

@@ -1,5 +1,5 @@
 -- Lists by their places.
-use Rattle.std.proofs.Common.{◌≡◌, ℕ, zero, suc, ◌+◌, ◌<◌, List, [], ◌∷◌, ◌++◌, refl, sym, subst, arith, length, get_or, get_or-set_same, get_or-set_other, ◌∙◌, Result, Ok, Err}
+use Rattle.std.proofs.Common.{◌≡◌, ℕ, zero, suc, ◌<◌, List, [], ◌∷◌, ◌++◌, refl, sym, subst, arith, length, get_or, get_or-set_same, get_or-set_other, ◌∙◌, Result, Ok, Err}
 use Rattle.std.specs.Prelude.{OnOk, OnErr, slice_index_or, slice_set}
 use Rattle.fz_sets.proofs.Lists.{by_place}
 use Rattle.fz_prop.specs.Stores.{IsListed}

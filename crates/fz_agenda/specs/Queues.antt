@@ -3,20 +3,22 @@ use Rattle.std.specs.Prelude.{◌≡◌, ◌⊎◌, ℕ, ◌<◌, ◌≤◌, Lis
 use Rattle.std.specs.List.{AllByRecursion}
 use Rattle.fz_prop.specs.Stores.{IsListed}
 
--- it stands in the queue of some class
-pub record IsWaiting (queues : List (List ℕ)) (i : ℕ) : Type 0 where
+-- it stands in the queue of some class that isn't below the lowest one
+pub record IsWaiting (queues : List (List ℕ)) (lowest i : ℕ) : Type 0 where
   pub class : ℕ
+  pub above : lowest ≤ class
   pub listed : IsListed (slice_index_or queues class []) i
 
--- a queue for each of six classes; each propagator is idle, queued or gone (0, 1, 2), and one that is queued stands in a queue
-pub record IsAgenda (states : List ℕ) (queues : List (List ℕ)) : Type 0 where
+-- a queue for each of six classes; each propagator is idle, queued or gone (0, 1, 2), and one that is queued stands in a queue of
+-- the lowest class that has one, or of a later one
+pub record IsAgenda (states : List ℕ) (queues : List (List ℕ)) (lowest : ℕ) : Type 0 where
   pub classes : length queues ≡ 6
   pub known : (i : ℕ) → slice_index states i ≤ 2
-  pub waiting : (i : ℕ) → slice_index states i ≡ 1 → IsWaiting queues i
+  pub waiting : (i : ℕ) → slice_index states i ≡ 1 → IsWaiting queues lowest i
 
 -- those that are queued, and stand in some queue, stand in one still
-abbrev pub StillWaiting : List ℕ → List (List ℕ) → List (List ℕ) → Type 0
-StillWaiting states before after = (i : ℕ) → slice_index states i ≡ 1 → IsWaiting before i → IsWaiting after i
+abbrev pub StillWaiting : List ℕ → List (List ℕ) → ℕ → List (List ℕ) → ℕ → Type 0
+StillWaiting states before lowest after now = (i : ℕ) → slice_index states i ≡ 1 → IsWaiting before lowest i → IsWaiting after now i
 
 -- each is as it was, or was idle and is queued
 pub record IsWoken (states after : List ℕ) : Type 0 where

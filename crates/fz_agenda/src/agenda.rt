@@ -22,6 +22,8 @@ pub struct Agenda {
     states: Vec<u8>,
     /// One that stands in a queue and isn't queued any more is passed over.
     queues: Vec<Queue>,
+    /// Nothing is queued in a class below this one.
+    lowest: usize,
 }
 
 impl Model for Agenda {
@@ -32,7 +34,7 @@ impl Model for Agenda {
 
     ghost view = { λ a. a.states.items };
 
-    ghost invariant = { λ a. IsAgenda a.states.items a.queues.items };
+    ghost invariant = { λ a. IsAgenda a.states.items a.queues.items a.lowest };
 }
 
 impl Agenda {
@@ -45,7 +47,11 @@ impl Agenda {
     {
         let queues = empty_queues(alloc)?;
         let states = Vec::from_elem(alloc, IDLE, count)?;
-        Ok(Agenda { states, queues })
+        Ok(Agenda {
+            states,
+            queues,
+            lowest: 0,
+        })
     }
 
     /// The first that is queued, of the cheapest class.
@@ -54,7 +60,7 @@ impl Agenda {
         ensures none { IsNone result → IsAtRest self.new }
         ensures some { IfSome result (λ i. slice_index self.new i ≡ 1) }
     {
-        first_of(&mut self.queues, &self.states)
+        first_of(&mut self.queues, &mut self.lowest, &self.states)
     }
 
     /// Queues a propagator that is idle; one that is queued or gone stays what it is.
@@ -65,7 +71,13 @@ impl Agenda {
         ensures woken { IsWoken self.old self.new }
         ensures awake { OnOk result (place < length self.new → slice_index self.new place ≡ 0 → ⊥) }
     {
-        enqueue(&mut self.queues, &mut self.states, place, class_of(cost))
+        enqueue(
+            &mut self.queues,
+            &mut self.lowest,
+            &mut self.states,
+            place,
+            class_of(cost),
+        )
     }
 
     /// One that has run is idle.
@@ -73,7 +85,13 @@ impl Agenda {
         requires { place < length self.old }
         ensures { self.new ≡ slice_set self.old place 0 }
     {
-        finish(&mut self.queues, &mut self.states, place, IDLE);
+        finish(
+            &mut self.queues,
+            &mut self.lowest,
+            &mut self.states,
+            place,
+            IDLE,
+        );
     }
 
     /// One that has run is gone.
@@ -81,7 +99,13 @@ impl Agenda {
         requires { place < length self.old }
         ensures { self.new ≡ slice_set self.old place 2 }
     {
-        finish(&mut self.queues, &mut self.states, place, GONE);
+        finish(
+            &mut self.queues,
+            &mut self.lowest,
+            &mut self.states,
+            place,
+            GONE,
+        );
     }
 
     /// Another agenda that is the same.
@@ -94,7 +118,11 @@ impl Agenda {
         let alloc = *self.states.allocator();
         let queues = copies(alloc, &self.queues)?;
         let states = Vec::from_slice(alloc, &self.states)?;
-        Ok(Agenda { states, queues })
+        Ok(Agenda {
+            states,
+            queues,
+            lowest: self.lowest,
+        })
     }
 
     /// Becomes the same as another of as many propagators, and keeps its room.
@@ -107,6 +135,7 @@ impl Agenda {
     {
         clear(&mut self.states);
         overwrite(&mut self.queues, &other.queues)?;
+        self.lowest = other.lowest;
         self.states.copy_from_slice(&other.states);
         Ok(())
     }
@@ -203,31 +232,35 @@ fn first_in(queue: &mut Queue, states: &[u8]) -> Option<u32>
     None
 }
 
-/// The first of all queues that is queued; those before it leave their queues.
-fn first_of(queues: &mut Vec<Queue>, states: &[u8]) -> Option<u32>
+/// The first of all queues that is queued, from the lowest class on; those before it leave their queues.
+fn first_of(queues: &mut Vec<Queue>, lowest: &mut usize, states: &[u8]) -> Option<u32>
     ensures size { length queues.new.items ≡ length queues.old.items }
-    ensures kept { StillWaiting states.now queues.old.items queues.new.items }
-    ensures none { IsNone result → (i : ℕ) → IsWaiting queues.new.items i → ⊥ }
+    ensures kept { StillWaiting states.now queues.old.items lowest.old
+        queues.new.items lowest.new }
+    ensures none { IsNone result → (i : ℕ) → IsWaiting queues.new.items lowest.new i → ⊥ }
     ensures some { IfSome result (λ i. slice_index states.now i ≡ 1) }
 {
-    for class in 0..queues.len() {
+    for class in *lowest..queues.len() {
         if let Some(place) = first_in(&mut queues[class], states) {
+            *lowest = class;
             return Some(place);
         }
     }
+    *lowest = queues.len();
     None
 }
 
 /// Queues a propagator that is idle.
 fn enqueue(
     queues: &mut Vec<Queue>,
+    lowest: &mut usize,
     states: &mut Vec<u8>,
     place: u32,
     class: usize,
 ) -> Result<(), AllocError>
     requires class { class < 6 }
-    requires agenda { IsAgenda states.old.items queues.old.items }
-    ensures agenda { IsAgenda states.new.items queues.new.items }
+    requires agenda { IsAgenda states.old.items queues.old.items lowest.old }
+    ensures agenda { IsAgenda states.new.items queues.new.items lowest.new }
     ensures woken { IsWoken states.old.items states.new.items }
     ensures awake { OnOk result
         (place < length states.new.items → slice_index states.new.items place ≡ 0 → ⊥) }
@@ -236,6 +269,7 @@ fn enqueue(
         return Ok(());
     }
     queues[class].push(place)?;
+    *lowest = (*lowest).min(class);
     states[place as usize] = QUEUED;
     Ok(())
 }
@@ -251,13 +285,13 @@ fn is_idle(states: &[u8], place: u32) -> bool
 }
 
 /// One that has run is idle or gone, and leaves its queue.
-fn finish(queues: &mut Vec<Queue>, states: &mut Vec<u8>, place: u32, state: u8)
+fn finish(queues: &mut Vec<Queue>, lowest: &mut usize, states: &mut Vec<u8>, place: u32, state: u8)
     requires place { place < length states.old.items }
     requires state { (state ≡ 0) ⊎ (state ≡ 2) }
-    requires agenda { IsAgenda states.old.items queues.old.items }
+    requires agenda { IsAgenda states.old.items queues.old.items lowest.old }
     ensures states { states.new.items ≡ slice_set states.old.items place state }
-    ensures agenda { IsAgenda states.new.items queues.new.items }
+    ensures agenda { IsAgenda states.new.items queues.new.items lowest.new }
 {
     states[place as usize] = state;
-    let _ = first_of(queues, states);
+    let _ = first_of(queues, lowest, states);
 }
