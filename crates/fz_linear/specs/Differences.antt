@@ -1,6 +1,6 @@
 -- How the difference of two variables relates to a number: when an assignment makes it so, and what is left where its propagator
 -- rests.
-use Rattle.std.specs.Prelude.{◌≡◌, ◌⊎◌, ℕ, ℤ, pos, negsuc, neg_ℤ, ◌+ℤ◌, ◌-ℤ◌, ◌≤ℤ◌, List, [], ◌∷◌}
+use Rattle.std.specs.Prelude.{◌≡◌, ◌≢◌, ◌⊎◌, ℕ, ℤ, pos, negsuc, neg_ℤ, ◌+ℤ◌, ◌-ℤ◌, ◌≤ℤ◌, List, [], ◌∷◌}
 use Rattle.fz_dom.specs.Shape.{least, greatest}
 use Rattle.fz_spec.specs.declared.term.Term.{Term}
 use Rattle.fz_spec.specs.declared.term.Term.TheVariants.{Var}
@@ -9,6 +9,7 @@ use Rattle.fz_strength.specs.declared.relation.Relation.TheVariants.{Equal, NotE
 use Rattle.fz_strength.specs.Domains.{dom_at, number_at, Within}
 use Rattle.fz_strength.specs.Events.{IsFixedIn}
 use Rattle.fz_strength.specs.Relations.{Relates}
+use Rattle.fz_linear.specs.declared.difference.Difference.{Difference}
 use Rattle.fz_prop.specs.declared.answer.Answer.{Answer}
 use Rattle.fz_prop.specs.Answers.{IsAnswerOf}
 
@@ -16,6 +17,13 @@ use Rattle.fz_prop.specs.Answers.{IsAnswerOf}
 abbrev pub IsDifferenceOf : ℕ → ℕ → List ℤ → List Term → Type 0
 IsDifferenceOf x y ks ts =
     ((ks ≡ pos 1 ∷ negsuc 0 ∷ []) × (ts ≡ Var x ∷ Var y ∷ [])) ⊎ ((ks ≡ negsuc 0 ∷ pos 1 ∷ []) × (ts ≡ Var y ∷ Var x ∷ []))
+
+-- the first is to be so far above the second as the number of the sum says
+pub record IsDifferenceIn (d : Difference) (ks : List ℤ) (ts : List Term) (c : ℤ) : Type 0 where
+  pub sum : IsDifferenceOf d.first d.second ks ts
+  pub apart : d.first ≢ d.second
+  pub above : d.above ≡ c
+  pub below : d.below ≡ neg_ℤ c
 
 abbrev pub DifferenceTruth : Relation → ℕ → ℕ → ℤ → List ℤ → Type 0
 DifferenceTruth relation x y c a = Relates relation (number_at a x -ℤ number_at a y) c

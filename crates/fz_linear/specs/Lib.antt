@@ -4,5 +4,5 @@ pub mod Passes
 pub mod Sums
 pub mod Gaps
 pub mod Precisions
-pub mod Linears
 pub mod Differences
+pub mod Linears

@@ -1,5 +1,6 @@
 -- What the propagator of a linear constraint keeps.
-use Rattle.std.specs.Prelude.{◌≡◌, ◌+◌, ◌≤◌, ℕ, ℤ, List, length, drop, Some}
+use Rattle.std.specs.Prelude.{◌≡◌, ◌+◌, ◌≤◌, ℕ, ℤ, List, length, drop, Some, IfSome}
+use Rattle.std.specs.declared.option.Option.{Option}
 use Rattle.std.specs.List.{AllByRecursion}
 use Rattle.fz_spec.specs.declared.builtin.Builtin.{Builtin}
 use Rattle.fz_spec.specs.declared.limits.TheConstants.{ELEMENT_LIMIT}
@@ -9,7 +10,9 @@ use Rattle.fz_strength.specs.declared.relation.Relation.{Relation}
 use Rattle.fz_strength.specs.Events.{variables_of}
 use Rattle.fz_strength.specs.Sums.{sum_relation_of, left_factors, left_terms, right_number}
 use Rattle.fz_prop.specs.Stores.{FitsTerm}
+use Rattle.fz_linear.specs.Differences.{IsDifferenceIn}
 use Rattle.fz_linear.specs.Precisions.{Allows}
+use Rattle.fz_linear.specs.declared.difference.Difference.{Difference}
 use Rattle.fz_linear.specs.declared.narrow.Precision.{Precision}
 
 -- what stands on the left without the term that the sum is related to
@@ -24,8 +27,9 @@ pub record IsMoved (last : Term) (factors : List ℤ) (terms : List Term) (numbe
   pub number_is : number ≡ right_number last
 
 -- Its relation is that of its name; it has a factor for each term, not too many, with numbers within the limits, the term that the
--- sum is related to among them; its variables stand in a list; and its factors allow the bits in which its sum is added up.
-pub record IsLinear (name : Builtin) (relation : Relation) (factors : List ℤ) (terms : List Term) (number : ℤ) (last : Term) (variables : List ℕ) (precision : Precision) : Type 0 where
+-- sum is related to among them; its variables stand in a list; its factors allow the bits in which its sum is added up; and a
+-- difference that it keeps is its sum.
+pub record IsLinear (name : Builtin) (relation : Relation) (factors : List ℤ) (terms : List Term) (number : ℤ) (last : Term) (variables : List ℕ) (precision : Precision) (difference : Option Difference) : Type 0 where
   pub relation_is : sum_relation_of name ≡ Some relation
   pub same : length factors ≡ length terms
   pub few : length terms ≤ ELEMENT_LIMIT + 1
@@ -33,3 +37,4 @@ pub record IsLinear (name : Builtin) (relation : Relation) (factors : List ℤ) 
   pub moved : IsMoved last factors terms number
   pub variables_are : variables ≡ variables_of terms
   pub allowed : Allows precision factors
+  pub differs : IfSome difference (λ d. IsDifferenceIn d factors terms number)

@@ -9,7 +9,7 @@ ghost use Rattle.fz_strength.specs.Sums.{sum_event_of};
 ghost use Rattle.fz_strength.specs.Sums as sums;
 ghost use Rattle.fz_prop.specs.Answers.{IsCorrectOf, IsDecided};
 ghost use Rattle.fz_prop.specs.Stores.{Shrinks, IsStore, IsChangeAt};
-ghost use Rattle.fz_linear.specs.Differences.{IsDifferenceOf, DifferenceTruth, IsAnswerDifference};
+ghost use Rattle.fz_linear.specs.Differences.{IsDifferenceOf, IsDifferenceIn, DifferenceTruth, IsAnswerDifference};
 
 use fz_prop::terms::value_of;
 use fz_prop::{Answer, Change, Event, Store};
@@ -46,10 +46,7 @@ pub fn event_of(relation: Relation, factors: &[i32]) -> Event
 
 /// The difference that a sum is, if it is one of two variables.
 pub fn difference_of(factors: &[i32], terms: &[Term], number: i32) -> Option<Difference>
-    ensures sum { IfSome result (λ d. IsDifferenceOf d.first d.second factors.now terms.now) }
-    ensures apart { IfSome result (λ d. d.first ≢ d.second) }
-    ensures above { IfSome result (λ d. d.above ≡ number) }
-    ensures below { IfSome result (λ d. d.below ≡ neg_ℤ number) }
+    ensures { IfSome result (λ d. IsDifferenceIn d factors.now terms.now number) }
 {
     let (first, second) = pair_of(factors, terms)?;
     if first == second {

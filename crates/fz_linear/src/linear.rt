@@ -10,7 +10,7 @@ ghost use Rattle.fz_strength.specs.Promises.{IsCorrect, Suits};
 ghost use Rattle.fz_prop.specs.Answers.{IsAnswer, IsDecided};
 ghost use Rattle.fz_prop.specs.Stores.{Shrinks, FitsTerm};
 
-use crate::difference::event_of;
+use crate::difference::{Difference, difference_of, event_of};
 use crate::narrow::{Precision, precision_of};
 use crate::relate::relate_whole;
 use fz_prop::variables::variables_of;
@@ -35,6 +35,8 @@ pub struct Linear {
     variables: Vec<u32>,
     /// In how many bits the sum is added up.
     precision: Precision,
+    /// What the sum is where it is the difference of two variables.
+    difference: Option<Difference>,
 }
 
 impl Model for Linear {
@@ -51,7 +53,7 @@ impl Model for Linear {
     } };
 
     ghost invariant = { λ p. IsLinear p.name p.relation p.factors.items p.terms.items
-        p.number p.last p.variables.items p.precision };
+        p.number p.last p.variables.items p.precision p.difference };
 }
 
 impl Linear {
@@ -80,15 +82,18 @@ impl Linear {
         let terms = terms_left(alloc, terms, last)?;
         let variables = variables_of(alloc, &terms)?;
         let precision = precision_of(&factors);
+        let number = number_right(last);
+        let difference = difference_of(&factors, &terms, number);
         Ok(Linear {
             name,
             relation,
             factors,
             terms,
-            number: number_right(last),
+            number,
             last,
             variables,
             precision,
+            difference,
         })
     }
 }
@@ -143,6 +148,7 @@ impl Linear {
     {
         relate_whole(
             store,
+            self.difference,
             self.precision,
             self.relation,
             &self.factors,
@@ -189,6 +195,7 @@ impl Propagator for Linear {
             last: self.last,
             variables,
             precision: self.precision,
+            difference: self.difference,
         })
     }
 }

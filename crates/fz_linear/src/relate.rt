@@ -1,5 +1,5 @@
 //! How a sum relates to a number, and the relation that is true exactly where that one is false.
-ghost use Rattle.std.specs.Prelude.{◌≡◌, ◌≢◌, ◌+◌, ◌≤◌, List, length, IfOk};
+ghost use Rattle.std.specs.Prelude.{◌≡◌, ◌≢◌, ◌+◌, ◌≤◌, List, length, IfOk, IfSome};
 ghost use Rattle.std.specs.List.{AllByRecursion};
 ghost use Rattle.fz_spec.specs.declared.limits.TheConstants.{ELEMENT_LIMIT};
 ghost use Rattle.fz_strength.specs.declared.relation.Relation.TheVariants.{Below};
@@ -7,13 +7,14 @@ ghost use Rattle.fz_strength.specs.Events.{AllFixed};
 ghost use Rattle.fz_prop.specs.declared.answer.Answer.TheVariants.{Fix};
 ghost use Rattle.fz_prop.specs.Answers.{IsCorrectOf, IsDecided};
 ghost use Rattle.fz_prop.specs.Stores.{Shrinks, FitsTerm};
+ghost use Rattle.fz_linear.specs.Differences.{IsDifferenceIn};
 ghost use Rattle.fz_linear.specs.Terms.{AreTermsOf};
 ghost use Rattle.fz_linear.specs.Precisions.{Allows};
 ghost use Rattle.fz_linear.specs.Sums.{SumTruth, SumFalse, IsAnswerSum, IsAnswerAgainst};
 
 use crate::apart::keep_apart;
 use crate::bounded::{keep_above, keep_at_most, keep_equal};
-use crate::difference::{difference_of, keep_above_by, keep_apart_by};
+use crate::difference::{Difference, keep_above_by, keep_apart_by};
 use crate::narrow::Precision;
 use fz_prop::{Answer, Store};
 use fz_spec::term::Term;
@@ -53,13 +54,14 @@ pub fn relate_within(
     }
 }
 
-/// Narrows a store by how a sum relates to a number, as `relate_within` does; where the sum is the difference of two variables,
-/// which is to be the number or isn't, on whole domains.
+/// Narrows a store by how a sum relates to a number, as `relate_within` does; where the sum is known to be the difference of two
+/// variables, which is to be the number or isn't, on whole domains.
 ///
 /// # Errors
 /// As `relate_within`.
 pub fn relate_whole(
     store: &mut Store,
+    difference: Option<Difference>,
     precision: Precision,
     relation: Relation,
     factors: &[i32],
@@ -72,6 +74,7 @@ pub fn relate_whole(
     requires allowed { Allows precision factors.now }
     requires inside { AreTermsOf (length store.old.doms) terms.now }
     requires fits { AllByRecursion FitsTerm terms.now }
+    requires differs { IfSome difference (λ d. IsDifferenceIn d factors.now terms.now number) }
     ensures shrinks { Shrinks store.old store.new }
     ensures correct { IsCorrectOf (SumTruth relation factors.now terms.now number)
         store.old.doms store.new.doms }
@@ -79,7 +82,7 @@ pub fn relate_whole(
         (λ r. IsAnswerSum relation factors.now terms.now number r store.old.doms store.new.doms) }
     ensures checking { IfOk result (λ r. AllFixed store.old.doms terms.now → IsDecided r) }
 {
-    match (relation, difference_of(factors, terms, number)) {
+    match (relation, difference) {
         (Relation::Equal, Some(difference)) => keep_above_by(store, difference),
         (Relation::NotEqual, Some(difference)) => keep_apart_by(store, difference),
         _ => relate_within(store, precision, relation, factors, terms, number),
