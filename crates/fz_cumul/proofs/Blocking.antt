@@ -1,5 +1,5 @@
 -- A conflict blocks the starts at which a task would run while the parts that it meets last.
-use Rattle.std.proofs.Common.{◌≡◌, ◌≢◌, ℕ, List, arith}
+use Rattle.std.proofs.Common.{◌≡◌, ℕ, List, arith}
 use Rattle.std.specs.Prelude.{ℤ, pos, ◌+ℤ◌, ◌-ℤ◌, ◌≤ℤ◌, ◌<ℤ◌, slice_get, Some}
 use Rattle.std.specs.List.{AllByRecursion}
 use Rattle.std.proofs.lemmas.Int.{ints, by_lt_z}
@@ -8,7 +8,7 @@ use Rattle.fz_strength.specs.declared.open_task.OpenTask.{OpenTask}
 use Rattle.fz_strength.specs.Cumulatives.{IsSound, others_at}
 use Rattle.fz_cumul.specs.Findings.{IsFound}
 use Rattle.fz_cumul.specs.declared.finding.Finding.TheVariants.{Stuck, Later, Earlier}
-use Rattle.fz_cumul.specs.Tasks.{IsInPart, IsConflict, IsBlocked, IsStretch}
+use Rattle.fz_cumul.specs.Tasks.{IsConflict, IsBlocked, IsStretch}
 use Rattle.fz_cumul.proofs.Parts.{part_grows, others_grow}
 
 -- as long as the parts last the others use no less

@@ -1,12 +1,12 @@
 -- Where a task meets a time at which it passes the bound, by what the code compares.
 use Rattle.std.proofs.Common.{◌≡◌, ℕ, ◌+◌, ◌<◌, ◌≤◌, List, sym, ap, subst, ◌∙◌, arith, length, get_or, take, add-one}
-use Rattle.std.specs.Prelude.{ℤ, pos, ◌+ℤ◌, ◌-ℤ◌, ◌≤ℤ◌, ◌<ℤ◌, slice_get, Some}
+use Rattle.std.specs.Prelude.{ℤ, pos, ◌+ℤ◌, ◌≤ℤ◌, ◌<ℤ◌, slice_get, Some}
 use Rattle.std.specs.List.{AllByRecursion}
 use Rattle.std.proofs.lemmas.Int.{ints, by_lt_z}
 use Rattle.std.proofs.lemmas.List.{take_all}
 use Rattle.fz_sets.proofs.Lists.{all_more}
 use Rattle.fz_strength.specs.declared.open_task.OpenTask.{OpenTask}
-use Rattle.fz_strength.specs.Cumulatives.{IsSound, IsRoom, part_at, parts_at, others_at}
+use Rattle.fz_strength.specs.Cumulatives.{IsSound, IsRoom, parts_at, others_at}
 use Rattle.fz_cumul.specs.Tasks.{profile_of, IsMet, IsConflict}
 use Rattle.fz_cumul.proofs.Parts.{parts_split}
 use Rattle.fz_cumul.proofs.Peaks.{FitsAt, FitsAtStart, room_at}

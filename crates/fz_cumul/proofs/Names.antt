@@ -1,7 +1,6 @@
 -- The propagator by the name of its constraint, and its variables.
-use Rattle.std.proofs.Common.{◌≡◌, ℕ, List, length, map, sym}
+use Rattle.std.proofs.Common.{◌≡◌, ℕ, List, map, sym}
 use Rattle.std.specs.Prelude.{ℤ, slice_get, Some}
-use Rattle.std.specs.List.{AllByRecursion}
 use Rattle.fz_spec.specs.declared.term.Term.{Term}
 use Rattle.fz_strength.specs.declared.event.Event.TheVariants.{Bound}
 use Rattle.fz_strength.specs.Cumulatives.{terms_of_tasks}

@@ -1,5 +1,5 @@
 -- Where the line holds and all terms are fixed the constraint is true for good.
-use Rattle.std.proofs.Common.{◌≡◌, ◌<◌, ℕ, List, [], ◌∷◌, refl, sym, subst, ◌∙◌, length}
+use Rattle.std.proofs.Common.{List, [], ◌∷◌, sym, subst, ◌∙◌, length}
 use Rattle.std.specs.Prelude.{ℤ}
 use Rattle.std.specs.List.{AllByRecursion}
 use Rattle.fz_spec.specs.declared.term.Term.{Term}
@@ -7,7 +7,7 @@ use Rattle.fz_spec.specs.Constraints.{term_value}
 use Rattle.fz_strength.specs.declared.event.Event.TheVariants.{Bound}
 use Rattle.fz_strength.specs.Cumulatives.{terms_of_tasks}
 use Rattle.fz_strength.specs.Domains.{term_set, AreDomains, Within, IsNarrower}
-use Rattle.fz_strength.specs.Events.{IsQuiet, IsOnly, IsFixedIn, AllFixed, AreSingle}
+use Rattle.fz_strength.specs.Events.{IsQuiet, IsOnly, AllFixed, AreSingle}
 use Rattle.fz_strength.proofs.Cumulatives.{all_of_tasks, kept_cumulative, cumulative_true}
 use Rattle.fz_strength.proofs.Terms.{quiet_self}
 use Rattle.fz_prop.specs.declared.answer.Answer.{Answer}

@@ -1,6 +1,6 @@
 -- The tasks of an assignment beside what is known of them: where they share the resource they use no more than the bound at any
 -- time, and no task is blocked at its start.
-use Rattle.std.proofs.Common.{◌≡◌, ℕ, zero, suc, List, [], ◌∷◌, refl, sym, ap, subst, ◌∙◌, arith, length, inl, inr}
+use Rattle.std.proofs.Common.{◌≡◌, ℕ, zero, suc, List, [], ◌∷◌, refl, subst, arith, length, inl, inr}
 use Rattle.std.specs.Prelude.{ℤ, pos, ◌+ℤ◌, ◌≤ℤ◌, ◌<ℤ◌, slice_get, Some}
 use Rattle.std.specs.List.{AllByRecursion}
 use Rattle.std.proofs.lemmas.Int.{ints}
@@ -18,7 +18,7 @@ use Rattle.fz_prop.specs.Stores.{IsTermOf}
 use Rattle.fz_prop.proofs.Filled.{term_ranges}
 use Rattle.fz_prop.proofs.TermChanges.{term_within}
 use Rattle.fz_cumul.specs.Cumulatives.{TasksShare}
-use Rattle.fz_cumul.specs.Tasks.{IsInPart, IsBlocked}
+use Rattle.fz_cumul.specs.Tasks.{IsBlocked}
 use Rattle.fz_cumul.proofs.Parts.{cases_part, part_in, part_sound}
 use Rattle.fz_cumul.proofs.Peaks.{IsBoundedAt, bounded_always}
 

@@ -1,7 +1,6 @@
 -- What is found of tasks says what is to be done with a store.
-use Rattle.std.proofs.Common.{◌≡◌, ℕ, ◌<◌, ◌≤◌, List, refl, sym, ap, subst, ◌∙◌, arith, length}
-use Rattle.std.specs.Prelude.{ℤ, pos, ◌≤ℤ◌, ◌<ℤ◌, slice_get, Some}
-use Rattle.std.specs.List.{AllByRecursion}
+use Rattle.std.proofs.Common.{◌≡◌, ℕ, ◌<◌, List, sym, ap, subst, ◌∙◌, arith, length}
+use Rattle.std.specs.Prelude.{ℤ, pos, slice_get, Some}
 use Rattle.std.proofs.lemmas.Int.{ints, by_lt_z}
 use Rattle.std.proofs.lemmas.Option.{slice_get_within}
 use Rattle.fz_sets.proofs.Lists.{some_is, all_at}
@@ -10,19 +9,17 @@ use Rattle.fz_spec.specs.declared.term.Term.{Term}
 use Rattle.fz_spec.specs.Constraints.{term_value}
 use Rattle.fz_strength.specs.declared.open_task.OpenTask.{OpenTask}
 use Rattle.fz_strength.specs.Cumulatives.{open_tasks, terms_of_tasks}
-use Rattle.fz_strength.specs.Domains.{term_set, Within}
+use Rattle.fz_strength.specs.Domains.{term_set}
 use Rattle.fz_strength.specs.Events.{IsFixedIn}
 use Rattle.fz_strength.proofs.Cumulatives.{all_of_tasks}
 use Rattle.fz_prop.specs.Stores.{IsTermOf}
 use Rattle.fz_cumul.specs.Cumulatives.{TasksShare, TasksRest}
 use Rattle.fz_cumul.specs.Findings.{IsFoundOf}
 use Rattle.fz_cumul.specs.Outcomes.{IsStep}
-use Rattle.fz_cumul.specs.Tasks.{IsAt}
-use Rattle.fz_cumul.specs.declared.finding.Finding.{Finding}
 use Rattle.fz_cumul.specs.declared.finding.Finding.TheVariants.{Overload, Stuck, NegativeBound, NegativeDuration, NegativeUsage, Later, Earlier}
 use Rattle.fz_cumul.specs.declared.narrow.Step.{Step}
 use Rattle.fz_cumul.specs.declared.narrow.Step.TheVariants.{Fail, Raise, Lower}
-use Rattle.fz_cumul.proofs.Sharing.{IsSetting, HasTerms, terms_at, start_of, never_overloaded, task_shared}
+use Rattle.fz_cumul.proofs.Sharing.{IsSetting, terms_at, start_of, never_overloaded, task_shared}
 
 abbrev pub IsStepOf : List (List (ℤ × ℤ)) → List Term → List Term → List Term → Term → Step → Type 0
 IsStepOf ds ss dd us b step = IsStep step (terms_of_tasks ss dd us b) (TasksShare ss dd us b) (TasksRest ss dd us b) ds

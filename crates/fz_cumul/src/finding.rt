@@ -1,5 +1,5 @@
 //! What is found of tasks that share a bounded resource.
-ghost use Rattle.std.specs.Prelude.{◌≡◌, ℕ, ℤ, pos, negsuc, MatchOption, ◌<◌, ◌<ℤ◌, ◌≤ℤ◌, IsNone, IsTrue, ◌↔◌, IfSome, IfOk, List, length, slice_get, Some};
+ghost use Rattle.std.specs.Prelude.{◌≡◌, ℕ, ℤ, pos, ◌+ℤ◌, negsuc, MatchOption, ◌<◌, ◌<ℤ◌, ◌≤ℤ◌, IsNone, IsTrue, ◌↔◌, IfSome, IfOk, List, length, slice_get, Some};
 ghost use Rattle.std.specs.List.{AllByRecursion};
 ghost use Rattle.fz_strength.specs.Cumulatives.{IsSound, IsRoom, HasRoom};
 ghost use Rattle.fz_cumul.specs.Tasks.{IsAt, profile_of, IsConflict};
@@ -49,7 +49,7 @@ pub fn find(alloc: Global, tasks: &[OpenTask], low: i32, high: i32) -> Result<Fi
     if !are_within(&loads, high) {
         return Ok(Finding::Overload);
     }
-    match narrowing(tasks, &loads, high) {
+    match narrowing(tasks, &loads, peak(&loads), high) {
         Some(finding) => Ok(finding),
         None => Ok(Finding::Rest),
     }
@@ -83,26 +83,71 @@ fn are_within(loads: &[i128], bound: i32) -> bool
     true
 }
 
+/// The greatest of these, 0 where all are negative.
+fn peak(loads: &[i128]) -> i128
+    ensures above { AllByRecursion (λ load. load ≤ℤ result) loads.now }
+    ensures positive { pos 0 ≤ℤ result }
+{
+    let mut peak = 0;
+    for i in 0..loads.len() {
+        peak = greater(peak, loads[i]);
+    }
+    peak
+}
+
+/// The greater of two loads.
+fn greater(peak: i128, load: i128) -> i128
+    ensures peak { peak ≤ℤ result }
+    ensures load { load ≤ℤ result }
+{
+    peak.max(load)
+}
+
+/// Whether a task stays within a bound with others that use so much.
+fn is_small(task: OpenTask, peak: i128, high: i32) -> bool
+    ensures { IsTrue result → (peak +ℤ task.usage) ≤ℤ high }
+{
+    match peak.checked_add(i128::from(task.usage)) {
+        Some(load) => load <= i128::from(high),
+        None => false,
+    }
+}
+
 /// The first task that is blocked at its earliest or at its latest start.
-fn narrowing(tasks: &[OpenTask], loads: &[i128], high: i32) -> Option<Finding>
+fn narrowing(tasks: &[OpenTask], loads: &[i128], peak: i128, high: i32) -> Option<Finding>
     requires sound { AllByRecursion IsSound tasks.now }
     requires profile { loads.now ≡ profile_of tasks.now }
+    requires some { pos 0 ≤ℤ peak }
+    requires peak { AllByRecursion (λ load. load ≤ℤ peak) loads.now }
+    requires positive { pos 0 ≤ℤ high }
+    requires within { AllByRecursion (λ load. load ≤ℤ high) loads.now }
     ensures none { IsNone result → (place : ℕ) (task : OpenTask)
         → slice_get tasks.now place ≡ Some task → HasRoom tasks.now high place task }
     ensures some { IfSome result (λ f. (low : ℤ) → IsFound tasks.now low high f) }
 {
     for place in 0..tasks.len() {
-        if let Some(finding) = narrowing_at(tasks, loads, place, high) {
+        if let Some(finding) = narrowing_at(tasks, loads, place, peak, high) {
             return Some(finding);
         }
     }
     None
 }
 
-/// What is found of the task at a place.
-fn narrowing_at(tasks: &[OpenTask], loads: &[i128], place: usize, high: i32) -> Option<Finding>
+/// What is found of the task at a place: nothing where it fits upon the peak of the profile, nor where it can start at one time
+/// only, since what it uses is then in the profile, which is within the bound.
+fn narrowing_at(
+    tasks: &[OpenTask],
+    loads: &[i128],
+    place: usize,
+    peak: i128,
+    high: i32,
+) -> Option<Finding>
     requires sound { AllByRecursion IsSound tasks.now }
     requires profile { loads.now ≡ profile_of tasks.now }
+    requires some { pos 0 ≤ℤ peak }
+    requires peak { AllByRecursion (λ load. load ≤ℤ peak) loads.now }
+    requires positive { pos 0 ≤ℤ high }
+    requires within { AllByRecursion (λ load. load ≤ℤ high) loads.now }
     requires place { place < length tasks.now }
     ensures none { IsNone result → (task : OpenTask)
         → slice_get tasks.now place ≡ Some task → HasRoom tasks.now high place task }
@@ -113,6 +158,12 @@ fn narrowing_at(tasks: &[OpenTask], loads: &[i128], place: usize, high: i32) -> 
         return None;
     }
     if task.usage <= 0 {
+        return None;
+    }
+    if task.earliest == task.latest {
+        return None;
+    }
+    if is_small(task, peak, high) {
         return None;
     }
     blocked_at(tasks, loads, place, high)

@@ -4,7 +4,6 @@ use Rattle.std.proofs.Math.Facts.{to_z-of_z}
 use mir.Val.{SFits}
 use mir.Syntax.{w64}
 use Rattle.fz_strength.specs.Cumulatives.{part_at}
-use Rattle.fz_cumul.specs.Tasks.{IsPassed}
 use Rattle.fz_cumul.proofs.profile.passes.Goals as goal
 
 pub returns : goal.returns

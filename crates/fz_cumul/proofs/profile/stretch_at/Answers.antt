@@ -1,4 +1,4 @@
-use Rattle.std.proofs.Common.{◌≡◌, arith, get_or, pos, subst}
+use Rattle.std.proofs.Common.{arith, get_or, pos, subst}
 use Rattle.std.proofs.lemmas.Option.{slice_get-get_or}
 use Rattle.std.proofs.Math.Facts.{to_z-of_z}
 use Rattle.fz_strength.specs.declared.open_task.OpenTask.{OpenTask}

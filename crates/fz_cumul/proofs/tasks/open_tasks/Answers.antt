@@ -1,8 +1,8 @@
-use Rattle.std.proofs.Common.{◌≡◌, ◌<◌, rules, pos, get_or, arith, length, ◌∙◌}
+use Rattle.std.proofs.Common.{pos, arith, ◌∙◌}
 use Rattle.std.proofs.lemmas.List.{take_all}
 use Rattle.fz_spec.specs.declared.term.Term.{Term}
 use Rattle.fz_spec.specs.declared.term.Term.TheVariants.{Num}
-use Rattle.fz_strength.specs.Cumulatives.{open_task, open_tasks}
+use Rattle.fz_strength.specs.Cumulatives.{open_tasks}
 use Rattle.fz_cumul.proofs.Reading.{length_of_tasks, tasks_one_more}
 use Rattle.fz_cumul.proofs.tasks.open_tasks.Goals as goal
 

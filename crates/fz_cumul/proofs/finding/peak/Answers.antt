@@ -1,0 +1,24 @@
+use Rattle.std.proofs.Common.{rules, get_or, pos, arith}
+use Rattle.std.specs.Prelude.{◌≤ℤ◌}
+use Rattle.std.proofs.lemmas.Int.{ints}
+use Rattle.std.proofs.Math.Facts.{to_z-of_z}
+use mir.Val.{SFits, to_z}
+use mir.Syntax.{w128}
+use Rattle.fz_sets.proofs.Lists.{same_at}
+use Rattle.fz_cumul.proofs.Whole.{peak_more}
+use Rattle.fz_cumul.proofs.finding.peak.Goals as goal
+
+pub loop-i-preserved : goal.loop-i-preserved
+loop-i-preserved c =
+    let loads = c.args.loads.now in
+    let load = get_or loads c.loop-i.i (pos 0) in
+    let before = to_z w128 c.loop-i.peak-bits in
+    let fits : SFits w128 c.greater-peak.result = search rules in
+    let load_fits : SFits w128 load = search rules in
+    let rise : before ≤ℤ c.greater-peak.result = c.greater-peak.ensures.peak in
+    let here : load ≤ℤ c.greater-peak.result = rw (to_z-of_z load_fits) at c.greater-peak.ensures.load in
+    let positive : pos 0 ≤ℤ before = c.loop-i.invariant.positive in
+    rw (to_z-of_z fits) (record {
+      above = peak_more loads before c.greater-peak.result load c.loop-i.i c.loop-i-test.true (same_at loads c.loop-i.i (pos 0) load c.loop-i-test.true) rise here c.loop-i.invariant.above;
+      positive = omega (arith, ints, positive, rise);
+    })
