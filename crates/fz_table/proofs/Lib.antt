@@ -1,3 +1,4 @@
+pub mod RowSets
 pub mod Slices
 pub mod Starts
 pub mod Keeping

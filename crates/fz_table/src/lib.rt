@@ -2,6 +2,7 @@
 #![tactic(auto)]
 
 mod columns;
+mod row_set;
 mod rows;
 pub mod table;
 
