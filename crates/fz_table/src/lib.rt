@@ -4,6 +4,7 @@
 mod columns;
 mod row_set;
 mod rows;
+mod supports;
 pub mod table;
 
 pub use table::Table;
