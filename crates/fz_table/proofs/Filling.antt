@@ -61,12 +61,6 @@ made_same column k y none = λ n i. (
   (λ h. let kept = insert_keeps column k h.0 y h.1 h.2 in (kept.0, h.1, kept.1, h.3, h.4)),
 )
 
-pub made_sized : (column : List Support) (k count : ℕ) (y : Support) → length y.rows ≡ words_for count → AreSized column count → AreSized (insert column k y) count
-made_sized column k count y size h = λ j s at. elim (insert_in column k j y s at) [
-  | inl old ↦ h old.0 s old.1
-  | inr new ↦ subst (λ (t : Support). length t.rows ≡ words_for count) (sym new) size
-]
-
 -- ---- a row more
 
 pub added : (column : List Support) (k : ℕ) (y z : Support) (row : ℕ) → slice_get column k ≡ Some y → z.number ≡ y.number
@@ -98,17 +92,6 @@ added column k y z row at same rows = λ n i.
       ]),
     )
 
-pub added_sized : (column : List Support) (k count : ℕ) (z : Support) → k < length column → length z.rows ≡ words_for count → AreSized column count
-    → AreSized (set column k z) count
-added_sized column k count z inside size h = λ j s at. elim (cases_eq j k) [
-  | inl e ↦
-      let here : slice_get (set column k z) k ≡ Some s = subst (λ (i : ℕ). slice_get (set column k z) i ≡ Some s) e at in
-      let there : slice_get (set column k z) k ≡ Some z = set_at column k z inside in
-      let is : s ≡ z = cc (here, there) in
-      subst (λ (t : Support). length t.rows ≡ words_for count) (sym is) size
-  | inr ne ↦ h j s (sym (set_other column k j z ne) ∙ at)
-]
-
 -- ---- the rows of a column
 
 -- the number of a row at a place lies in the table
@@ -125,7 +108,7 @@ column_none table width place = record {
 }
 
 pub column_more : (table : List ℤ) (width place row : ℕ) (column new : List Support) (number : ℤ) → slice_get table (row * width + place) ≡ Some number
-    → AreSized new (length table / width) → ((n : ℤ) (i : ℕ) → HasNumber new n i ↔ (HasNumber column n i ⊎ ((n ≡ number) × (i ≡ row))))
+    → AreSized new (words_for (length table / width)) → ((n : ℤ) (i : ℕ) → HasNumber new n i ↔ (HasNumber column n i ⊎ ((n ≡ number) × (i ≡ row))))
     → IsColumnOf table width place row column → IsColumnOf table width place (row + 1) new
 column_more table width place row column new number at sized more h = record {
   sized = sized;

@@ -1,6 +1,7 @@
 pub mod RowSets
 pub mod Slices
 pub mod Filling
-pub mod Starts
+pub mod Finding
+pub mod LeftRows
 pub mod Keeping
 pub mod Names

@@ -1,12 +1,12 @@
 -- Sets of rows word by word.
-use Rattle.std.proofs.Common.{◌≡◌, ℕ, ◌+◌, ◌<◌, ◌≤◌, ◌/◌, ◌%◌, ◌*◌, ◌^◌, List, [], ◌∷◌, ◌⊎◌, inl, inr, refl, sym, ap, subst, ◌∙◌, arith, length, get_or, set}
+use Rattle.std.proofs.Common.{◌≡◌, ℕ, suc, replicate, ◌-◌, ◌+◌, ◌<◌, ◌≤◌, ◌/◌, ◌%◌, ◌*◌, ◌^◌, List, [], ◌∷◌, ◌⊎◌, inl, inr, refl, sym, ap, subst, ◌∙◌, arith, length, get_or, set}
 use Rattle.std.specs.Prelude.{◌↔◌, bit_and, bit_or}
 use Rattle.std.specs.Int.{bit_at, w64, trailing_zeros}
 use Rattle.std.proofs.lemmas.Bool.{cases_eq}
 use Rattle.std.proofs.lemmas.Bool.Decides.{leb_tells}
-use Rattle.std.proofs.lemmas.List.{get_or-set_same, get_or-set_other, get_or_past, length-set}
+use Rattle.std.proofs.lemmas.List.{get_or-set_same, get_or-set_other, get_or_past, length-set, get_or-replicate}
 use Rattle.std.proofs.lemmas.Nat.{and_le_l}
-use Rattle.std.proofs.lemmas.Nat.Bits.{bit_at-zero, bit_at_set_same, bit_at_set_other}
+use Rattle.std.proofs.lemmas.Nat.Bits.{bit_at-zero, bit_at_set_same, bit_at_set_other, bit_at_ones}
 use Rattle.fz_dom.proofs.Words.{and_bits, or_bits, first_bit, positive}
 use Rattle.fz_table.specs.RowSets.{HasRow}
 
@@ -130,3 +130,11 @@ some_common a b k x y is_x is_y some fits =
       rw (at.0, at.1) (subst (λ (w : ℕ). bit_at w bit ≡ 1) is_x both.0),
       rw (at.0, at.1) (subst (λ (w : ℕ). bit_at w bit ≡ 1) is_y both.1),
     )
+
+-- ---- all rows
+
+pub all_rows : (words : List ℕ) (count i : ℕ) → words ≡ replicate (suc (count / 64)) (2 ^ 64 - 1) → i < count → HasRow words i
+all_rows words count i is below =
+    let small : i % 64 < 64 = omega arith in
+    let inside : i / 64 < suc (count / 64) = omega (arith, below) in
+    rw (is, get_or-replicate (suc (count / 64)) (i / 64) (2 ^ 64 - 1) 0 inside) (bit_at_ones 64 (i % 64) small)

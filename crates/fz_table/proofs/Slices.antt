@@ -22,6 +22,12 @@ width_of s n = omega arith
 pub part_get : {X : Type 0} (xs : List X) (s n j : ℕ) → j < n → slice_get (slice_range xs s (s + n)) j ≡ slice_get xs (s + j)
 part_get xs s n j below = get_take (drop s xs) (s + n - s) j (omega (arith, below, width_of s n)) ∙ get_drop xs s j
 
+pub part_length : {X : Type 0} (xs : List X) (s n : ℕ) → s + n ≤ length xs → length (slice_range xs s (s + n)) ≡ n
+part_length xs s n inside =
+    let taken = length-take (s + n - s) (drop s xs) in
+    let dropped = length-drop s xs in
+    omega (arith, inside, taken, dropped)
+
 -- a part with all its elements lies in the list
 pub part_inside : {X : Type 0} (xs : List X) (s n : ℕ) → 0 < n → length (slice_range xs s (s + n)) ≡ n → s + n ≤ length xs
 part_inside xs s n some size =

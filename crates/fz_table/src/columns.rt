@@ -1,15 +1,17 @@
 //! Keeping each term to the numbers that stand at its place of the rows that are left.
-ghost use Rattle.std.specs.Prelude.{◌≡◌, ◌<◌, ◌+◌, ℕ, ℤ, length, IfOk, slice_get, Some};
+ghost use Rattle.std.specs.Prelude.{◌≡◌, ◌/◌, ℕ, length, IfOk};
 ghost use Rattle.std.specs.List.{AllByRecursion};
-ghost use Rattle.fz_sets.specs.Sets.{IsWithinLimits};
 ghost use Rattle.fz_strength.specs.Events.{AllFixed};
 ghost use Rattle.fz_strength.specs.Tables.{AreSupported};
 ghost use Rattle.fz_prop.specs.Answers.{IsAnswerOf, IsCorrectOf, IsDecided};
 ghost use Rattle.fz_prop.specs.Stores.{Shrinks, IsTermOf};
-ghost use Rattle.fz_table.specs.Rows.{IsRowAt, AreStarts, Stands, IsColumn};
+ghost use Rattle.fz_table.specs.RowSets.{HasRow, words_for};
+ghost use Rattle.fz_table.specs.Supports.{AreColumnsOf};
+ghost use Rattle.fz_table.specs.Rows.{IsRowAt, AreLeft};
 
-use crate::rows::starts_of;
-use fz_dom::Dom;
+use crate::row_set::RowSet;
+use crate::rows::rows_left;
+use crate::supports::Column;
 use fz_prop::terms::are_fixed;
 use fz_prop::{Answer, Change, Store};
 use fz_spec::term::Term;
@@ -22,8 +24,10 @@ pub fn keep_rows(
     store: &mut Store,
     terms: &[Term],
     table: &[i32],
+    columns: &[Column],
 ) -> Result<Answer, AllocError>
-    requires { AllByRecursion (IsTermOf (length store.old.doms)) terms.now }
+    requires terms { AllByRecursion (IsTermOf (length store.old.doms)) terms.now }
+    requires columns { AreColumnsOf table.now (length terms.now) columns.now }
     ensures shrinks { Shrinks store.old store.new }
     ensures correct { IsCorrectOf (IsRowAt terms.now table.now) store.old.doms store.new.doms }
     ensures answer { IfOk result
@@ -34,14 +38,14 @@ pub fn keep_rows(
     if terms.is_empty() {
         return Ok(Answer::Failed);
     }
-    let starts = starts_of(alloc, store, terms, table)?;
-    if starts.is_empty() {
+    let rows = rows_left(alloc, store, terms, table, columns)?;
+    if rows.is_empty() {
         return Ok(Answer::Failed);
     }
     if are_fixed(store, terms) {
         return Ok(Answer::Subsumed);
     }
-    keep_columns(alloc, store, terms, table, &starts)
+    keep_columns(alloc, store, terms, table, columns, &rows)
 }
 
 /// Keeps each variable to the numbers that stand at its place of the rows that are left.
@@ -50,11 +54,14 @@ fn keep_columns(
     store: &mut Store,
     terms: &[Term],
     table: &[i32],
-    starts: &[usize],
+    columns: &[Column],
+    rows: &RowSet,
 ) -> Result<Answer, AllocError>
     requires terms { AllByRecursion (IsTermOf (length store.old.doms)) terms.now }
-    requires starts { AreStarts terms.now table.now store.old.doms starts.now }
-    requires some { 0 < length starts.now }
+    requires columns { AreColumnsOf table.now (length terms.now) columns.now }
+    requires rows { AreLeft terms.now table.now store.old.doms rows.now }
+    requires size { length rows.now ≡ words_for (length table.now / length terms.now) }
+    requires some { (i : ℕ) × HasRow rows.now i }
     ensures shrinks { Shrinks store.old store.new }
     ensures correct { IsCorrectOf (IsRowAt terms.now table.now) store.old.doms store.new.doms }
     ensures answer { IfOk result
@@ -62,13 +69,14 @@ fn keep_columns(
         store.old.doms store.new.doms) }
 {
     let _ = store.doms();
+    let _ = table;
     let mut has_changed = false;
     for (place, term) in terms.iter().enumerate() {
         let Term::Var(variable) = *term else {
             continue;
         };
-        let column = column_of(alloc, table, starts, place)?;
-        match store.keep(variable, &column)? {
+        let numbers = columns[place].numbers_of(alloc, rows)?;
+        match store.keep(variable, &numbers)? {
             Change::Wiped => return Ok(Answer::Failed),
             Change::Changed => has_changed = true,
             Change::Same => {}
@@ -79,24 +87,4 @@ fn keep_columns(
     } else {
         Ok(Answer::Fix)
     }
-}
-
-/// The numbers that stand at a place of the rows that start at these.
-fn column_of(
-    alloc: Global,
-    table: &[i32],
-    starts: &[usize],
-    place: usize,
-) -> Result<Dom, AllocError>
-    requires inside { (k start : ℕ) → slice_get starts.now k ≡ Some start
-        → start + place < length table.now }
-    requires limits { (n : ℤ) → Stands table.now starts.now place n → IsWithinLimits n }
-    ensures { IfOk result (λ d. IsColumn table.now starts.now place d) }
-{
-    let mut numbers = Vec::new(alloc);
-    for start in starts {
-        let number = table[*start + place];
-        numbers.push((number, number))?;
-    }
-    Dom::from_ranges(alloc, &numbers)
 }

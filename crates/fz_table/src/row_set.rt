@@ -1,5 +1,5 @@
 //! Sets of rows.
-ghost use Rattle.std.specs.Prelude.{◌≡◌, ◌<◌, ◌/◌, ◌↔◌, ◌⊎◌, ℕ, length, IfOk, IsTrue};
+ghost use Rattle.std.specs.Prelude.{◌≡◌, ◌<◌, ◌/◌, ◌↔◌, ◌⊎◌, ℕ, length, IfOk, IsTrue, false};
 ghost use Rattle.fz_table.specs.RowSets.{HasRow, words_for};
 
 use std::alloc::{AllocError, Global};
@@ -29,6 +29,18 @@ impl RowSet {
         ensures size { IfOk result (λ s. length s ≡ words_for count) }
     {
         let words = Vec::from_elem(alloc, 0, count / 64 + 1)?;
+        Ok(RowSet { words })
+    }
+
+    /// Each of the rows.
+    ///
+    /// # Errors
+    /// `AllocError` where there is no memory.
+    pub fn all(alloc: Global, count: usize) -> Result<RowSet, AllocError>
+        ensures all { IfOk result (λ s. (i : ℕ) → i < count → HasRow s i) }
+        ensures size { IfOk result (λ s. length s ≡ words_for count) }
+    {
+        let words = Vec::from_elem(alloc, u64::MAX, count / 64 + 1)?;
         Ok(RowSet { words })
     }
 
@@ -86,7 +98,8 @@ impl RowSet {
 
     /// Whether no row is in the set.
     pub fn is_empty(&self) -> bool
-        ensures { IsTrue result ↔ ((i : ℕ) → HasRow self.now i → ⊥) }
+        ensures none { IsTrue result → (i : ℕ) → HasRow self.now i → ⊥ }
+        ensures some { result ≡ false → (i : ℕ) × HasRow self.now i }
     {
         !self.meets(self)
     }

@@ -9,6 +9,7 @@ ghost use Rattle.fz_prop.specs.Answers.{IsAnswer, IsDecided};
 ghost use Rattle.fz_prop.specs.Stores.{Shrinks};
 
 use crate::columns::keep_rows;
+use crate::supports::{Column, columns_of};
 use fz_prop::variables::variables_of;
 use fz_prop::{Answer, Cost, Event, Propagator, Store};
 use fz_spec::builtin::Builtin;
@@ -23,6 +24,7 @@ pub struct Table {
     terms: Vec<Term>,
     numbers: Vec<i32>,
     variables: Vec<u32>,
+    columns: Vec<Column>,
 }
 
 impl Model for Table {
@@ -37,7 +39,8 @@ impl Model for Table {
       arguments = Terms p.terms.items ∷ Numbers p.numbers.items ∷ [];
     } };
 
-    ghost invariant = { λ p. IsTableOf p.name p.terms.items p.variables.items };
+    ghost invariant = { λ p. IsTableOf p.name p.terms.items p.numbers.items
+        p.variables.items p.columns.items };
 }
 
 impl Table {
@@ -58,6 +61,7 @@ impl Table {
         }) }
     {
         let variables = variables_of(alloc, terms)?;
+        let columns = columns_of(alloc, numbers, terms.len())?;
         let terms = Vec::from_slice(alloc, terms)?;
         let numbers = Vec::from_slice(alloc, numbers)?;
         Ok(Table {
@@ -65,6 +69,7 @@ impl Table {
             terms,
             numbers,
             variables,
+            columns,
         })
     }
 
@@ -86,6 +91,7 @@ impl Table {
             store,
             &self.terms,
             &self.numbers,
+            &self.columns,
         )
     }
 }
@@ -119,11 +125,13 @@ impl Propagator for Table {
         let terms = Vec::from_slice(alloc, &self.terms)?;
         let numbers = Vec::from_slice(alloc, &self.numbers)?;
         let variables = Vec::from_slice(alloc, &self.variables)?;
+        let columns = columns_of(alloc, &self.numbers, self.terms.len())?;
         Ok(Table {
             name: self.name,
             terms,
             numbers,
             variables,
+            columns,
         })
     }
 }
