@@ -5,7 +5,7 @@ use Rattle.std.specs.List.{AllByRecursion}
 use Rattle.std.proofs.Math.Nat.{le-div_iff_mul-le, suc-mul}
 use Rattle.std.proofs.lemmas.Bool.{cases_eq}
 use Rattle.std.proofs.lemmas.List.{length-map}
-use Rattle.std.proofs.lemmas.Option.{slice_get_within, slice_get-map, slice_get-get_or}
+use Rattle.std.proofs.lemmas.Option.{slice_get_within, slice_get-map, slice_get-get_or, slice_get_read}
 use Rattle.fz_sets.specs.Sets.{IsInSet, IsWithinLimits}
 use Rattle.fz_sets.proofs.Lists.{all_at}
 use Rattle.fz_dom.proofs.Kept.{limits_of}
@@ -18,8 +18,8 @@ use Rattle.fz_prop.specs.Stores.{IsTermOf}
 use Rattle.fz_prop.proofs.TermChanges.{term_within}
 use Rattle.fz_table.specs.declared.supports.Support.{Support}
 use Rattle.fz_table.specs.RowSets.{HasRow, words_for}
-use Rattle.fz_table.specs.Supports.{IsColumnOf, IsNumberAt, IsLeftIn, StandsIn}
-use Rattle.fz_table.specs.Rows.{IsRowAt, IsLeftAt, AreLeft, Stands}
+use Rattle.fz_table.specs.Supports.{IsColumnOf, AreColumnsOf, IsNumberAt, IsLeftIn, StandsIn}
+use Rattle.fz_table.specs.Rows.{IsRowAt, IsLeftAt, AreLeft, Stands, IsColumn}
 use Rattle.fz_table.proofs.Slices.{part_get, part_inside, part_length}
 use Rattle.fz_table.proofs.Filling.{number_inside}
 
@@ -121,7 +121,7 @@ left_all xs table ds rows k some end h = λ i. (
             subst (IsInSet (term_set ds t)) same number.2;
       })),
   (λ left. h.all i (row_below xs table ds i some left) (λ j t n under at_t at_n.
-        left.within.each j t n at_t (part_get table (i * length xs) (length xs) j (slice_get_within xs j t at_t) ∙ at_n))),
+      left.within.each j t n at_t (part_get table (i * length xs) (length xs) j (slice_get_within xs j t at_t) ∙ at_n))),
 )
 
 -- ---- the values of an assignment
@@ -196,3 +196,17 @@ in_column xs table ds rows j column n some are is = (
   (λ h. (h.0, h.2, ((is.rows n h.0).0 h.1).1)),
   (λ h. (h.0, (is.rows n h.0).1 (row_below xs table ds h.0 some ((are h.0).0 h.1), h.2), h.1)),
 )
+
+-- a column of a table, by its place
+pub column_at : (table : List ℤ) (width k : ℕ) (columns : List (List Support)) (column : List Support) → k < width → AreColumnsOf table width columns
+    → column ≡ get_or columns k column → IsColumnOf table width k (length table / width) column
+column_at table width k columns column below are is =
+    let size = are.size in
+    are.each k column (slice_get_read columns (length columns) k column refl (omega (arith, size, below)) is)
+
+pub is_column : (xs : List Term) (table : List ℤ) (ds : List (List (ℤ × ℤ))) (rows : List ℕ) (j : ℕ) (column : List Support) (d : List (ℤ × ℤ)) → 0 < length xs
+    → AreLeft xs table ds rows → IsColumnOf table (length xs) j (length table / length xs) column → ((n : ℤ) → IsInSet d n ↔ StandsIn column rows n)
+    → IsColumn table (length xs) rows j d
+is_column xs table ds rows j column d some are is same = λ n.
+    let there = in_column xs table ds rows j column n some are is in
+    (λ h. there.0 ((same n).0 h), λ h. (same n).1 (there.1 h))

@@ -93,11 +93,7 @@ impl Column {
 ///
 /// # Errors
 /// `AllocError` where there is no memory.
-pub fn columns_of(
-    alloc: Global,
-    table: &[i32],
-    width: usize,
-) -> Result<Vec<Column>, AllocError>
+pub fn columns_of(alloc: Global, table: &[i32], width: usize) -> Result<Vec<Column>, AllocError>
     ensures { IfOk result (λ v. AreColumnsOf table.now width v.items) }
 {
     let mut columns = Vec::new(alloc);
@@ -109,12 +105,7 @@ pub fn columns_of(
 }
 
 /// The column at a place.
-fn column_of(
-    alloc: Global,
-    table: &[i32],
-    width: usize,
-    place: usize,
-) -> Result<Column, AllocError>
+fn column_of(alloc: Global, table: &[i32], width: usize, place: usize) -> Result<Column, AllocError>
     requires { place < width }
     ensures { IfOk result
         (λ c. IsColumnOf table.now width place (length table.now / width) c) }

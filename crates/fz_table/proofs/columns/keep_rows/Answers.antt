@@ -10,8 +10,8 @@ use Rattle.fz_table.proofs.columns.keep_rows.Goals as goal
 
 pub returns-then-are_fixed-clause-answer : goal.returns-then-are_fixed-clause-answer
 returns-then-are_fixed-clause-answer c =
-    let some : 0 < length c.in_ok-starts.starts.items = search rules in
-    fixed_answer c.args.terms.now c.args.table.now c.args.store.now.doms c.in_ok-starts.starts.items c.requires (c.if-are_fixed.ensures.0 refl) some c.in_ok-starts.ensures
+    fixed_answer c.args.terms.now c.args.table.now c.args.store.now.doms c.in_ok-rows.rows c.requires.terms (c.if-are_fixed.ensures.0 refl)
+    (c.if-is_empty-2.ensures.some refl) c.in_ok-rows.ensures.left
 
 pub returns-clause-checking : goal.returns-clause-checking
 returns-clause-checking c =
