@@ -8,7 +8,7 @@ use Rattle.std.proofs.lemmas.List.{length_push}
 use Rattle.std.proofs.lemmas.Option.{slice_get_within}
 use Rattle.fz_table.specs.declared.supports.Support.{Support}
 use Rattle.fz_table.specs.RowSets.{HasRow, words_for}
-use Rattle.fz_table.specs.Supports.{HasNumber, AreSized, IsNumberAt, IsColumnOf, AreColumnsOf}
+use Rattle.fz_table.specs.Supports.{HasNumber, AreSized, IsColumnOf, AreColumnsOf}
 use Rattle.fz_table.proofs.Slices.{get_last}
 
 -- ---- places of a list that is written or has an element more inside

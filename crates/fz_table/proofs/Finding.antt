@@ -7,7 +7,7 @@ use Rattle.fz_sets.specs.Sets.{IsInSet, IsWithinLimits, AreWithinLimits, AreOneS
 use Rattle.fz_prop.proofs.Grown.{in_more, in_before, in_last, limits_more}
 use Rattle.fz_table.specs.declared.supports.Support.{Support}
 use Rattle.fz_table.specs.RowSets.{HasRow}
-use Rattle.fz_table.specs.Supports.{HasNumber, StandsIn, IsLeftIn}
+use Rattle.fz_table.specs.Supports.{StandsIn, IsLeftIn}
 
 -- ---- the rows whose number is left
 

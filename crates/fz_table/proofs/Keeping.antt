@@ -1,10 +1,10 @@
 -- Keeping each variable to the numbers of its column.
-use Rattle.std.proofs.Common.{◌≡◌, ℕ, ◌+◌, ◌*◌, ◌<◌, ◌≤◌, List, [], ◌∷◌, ◌++◌, inl, inr, refl, sym, ap, subst, ◌∙◌, arith, length, true, false, Bool}
-use Rattle.std.specs.Prelude.{ℤ, slice_get, slice_range, Some, ◌↔◌}
+use Rattle.std.proofs.Common.{◌≡◌, ℕ, ◌+◌, ◌*◌, ◌<◌, ◌≤◌, List, [], ◌∷◌, inl, inr, refl, sym, ap, subst, ◌∙◌, arith, length, true, false, Bool}
+use Rattle.std.specs.Prelude.{ℤ, slice_get, slice_range, Some}
 use Rattle.std.specs.List.{AllByRecursion}
 use Rattle.std.proofs.lemmas.Bool.{cases_eq}
 use Rattle.std.proofs.lemmas.Option.{slice_get_within, slice_get_cases}
-use Rattle.fz_sets.specs.Sets.{IsInSet, IsWithinLimits, AreOneSet, AreWithinLimits}
+use Rattle.fz_sets.specs.Sets.{IsInSet}
 use Rattle.fz_sets.proofs.Lists.{all_at}
 use Rattle.fz_dom.specs.declared.change.Change.{Change}
 use Rattle.fz_dom.specs.declared.change.Change.TheVariants.{Same, Changed, Wiped}
@@ -20,7 +20,6 @@ use Rattle.fz_prop.specs.declared.answer.Answer.TheVariants.{Subsumed}
 use Rattle.fz_prop.specs.Answers.{IsAnswerOf, IsCorrectOf}
 use Rattle.fz_prop.specs.Stores.{Stored, Shrinks, IsTermOf, IsChangeAt}
 use Rattle.fz_prop.proofs.Filled.{still_only}
-use Rattle.fz_prop.proofs.Grown.{in_more, in_before, in_last, limits_more}
 use Rattle.fz_prop.proofs.Steps.{same_shrinks}
 use Rattle.fz_prop.proofs.TermChanges.{term_within, narrower_term, only_in, within_kept, none_kept}
 use Rattle.fz_prop.proofs.Twice.{shrinks_twice, room_after}

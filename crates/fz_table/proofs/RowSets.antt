@@ -1,5 +1,5 @@
 -- Sets of rows word by word.
-use Rattle.std.proofs.Common.{◌≡◌, ℕ, suc, replicate, ◌-◌, ◌+◌, ◌<◌, ◌≤◌, ◌/◌, ◌%◌, ◌*◌, ◌^◌, List, [], ◌∷◌, ◌⊎◌, inl, inr, refl, sym, ap, subst, ◌∙◌, arith, length, get_or, set}
+use Rattle.std.proofs.Common.{◌≡◌, ℕ, suc, replicate, ◌-◌, ◌+◌, ◌<◌, ◌≤◌, ◌/◌, ◌%◌, ◌*◌, ◌^◌, List, ◌⊎◌, inl, inr, refl, sym, ap, subst, ◌∙◌, arith, length, get_or, set}
 use Rattle.std.specs.Prelude.{◌↔◌, bit_and, bit_or}
 use Rattle.std.specs.Int.{bit_at, w64, trailing_zeros}
 use Rattle.std.proofs.lemmas.Bool.{cases_eq}

@@ -1,5 +1,5 @@
 -- What stands in the columns of a table, each number with the rows that have it there.
-use Rattle.std.specs.Prelude.{◌≡◌, ◌↔◌, ◌⊎◌, ℕ, ◌<◌, ◌+◌, ◌*◌, ◌/◌, ℤ, List, length, slice_get, Some}
+use Rattle.std.specs.Prelude.{◌≡◌, ◌↔◌, ℕ, ◌<◌, ◌+◌, ◌*◌, ◌/◌, ℤ, List, length, slice_get, Some}
 use Rattle.fz_sets.specs.Sets.{IsInSet}
 use Rattle.fz_table.specs.declared.supports.Support.{Support}
 use Rattle.fz_table.specs.RowSets.{HasRow, words_for}

@@ -79,7 +79,7 @@ impl Column {
         requires limits { (n : ℤ) → StandsIn self.now rows.now n → IsWithinLimits n }
         ensures { IfOk result (λ d. (n : ℤ) → IsInSet d n ↔ StandsIn self.now rows.now n) }
     {
-        let mut numbers = Vec::new(alloc);
+        let mut numbers = Vec::with_capacity(alloc, self.supports.len())?;
         for support in &self.supports {
             if support.rows.meets(rows) {
                 numbers.push(support.range())?;

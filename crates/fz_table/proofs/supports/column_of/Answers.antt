@@ -1,4 +1,4 @@
-use Rattle.std.proofs.Common.{◌≡◌, ◌+◌, ◌*◌, ◌/◌, ◌<◌, ◌≤◌, length, rules, pos, get_or, arith, w32}
+use Rattle.std.proofs.Common.{◌≡◌, ◌+◌, ◌*◌, rules, pos, get_or, w32}
 use Rattle.std.proofs.lemmas.Option.{slice_get-get_or}
 use mir.Val.{to_z, of_z}
 use Rattle.fz_table.proofs.Filling.{column_more, number_inside}

@@ -1,8 +1,7 @@
-use Rattle.std.proofs.Common.{◌≡◌, refl, length, List, ℕ, ◌<◌, ◌≤◌, rules}
+use Rattle.std.proofs.Common.{◌≡◌, refl, length, ◌≤◌, rules}
 use Rattle.std.specs.Prelude.{slice_get, Some}
 use Rattle.std.proofs.lemmas.Option.{slice_get_read}
 use Rattle.fz_strength.specs.Domains.{term_set}
-use Rattle.fz_table.specs.declared.supports.Support.{Support}
 use Rattle.fz_table.proofs.Finding.{AreFound, found_passed, found_more, found_all}
 use Rattle.fz_table.proofs.supports.Column.find.Goals.{then-is_left, else-is_left}
 use Rattle.fz_table.proofs.supports.Column.find.Goals as goal

@@ -1,10 +1,8 @@
-use Rattle.std.proofs.Common.{◌≡◌, refl, length, List, ◌<◌, ◌≤◌, rules, w32}
+use Rattle.std.proofs.Common.{◌≡◌, refl, length, List, ◌≤◌, rules}
 use Rattle.std.specs.Prelude.{ℤ, slice_get, Some, ◌↔◌}
 use Rattle.std.proofs.lemmas.Option.{slice_get_read}
 use Rattle.std.proofs.lemmas.Result.{IfOk-weaker}
-use mir.Val.{to_z, of_z}
 use Rattle.fz_sets.specs.Sets.{IsInSet, AreOneSet}
-use Rattle.fz_table.specs.declared.supports.Support.{Support}
 use Rattle.fz_table.specs.Supports.{StandsIn}
 use Rattle.fz_table.proofs.Finding.{AreNumbersBelow, numbers_passed, numbers_more, numbers_all}
 use Rattle.fz_table.proofs.supports.Column.numbers_of.Goals.{then-meets+in_ok-push, else-meets}
