@@ -1,13 +1,15 @@
 -- Keeping each variable to the numbers of its column.
 use Rattle.std.proofs.Common.{◌≡◌, ℕ, ◌+◌, ◌*◌, ◌<◌, ◌≤◌, List, [], ◌∷◌, inl, inr, refl, sym, ap, subst, ◌∙◌, arith, length, true, false, Bool}
-use Rattle.std.specs.Prelude.{ℤ, slice_get, slice_range, Some}
+use Rattle.std.specs.Prelude.{ℤ, slice_get, slice_range, Some, ◌↔◌}
 use Rattle.std.specs.List.{AllByRecursion}
 use Rattle.std.proofs.lemmas.Bool.{cases_eq}
 use Rattle.std.proofs.lemmas.Option.{slice_get_within, slice_get_cases}
-use Rattle.fz_sets.specs.Sets.{IsInSet}
+use Rattle.fz_sets.specs.Sets.{IsInSet, AreOneSet, AreWithinLimits}
 use Rattle.fz_sets.proofs.Lists.{all_at}
+use Rattle.fz_dom.specs.Shape.{IsDomain}
 use Rattle.fz_dom.specs.declared.change.Change.{Change}
 use Rattle.fz_dom.specs.declared.change.Change.TheVariants.{Same, Changed, Wiped}
+use Rattle.fz_dom.proofs.Kept.{limits_of}
 use Rattle.fz_spec.specs.declared.term.Term.{Term}
 use Rattle.fz_spec.specs.declared.term.Term.TheVariants.{Num, Var}
 use Rattle.fz_spec.specs.Constraints.{term_value}
@@ -23,8 +25,10 @@ use Rattle.fz_prop.proofs.Filled.{still_only}
 use Rattle.fz_prop.proofs.Steps.{same_shrinks}
 use Rattle.fz_prop.proofs.TermChanges.{term_within, narrower_term, only_in, within_kept, none_kept}
 use Rattle.fz_prop.proofs.Twice.{shrinks_twice, room_after}
+use Rattle.fz_table.specs.Spans.{IsFilled}
 use Rattle.fz_table.specs.RowSets.{HasRow}
-use Rattle.fz_table.specs.Rows.{IsRowAt, AreLeft, IsColumn}
+use Rattle.fz_table.specs.Rows.{IsRowAt, AreLeft, Stands}
+use Rattle.fz_table.proofs.Growing.{limits_by_numbers}
 use Rattle.fz_table.proofs.LeftRows.{value_stands, stands_supported}
 
 -- a list has a number at each place before its end
@@ -81,10 +85,10 @@ keeping_number xs table r s has_changed k m rows at some are h = record {
 }
 
 -- a variable keeps the numbers of its column
-pub keeping_same : (xs : List Term) (table : List ℤ) (r s t : Stored) (has_changed : Bool) (k v : ℕ) (rows : List ℕ) (column : List (ℤ × ℤ))
-    → slice_get xs k ≡ Some (Var v) → AreLeft xs table r.doms rows → IsColumn table (length xs) rows k column
-    → IsChangeAt Same v (λ x. IsInSet column x) s t → IsKeeping xs table r s has_changed k → IsKeeping xs table r t has_changed (k + 1)
-keeping_same xs table r s t has_changed k v rows column at are is_column change h =
+pub keeping_same : (xs : List Term) (table : List ℤ) (r s t : Stored) (has_changed : Bool) (k v : ℕ) (rows : List ℕ) (P : ℤ → Type 0)
+    → slice_get xs k ≡ Some (Var v) → AreLeft xs table r.doms rows → ((n : ℤ) → P n ↔ Stands table (length xs) rows k n)
+    → IsChangeAt Same v P s t → IsKeeping xs table r s has_changed k → IsKeeping xs table r t has_changed (k + 1)
+keeping_same xs table r s t has_changed k v rows P at are stands change h =
     subst (λ (u : Stored). IsKeeping xs table r u has_changed (k + 1)) (sym change.0) (record {
       shrinks = h.shrinks;
       correct = h.correct;
@@ -96,37 +100,37 @@ keeping_same xs table r s t has_changed k v rows column at are is_column change 
             let left : IsInSet (dom_at r.doms v) n = subst (λ (w : Term). IsInSet (term_set r.doms w) n) is_v is in
             let now : IsInSet (dom_at s.doms v) n = subst (λ (w : Stored). IsInSet (dom_at w.doms v) n) (sym (h.same e)) left in
             subst (λ (i : ℕ). IsSupported xs table r.doms i n) (sym one)
-            (stands_supported xs table r.doms rows k n (slice_get_within xs k (Var v) at) are ((is_column n).0 (change.1 n now)))
+            (stands_supported xs table r.doms rows k n (slice_get_within xs k (Var v) at) are ((stands n).0 (change.1 n now)))
         | inr other ↦ h.supported e j u n (omega (arith, below, other)) at_u is
       ];
     })
 
-pub keeping_correct : (change : Change) (xs : List Term) (table : List ℤ) (r s t : Stored) (k v : ℕ) (rows : List ℕ) (column : List (ℤ × ℤ))
-    → AllByRecursion (IsTermOf (length r.doms)) xs → slice_get xs k ≡ Some (Var v) → AreLeft xs table r.doms rows → IsColumn table (length xs) rows k column
-    → IsChangeAt change v (λ x. IsInSet column x) s t → Shrinks s t → IsCorrectOf (IsRowAt xs table) r.doms s.doms → IsCorrectOf (IsRowAt xs table) r.doms t.doms
-keeping_correct change xs table r s t k v rows column terms at are is_column h shrinks correct = λ a holds within.
-    within_kept change (Var v) (λ x. IsInSet column x) s t a h shrinks (correct a holds within)
-    ((is_column (term_value a (Var v))).1 (value_stands xs table r.doms rows a k (Var v) terms are at holds within))
+pub keeping_correct : (change : Change) (xs : List Term) (table : List ℤ) (r s t : Stored) (k v : ℕ) (rows : List ℕ) (P : ℤ → Type 0)
+    → AllByRecursion (IsTermOf (length r.doms)) xs → slice_get xs k ≡ Some (Var v) → AreLeft xs table r.doms rows → ((n : ℤ) → P n ↔ Stands table (length xs) rows k n)
+    → IsChangeAt change v P s t → Shrinks s t → IsCorrectOf (IsRowAt xs table) r.doms s.doms → IsCorrectOf (IsRowAt xs table) r.doms t.doms
+keeping_correct change xs table r s t k v rows P terms at are stands h shrinks correct = λ a holds within.
+    within_kept change (Var v) P s t a h shrinks (correct a holds within)
+    ((stands (term_value a (Var v))).1 (value_stands xs table r.doms rows a k (Var v) terms are at holds within))
 
-pub keeping_changed : (xs : List Term) (table : List ℤ) (r s t : Stored) (has_changed : Bool) (k v : ℕ) (rows : List ℕ) (column : List (ℤ × ℤ))
-    → AllByRecursion (IsTermOf (length r.doms)) xs → slice_get xs k ≡ Some (Var v) → AreLeft xs table r.doms rows → IsColumn table (length xs) rows k column
-    → IsChangeAt Changed v (λ x. IsInSet column x) s t → Shrinks s t → IsKeeping xs table r s has_changed k → IsKeeping xs table r t true (k + 1)
-keeping_changed xs table r s t has_changed k v rows column terms at are is_column change shrinks h = record {
+pub keeping_changed : (xs : List Term) (table : List ℤ) (r s t : Stored) (has_changed : Bool) (k v : ℕ) (rows : List ℕ) (P : ℤ → Type 0)
+    → AllByRecursion (IsTermOf (length r.doms)) xs → slice_get xs k ≡ Some (Var v) → AreLeft xs table r.doms rows → ((n : ℤ) → P n ↔ Stands table (length xs) rows k n)
+    → IsChangeAt Changed v P s t → Shrinks s t → IsKeeping xs table r s has_changed k → IsKeeping xs table r t true (k + 1)
+keeping_changed xs table r s t has_changed k v rows P terms at are stands change shrinks h = record {
   shrinks = shrinks_twice r s t h.shrinks shrinks;
-  correct = keeping_correct Changed xs table r s t k v rows column terms at are is_column change shrinks h.correct;
+  correct = keeping_correct Changed xs table r s t k v rows P terms at are stands change shrinks h.correct;
   falls = λ e. let before = room_after r s h.shrinks in let now = change.falls in omega (arith, before, now);
   same = λ e. absurd (cc (e));
   supported = λ e. absurd (cc (e));
 }
 
 -- no number of a variable is in its column
-pub keeping_fails : (xs : List Term) (table : List ℤ) (r s t : Stored) (has_changed : Bool) (k v : ℕ) (rows : List ℕ) (column : List (ℤ × ℤ))
-    → AllByRecursion (IsTermOf (length r.doms)) xs → slice_get xs k ≡ Some (Var v) → AreLeft xs table r.doms rows → IsColumn table (length xs) rows k column
-    → IsChangeAt Wiped v (λ x. IsInSet column x) s t → IsKeeping xs table r s has_changed k → (a : List ℤ) → Within r.doms a → IsRowAt xs table a → ⊥
-keeping_fails xs table r s t has_changed k v rows column terms at are is_column change h = λ a within holds.
+pub keeping_fails : (xs : List Term) (table : List ℤ) (r s t : Stored) (has_changed : Bool) (k v : ℕ) (rows : List ℕ) (P : ℤ → Type 0)
+    → AllByRecursion (IsTermOf (length r.doms)) xs → slice_get xs k ≡ Some (Var v) → AreLeft xs table r.doms rows → ((n : ℤ) → P n ↔ Stands table (length xs) rows k n)
+    → IsChangeAt Wiped v P s t → IsKeeping xs table r s has_changed k → (a : List ℤ) → Within r.doms a → IsRowAt xs table a → ⊥
+keeping_fails xs table r s t has_changed k v rows P terms at are stands change h = λ a within holds.
     let is_v : IsTermOf (length s.doms) (Var v) = subst (λ (n : ℕ). IsTermOf n (Var v)) (sym h.shrinks.narrower.size) (all_at (IsTermOf (length r.doms)) xs k (Var v) terms at) in
-    none_kept (Var v) (λ x. IsInSet column x) s t change (term_value a (Var v)) (term_within s.doms a (Var v) is_v (h.correct a holds within))
-    ((is_column (term_value a (Var v))).1 (value_stands xs table r.doms rows a k (Var v) terms are at holds within))
+    none_kept (Var v) P s t change (term_value a (Var v)) (term_within s.doms a (Var v) is_v (h.correct a holds within))
+    ((stands (term_value a (Var v))).1 (value_stands xs table r.doms rows a k (Var v) terms are at holds within))
 
 -- ---- the line
 
@@ -186,3 +190,28 @@ fixed_answer xs table ds rows terms fixed some are =
       (λ a within. single_row xs table ds a (singles xs ds a terms fixed within) left.0 left.1),
       (λ es domains narrower. fixed_line xs table ds es left.0 terms fixed domains narrower left.1),
     )
+
+-- ---- the numbers that stay
+
+-- what is kept of a variable by two properties that its numbers share
+pub change_by : (change : Change) (v : ℕ) (P Q : ℤ → Type 0) (s t : Stored) → ((x : ℤ) → IsInSet (dom_at s.doms v) x → P x ↔ Q x) → IsChangeAt change v P s t → IsChangeAt change v Q s t
+change_by Same v P Q s t same h = (h.0, λ x is. (same x is).0 (h.1 x is))
+change_by Wiped v P Q s t same h = (h.0, λ x is holds. h.1 x is ((same x is).1 holds))
+change_by Changed v P Q s t same h = record {
+  kept = λ x.
+      let kept = h.kept x in
+      (λ is. let was = kept.0 is in (was.0, (same x was.0).0 was.1), λ w. kept.1 (w.0, (same x w.0).1 w.1));
+  others = h.others;
+  whole = h.whole;
+  smaller = h.smaller;
+  filled = h.filled;
+  falls = h.falls;
+}
+
+pub numbers_limits : (dom numbers : List (ℤ × ℤ)) (P : ℤ → Type 0) → IsDomain dom → AllByRecursion IsFilled numbers → ((n : ℤ) → IsInSet numbers n ↔ (IsInSet dom n × P n))
+    → AreWithinLimits numbers
+numbers_limits dom numbers P domain filled are = limits_by_numbers numbers filled (λ n is. limits_of dom n domain ((are n).0 is).0)
+
+pub numbers_same : (dom numbers kept : List (ℤ × ℤ)) (P : ℤ → Type 0) → AreOneSet kept numbers → ((n : ℤ) → IsInSet numbers n ↔ (IsInSet dom n × P n))
+    → (n : ℤ) → IsInSet dom n → IsInSet kept n ↔ P n
+numbers_same dom numbers kept P one are n is = (λ h. ((are n).0 ((one n).0 h)).1, λ holds. (one n).1 ((are n).1 (is, holds)))

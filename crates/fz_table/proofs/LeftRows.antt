@@ -1,32 +1,25 @@
 -- Rows that lie in the domains: the loop over the columns that finds them, and that the values of an assignment are one of them.
-use Rattle.std.proofs.Common.{◌≡◌, ℕ, suc, ◌+◌, ◌*◌, ◌/◌, ◌<◌, ◌≤◌, List, [], ◌∷◌, inl, inr, refl, sym, ap, subst, ◌∙◌, arith, length, option_map, get_or, pos}
+use Rattle.std.proofs.Common.{◌≡◌, ℕ, suc, ◌+◌, ◌*◌, ◌/◌, ◌<◌, ◌≤◌, List, inl, inr, refl, sym, ap, subst, ◌∙◌, arith, length, option_map, get_or, pos}
 use Rattle.std.specs.Prelude.{ℤ, slice_get, slice_range, Some, ◌↔◌}
 use Rattle.std.specs.List.{AllByRecursion}
 use Rattle.std.proofs.Math.Nat.{le-div_iff_mul-le, suc-mul}
 use Rattle.std.proofs.lemmas.Bool.{cases_eq}
 use Rattle.std.proofs.lemmas.List.{length-map}
 use Rattle.std.proofs.lemmas.Option.{slice_get_within, slice_get-map, slice_get-get_or, slice_get_read}
-use Rattle.fz_sets.specs.Sets.{IsInSet, IsWithinLimits}
+use Rattle.fz_sets.specs.Sets.{IsInSet}
 use Rattle.fz_sets.proofs.Lists.{all_at}
-use Rattle.fz_dom.proofs.Kept.{limits_of}
 use Rattle.fz_spec.specs.declared.term.Term.{Term}
-use Rattle.fz_spec.specs.declared.term.Term.TheVariants.{Var}
 use Rattle.fz_spec.specs.Constraints.{term_value, term_values}
-use Rattle.fz_strength.specs.Domains.{dom_at, term_set, AreDomains, Within}
+use Rattle.fz_strength.specs.Domains.{term_set, Within}
 use Rattle.fz_strength.specs.Tables.{LieWithin, IsLeftRow, IsSupported}
 use Rattle.fz_prop.specs.Stores.{IsTermOf}
 use Rattle.fz_prop.proofs.TermChanges.{term_within}
 use Rattle.fz_table.specs.declared.supports.Support.{Support}
 use Rattle.fz_table.specs.RowSets.{HasRow, words_for}
-use Rattle.fz_table.specs.Supports.{IsColumnOf, AreColumnsOf, IsNumberAt, IsLeftIn, StandsIn}
-use Rattle.fz_table.specs.Rows.{IsRowAt, IsLeftAt, AreLeft, Stands, IsColumn}
+use Rattle.fz_table.specs.Supports.{HasNumber, AreSized, IsColumnOf, AreColumnsOf, IsNumberAt, IsLeftIn, StandsIn}
+use Rattle.fz_table.specs.Rows.{IsRowAt, IsLeftAt, AreLeft, Stands}
 use Rattle.fz_table.proofs.Slices.{part_get, part_inside, part_length}
-use Rattle.fz_table.proofs.Filling.{number_inside}
-
--- the first of some terms
-first_term : (xs : List Term) → 0 < length xs → (t : Term) × (slice_get xs 0 ≡ Some t)
-first_term [] some = absurd (omega (arith, some))
-first_term (t ∷ ts) some = (t, refl)
+use Rattle.fz_table.proofs.Building.{number_inside}
 
 -- ---- a row of the table
 
@@ -59,43 +52,59 @@ row_left xs table ds i some within =
 
 -- Each of these rows has, at each place before k, a number that is left, and each row that has only such numbers is one of them.
 pub record AreLeftBelow (xs : List Term) (table : List ℤ) (ds : List (List (ℤ × ℤ))) (rows : List ℕ) (k : ℕ) : Type 0 where
-  pub each : (i j : ℕ) (t : Term) → HasRow rows i → j < k → slice_get xs j ≡ Some t
-      → (n : ℤ) × IsNumberAt table (length xs) j (length table / length xs) i n × IsInSet (term_set ds t) n
+  pub below : (i : ℕ) → HasRow rows i → i < length table / length xs
+  pub each : (i j : ℕ) (t : Term) → HasRow rows i → j < k → slice_get xs j ≡ Some t → (n : ℤ) × IsNumberAt table (length xs) j i n × IsInSet (term_set ds t) n
   pub all : (i : ℕ) → i < length table / length xs
       → ((j : ℕ) (t : Term) (n : ℤ) → j < k → slice_get xs j ≡ Some t → slice_get table (i * length xs + j) ≡ Some n → IsInSet (term_set ds t) n) → HasRow rows i
   pub long : length rows ≡ words_for (length table / length xs)
 
-pub left_none : (xs : List Term) (table : List ℤ) (ds : List (List (ℤ × ℤ))) (rows : List ℕ) → ((i : ℕ) → i < length table / length xs → HasRow rows i)
+pub left_none : (xs : List Term) (table : List ℤ) (ds : List (List (ℤ × ℤ))) (rows : List ℕ) → ((i : ℕ) → HasRow rows i ↔ (i < length table / length xs))
     → length rows ≡ words_for (length table / length xs) → AreLeftBelow xs table ds rows 0
 left_none xs table ds rows every long = record {
+  below = λ i has. (every i).0 has;
   each = λ i j t has below. absurd (omega (arith, below));
-  all = λ i below h. every i below;
+  all = λ i below h. (every i).1 below;
   long = long;
 }
 
-pub left_more : (xs : List Term) (table : List ℤ) (ds : List (List (ℤ × ℤ))) (rows found new : List ℕ) (k : ℕ) (t : Term) (column : List Support)
-    → slice_get xs k ≡ Some t → IsColumnOf table (length xs) k (length table / length xs) column
-    → ((i : ℕ) → HasRow found i ↔ IsLeftIn column (term_set ds t) i) → ((i : ℕ) → HasRow new i ↔ (HasRow rows i × HasRow found i)) → length new ≡ length rows
+-- a row has a number at each place
+row_number : (table : List ℤ) (width k i : ℕ) (column : List Support) → k < width → i < length table / width → IsColumnOf table width k column
+    → (n : ℤ) × (slice_get table (i * width + k) ≡ Some n) × HasNumber column n i
+row_number table width k i column inside below is =
+    let place = i * width + k in
+    let n = get_or table place (pos 0) in
+    let there : slice_get table place ≡ Some n = slice_get-get_or table place (pos 0) (number_inside table width k i inside below) in
+    (n, there, (is.rows n i).1 (below, there))
+
+pub left_each : (xs : List Term) (table : List ℤ) (ds : List (List (ℤ × ℤ))) (rows : List ℕ) (k : ℕ) (column : List Support) → k < length xs → IsColumnOf table (length xs) k column
+    → AreLeftBelow xs table ds rows k → (i : ℕ) → HasRow rows i → (n : ℤ) × HasNumber column n i
+left_each xs table ds rows k column inside is h = λ i has. let w = row_number table (length xs) k i column inside (h.below i has) is in (w.0, w.2)
+
+pub left_sized : (xs : List Term) (table : List ℤ) (ds : List (List (ℤ × ℤ))) (rows : List ℕ) (k : ℕ) (column : List Support) → IsColumnOf table (length xs) k column
+    → AreLeftBelow xs table ds rows k → AreSized column (length rows)
+left_sized xs table ds rows k column is h = λ s in_column. subst (λ (size : ℕ). s.rows.word < size) (sym h.long) (is.sized s in_column)
+
+pub left_more : (xs : List Term) (table : List ℤ) (ds : List (List (ℤ × ℤ))) (rows new : List ℕ) (k : ℕ) (t : Term) (column : List Support) → slice_get xs k ≡ Some t
+    → IsColumnOf table (length xs) k column → ((i : ℕ) → HasRow new i ↔ (HasRow rows i × IsLeftIn column (term_set ds t) i)) → length new ≡ length rows
     → AreLeftBelow xs table ds rows k → AreLeftBelow xs table ds new (k + 1)
-left_more xs table ds rows found new k t column at is finds meets same h = record {
+left_more xs table ds rows new k t column at is keeps same h = record {
+  below = λ i has. h.below i ((keeps i).0 has).0;
   each = λ i j u has below at_u. elim (cases_eq j k) [
     | inl e ↦
-        let left = (finds i).0 ((meets i).0 has).1 in
+        let left = ((keeps i).0 has).1 in
         let here : slice_get xs k ≡ Some u = subst (λ (m : ℕ). slice_get xs m ≡ Some u) e at_u in
         let one : u ≡ t = cc (here, at) in (
           left.0,
-          subst (λ (m : ℕ). IsNumberAt table (length xs) m (length table / length xs) i left.0) (sym e) ((is.rows left.0 i).0 left.1),
+          subst (λ (m : ℕ). IsNumberAt table (length xs) m i left.0) (sym e) ((is.rows left.0 i).0 left.1),
           subst (λ (v : Term). IsInSet (term_set ds v) left.0) (sym one) left.2,
         )
-    | inr ne ↦ h.each i j u ((meets i).0 has).0 (omega (arith, below, ne)) at_u
+    | inr ne ↦ h.each i j u ((keeps i).0 has).0 (omega (arith, below, ne)) at_u
   ];
   all = λ i below within.
-      let place = i * length xs + k in
-      let n = get_or table place (pos 0) in
-      let there : slice_get table place ≡ Some n = slice_get-get_or table place (pos 0) (number_inside table (length xs) k i (slice_get_within xs k t at) below) in
-      (meets i).1 (
+      let w = row_number table (length xs) k i column (slice_get_within xs k t at) below is in
+      (keeps i).1 (
         h.all i below (λ j u m under. within j u m (omega (arith, under))),
-        (finds i).1 (n, (is.rows n i).1 (below, there), within k t n (omega arith) at there),
+        (w.0, w.2, within k t w.0 (omega arith) at w.1),
       );
   long = same ∙ h.long;
 }
@@ -104,9 +113,7 @@ pub left_all : (xs : List Term) (table : List ℤ) (ds : List (List (ℤ × ℤ)
     → AreLeftBelow xs table ds rows k → AreLeft xs table ds rows
 left_all xs table ds rows k some end h = λ i. (
   (λ has.
-      let first = first_term xs some in
-      let at_first = h.each i 0 first.0 has (omega (arith, some, end)) first.1 in
-      let below = at_first.1.0 in
+      let below = h.below i has in
       let start = i * length xs in
       let whole : start + length xs ≤ length table =
       subst (λ (m : ℕ). m ≤ length table) (suc-mul i (length xs)) ((le-div_iff_mul-le {k = length xs} {x = suc i} {y = length table} some).0 below) in
@@ -175,38 +182,19 @@ stands_supported xs table ds rows j n below are stands =
     let start = stands.0 * length xs in
     (slice_range table start (start + length xs), (are stands.0).0 stands.1, part_get table start (length xs) j below ∙ stands.2)
 
--- what stands at the place of a term is left of the term
-pub stands_left : (xs : List Term) (table : List ℤ) (ds : List (List (ℤ × ℤ))) (rows : List ℕ) (j : ℕ) (t : Term) (n : ℤ) → slice_get xs j ≡ Some t
-    → AreLeft xs table ds rows → Stands table (length xs) rows j n → IsInSet (term_set ds t) n
-stands_left xs table ds rows j t n at_t are stands =
-    let s = stands_supported xs table ds rows j n (slice_get_within xs j t at_t) are stands in
-    s.1.within.each j t n at_t s.2
-
-pub stands_limits : (xs : List Term) (table : List ℤ) (ds : List (List (ℤ × ℤ))) (rows : List ℕ) (j v : ℕ) (n : ℤ) → slice_get xs j ≡ Some (Var v) → v < length ds
-    → AreDomains ds → AreLeft xs table ds rows → Stands table (length xs) rows j n → IsWithinLimits n
-stands_limits xs table ds rows j v n at_t inside domains are stands =
-    limits_of (dom_at ds v) n (domains v inside).0 (stands_left xs table ds rows j (Var v) n at_t are stands)
-
 -- ---- what stands in a column
 
 -- a number of these rows in a column stands at its place of one of them, and the other way round
-pub in_column : (xs : List Term) (table : List ℤ) (ds : List (List (ℤ × ℤ))) (rows : List ℕ) (j : ℕ) (column : List Support) (n : ℤ) → 0 < length xs → AreLeft xs table ds rows
-    → IsColumnOf table (length xs) j (length table / length xs) column → StandsIn column rows n ↔ Stands table (length xs) rows j n
-in_column xs table ds rows j column n some are is = (
+pub in_column : (xs : List Term) (table : List ℤ) (ds : List (List (ℤ × ℤ))) (rows : List ℕ) (j : ℕ) (column : List Support) → 0 < length xs → AreLeft xs table ds rows
+    → IsColumnOf table (length xs) j column → (n : ℤ) → StandsIn column rows n ↔ Stands table (length xs) rows j n
+in_column xs table ds rows j column some are is n = (
   (λ h. (h.0, h.2, ((is.rows n h.0).0 h.1).1)),
   (λ h. (h.0, (is.rows n h.0).1 (row_below xs table ds h.0 some ((are h.0).0 h.1), h.2), h.1)),
 )
 
 -- a column of a table, by its place
 pub column_at : (table : List ℤ) (width k : ℕ) (columns : List (List Support)) (column : List Support) → k < width → AreColumnsOf table width columns
-    → column ≡ get_or columns k column → IsColumnOf table width k (length table / width) column
+    → column ≡ get_or columns k column → IsColumnOf table width k column
 column_at table width k columns column below are is =
     let size = are.size in
     are.each k column (slice_get_read columns (length columns) k column refl (omega (arith, size, below)) is)
-
-pub is_column : (xs : List Term) (table : List ℤ) (ds : List (List (ℤ × ℤ))) (rows : List ℕ) (j : ℕ) (column : List Support) (d : List (ℤ × ℤ)) → 0 < length xs
-    → AreLeft xs table ds rows → IsColumnOf table (length xs) j (length table / length xs) column → ((n : ℤ) → IsInSet d n ↔ StandsIn column rows n)
-    → IsColumn table (length xs) rows j d
-is_column xs table ds rows j column d some are is same = λ n.
-    let there = in_column xs table ds rows j column n some are is in
-    (λ h. there.0 ((same n).0 h), λ h. (same n).1 (there.1 h))

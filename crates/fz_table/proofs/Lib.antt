@@ -1,6 +1,8 @@
 pub mod RowSets
+pub mod Growing
 pub mod Slices
 pub mod Filling
+pub mod Building
 pub mod Finding
 pub mod LeftRows
 pub mod Keeping

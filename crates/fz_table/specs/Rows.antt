@@ -1,6 +1,5 @@
 -- A list of terms that takes the numbers of a row of a table: when an assignment makes it true, and what its propagator finds.
 use Rattle.std.specs.Prelude.{◌≡◌, ◌↔◌, ℕ, ◌+◌, ◌*◌, ℤ, List, length, slice_get, slice_range, Some}
-use Rattle.fz_sets.specs.Sets.{IsInSet}
 use Rattle.fz_spec.specs.declared.builtin.Builtin.{Builtin}
 use Rattle.fz_spec.specs.declared.term.Term.{Term}
 use Rattle.fz_spec.specs.Constraints.{term_values}
@@ -26,10 +25,6 @@ AreLeft xs table ds rows = (i : ℕ) → HasRow rows i ↔ IsLeftAt xs table ds 
 -- a number stands at this place of one of these rows, each of this width
 abbrev pub Stands : List ℤ → ℕ → List ℕ → ℕ → ℤ → Type 0
 Stands table width rows place n = (i : ℕ) × HasRow rows i × (slice_get table (i * width + place) ≡ Some n)
-
--- a set of the numbers that stand there
-abbrev pub IsColumn : List ℤ → ℕ → List ℕ → ℕ → List (ℤ × ℤ) → Type 0
-IsColumn table width rows place d = (n : ℤ) → IsInSet d n ↔ Stands table width rows place n
 
 -- the name says that terms are a row, their variables are listed, and the columns are the table's
 pub record IsTableOf (name : Builtin) (xs : List Term) (table : List ℤ) (variables : List ℕ) (columns : List (List Support)) : Type 0 where

@@ -1,9 +1,42 @@
 //! Sets of rows.
 ghost use Rattle.std.specs.Prelude.{◌≡◌, ◌<◌, ◌/◌, ◌↔◌, ◌⊎◌, ℕ, length, IfOk, IsTrue, false};
-ghost use Rattle.fz_table.specs.RowSets.{HasRow, words_for};
+ghost use Rattle.fz_table.specs.RowSets.{HasRow, IsOneOf, words_for};
 
 use std::alloc::{AllocError, Global};
 use std::marker::Model;
+
+/// Some of the 64 rows that one word of a set has bits for.
+#[derive(Clone, Copy, Drop)]
+pub struct Rows {
+    pub word: usize,
+    pub bits: u64,
+}
+
+impl Rows {
+    /// One row.
+    pub fn one(row: usize) -> Rows
+        ensures rows { (i : ℕ) → IsOneOf result i ↔ (i ≡ row) }
+        ensures word { result.word ≡ row / 64 }
+    {
+        let none = Rows {
+            word: row / 64,
+            bits: 0,
+        };
+        none.with(row)
+    }
+
+    /// These rows and another of the same word.
+    pub fn with(self, row: usize) -> Rows
+        requires { self.word ≡ row / 64 }
+        ensures rows { (i : ℕ) → IsOneOf result i ↔ (IsOneOf self i ⊎ (i ≡ row)) }
+        ensures word { result.word ≡ self.word }
+    {
+        Rows {
+            word: self.word,
+            bits: self.bits | 1 << (row % 64),
+        }
+    }
+}
 
 /// A set of rows, of as many as it was made for: one bit for each, 64 in a word.
 #[derive(Drop)]
@@ -37,10 +70,11 @@ impl RowSet {
     /// # Errors
     /// `AllocError` where there is no memory.
     pub fn all(alloc: Global, count: usize) -> Result<RowSet, AllocError>
-        ensures all { IfOk result (λ s. (i : ℕ) → i < count → HasRow s i) }
+        ensures rows { IfOk result (λ s. (i : ℕ) → HasRow s i ↔ (i < count)) }
         ensures size { IfOk result (λ s. length s ≡ words_for count) }
     {
-        let words = Vec::from_elem(alloc, u64::MAX, count / 64 + 1)?;
+        let mut words = Vec::from_elem(alloc, u64::MAX, count / 64 + 1)?;
+        words[count / 64] = (1 << (count % 64)) - 1;
         Ok(RowSet { words })
     }
 
@@ -52,24 +86,13 @@ impl RowSet {
         self.words.fill(0);
     }
 
-    /// Puts a row into the set.
-    pub fn insert(&mut self, row: usize)
-        requires { row / 64 < length self.old }
-        ensures rows { (i : ℕ) → HasRow self.new i ↔ (HasRow self.old i ⊎ (i ≡ row)) }
+    /// Puts rows into the set.
+    pub fn join(&mut self, rows: Rows)
+        requires { rows.word < length self.old }
+        ensures rows { (i : ℕ) → HasRow self.new i ↔ (HasRow self.old i ⊎ IsOneOf rows i) }
         ensures size { length self.new ≡ length self.old }
     {
-        self.words[row / 64] |= 1 << (row % 64);
-    }
-
-    /// Puts the rows of another set into this one.
-    pub fn join(&mut self, other: &RowSet)
-        requires { length self.old ≡ length other.now }
-        ensures rows { (i : ℕ) → HasRow self.new i ↔ (HasRow self.old i ⊎ HasRow other.now i) }
-        ensures size { length self.new ≡ length self.old }
-    {
-        for (place, word) in other.words.iter().enumerate() {
-            self.words[place] |= *word;
-        }
+        self.words[rows.word] |= rows.bits;
     }
 
     /// Keeps the rows that another set has too.
@@ -83,17 +106,12 @@ impl RowSet {
         }
     }
 
-    /// Whether another set has one of the rows.
-    pub fn meets(&self, other: &RowSet) -> bool
-        requires { length self.now ≡ length other.now }
-        ensures { IsTrue result ↔ ((i : ℕ) × HasRow self.now i × HasRow other.now i) }
+    /// Whether one of these rows is in the set.
+    pub fn meets(&self, rows: Rows) -> bool
+        requires { rows.word < length self.now }
+        ensures { IsTrue result ↔ ((i : ℕ) × HasRow self.now i × IsOneOf rows i) }
     {
-        for (place, word) in other.words.iter().enumerate() {
-            if self.words[place] & *word != 0 {
-                return true;
-            }
-        }
-        false
+        self.words[rows.word] & rows.bits != 0
     }
 
     /// Whether no row is in the set.
@@ -101,6 +119,11 @@ impl RowSet {
         ensures none { IsTrue result → (i : ℕ) → HasRow self.now i → ⊥ }
         ensures some { result ≡ false → (i : ℕ) × HasRow self.now i }
     {
-        !self.meets(self)
+        for word in &self.words {
+            if *word != 0 {
+                return false;
+            }
+        }
+        true
     }
 }

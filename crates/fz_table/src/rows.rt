@@ -6,8 +6,8 @@ ghost use Rattle.fz_table.specs.RowSets.{words_for};
 ghost use Rattle.fz_table.specs.Supports.{AreColumnsOf};
 ghost use Rattle.fz_table.specs.Rows.{AreLeft};
 
+use crate::column::Column;
 use crate::row_set::RowSet;
-use crate::supports::Column;
 use fz_prop::Store;
 use fz_spec::term::Term;
 use std::alloc::{AllocError, Global};
@@ -34,8 +34,7 @@ pub fn rows_left(
     let mut left = RowSet::all(alloc, count)?;
     let mut found = RowSet::none(alloc, count)?;
     for (place, column) in columns.iter().enumerate() {
-        column.find(store, terms[place], &mut found);
-        left.meet(&found);
+        column.keep_left(store, terms[place], &mut left, &mut found);
     }
     Ok(left)
 }

@@ -1,162 +1,117 @@
-//! The numbers that stand in the columns of a table, each with the rows that have it there.
-ghost use Rattle.std.specs.Prelude.{◌≡◌, ◌<◌, ◌/◌, ◌↔◌, ◌⊎◌, ℕ, ℤ, length, slice_get, Some, IfOk, OnOk, IsTrue};
-ghost use Rattle.fz_sets.specs.Sets.{IsInSet, IsWithinLimits};
-ghost use Rattle.fz_strength.specs.Domains.{term_set};
-ghost use Rattle.fz_prop.specs.Stores.{IsTermOf};
-ghost use Rattle.fz_table.specs.RowSets.{HasRow, words_for};
-ghost use Rattle.fz_table.specs.Supports.{HasNumber, AreSized, StandsIn, IsLeftIn, IsColumnOf, AreColumnsOf};
+//! Numbers with the rows that have them in a column of a table.
+ghost use Rattle.std.specs.Prelude.{◌≡◌, ◌≤ℤ◌, ◌/◌, ◌↔◌, ◌⊎◌, ℕ, ℤ, IfOk, OnOk, IsTrue};
+ghost use Rattle.fz_dom.specs.Changes.{IsFromTo};
+ghost use Rattle.fz_table.specs.RowSets.{IsOneOf};
+ghost use Rattle.fz_table.specs.Supports.{IsIn, AreInOrder, IsRising, HasNumber, IsPlaced, IsAdded};
 
-use crate::row_set::RowSet;
-use fz_dom::Dom;
-use fz_prop::Store;
-use fz_prop::terms::has;
-use fz_spec::term::Term;
+use crate::row_set::Rows;
 use std::alloc::{AllocError, Global};
-use std::marker::Model;
 
-/// A number of a column, and the rows that have it there.
-#[derive(Drop)]
+/// A number and some rows that have it.
+#[derive(Clone, Copy, Drop)]
 pub struct Support {
     pub number: i32,
-    pub rows: RowSet,
+    pub rows: Rows,
 }
 
 impl Support {
-    /// Whether its number is left of a term.
-    fn is_left(&self, store: &Store, term: Term) -> bool
-        requires { IsTermOf (length store.now.doms) term }
-        ensures { IsTrue result ↔ IsInSet (term_set store.now.doms term) self.now.number }
+    /// A number and one row.
+    fn one(number: i32, row: usize) -> Support
+        ensures number { result.number ≡ number }
+        ensures word { result.rows.word ≡ row / 64 }
+        ensures rows { (i : ℕ) → IsOneOf result.rows i ↔ (i ≡ row) }
     {
-        has(store, term, self.number)
-    }
-
-    /// Its number as a range.
-    fn range(&self) -> (i32, i32)
-        ensures { result ≡ (self.now.number, self.now.number) }
-    {
-        (self.number, self.number)
-    }
-}
-
-/// The numbers that stand at a place of the rows, from the lowest up.
-#[derive(Drop)]
-pub struct Column {
-    supports: Vec<Support>,
-}
-
-impl Model for Column {
-    ghost use Rattle.std.specs.Prelude.{List};
-    ghost use Rattle.fz_table.specs.declared.supports.Support.{Support};
-
-    ghost Value = { List Support };
-
-    ghost view = { λ c. c.supports.items };
-}
-
-impl Column {
-    /// Finds the rows whose number is left of a term.
-    pub fn find(&self, store: &Store, term: Term, rows: &mut RowSet)
-        requires term { IsTermOf (length store.now.doms) term }
-        requires sized { AreSized self.now (length rows.old) }
-        ensures rows { (i : ℕ) → HasRow rows.new i
-            ↔ IsLeftIn self.now (term_set store.now.doms term) i }
-        ensures size { length rows.new ≡ length rows.old }
-    {
-        rows.clear();
-        for support in &self.supports {
-            if support.is_left(store, term) {
-                rows.join(&support.rows);
-            }
+        Support {
+            number,
+            rows: Rows::one(row),
         }
     }
 
-    /// The numbers of some rows.
-    ///
-    /// # Errors
-    /// `AllocError` where there is no memory.
-    pub fn numbers_of(&self, alloc: Global, rows: &RowSet) -> Result<Dom, AllocError>
-        requires sized { AreSized self.now (length rows.now) }
-        requires limits { (n : ℤ) → StandsIn self.now rows.now n → IsWithinLimits n }
-        ensures { IfOk result (λ d. (n : ℤ) → IsInSet d n ↔ StandsIn self.now rows.now n) }
+    /// Whether it is the number's, and its rows are in one word with a row.
+    fn takes(self, number: i32, row: usize) -> bool
+        ensures { IsTrue result ↔ ((self.number ≡ number) × (self.rows.word ≡ row / 64)) }
     {
-        let mut numbers = Vec::with_capacity(alloc, self.supports.len())?;
-        for support in &self.supports {
-            if support.rows.meets(rows) {
-                numbers.push(support.range())?;
-            }
+        self.number == number && self.rows.word == row / 64
+    }
+
+    /// Its number, and another row with its own.
+    fn with(self, row: usize) -> Support
+        requires { self.rows.word ≡ row / 64 }
+        ensures number { result.number ≡ self.number }
+        ensures word { result.rows.word ≡ self.rows.word }
+        ensures rows { (i : ℕ) → IsOneOf result.rows i ↔ (IsOneOf self.rows i ⊎ (i ≡ row)) }
+    {
+        Support {
+            number: self.number,
+            rows: self.rows.with(row),
         }
-        Dom::from_ranges(alloc, &numbers)
     }
 }
 
-/// The columns of a table whose rows have a width.
+/// The supports of numbers and rows that have them, which come in the order of the numbers.
 ///
 /// # Errors
 /// `AllocError` where there is no memory.
-pub fn columns_of(alloc: Global, table: &[i32], width: usize) -> Result<Vec<Column>, AllocError>
-    ensures { IfOk result (λ v. AreColumnsOf table.now width v.items) }
+pub fn supports_of(alloc: Global, places: &[(i32, usize)]) -> Result<Vec<Support>, AllocError>
+    requires order { IsRising (λ p. p.0) places.now }
+    ensures order { IfOk result (λ v. AreInOrder v.items) }
+    ensures rows { IfOk result
+        (λ v. (n : ℤ) (i : ℕ) → HasNumber v.items n i ↔ IsPlaced places.now n i) }
+    ensures words { IfOk result (λ v. (s : Support) → IsIn s v.items
+        → (n : ℤ) × (i : ℕ) × IsPlaced places.now n i × (s.rows.word ≡ i / 64)) }
 {
-    let mut columns = Vec::new(alloc);
-    for place in 0..width {
-        let column = column_of(alloc, table, width, place)?;
-        columns.push(column)?;
-    }
-    Ok(columns)
-}
-
-/// The column at a place.
-fn column_of(alloc: Global, table: &[i32], width: usize, place: usize) -> Result<Column, AllocError>
-    requires { place < width }
-    ensures { IfOk result
-        (λ c. IsColumnOf table.now width place (length table.now / width) c) }
-{
-    let count = table.len() / width;
     let mut supports = Vec::new(alloc);
-    for row in 0..count {
-        let number = table[row * width + place];
-        add_row(alloc, &mut supports, count, row, number)?;
+    for place in places {
+        add(&mut supports, place.0, place.1)?;
     }
-    Ok(Column { supports })
+    Ok(supports)
 }
 
-/// Puts a row to its number.
-fn add_row(
-    alloc: Global,
-    column: &mut Vec<Support>,
-    count: usize,
-    row: usize,
-    number: i32,
-) -> Result<(), AllocError>
-    requires row { row < count }
-    requires sized { AreSized column.old.items (words_for count) }
-    ensures sized { OnOk result (AreSized column.new.items (words_for count)) }
-    ensures rows { OnOk result ((n : ℤ) (i : ℕ) → HasNumber column.new.items n i
-        ↔ (HasNumber column.old.items n i ⊎ ((n ≡ number) × (i ≡ row)))) }
+/// Adds a row that has a number which is no lower than those before it.
+fn add(supports: &mut Vec<Support>, number: i32, row: usize) -> Result<(), AllocError>
+    requires order { AreInOrder supports.old.items }
+    requires bound { (s : Support) → IsIn s supports.old.items → s.number ≤ℤ number }
+    ensures { OnOk result (IsAdded supports.old.items supports.new.items number row) }
 {
-    let place = place_of(alloc, column, count, number)?;
-    column[place].rows.insert(row);
+    let Some(last) = supports.pop() else {
+        supports.push(Support::one(number, row))?;
+        return Ok(());
+    };
+    if last.takes(number, row) {
+        supports.push(last.with(row))?;
+        return Ok(());
+    }
+    supports.push(last)?;
+    supports.push(Support::one(number, row))?;
     Ok(())
 }
 
-/// The place of a number in a column, which is put there without rows if it has none.
-fn place_of(
-    alloc: Global,
-    column: &mut Vec<Support>,
-    count: usize,
-    number: i32,
-) -> Result<usize, AllocError>
-    requires { AreSized column.old.items (words_for count) }
-    ensures sized { OnOk result (AreSized column.new.items (words_for count)) }
-    ensures rows { OnOk result ((n : ℤ) (i : ℕ) → HasNumber column.new.items n i
-        ↔ HasNumber column.old.items n i) }
-    ensures place { IfOk result
-        (λ k. (s : Support) × (slice_get column.new.items k ≡ Some s) × (s.number ≡ number)) }
+/// The supports of the numbers from a low to a high, both among them.
+pub fn between(supports: &[Support], low: i32, high: i32) -> &[Support]
+    requires { AreInOrder supports.now }
+    ensures { (s : Support) → IsIn s result.now
+        ↔ (IsIn s supports.now × IsFromTo low high s.number) }
 {
-    let place = column.partition_point(|support| support.number < number);
-    if place < column.len() && column[place].number == number {
-        return Ok(place);
-    }
-    let rows = RowSet::none(alloc, count)?;
-    column.insert(place, Support { number, rows })?;
-    Ok(place)
+    up_to(from(supports, low), high)
+}
+
+/// The supports of the numbers at or above a value.
+fn from(supports: &[Support], value: i32) -> &[Support]
+    requires { AreInOrder supports.now }
+    ensures supports { (s : Support) → IsIn s result.now
+        ↔ (IsIn s supports.now × (value ≤ℤ s.number)) }
+    ensures order { AreInOrder result.now }
+{
+    let start = supports.partition_point(|support| support.number < value);
+    &supports[start..]
+}
+
+/// The supports of the numbers at or below a value.
+fn up_to(supports: &[Support], value: i32) -> &[Support]
+    requires { AreInOrder supports.now }
+    ensures { (s : Support) → IsIn s result.now
+        ↔ (IsIn s supports.now × (s.number ≤ℤ value)) }
+{
+    let end = supports.partition_point(|support| support.number <= value);
+    &supports[..end]
 }

@@ -8,8 +8,9 @@ ghost use Rattle.fz_strength.specs.Tables.{IsTable};
 ghost use Rattle.fz_prop.specs.Answers.{IsAnswer, IsDecided};
 ghost use Rattle.fz_prop.specs.Stores.{Shrinks};
 
-use crate::columns::keep_rows;
-use crate::supports::{Column, columns_of};
+use crate::column::Column;
+use crate::columns::columns_of;
+use crate::keep::keep_rows;
 use fz_prop::variables::variables_of;
 use fz_prop::{Answer, Cost, Event, Propagator, Store};
 use fz_spec::builtin::Builtin;

@@ -1,15 +1,12 @@
-use Rattle.std.proofs.Common.{◌≡◌, ◌≤◌, length, rules}
-use Rattle.std.specs.Prelude.{bit_or}
-use Rattle.fz_table.proofs.RowSets.{AreMade, joined_all}
+use Rattle.std.proofs.Common.{◌∙◌, ◌<◌, length}
+use Rattle.std.proofs.lemmas.List.{get_or_default}
+use Rattle.fz_table.proofs.RowSets.{joined}
 use Rattle.fz_table.proofs.row_set.RowSet.join.Goals as goal
 
 pub returns-clause-rows : goal.returns-clause-rows
-returns-clause-rows c =
-    let old = c.self.inside.words.items in
-    let other = c.other.inside.words.items in
-    let new = c.loop-place.self-inside.words.items in
-    let k = c.loop-place.place in
-    let same : length old ≡ length other = rw (← c.self.view_is, ← c.other.view_is) at c.requires in
-    let made : AreMade bit_or old other new k = rw c.deref-word-items.ensures.value at c.loop-place.invariant in
-    let end : length other ≤ k = let past = c.loop-place-test.false in let long = c.deref-word-items.ensures.value in search (rules, past, long) in
-    rw (← c.self.view_is, ← c.other.view_is) (joined_all old other new k same end made)
+returns-clause-rows c = λ i.
+    let words = c.self.inside.words.items in
+    let rows = c.args.rows in
+    let word = c.index_mut.result.now in
+    let inside : rows.word < length words = rw (← c.self.view_is) at c.requires in
+    rw (← c.self.view_is) (joined words rows word inside (c.index_mut.ensures.value ∙ get_or_default words rows.word word 0 inside) i)
