@@ -1,13 +1,15 @@
 -- Keeping each variable to the numbers of its column.
-use Rattle.std.proofs.Common.{◌≡◌, ℕ, ◌+◌, ◌<◌, ◌≤◌, List, [], ◌∷◌, ◌++◌, inl, inr, refl, sym, ap, subst, ◌∙◌, arith, length, true, false, Bool}
+use Rattle.std.proofs.Common.{◌≡◌, ℕ, ◌+◌, ◌*◌, ◌<◌, ◌≤◌, List, [], ◌∷◌, inl, inr, refl, sym, ap, subst, ◌∙◌, arith, length, true, false, Bool}
 use Rattle.std.specs.Prelude.{ℤ, slice_get, slice_range, Some, ◌↔◌}
 use Rattle.std.specs.List.{AllByRecursion}
 use Rattle.std.proofs.lemmas.Bool.{cases_eq}
 use Rattle.std.proofs.lemmas.Option.{slice_get_within, slice_get_cases}
-use Rattle.fz_sets.specs.Sets.{IsInSet, IsWithinLimits, AreOneSet, AreWithinLimits}
+use Rattle.fz_sets.specs.Sets.{IsInSet, AreOneSet, AreWithinLimits}
 use Rattle.fz_sets.proofs.Lists.{all_at}
+use Rattle.fz_dom.specs.Shape.{IsDomain}
 use Rattle.fz_dom.specs.declared.change.Change.{Change}
 use Rattle.fz_dom.specs.declared.change.Change.TheVariants.{Same, Changed, Wiped}
+use Rattle.fz_dom.proofs.Kept.{limits_of}
 use Rattle.fz_spec.specs.declared.term.Term.{Term}
 use Rattle.fz_spec.specs.declared.term.Term.TheVariants.{Num, Var}
 use Rattle.fz_spec.specs.Constraints.{term_value}
@@ -20,58 +22,14 @@ use Rattle.fz_prop.specs.declared.answer.Answer.TheVariants.{Subsumed}
 use Rattle.fz_prop.specs.Answers.{IsAnswerOf, IsCorrectOf}
 use Rattle.fz_prop.specs.Stores.{Stored, Shrinks, IsTermOf, IsChangeAt}
 use Rattle.fz_prop.proofs.Filled.{still_only}
-use Rattle.fz_prop.proofs.Grown.{in_more, in_before, in_last, limits_more}
 use Rattle.fz_prop.proofs.Steps.{same_shrinks}
 use Rattle.fz_prop.proofs.TermChanges.{term_within, narrower_term, only_in, within_kept, none_kept}
 use Rattle.fz_prop.proofs.Twice.{shrinks_twice, room_after}
-use Rattle.fz_table.specs.Rows.{IsRowAt, AreStarts, IsColumn}
-use Rattle.fz_table.proofs.Starts.{row_inside, value_stands, stands_supported}
-
--- ---- the numbers of a column
-
--- the numbers of the rows before the i-th start
-pub record AreColumnBelow (table : List ℤ) (starts : List ℕ) (place : ℕ) (numbers : List (ℤ × ℤ)) (i : ℕ) : Type 0 where
-  pub are : (n : ℤ) → IsInSet numbers n ↔ ((k : ℕ) × (start : ℕ) × (k < i) × (slice_get starts k ≡ Some start) × (slice_get table (start + place) ≡ Some n))
-  pub limits : AreWithinLimits numbers
-
-pub column_none : (table : List ℤ) (starts : List ℕ) (place : ℕ) → AreColumnBelow table starts place [] 0
-column_none table starts place = record {
-  are = λ n. ((λ is. absurd is), (λ h. let below = h.2 in absurd (omega (arith, below))));
-  limits = tt;
-}
-
-pub column_more : (table : List ℤ) (starts : List ℕ) (place : ℕ) (numbers : List (ℤ × ℤ)) (i start : ℕ) (m : ℤ) → slice_get starts i ≡ Some start
-    → slice_get table (start + place) ≡ Some m → IsWithinLimits m → AreColumnBelow table starts place numbers i
-    → AreColumnBelow table starts place (numbers ++ (m, m) ∷ []) (i + 1)
-column_more table starts place numbers i start m at_start at_m within h = record {
-  are = λ n. (
-    (λ is. elim (in_more numbers m n is) [
-      | inl before ↦ let w = (h.are n).0 before in let below = w.2 in (w.0, w.1, omega (arith, below), w.3, w.4)
-      | inr same ↦ (i, start, omega arith, at_start, at_m ∙ ap (λ (x : ℤ). Some x) (sym same))
-    ]),
-    (λ w. elim (cases_eq w.0 i) [
-      | inl e ↦
-          let there : slice_get starts i ≡ Some w.1 = subst (λ (k : ℕ). slice_get starts k ≡ Some w.1) e w.3 in
-          let one : w.1 ≡ start = cc (there, at_start) in
-          let number : slice_get table (start + place) ≡ Some n = subst (λ (s : ℕ). slice_get table (s + place) ≡ Some n) one w.4 in
-          in_last numbers m n (cc (number, at_m))
-      | inr ne ↦ let below = w.2 in in_before numbers m n ((h.are n).1 (w.0, w.1, omega (arith, below, ne), w.3, w.4))
-    ]),
-  );
-  limits = limits_more numbers m h.limits within;
-}
-
-pub column_all : (table : List ℤ) (starts : List ℕ) (place : ℕ) (numbers d : List (ℤ × ℤ)) (i : ℕ) → length starts ≤ i → AreOneSet d numbers
-    → AreColumnBelow table starts place numbers i → IsColumn table starts place d
-column_all table starts place numbers d i end same h = λ n. (
-  (λ is. let w = (h.are n).0 ((same n).0 is) in (w.0, w.1, w.3, w.4)),
-  (λ s. let inside = slice_get_within starts s.0 s.1 s.2 in (same n).1 ((h.are n).1 (s.0, s.1, omega (arith, end, inside), s.2, s.3))),
-)
-
-pub place_inside : (xs : List Term) (table : List ℤ) (ds : List (List (ℤ × ℤ))) (starts : List ℕ) (place : ℕ) → place < length xs → AreStarts xs table ds starts
-    → (k start : ℕ) → slice_get starts k ≡ Some start → start + place < length table
-place_inside xs table ds starts place below are = λ k start at.
-    let inside = row_inside xs table ds start (omega (arith, below)) (are.each k start at) in omega (arith, below, inside)
+use Rattle.fz_table.specs.Spans.{IsFilled}
+use Rattle.fz_table.specs.RowSets.{HasRow}
+use Rattle.fz_table.specs.Rows.{IsRowAt, AreLeft, Stands}
+use Rattle.fz_table.proofs.Growing.{limits_by_numbers}
+use Rattle.fz_table.proofs.LeftRows.{value_stands, stands_supported}
 
 -- a list has a number at each place before its end
 number_at_place : (ns : List ℤ) (j n : ℕ) → length ns ≡ n → j < n → (m : ℤ) × (slice_get ns j ≡ Some m)
@@ -99,19 +57,19 @@ keeping_none xs table s = record {
   supported = λ e j t n below. absurd (omega (arith, below));
 }
 
-number_supported : (xs : List Term) (table : List ℤ) (ds : List (List (ℤ × ℤ))) (starts : List ℕ) (k : ℕ) (m : ℤ) → slice_get xs k ≡ Some (Num m) → 0 < length starts
-    → AreStarts xs table ds starts → IsSupported xs table ds k m
-number_supported xs table ds [] k m at some are = absurd (omega (arith, some))
-number_supported xs table ds (start ∷ starts) k m at some are =
-    let left = are.each 0 start refl in
+number_supported : (xs : List Term) (table : List ℤ) (ds : List (List (ℤ × ℤ))) (rows : List ℕ) (k : ℕ) (m : ℤ) → slice_get xs k ≡ Some (Num m) → ((i : ℕ) × HasRow rows i)
+    → AreLeft xs table ds rows → IsSupported xs table ds k m
+number_supported xs table ds rows k m at some are =
+    let start = some.0 * length xs in
+    let left = (are some.0).0 some.1 in
     let row = slice_range table start (start + length xs) in
     let here = number_at_place row k (length xs) left.within.size (slice_get_within xs k (Num m) at) in
     (row, left, here.1 ∙ ap (λ (x : ℤ). Some x) (is_single here.0 m (left.within.each k (Num m) here.0 at here.1)))
 
 -- a number stands in each row that is left
-pub keeping_number : (xs : List Term) (table : List ℤ) (r s : Stored) (has_changed : Bool) (k : ℕ) (m : ℤ) (starts : List ℕ) → slice_get xs k ≡ Some (Num m) → 0 < length starts
-    → AreStarts xs table r.doms starts → IsKeeping xs table r s has_changed k → IsKeeping xs table r s has_changed (k + 1)
-keeping_number xs table r s has_changed k m starts at some are h = record {
+pub keeping_number : (xs : List Term) (table : List ℤ) (r s : Stored) (has_changed : Bool) (k : ℕ) (m : ℤ) (rows : List ℕ) → slice_get xs k ≡ Some (Num m) → ((i : ℕ) × HasRow rows i)
+    → AreLeft xs table r.doms rows → IsKeeping xs table r s has_changed k → IsKeeping xs table r s has_changed (k + 1)
+keeping_number xs table r s has_changed k m rows at some are h = record {
   shrinks = h.shrinks;
   correct = h.correct;
   falls = h.falls;
@@ -121,16 +79,16 @@ keeping_number xs table r s has_changed k m starts at some are h = record {
         let one : t ≡ Num m = cc (at, subst (λ (i : ℕ). slice_get xs i ≡ Some t) same at_t) in
         let is_m : n ≡ m = is_single n m (subst (λ (u : Term). IsInSet (term_set r.doms u) n) one is) in
         subst (λ (i : ℕ). IsSupported xs table r.doms i n) (sym same)
-        (subst (IsSupported xs table r.doms k) (sym is_m) (number_supported xs table r.doms starts k m at some are))
+        (subst (IsSupported xs table r.doms k) (sym is_m) (number_supported xs table r.doms rows k m at some are))
     | inr other ↦ h.supported e j t n (omega (arith, below, other)) at_t is
   ];
 }
 
 -- a variable keeps the numbers of its column
-pub keeping_same : (xs : List Term) (table : List ℤ) (r s t : Stored) (has_changed : Bool) (k v : ℕ) (starts : List ℕ) (column : List (ℤ × ℤ))
-    → slice_get xs k ≡ Some (Var v) → AreStarts xs table r.doms starts → IsColumn table starts k column
-    → IsChangeAt Same v (λ x. IsInSet column x) s t → IsKeeping xs table r s has_changed k → IsKeeping xs table r t has_changed (k + 1)
-keeping_same xs table r s t has_changed k v starts column at are is_column change h =
+pub keeping_same : (xs : List Term) (table : List ℤ) (r s t : Stored) (has_changed : Bool) (k v : ℕ) (rows : List ℕ) (P : ℤ → Type 0)
+    → slice_get xs k ≡ Some (Var v) → AreLeft xs table r.doms rows → ((n : ℤ) → P n ↔ Stands table (length xs) rows k n)
+    → IsChangeAt Same v P s t → IsKeeping xs table r s has_changed k → IsKeeping xs table r t has_changed (k + 1)
+keeping_same xs table r s t has_changed k v rows P at are stands change h =
     subst (λ (u : Stored). IsKeeping xs table r u has_changed (k + 1)) (sym change.0) (record {
       shrinks = h.shrinks;
       correct = h.correct;
@@ -142,49 +100,48 @@ keeping_same xs table r s t has_changed k v starts column at are is_column chang
             let left : IsInSet (dom_at r.doms v) n = subst (λ (w : Term). IsInSet (term_set r.doms w) n) is_v is in
             let now : IsInSet (dom_at s.doms v) n = subst (λ (w : Stored). IsInSet (dom_at w.doms v) n) (sym (h.same e)) left in
             subst (λ (i : ℕ). IsSupported xs table r.doms i n) (sym one)
-            (stands_supported xs table r.doms starts k n (slice_get_within xs k (Var v) at) are ((is_column n).0 (change.1 n now)))
+            (stands_supported xs table r.doms rows k n (slice_get_within xs k (Var v) at) are ((stands n).0 (change.1 n now)))
         | inr other ↦ h.supported e j u n (omega (arith, below, other)) at_u is
       ];
     })
 
-pub keeping_correct : (change : Change) (xs : List Term) (table : List ℤ) (r s t : Stored) (k v : ℕ) (starts : List ℕ) (column : List (ℤ × ℤ))
-    → AllByRecursion (IsTermOf (length r.doms)) xs → slice_get xs k ≡ Some (Var v) → AreStarts xs table r.doms starts → IsColumn table starts k column
-    → IsChangeAt change v (λ x. IsInSet column x) s t → Shrinks s t → IsCorrectOf (IsRowAt xs table) r.doms s.doms → IsCorrectOf (IsRowAt xs table) r.doms t.doms
-keeping_correct change xs table r s t k v starts column terms at are is_column h shrinks correct = λ a holds within.
-    within_kept change (Var v) (λ x. IsInSet column x) s t a h shrinks (correct a holds within)
-    ((is_column (term_value a (Var v))).1 (value_stands xs table r.doms starts a k (Var v) terms are at holds within))
+pub keeping_correct : (change : Change) (xs : List Term) (table : List ℤ) (r s t : Stored) (k v : ℕ) (rows : List ℕ) (P : ℤ → Type 0)
+    → AllByRecursion (IsTermOf (length r.doms)) xs → slice_get xs k ≡ Some (Var v) → AreLeft xs table r.doms rows → ((n : ℤ) → P n ↔ Stands table (length xs) rows k n)
+    → IsChangeAt change v P s t → Shrinks s t → IsCorrectOf (IsRowAt xs table) r.doms s.doms → IsCorrectOf (IsRowAt xs table) r.doms t.doms
+keeping_correct change xs table r s t k v rows P terms at are stands h shrinks correct = λ a holds within.
+    within_kept change (Var v) P s t a h shrinks (correct a holds within)
+    ((stands (term_value a (Var v))).1 (value_stands xs table r.doms rows a k (Var v) terms are at holds within))
 
-pub keeping_changed : (xs : List Term) (table : List ℤ) (r s t : Stored) (has_changed : Bool) (k v : ℕ) (starts : List ℕ) (column : List (ℤ × ℤ))
-    → AllByRecursion (IsTermOf (length r.doms)) xs → slice_get xs k ≡ Some (Var v) → AreStarts xs table r.doms starts → IsColumn table starts k column
-    → IsChangeAt Changed v (λ x. IsInSet column x) s t → Shrinks s t → IsKeeping xs table r s has_changed k → IsKeeping xs table r t true (k + 1)
-keeping_changed xs table r s t has_changed k v starts column terms at are is_column change shrinks h = record {
+pub keeping_changed : (xs : List Term) (table : List ℤ) (r s t : Stored) (has_changed : Bool) (k v : ℕ) (rows : List ℕ) (P : ℤ → Type 0)
+    → AllByRecursion (IsTermOf (length r.doms)) xs → slice_get xs k ≡ Some (Var v) → AreLeft xs table r.doms rows → ((n : ℤ) → P n ↔ Stands table (length xs) rows k n)
+    → IsChangeAt Changed v P s t → Shrinks s t → IsKeeping xs table r s has_changed k → IsKeeping xs table r t true (k + 1)
+keeping_changed xs table r s t has_changed k v rows P terms at are stands change shrinks h = record {
   shrinks = shrinks_twice r s t h.shrinks shrinks;
-  correct = keeping_correct Changed xs table r s t k v starts column terms at are is_column change shrinks h.correct;
+  correct = keeping_correct Changed xs table r s t k v rows P terms at are stands change shrinks h.correct;
   falls = λ e. let before = room_after r s h.shrinks in let now = change.falls in omega (arith, before, now);
   same = λ e. absurd (cc (e));
   supported = λ e. absurd (cc (e));
 }
 
 -- no number of a variable is in its column
-pub keeping_fails : (xs : List Term) (table : List ℤ) (r s t : Stored) (has_changed : Bool) (k v : ℕ) (starts : List ℕ) (column : List (ℤ × ℤ))
-    → AllByRecursion (IsTermOf (length r.doms)) xs → slice_get xs k ≡ Some (Var v) → AreStarts xs table r.doms starts → IsColumn table starts k column
-    → IsChangeAt Wiped v (λ x. IsInSet column x) s t → IsKeeping xs table r s has_changed k → (a : List ℤ) → Within r.doms a → IsRowAt xs table a → ⊥
-keeping_fails xs table r s t has_changed k v starts column terms at are is_column change h = λ a within holds.
+pub keeping_fails : (xs : List Term) (table : List ℤ) (r s t : Stored) (has_changed : Bool) (k v : ℕ) (rows : List ℕ) (P : ℤ → Type 0)
+    → AllByRecursion (IsTermOf (length r.doms)) xs → slice_get xs k ≡ Some (Var v) → AreLeft xs table r.doms rows → ((n : ℤ) → P n ↔ Stands table (length xs) rows k n)
+    → IsChangeAt Wiped v P s t → IsKeeping xs table r s has_changed k → (a : List ℤ) → Within r.doms a → IsRowAt xs table a → ⊥
+keeping_fails xs table r s t has_changed k v rows P terms at are stands change h = λ a within holds.
     let is_v : IsTermOf (length s.doms) (Var v) = subst (λ (n : ℕ). IsTermOf n (Var v)) (sym h.shrinks.narrower.size) (all_at (IsTermOf (length r.doms)) xs k (Var v) terms at) in
-    none_kept (Var v) (λ x. IsInSet column x) s t change (term_value a (Var v)) (term_within s.doms a (Var v) is_v (h.correct a holds within))
-    ((is_column (term_value a (Var v))).1 (value_stands xs table r.doms starts a k (Var v) terms are at holds within))
+    none_kept (Var v) P s t change (term_value a (Var v)) (term_within s.doms a (Var v) is_v (h.correct a holds within))
+    ((stands (term_value a (Var v))).1 (value_stands xs table r.doms rows a k (Var v) terms are at holds within))
 
 -- ---- the line
 
-some_left : (xs : List Term) (table : List ℤ) (ds : List (List (ℤ × ℤ))) (starts : List ℕ) → 0 < length starts → AreStarts xs table ds starts → (row : List ℤ) × IsLeftRow xs table ds row
-some_left xs table ds [] some are = absurd (omega (arith, some))
-some_left xs table ds (start ∷ starts) some are = (slice_range table start (start + length xs), are.each 0 start refl)
+some_left : (xs : List Term) (table : List ℤ) (ds : List (List (ℤ × ℤ))) (rows : List ℕ) → ((i : ℕ) × HasRow rows i) → AreLeft xs table ds rows → (row : List ℤ) × IsLeftRow xs table ds row
+some_left xs table ds rows some are = (slice_range table (some.0 * length xs) (some.0 * length xs + length xs), (are some.0).0 some.1)
 
-pub keeping_all : (xs : List Term) (table : List ℤ) (r s : Stored) (k : ℕ) (starts : List ℕ) → length xs ≤ k → 0 < length starts → AreStarts xs table r.doms starts
+pub keeping_all : (xs : List Term) (table : List ℤ) (r s : Stored) (k : ℕ) (rows : List ℕ) → length xs ≤ k → ((i : ℕ) × HasRow rows i) → AreLeft xs table r.doms rows
     → IsKeeping xs table r s false k → AreSupported xs table s.doms
-keeping_all xs table r s k starts end some are h =
+keeping_all xs table r s k rows end some are h =
     subst (λ (u : Stored). AreSupported xs table u.doms) (sym (h.same refl)) (record {
-      some = some_left xs table r.doms starts some are;
+      some = some_left xs table r.doms rows some are;
       supported = λ j t n at is. let inside = slice_get_within xs j t at in h.supported refl j t n (omega (arith, end, inside)) at is;
     })
 
@@ -226,10 +183,35 @@ fixed_line xs table ds es row terms fixed domains narrower left =
       supported = λ j t n at is. (row, now, fixed_at xs row ds j t n left.within at (all_at (IsFixedIn ds) xs j t fixed at) (narrower_term ds es t narrower n is));
     }
 
-pub fixed_answer : (xs : List Term) (table : List ℤ) (ds : List (List (ℤ × ℤ))) (starts : List ℕ) → AllByRecursion (IsTermOf (length ds)) xs → AllFixed ds xs → 0 < length starts
-    → AreStarts xs table ds starts → IsAnswerOf Subsumed (IsRowAt xs table) (AreSupported xs table) ds ds
-fixed_answer xs table ds starts terms fixed some are =
-    let left = some_left xs table ds starts some are in (
+pub fixed_answer : (xs : List Term) (table : List ℤ) (ds : List (List (ℤ × ℤ))) (rows : List ℕ) → AllByRecursion (IsTermOf (length ds)) xs → AllFixed ds xs → ((i : ℕ) × HasRow rows i)
+    → AreLeft xs table ds rows → IsAnswerOf Subsumed (IsRowAt xs table) (AreSupported xs table) ds ds
+fixed_answer xs table ds rows terms fixed some are =
+    let left = some_left xs table ds rows some are in (
       (λ a within. single_row xs table ds a (singles xs ds a terms fixed within) left.0 left.1),
       (λ es domains narrower. fixed_line xs table ds es left.0 terms fixed domains narrower left.1),
     )
+
+-- ---- the numbers that stay
+
+-- what is kept of a variable by two properties that its numbers share
+pub change_by : (change : Change) (v : ℕ) (P Q : ℤ → Type 0) (s t : Stored) → ((x : ℤ) → IsInSet (dom_at s.doms v) x → P x ↔ Q x) → IsChangeAt change v P s t → IsChangeAt change v Q s t
+change_by Same v P Q s t same h = (h.0, λ x is. (same x is).0 (h.1 x is))
+change_by Wiped v P Q s t same h = (h.0, λ x is holds. h.1 x is ((same x is).1 holds))
+change_by Changed v P Q s t same h = record {
+  kept = λ x.
+      let kept = h.kept x in
+      (λ is. let was = kept.0 is in (was.0, (same x was.0).0 was.1), λ w. kept.1 (w.0, (same x w.0).1 w.1));
+  others = h.others;
+  whole = h.whole;
+  smaller = h.smaller;
+  filled = h.filled;
+  falls = h.falls;
+}
+
+pub numbers_limits : (dom numbers : List (ℤ × ℤ)) (P : ℤ → Type 0) → IsDomain dom → AllByRecursion IsFilled numbers → ((n : ℤ) → IsInSet numbers n ↔ (IsInSet dom n × P n))
+    → AreWithinLimits numbers
+numbers_limits dom numbers P domain filled are = limits_by_numbers numbers filled (λ n is. limits_of dom n domain ((are n).0 is).0)
+
+pub numbers_same : (dom numbers kept : List (ℤ × ℤ)) (P : ℤ → Type 0) → AreOneSet kept numbers → ((n : ℤ) → IsInSet numbers n ↔ (IsInSet dom n × P n))
+    → (n : ℤ) → IsInSet dom n → IsInSet kept n ↔ P n
+numbers_same dom numbers kept P one are n is = (λ h. ((are n).0 ((one n).0 h)).1, λ holds. (one n).1 ((are n).1 (is, holds)))

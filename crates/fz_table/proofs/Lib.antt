@@ -1,4 +1,9 @@
+pub mod RowSets
+pub mod Growing
 pub mod Slices
-pub mod Starts
+pub mod Filling
+pub mod Building
+pub mod Finding
+pub mod LeftRows
 pub mod Keeping
 pub mod Names

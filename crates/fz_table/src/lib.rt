@@ -1,8 +1,13 @@
 //! The propagator of a list of terms that takes the numbers of a row of a table.
 #![tactic(auto)]
 
+mod column;
 mod columns;
+mod keep;
+mod row_set;
 mod rows;
+mod spans;
+mod supports;
 pub mod table;
 
 pub use table::Table;

@@ -8,7 +8,9 @@ ghost use Rattle.fz_strength.specs.Tables.{IsTable};
 ghost use Rattle.fz_prop.specs.Answers.{IsAnswer, IsDecided};
 ghost use Rattle.fz_prop.specs.Stores.{Shrinks};
 
-use crate::columns::keep_rows;
+use crate::column::Column;
+use crate::columns::columns_of;
+use crate::keep::keep_rows;
 use fz_prop::variables::variables_of;
 use fz_prop::{Answer, Cost, Event, Propagator, Store};
 use fz_spec::builtin::Builtin;
@@ -23,6 +25,7 @@ pub struct Table {
     terms: Vec<Term>,
     numbers: Vec<i32>,
     variables: Vec<u32>,
+    columns: Vec<Column>,
 }
 
 impl Model for Table {
@@ -37,7 +40,8 @@ impl Model for Table {
       arguments = Terms p.terms.items ∷ Numbers p.numbers.items ∷ [];
     } };
 
-    ghost invariant = { λ p. IsTableOf p.name p.terms.items p.variables.items };
+    ghost invariant = { λ p. IsTableOf p.name p.terms.items p.numbers.items
+        p.variables.items p.columns.items };
 }
 
 impl Table {
@@ -58,6 +62,7 @@ impl Table {
         }) }
     {
         let variables = variables_of(alloc, terms)?;
+        let columns = columns_of(alloc, numbers, terms.len())?;
         let terms = Vec::from_slice(alloc, terms)?;
         let numbers = Vec::from_slice(alloc, numbers)?;
         Ok(Table {
@@ -65,6 +70,7 @@ impl Table {
             terms,
             numbers,
             variables,
+            columns,
         })
     }
 
@@ -86,6 +92,7 @@ impl Table {
             store,
             &self.terms,
             &self.numbers,
+            &self.columns,
         )
     }
 }
@@ -119,11 +126,13 @@ impl Propagator for Table {
         let terms = Vec::from_slice(alloc, &self.terms)?;
         let numbers = Vec::from_slice(alloc, &self.numbers)?;
         let variables = Vec::from_slice(alloc, &self.variables)?;
+        let columns = columns_of(alloc, &self.numbers, self.terms.len())?;
         Ok(Table {
             name: self.name,
             terms,
             numbers,
             variables,
+            columns,
         })
     }
 }

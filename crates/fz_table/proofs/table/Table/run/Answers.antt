@@ -9,10 +9,13 @@ use Rattle.fz_table.specs.Rows.{IsRowAt}
 use Rattle.fz_table.proofs.Names.{tabled, terms_of, fixed_of, answer_is, correct_is}
 use Rattle.fz_table.proofs.table.Table.run.Goals as goal
 
-pub keep_rows-requires : goal.keep_rows-requires
-keep_rows-requires c =
+pub keep_rows-requires-clause-terms : goal.keep_rows-requires-clause-terms
+keep_rows-requires-clause-terms c =
     let p = c.self.inside in
     rw c.deref.ensures.value (terms_of p.name p.terms.items p.numbers.items (length c.args.store.now.doms) c.self.invariant.name_is (rw (← c.self.view_is) at c.requires.inside))
+
+pub keep_rows-requires-clause-columns : goal.keep_rows-requires-clause-columns
+keep_rows-requires-clause-columns c = rw (c.deref.ensures.value, c.deref-2.ensures.value, c.deref-3.ensures.value) c.self.invariant.columns_are
 
 pub returns-clause-correct : goal.returns-clause-correct
 returns-clause-correct c =

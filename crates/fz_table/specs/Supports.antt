@@ -1,0 +1,67 @@
+-- What stands in the columns of a table: numbers with rows that have them there.
+use Rattle.std.specs.Prelude.{◌≡◌, ◌↔◌, ◌⊎◌, ℕ, ◌<◌, ◌≤◌, ◌+◌, ◌*◌, ◌/◌, ℤ, ◌≤ℤ◌, List, length, slice_get, Some}
+use Rattle.fz_sets.specs.Sets.{IsInSet}
+use Rattle.fz_table.specs.declared.supports.Support.{Support}
+use Rattle.fz_table.specs.RowSets.{HasRow, IsOneOf, words_for}
+
+-- a support is in a column
+abbrev pub IsIn : Support → List Support → Type 0
+IsIn s column = (k : ℕ) × (slice_get column k ≡ Some s)
+
+-- a number has a row in a column
+abbrev pub HasNumber : List Support → ℤ → ℕ → Type 0
+HasNumber column n i = (s : Support) × IsIn s column × (s.number ≡ n) × IsOneOf s.rows i
+
+-- each of its words is one of so many
+abbrev pub AreSized : List Support → ℕ → Type 0
+AreSized column size = (s : Support) → IsIn s column → s.rows.word < size
+
+-- a row of the set has a number in a column
+abbrev pub StandsIn : List Support → List ℕ → ℤ → Type 0
+StandsIn column rows n = (i : ℕ) × HasNumber column n i × HasRow rows i
+
+-- a row has a number in a column that is left
+abbrev pub IsLeftIn : List Support → List (ℤ × ℤ) → ℕ → Type 0
+IsLeftIn column d i = (n : ℤ) × HasNumber column n i × IsInSet d n
+
+-- ---- columns that are made of numbers and rows
+
+-- what is read of each doesn't fall along a list
+abbrev pub IsRising : {X : Type 0} → (X → ℤ) → List X → Type 0
+IsRising {X} number xs = (i j : ℕ) (x y : X) → i ≤ j → slice_get xs i ≡ Some x → slice_get xs j ≡ Some y → number x ≤ℤ number y
+
+-- the numbers of a column don't fall
+abbrev pub AreInOrder : List Support → Type 0
+AreInOrder column = IsRising (λ s. s.number) column
+
+-- a number and a row are in a list
+abbrev pub IsPlaced : List (ℤ × ℕ) → ℤ → ℕ → Type 0
+IsPlaced places n i = (k : ℕ) × (slice_get places k ≡ Some (n, i))
+
+-- a column has a row more, at a number that is no lower than those before it
+pub record IsAdded (old new : List Support) (number : ℤ) (row : ℕ) : Type 0 where
+  pub order : AreInOrder new
+  pub bound : (s : Support) → IsIn s new → s.number ≤ℤ number
+  pub rows : (n : ℤ) (i : ℕ) → HasNumber new n i ↔ (HasNumber old n i ⊎ ((n ≡ number) × (i ≡ row)))
+  pub words : (s : Support) → IsIn s new → ((t : Support) × IsIn t old × (s.rows.word ≡ t.rows.word)) ⊎ (s.rows.word ≡ row / 64)
+
+-- ---- columns of a table
+
+-- row i of a table, each of this width, has the number at a place
+abbrev pub IsNumberAt : List ℤ → ℕ → ℕ → ℕ → ℤ → Type 0
+IsNumberAt table width place i n = (i < length table / width) × (slice_get table (i * width + place) ≡ Some n)
+
+-- The column at a place of the rows of a table: it has each row at the row's number there.
+pub record IsColumnOf (table : List ℤ) (width place : ℕ) (column : List Support) : Type 0 where
+  pub sized : AreSized column (words_for (length table / width))
+  pub rows : (n : ℤ) (i : ℕ) → HasNumber column n i ↔ IsNumberAt table width place i n
+
+-- the columns of a table, one for each place
+pub record AreColumnsOf (table : List ℤ) (width : ℕ) (columns : List (List Support)) : Type 0 where
+  pub size : length columns ≡ width
+  pub each : (j : ℕ) (column : List Support) → slice_get columns j ≡ Some column → IsColumnOf table width j column
+
+-- what a column keeps: its numbers don't fall, and they are in its ranges
+pub record IsKept (column : List Support) (spans : List (ℤ × ℤ)) : Type 0 where
+  pub order : AreInOrder column
+  pub spanned : (s : Support) → IsIn s column → IsInSet spans s.number

@@ -1,0 +1,169 @@
+//! Columns of a table: the rows whose number is left, and the numbers of some rows.
+ghost use Rattle.std.specs.Prelude.{◌≡◌, ◌↔◌, ◌⊎◌, ℕ, ℤ, [], ◌∷◌, length, IfOk, OnOk};
+ghost use Rattle.fz_sets.specs.Sets.{IsInSet};
+ghost use Rattle.fz_dom.specs.Changes.{IsFromTo};
+ghost use Rattle.fz_strength.specs.Domains.{term_set};
+ghost use Rattle.fz_prop.specs.Stores.{IsTermOf};
+ghost use Rattle.fz_table.specs.RowSets.{HasRow};
+ghost use Rattle.fz_table.specs.Supports.{IsIn, AreInOrder, HasNumber, AreSized, StandsIn, IsLeftIn};
+
+use crate::row_set::RowSet;
+use crate::spans::Spans;
+use crate::supports::{Support, between};
+use fz_dom::Dom;
+use fz_prop::Store;
+use fz_spec::term::Term;
+use std::alloc::{AllocError, Global};
+use std::marker::Model;
+
+/// The numbers that stand at a place of the rows, with the rows that have them there.
+#[derive(Drop)]
+pub struct Column {
+    /// From the lowest number up.
+    supports: Vec<Support>,
+    /// The ranges of its numbers.
+    spans: Spans,
+}
+
+impl Model for Column {
+    ghost use Rattle.std.specs.Prelude.{List};
+    ghost use Rattle.fz_table.specs.declared.supports.Support.{Support};
+    ghost use Rattle.fz_table.specs.Supports.{IsKept};
+
+    ghost Value = { List Support };
+
+    ghost view = { λ c. c.supports.items };
+
+    ghost invariant = { λ c. IsKept c.supports.items c.spans };
+}
+
+impl Column {
+    /// The column of supports.
+    ///
+    /// # Errors
+    /// `AllocError` where there is no memory.
+    pub fn new(alloc: Global, supports: Vec<Support>) -> Result<Column, AllocError>
+        requires { AreInOrder supports.items }
+        ensures { IfOk result (λ c. c ≡ supports.items) }
+    {
+        let spans = spans_of(alloc, &supports)?;
+        Ok(Column { supports, spans })
+    }
+
+    /// Keeps the rows of a set whose number is left of a term. What the other set has is lost.
+    pub fn keep_left(&self, store: &Store, term: Term, rows: &mut RowSet, found: &mut RowSet)
+        requires term { IsTermOf (length store.now.doms) term }
+        requires sized { AreSized self.now (length rows.old) }
+        requires found { length found.old ≡ length rows.old }
+        requires each { (i : ℕ) → HasRow rows.old i → (n : ℤ) × HasNumber self.now n i }
+        ensures rows { (i : ℕ) → HasRow rows.new i
+            ↔ (HasRow rows.old i × IsLeftIn self.now (term_set store.now.doms term) i) }
+        ensures size { length rows.new ≡ length rows.old }
+        ensures found { length found.new ≡ length found.old }
+    {
+        if self.spans.are_left(store, term) {
+            return;
+        }
+        self.find(store, term, found);
+        rows.meet(found);
+    }
+
+    /// Finds the rows whose number is left of a term.
+    fn find(&self, store: &Store, term: Term, found: &mut RowSet)
+        requires term { IsTermOf (length store.now.doms) term }
+        requires sized { AreSized self.now (length found.old) }
+        ensures found { (i : ℕ) → HasRow found.new i
+            ↔ IsLeftIn self.now (term_set store.now.doms term) i }
+        ensures size { length found.new ≡ length found.old }
+    {
+        found.clear();
+        match term {
+            Term::Var(variable) => self.join_in(store.dom(variable), found),
+            Term::Num(number) => self.join_between(number, number, found),
+        }
+    }
+
+    /// Puts the rows that have a number of a domain into a set.
+    fn join_in(&self, dom: &Dom, rows: &mut RowSet)
+        requires { AreSized self.now (length rows.old) }
+        ensures rows { (i : ℕ) → HasRow rows.new i
+            ↔ (HasRow rows.old i ⊎ IsLeftIn self.now dom.now i) }
+        ensures size { length rows.new ≡ length rows.old }
+    {
+        for (low, high) in dom.ranges() {
+            self.join_between(low, high, rows);
+        }
+    }
+
+    /// Puts the rows that have a number from a low to a high, or one of them, into a set.
+    fn join_between(&self, low: i32, high: i32, rows: &mut RowSet)
+        requires { AreSized self.now (length rows.old) }
+        ensures rows { (i : ℕ) → HasRow rows.new i
+            ↔ (HasRow rows.old i ⊎ IsLeftIn self.now ((low, high) ∷ []) i) }
+        ensures size { length rows.new ≡ length rows.old }
+    {
+        join_all(self.part(low, high), rows);
+    }
+
+    /// The supports of the numbers from a low to a high, both among them.
+    fn part(&self, low: i32, high: i32) -> &[Support]
+        ensures { (s : Support) → IsIn s result.now
+            ↔ (IsIn s self.now × IsFromTo low high s.number) }
+    {
+        between(&self.supports, low, high)
+    }
+
+    /// The numbers of a domain that some rows have.
+    ///
+    /// # Errors
+    /// `AllocError` where there is no memory.
+    pub fn numbers_in(&self, alloc: Global, dom: &Dom, rows: &RowSet) -> Result<Spans, AllocError>
+        requires { AreSized self.now (length rows.now) }
+        ensures { IfOk result (λ s. (n : ℤ) → IsInSet s n
+            ↔ (IsInSet dom.now n × StandsIn self.now rows.now n)) }
+    {
+        let mut numbers = Spans::new(alloc);
+        for (low, high) in dom.ranges() {
+            add_numbers(self.part(low, high), rows, &mut numbers)?;
+        }
+        Ok(numbers)
+    }
+}
+
+/// Puts the rows of supports into a set.
+fn join_all(supports: &[Support], rows: &mut RowSet)
+    requires { AreSized supports.now (length rows.old) }
+    ensures rows { (i : ℕ) → HasRow rows.new i
+        ↔ (HasRow rows.old i ⊎ ((n : ℤ) × HasNumber supports.now n i)) }
+    ensures size { length rows.new ≡ length rows.old }
+{
+    for support in supports {
+        rows.join(support.rows);
+    }
+}
+
+/// Adds the numbers of supports that have some rows.
+fn add_numbers(supports: &[Support], rows: &RowSet, numbers: &mut Spans) -> Result<(), AllocError>
+    requires { AreSized supports.now (length rows.now) }
+    ensures { OnOk result ((n : ℤ) → IsInSet numbers.new n
+        ↔ (IsInSet numbers.old n ⊎ StandsIn supports.now rows.now n)) }
+{
+    for support in supports {
+        if rows.meets(support.rows) {
+            numbers.add(support.number)?;
+        }
+    }
+    Ok(())
+}
+
+/// The ranges of the numbers of supports.
+fn spans_of(alloc: Global, supports: &[Support]) -> Result<Spans, AllocError>
+    ensures { IfOk result (λ s. (n : ℤ) → IsInSet s n
+        ↔ ((t : Support) × IsIn t supports.now × (t.number ≡ n))) }
+{
+    let mut spans = Spans::new(alloc);
+    for support in supports {
+        spans.add(support.number)?;
+    }
+    Ok(spans)
+}

@@ -1,0 +1,113 @@
+//! Keeping each term to the numbers that stand at its place of the rows that are left.
+ghost use Rattle.std.specs.Prelude.{◌≡◌, ◌<◌, ◌/◌, ℕ, length, IfOk, OnErr};
+ghost use Rattle.std.specs.List.{AllByRecursion};
+ghost use Rattle.fz_strength.specs.Events.{AllFixed};
+ghost use Rattle.fz_strength.specs.Tables.{AreSupported};
+ghost use Rattle.fz_prop.specs.Answers.{IsAnswerOf, IsCorrectOf, IsDecided};
+ghost use Rattle.fz_prop.specs.Stores.{Shrinks, IsTermOf, IsChangeAt};
+ghost use Rattle.fz_table.specs.RowSets.{HasRow, words_for};
+ghost use Rattle.fz_table.specs.Supports.{AreSized, StandsIn, AreColumnsOf};
+ghost use Rattle.fz_table.specs.Rows.{IsRowAt, AreLeft};
+
+use crate::column::Column;
+use crate::row_set::RowSet;
+use crate::rows::rows_left;
+use fz_dom::Dom;
+use fz_prop::terms::are_fixed;
+use fz_prop::{Answer, Change, Store};
+use fz_spec::term::Term;
+use std::alloc::{AllocError, Global};
+
+/// Narrows a store so that the values of terms are a row of a table: each term keeps the numbers that stand at its place of a row
+/// that lies in the domains. It answers NoFix where something changed.
+pub fn keep_rows(
+    alloc: Global,
+    store: &mut Store,
+    terms: &[Term],
+    table: &[i32],
+    columns: &[Column],
+) -> Result<Answer, AllocError>
+    requires terms { AllByRecursion (IsTermOf (length store.old.doms)) terms.now }
+    requires columns { AreColumnsOf table.now (length terms.now) columns.now }
+    ensures shrinks { Shrinks store.old store.new }
+    ensures correct { IsCorrectOf (IsRowAt terms.now table.now) store.old.doms store.new.doms }
+    ensures answer { IfOk result
+        (λ r. IsAnswerOf r (IsRowAt terms.now table.now) (AreSupported terms.now table.now)
+        store.old.doms store.new.doms) }
+    ensures checking { IfOk result (λ r. AllFixed store.old.doms terms.now → IsDecided r) }
+{
+    if terms.is_empty() {
+        return Ok(Answer::Failed);
+    }
+    let rows = rows_left(alloc, store, terms, table, columns)?;
+    if rows.is_empty() {
+        return Ok(Answer::Failed);
+    }
+    if are_fixed(store, terms) {
+        return Ok(Answer::Subsumed);
+    }
+    keep_columns(alloc, store, terms, table, columns, &rows)
+}
+
+/// Keeps each variable to the numbers that stand at its place of the rows that are left.
+fn keep_columns(
+    alloc: Global,
+    store: &mut Store,
+    terms: &[Term],
+    table: &[i32],
+    columns: &[Column],
+    rows: &RowSet,
+) -> Result<Answer, AllocError>
+    requires terms { AllByRecursion (IsTermOf (length store.old.doms)) terms.now }
+    requires columns { AreColumnsOf table.now (length terms.now) columns.now }
+    requires rows { AreLeft terms.now table.now store.old.doms rows.now }
+    requires size { length rows.now ≡ words_for (length table.now / length terms.now) }
+    requires some { (i : ℕ) × HasRow rows.now i }
+    ensures shrinks { Shrinks store.old store.new }
+    ensures correct { IsCorrectOf (IsRowAt terms.now table.now) store.old.doms store.new.doms }
+    ensures answer { IfOk result
+        (λ r. IsAnswerOf r (IsRowAt terms.now table.now) (AreSupported terms.now table.now)
+        store.old.doms store.new.doms) }
+{
+    let _ = store.doms();
+    let _ = table;
+    let mut has_changed = false;
+    for (place, term) in terms.iter().enumerate() {
+        let Term::Var(variable) = *term else {
+            continue;
+        };
+        match keep_column(alloc, store, variable, &columns[place], rows)? {
+            Change::Wiped => return Ok(Answer::Failed),
+            Change::Changed => has_changed = true,
+            Change::Same => {}
+        }
+    }
+    if has_changed {
+        Ok(Answer::NoFix)
+    } else {
+        Ok(Answer::Fix)
+    }
+}
+
+/// Keeps a variable to the numbers of a column that some rows have.
+fn keep_column(
+    alloc: Global,
+    store: &mut Store,
+    variable: u32,
+    column: &Column,
+    rows: &RowSet,
+) -> Result<Change, AllocError>
+    requires variable { variable < length store.old.doms }
+    requires sized { AreSized column.now (length rows.now) }
+    ensures shrinks { Shrinks store.old store.new }
+    ensures err { OnErr result (store.new ≡ store.old) }
+    ensures change { IfOk result
+        (λ r. IsChangeAt r variable (StandsIn column.now rows.now) store.old store.new) }
+{
+    let numbers = column.numbers_in(alloc, store.dom(variable), rows)?;
+    if numbers.are(store.dom(variable)) {
+        return Ok(Change::Same);
+    }
+    let numbers = Dom::from_ranges(alloc, numbers.as_slice())?;
+    store.keep(variable, &numbers)
+}
