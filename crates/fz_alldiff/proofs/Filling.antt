@@ -1,5 +1,5 @@
 -- Keeping all places that aren't fixed to free numbers.
-use Rattle.std.proofs.Common.{◌≡◌, ◌≢◌, ◌<◌, ◌≤◌, ℕ, ◌+◌, suc, List, [], ◌∷◌, refl, sym, subst, ◌∙◌, ap, arith, length, ◌⊎◌, inl, inr, true, false}
+use Rattle.std.proofs.Common.{◌≡◌, ◌≢◌, ◌<◌, ◌≤◌, ℕ, ◌+◌, suc, List, [], ◌∷◌, refl, sym, subst, ◌∙◌, arith, length, ◌⊎◌, inl, inr, true, false}
 use Rattle.std.specs.Prelude.{ℤ, Bool, slice_get, Some}
 use Rattle.std.specs.List.{AllByRecursion}
 use Rattle.std.proofs.lemmas.Bool.{cases_eq}
@@ -19,7 +19,7 @@ use Rattle.fz_prop.specs.Answers.{IsAnswerOf, IsCorrectOf}
 use Rattle.fz_prop.specs.Stores.{Stored, Shrinks, IsTermOf, IsTermChange}
 use Rattle.fz_prop.proofs.Filled.{still_only}
 use Rattle.fz_prop.proofs.Steps.{same_shrinks}
-use Rattle.fz_prop.proofs.TermChanges.{term_within, narrower_term, only_in, kept_term, falls_of}
+use Rattle.fz_prop.proofs.TermChanges.{term_within, narrower_term, only_in, kept_term, falls_of, fixed_stays}
 use Rattle.fz_prop.proofs.Twice.{shrinks_twice, room_after}
 use Rattle.fz_alldiff.specs.Differing.{IsDifferent, AreNeverDifferent, IsOnlyAt}
 use Rattle.fz_alldiff.specs.Freeing.{AreFree, AreFixedButOne, IsLast, IsKeptTo, IsNoneNew, IsKept}
@@ -44,7 +44,7 @@ pub kept_changed : (kept : Kept) (x : Term) (free left : List (ℤ × ℤ)) (s t
     → IsKept kept x free left s t
 kept_changed Rest x free left s t h last = (
   record {
-    inside = λ open_ n is. (kept_term Changed x (λ m. IsInSet free m) s t h (λ e. cc) n is).1;
+    inside = λ was n is. (kept_term Changed x (λ m. IsInSet free m) s t h (λ e. cc) n is).1;
     fewer = λ n is. subst (λ (f : List (ℤ × ℤ)). IsInSet f n) last.0 is;
     taken = λ n is. inl (subst (λ (f : List (ℤ × ℤ)). IsInSet f n) (sym last.0) is);
   },
@@ -52,15 +52,20 @@ kept_changed Rest x free left s t h last = (
 )
 kept_changed Fixed x free left s t h last = (
   record {
-    inside = λ open_ n is. (kept_term Changed x (λ m. IsInSet free m) s t h (λ e. cc) n is).1;
+    inside = λ was n is. (kept_term Changed x (λ m. IsInSet free m) s t h (λ e. cc) n is).1;
     fewer = last.0;
     taken = last.1;
   },
+  (λ fixed. fixed_stays x (λ n. IsInSet free n) s t fixed.0 fixed.1 h),
   falls_of x (λ n. IsInSet free n) s t h,
 )
 kept_changed Wiped x free left s t h last = absurd last
 
 -- ---- the loop
+
+-- a place before place k isn't fixed
+abbrev pub IsOpenAt : List Term → List (List (ℤ × ℤ)) → ℕ → ℕ → Type 0
+IsOpenAt xs ds i k = (i < k) × ((x : Term) × (slice_get xs i ≡ Some x) × (IsFixedIn ds x → ⊥))
 
 -- Before place k: what is left of a place that isn't fixed was free at first.
 pub record IsFilling (xs : List Term) (first : List (ℤ × ℤ)) (r s : Stored) (free : List (ℤ × ℤ)) (has_fixed : Bool) (k : ℕ) : Type 0 where
@@ -70,6 +75,8 @@ pub record IsFilling (xs : List Term) (first : List (ℤ × ℤ)) (r s : Stored)
   pub all : (i : ℕ) (x : Term) (n : ℤ) → slice_get xs i ≡ Some x → IsInSet (term_set s.doms x) n → IsInSet free n ⊎ ((j : ℕ) × IsOnlyAt xs s.doms j n)
   pub fewer : (n : ℤ) → IsInSet free n → IsInSet first n
   pub inside : (i : ℕ) (x : Term) → i < k → slice_get xs i ≡ Some x → (IsFixedIn s.doms x → ⊥) → (n : ℤ) → IsInSet (term_set s.doms x) n → IsInSet first n
+  pub last : AreFixedButOne xs r.doms → (i : ℕ) (x : Term) → i < k → slice_get xs i ≡ Some x → (IsFixedIn r.doms x → ⊥) → (n : ℤ) → IsInSet (term_set s.doms x) n → IsInSet first n
+  pub some_new : has_fixed ≡ true → (i : ℕ) × IsOpenAt xs r.doms i k
   pub none_new : has_fixed ≡ false → IsNoneNew r s
   pub falls : has_fixed ≡ true → room s.doms < room r.doms
 
@@ -81,6 +88,8 @@ filling_none xs free s domains h = record {
   all = h.all;
   fewer = λ n is. is;
   inside = λ i x below. absurd (omega (arith, below));
+  last = λ one i x below. absurd (omega (arith, below));
+  some_new = λ e. cc;
   none_new = λ e x n only. only;
   falls = λ e. cc;
 }
@@ -115,11 +124,21 @@ correct_more xs first r s t free before k x terms at within h = λ a different i
     let so_far = h.correct a different inside in
     within a so_far (λ open_. needs_free xs s.doms free k x a (terms_still xs r.doms s.doms h.shrinks.narrower terms) at open_ (λ n. h.all k x n at) so_far different)
 
+-- the one place that wasn't fixed isn't before it is looked at
+still_open : (xs : List Term) (first : List (ℤ × ℤ)) (r s : Stored) (free : List (ℤ × ℤ)) (has_fixed : Bool) (k : ℕ) (x : Term) → slice_get xs k ≡ Some x
+    → IsFilling xs first r s free has_fixed k → AreFixedButOne xs r.doms → (IsFixedIn r.doms x → ⊥) → IsFixedIn s.doms x → ⊥
+still_open xs first r s free false k x at h one open_ fixed = open_ (fixed.0, h.none_new refl x fixed.0 fixed.1)
+still_open xs first r s free true k x at h one open_ fixed =
+    let p = h.some_new refl in
+    let below = p.1.0 in
+    elim (one p.0 k p.1.1.0 x (omega (arith, below)) p.1.1.1 at) [ inl f ↦ p.1.1.2 f | inr f ↦ open_ f ]
+
 filling_more : (xs : List Term) (first : List (ℤ × ℤ)) (r s t : Stored) (free left : List (ℤ × ℤ)) (before after : Bool) (k : ℕ) (x : Term) → AllByRecursion (IsTermOf (length r.doms)) xs
     → slice_get xs k ≡ Some x → AreDomains t.doms → Shrinks s t
     → ((a : List ℤ) → Within s.doms a → ((IsFixedIn s.doms x → ⊥) → IsInSet free (term_value a x)) → Within t.doms a) → IsKeptTo x free left s t
-    → (after ≡ false → IsNoneNew r t) → (after ≡ true → room t.doms < room r.doms) → IsFilling xs first r s free before k → IsFilling xs first r t left after (k + 1)
-filling_more xs first r s t free left before after k x terms at domains shrinks within kept none_new falls h =
+    → (after ≡ true → (i : ℕ) × IsOpenAt xs r.doms i (k + 1)) → (after ≡ false → IsNoneNew r t) → (after ≡ true → room t.doms < room r.doms) → IsFilling xs first r s free before k
+    → IsFilling xs first r t left after (k + 1)
+filling_more xs first r s t free left before after k x terms at domains shrinks within kept some_new none_new falls h =
     let here = terms_still xs r.doms s.doms h.shrinks.narrower terms in
     record {
       domains = domains;
@@ -133,10 +152,19 @@ filling_more xs first r s t free left before after k x terms at domains shrinks 
       inside = λ i z below at_i open_ n is. elim (cases_eq i k) [
         | inl e ↦
             let same : x ≡ z = same_term xs k x z at (subst (λ (q : ℕ). slice_get xs q ≡ Some z) e at_i) in
-            h.fewer n (kept.inside (λ fixed. open_ (subst (IsFixedIn t.doms) same fixed)) n (subst (λ (u : Term). IsInSet (term_set t.doms u) n) (sym same) is))
+            let was : IsFixedIn s.doms x → ⊥ = λ fixed. open_before xs s.doms t.doms i z here at_i domains shrinks.narrower open_ (subst (IsFixedIn s.doms) same fixed) in
+            h.fewer n (kept.inside was n (subst (λ (u : Term). IsInSet (term_set t.doms u) n) (sym same) is))
         | inr ne ↦ h.inside i z (omega (arith, below, ne)) at_i (open_before xs s.doms t.doms i z here at_i domains shrinks.narrower open_) n
             (narrower_term s.doms t.doms z shrinks.narrower n is)
       ];
+      last = λ one i z below at_i open_ n is. elim (cases_eq i k) [
+        | inl e ↦
+            let same : x ≡ z = same_term xs k x z at (subst (λ (q : ℕ). slice_get xs q ≡ Some z) e at_i) in
+            let open_x : IsFixedIn r.doms x → ⊥ = λ fixed. open_ (subst (IsFixedIn r.doms) same fixed) in
+            h.fewer n (kept.inside (still_open xs first r s free before k x at h one open_x) n (subst (λ (u : Term). IsInSet (term_set t.doms u) n) (sym same) is))
+        | inr ne ↦ h.last one i z (omega (arith, below, ne)) at_i open_ n (narrower_term s.doms t.doms z shrinks.narrower n is)
+      ];
+      some_new = some_new;
       none_new = none_new;
       falls = falls;
     }
@@ -146,7 +174,8 @@ pub filling_rest : (xs : List Term) (first : List (ℤ × ℤ)) (r s t : Stored)
     → ((a : List ℤ) → Within s.doms a → ((IsFixedIn s.doms x → ⊥) → IsInSet free (term_value a x)) → Within t.doms a) → IsKept Rest x free left s t
     → IsFilling xs first r s free before k → IsFilling xs first r t left before (k + 1)
 filling_rest xs first r s t free left before k x terms at domains shrinks within kept h =
-    filling_more xs first r s t free left before before k x terms at domains shrinks within kept.0 (λ e y n only. h.none_new e y n (kept.1 y n only))
+    filling_more xs first r s t free left before before k x terms at domains shrinks within kept.0
+    (λ e. let p = h.some_new e in let below = p.1.0 in (p.0, (omega (arith, below), p.1.1))) (λ e y n only. h.none_new e y n (kept.1 y n only))
     (λ e. let fallen = h.falls e in let after = room_after s t shrinks in omega (arith, fallen, after)) h
 
 pub filling_fixed : (xs : List Term) (first : List (ℤ × ℤ)) (r s t : Stored) (free left : List (ℤ × ℤ)) (before : Bool) (k : ℕ) (x : Term) → AllByRecursion (IsTermOf (length r.doms)) xs
@@ -154,8 +183,10 @@ pub filling_fixed : (xs : List Term) (first : List (ℤ × ℤ)) (r s t : Stored
     → ((a : List ℤ) → Within s.doms a → ((IsFixedIn s.doms x → ⊥) → IsInSet free (term_value a x)) → Within t.doms a) → IsKept Fixed x free left s t
     → IsFilling xs first r s free before k → IsFilling xs first r t left true (k + 1)
 filling_fixed xs first r s t free left before k x terms at domains shrinks within kept h =
-    filling_more xs first r s t free left before true k x terms at domains shrinks within kept.0 (λ e. cc)
-    (λ e. let fallen = kept.1 in let before = room_after r s h.shrinks in omega (arith, fallen, before)) h
+    filling_more xs first r s t free left before true k x terms at domains shrinks within kept.0
+    (λ e. (k, (omega arith, (x, at, λ was. kept.1 (was.0, still_only r.doms s.doms x was.0 (all_at (IsTermOf (length r.doms)) xs k x terms at) was.1 h.domains h.shrinks.narrower)))))
+    (λ e. cc)
+    (λ e. let fallen = kept.2 in let before = room_after r s h.shrinks in omega (arith, fallen, before)) h
 
 -- a place that has no free number
 pub never_filled : (xs : List Term) (first : List (ℤ × ℤ)) (r s t : Stored) (free left : List (ℤ × ℤ)) (before : Bool) (k : ℕ) (x : Term) → AllByRecursion (IsTermOf (length r.doms)) xs
@@ -179,6 +210,25 @@ apart_now xs first r s free has_fixed k end none frees h = λ i j x y other at_i
     let same : n ≡ fixed.0 = only_in (term_set s.doms y) fixed.0 n fixed.1 is in
     frees.once i j n other was (y, at_j, h.none_new none y n (subst (IsOnly (term_set s.doms y)) (sym same) fixed.1)))
     n is)
+
+-- one place at most wasn't fixed
+pub apart_last : (xs : List Term) (first : List (ℤ × ℤ)) (r s : Stored) (free : List (ℤ × ℤ)) (has_fixed : Bool) (k : ℕ) → length xs ≤ k → AllByRecursion (IsTermOf (length r.doms)) xs
+    → AreFree xs r.doms first → IsFilling xs first r s free has_fixed k → AreFixedButOne xs r.doms → AreApart xs s.doms
+apart_last xs first r s free has_fixed k end terms frees h one = λ i j x y other at_i at_j n only is.
+    let below_i = slice_get_within xs i x at_i in
+    let below_j = slice_get_within xs j y at_j in
+    let is_x = has_only (term_set s.doms x) n only in
+    let before = h.shrinks.narrower in
+    let was : (z : Term) (m : ℤ) → IsOnly (term_set r.doms z) m → IsInSet (term_set s.doms z) n → IsOnly (term_set r.doms z) n = λ z m at is_z.
+    subst (IsOnly (term_set r.doms z)) (sym (only_in (term_set r.doms z) m n at (narrower_term r.doms s.doms z before n is_z))) at in
+    elim (one i j x y other at_i at_j) [
+      | inl f ↦
+          let at_x = was x f.0 f.1 is_x in
+          frees.taken i n (x, at_i, at_x) (h.last one j y (omega (arith, end, below_j)) at_j (λ g. frees.once i j n other (x, at_i, at_x) (y, at_j, was y g.0 g.1 is)) n is)
+      | inr f ↦
+          let at_y = was y f.0 f.1 is in
+          frees.taken j n (y, at_j, at_y) (h.last one i x (omega (arith, end, below_i)) at_i (λ g. frees.once i j n other (x, at_i, was x g.0 g.1 is_x) (y, at_j, at_y)) n is_x)
+    ]
 
 -- all places are fixed
 pub apart_fixed : (xs : List Term) (ds : List (List (ℤ × ℤ))) (free : List (ℤ × ℤ)) → AreFree xs ds free → AllFixed ds xs → AreApart xs ds

@@ -1,5 +1,5 @@
 -- Taking the numbers of fixed places from those that are free.
-use Rattle.std.proofs.Common.{◌≡◌, ◌≢◌, ◌<◌, ◌≤◌, ℕ, ◌+◌, zero, suc, List, [], ◌∷◌, refl, sym, subst, ◌∙◌, ap, arith, length, ◌⊎◌, inl, inr, true, false}
+use Rattle.std.proofs.Common.{◌≡◌, ◌≢◌, ◌<◌, ◌≤◌, ℕ, ◌+◌, suc, List, [], ◌∷◌, refl, sym, subst, ◌∙◌, ap, arith, length, ◌⊎◌, inl, inr, true, false}
 use Rattle.std.specs.Ordering.{int_eq}
 use Rattle.std.proofs.lemmas.Bool.Decides.{Decides-int_eq}
 use Rattle.std.specs.Prelude.{ℤ, pos, ◌+ℤ◌, ◌≤ℤ◌, slice_get, Some}
@@ -19,7 +19,7 @@ use Rattle.fz_strength.specs.Domains.{term_set}
 use Rattle.fz_strength.specs.Events.{IsOnly, IsFixedIn, AllFixed}
 use Rattle.fz_prop.specs.Stores.{IsTermOf}
 use Rattle.fz_alldiff.specs.Differing.{AreNeverDifferent, IsOnlyAt}
-use Rattle.fz_alldiff.specs.Freeing.{AreBetween, IsSpan, AreFree, AreOpen, AreFixedButOne, IsTaken}
+use Rattle.fz_alldiff.specs.Freeing.{AreBetween, AreFree, AreOpen, IsTaken}
 use Rattle.fz_alldiff.proofs.Clearing.{has_only, same_term}
 use Rattle.fz_alldiff.proofs.Removing.{has_other}
 use Rattle.fz_prop.proofs.TermChanges.{term_within, only_in}

@@ -1,5 +1,5 @@
 -- The ends of all that is left of terms, term by term.
-use Rattle.std.proofs.Common.{◌≡◌, ◌<◌, ◌≤◌, ℕ, ◌+◌, List, sym, subst, arith, length, inl, inr}
+use Rattle.std.proofs.Common.{◌≡◌, ◌<◌, ◌≤◌, ℕ, ◌+◌, List, subst, arith, length, inl, inr}
 use Rattle.std.specs.Prelude.{ℤ, ◌≤ℤ◌, slice_get, Some, None, Option, IfSome}
 use Rattle.std.specs.Int.{int_min, int_max}
 use Rattle.std.proofs.lemmas.Bool.{cases_eq}

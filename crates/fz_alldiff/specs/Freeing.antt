@@ -1,5 +1,5 @@
 -- The numbers that no fixed place has, and what becomes of a place that is to keep to them.
-use Rattle.std.specs.Prelude.{◌≡◌, ◌≢◌, ◌⊎◌, ℕ, ◌<◌, ◌≤◌, ℤ, pos, ◌≤ℤ◌, ◌<ℤ◌, List, slice_get, Some}
+use Rattle.std.specs.Prelude.{◌≡◌, ◌≢◌, ◌⊎◌, ℕ, ◌<◌, ◌≤◌, ℤ, ◌≤ℤ◌, ◌<ℤ◌, List, slice_get, Some}
 use Rattle.fz_sets.specs.Sets.{IsInSet, LEAST, GREATEST}
 use Rattle.fz_dom.specs.Changes.{IsFromTo, IsKeeping}
 use Rattle.fz_spec.specs.declared.term.Term.{Term}
@@ -48,7 +48,7 @@ IsLast Wiped x ds free left = ⊥
 
 -- What is left of a term is free, or it was fixed; and what is no longer free is its only number.
 pub record IsKeptTo (x : Term) (free left : List (ℤ × ℤ)) (s t : Stored) : Type 0 where
-  pub inside : (IsFixedIn t.doms x → ⊥) → (n : ℤ) → IsInSet (term_set t.doms x) n → IsInSet free n
+  pub inside : (IsFixedIn s.doms x → ⊥) → (n : ℤ) → IsInSet (term_set t.doms x) n → IsInSet free n
   pub fewer : (n : ℤ) → IsInSet left n → IsInSet free n
   pub taken : (n : ℤ) → IsInSet free n → IsInSet left n ⊎ IsOnly (term_set t.doms x) n
 
@@ -58,5 +58,5 @@ IsNoneNew s t = (x : Term) (n : ℤ) → IsOnly (term_set t.doms x) n → IsOnly
 
 abbrev pub IsKept : Kept → Term → List (ℤ × ℤ) → List (ℤ × ℤ) → Stored → Stored → Type 0
 IsKept Rest x free left s t = IsKeptTo x free left s t × IsNoneNew s t
-IsKept Fixed x free left s t = IsKeptTo x free left s t × (room t.doms < room s.doms)
+IsKept Fixed x free left s t = IsKeptTo x free left s t × (IsFixedIn s.doms x → ⊥) × (room t.doms < room s.doms)
 IsKept Wiped x free left s t = (IsFixedIn s.doms x → ⊥) × ((n : ℤ) → IsInSet (term_set s.doms x) n → IsInSet free n → ⊥)

@@ -8,10 +8,11 @@ ghost use Rattle.fz_spec.specs.Constraints.{term_value};
 ghost use Rattle.fz_strength.specs.Differences.{AreApart};
 ghost use Rattle.fz_strength.specs.Domains.{Within};
 ghost use Rattle.fz_strength.specs.Events.{AllFixed, IsFixedIn};
+ghost use Rattle.fz_prop.specs.declared.answer.Answer.TheVariants as answers;
 ghost use Rattle.fz_prop.specs.Answers.{IsAnswerOf, IsCorrectOf, IsDecided};
 ghost use Rattle.fz_prop.specs.Stores.{Shrinks, IsTermOf};
 ghost use Rattle.fz_alldiff.specs.Differing.{IsDifferent, AreNeverDifferent};
-ghost use Rattle.fz_alldiff.specs.Freeing.{AreBetween, IsSpan, AreFree, AreOpen, IsKept, IsLast, IsTaken};
+ghost use Rattle.fz_alldiff.specs.Freeing.{AreBetween, IsSpan, AreFree, AreFixedButOne, AreOpen, IsKept, IsLast, IsTaken};
 
 use crate::span::Span;
 use fz_dom::Dom;
@@ -65,7 +66,8 @@ pub fn keep_close(
     let answer = keep_free(store, terms, &mut numbers)?;
     let _ = store.doms();
     match answer {
-        Answer::Fix if free.unfixed == 1 => Ok(Answer::Subsumed),
+        Answer::Failed => Ok(Answer::Failed),
+        _ if free.unfixed == 1 => Ok(Answer::Subsumed),
         answer => Ok(answer),
     }
 }
@@ -123,6 +125,8 @@ fn keep_free(store: &mut Store, terms: &[Term], free: &mut Dom) -> Result<Answer
     ensures answer { IfOk result
         (λ r. IsAnswerOf r (IsDifferent terms.now) (AreApart terms.now)
         store.old.doms store.new.doms) }
+    ensures last { IfOk result (λ r. (r ≡ answers.Failed → ⊥)
+        → AreFixedButOne terms.now store.old.doms → AreApart terms.now store.new.doms) }
 {
     let _ = store.doms();
     let mut has_fixed = false;

@@ -1,11 +1,10 @@
-use Rattle.std.proofs.Common.{◌≡◌, ◌+◌, arith, rules, refl}
-use Rattle.std.specs.Prelude.{ℤ, pos, ◌+ℤ◌, slice_get, Some}
+use Rattle.std.proofs.Common.{◌≡◌, arith, rules, refl}
+use Rattle.std.specs.Prelude.{pos, ◌+ℤ◌}
 use Rattle.std.proofs.lemmas.Int.{ints}
 use Rattle.std.proofs.lemmas.Option.{slice_get-get_or}
 use Rattle.std.proofs.Math.Facts.{to_z-of_z}
 use mir.Val.{SFits, to_z, of_z}
 use mir.Syntax.{w32}
-use Rattle.fz_alldiff.specs.Differing.{IsOnlyAt}
 use Rattle.fz_alldiff.proofs.Freeing.{free_first, free_more, free_passed, free_all, never_free, open_first, open_passed, open_more, open_all, spare_other, none_here}
 use Rattle.fz_alldiff.proofs.close.free_of.Goals.{in-Some+in_ok-take-in-Some+else-not-branch, in-None}
 use Rattle.fz_alldiff.proofs.close.free_of.Goals as goal

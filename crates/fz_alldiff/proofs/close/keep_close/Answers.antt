@@ -12,12 +12,13 @@ returns-then-free-eq0-clause-answer c =
     let fixed = open_.none c.if-free-eq0.true in
     subsumed xs ds ds c.requires.terms (apart_fixed xs ds c.in-Some.free.numbers frees fixed) (all_but_none xs ds fixed)
 
-pub returns-in-Fix-clause-answer : goal.returns-in-Fix-clause-answer
-returns-in-Fix-clause-answer c =
+pub returns-in_default-answer-clause-answer : goal.returns-in_default-answer-clause-answer
+returns-in_default-answer-clause-answer c =
     let xs = c.args.terms.now in
     let ds = c.args.store.now.doms in
     let es = c.keep_free.new.store.doms in
     let open_ = rw c.in-Some.is at c.in_ok-free.ensures.unfixed in
+    let one = open_.one (omega arith) in
     let narrower = c.in_ok-answer.ensures.shrinks.narrower in
-    subsumed xs ds es (terms_still xs ds es narrower c.requires.terms) (rw c.in-Fix.is at c.in_ok-answer.ensures.answer)
-    (all_but_one_still xs ds es c.requires.terms c.doms.ensures.store.domains narrower (open_.one (omega arith)))
+    subsumed xs ds es (terms_still xs ds es narrower c.requires.terms) (c.in_ok-answer.ensures.last c.in_default-answer.not-Failed one)
+    (all_but_one_still xs ds es c.requires.terms c.doms.ensures.store.domains narrower one)

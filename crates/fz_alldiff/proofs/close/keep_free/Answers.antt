@@ -1,7 +1,7 @@
-use Rattle.std.proofs.Common.{refl, sym, ◌∙◌, arith, false, true}
+use Rattle.std.proofs.Common.{arith}
 use Rattle.std.proofs.lemmas.Option.{slice_get-get_or}
 use Rattle.fz_prop.proofs.Twice.{shrinks_twice}
-use Rattle.fz_alldiff.proofs.Filling.{correct_more, filling_rest, filling_fixed, never_filled, apart_now}
+use Rattle.fz_alldiff.proofs.Filling.{correct_more, filling_rest, filling_fixed, never_filled, apart_now, apart_last}
 use Rattle.fz_alldiff.proofs.close.keep_free.Goals.{in-Fixed, in-Rest}
 use Rattle.fz_alldiff.proofs.close.keep_free.Goals as goal
 
@@ -48,3 +48,13 @@ pub returns-else-has_fixed-clause-answer : goal.returns-else-has_fixed-clause-an
 returns-else-has_fixed-clause-answer c =
     apart_now c.args.terms.now c.args.free.now c.args.store.now c.loop-term.store c.loop-term.free c.loop-term.has_fixed c.loop-term.term-index
     (let test = c.loop-term-test.false in omega (arith, test)) c.if-has_fixed.false c.requires.free c.loop-term.invariant
+
+pub returns-then-has_fixed-clause-last : goal.returns-then-has_fixed-clause-last
+returns-then-has_fixed-clause-last c = λ not one.
+    apart_last c.args.terms.now c.args.free.now c.args.store.now c.loop-term.store c.loop-term.free c.loop-term.has_fixed c.loop-term.term-index
+    (let test = c.loop-term-test.false in omega (arith, test)) c.requires.terms c.requires.free c.loop-term.invariant one
+
+pub returns-else-has_fixed-clause-last : goal.returns-else-has_fixed-clause-last
+returns-else-has_fixed-clause-last c = λ not one.
+    apart_last c.args.terms.now c.args.free.now c.args.store.now c.loop-term.store c.loop-term.free c.loop-term.has_fixed c.loop-term.term-index
+    (let test = c.loop-term-test.false in omega (arith, test)) c.requires.terms c.requires.free c.loop-term.invariant one
