@@ -15,10 +15,10 @@ use Rattle.fz_prop.proofs.Filled.{still_only}
 use Rattle.fz_prop.proofs.TermChanges.{narrower_term, only_in}
 use Rattle.fz_alldiff.specs.Differing.{IsFixedPlace, IsOnlyAt, IsCleared, AreCleared, IsOutside}
 
-has_only : (d : List (ℤ × ℤ)) (n : ℤ) → IsOnly d n → IsInSet d n
+pub has_only : (d : List (ℤ × ℤ)) (n : ℤ) → IsOnly d n → IsInSet d n
 has_only d n only = subst (λ (e : List (ℤ × ℤ)). IsInSet e n) (sym only) (in_single n n refl)
 
-same_term : (xs : List Term) (i : ℕ) (x y : Term) → slice_get xs i ≡ Some x → slice_get xs i ≡ Some y → x ≡ y
+pub same_term : (xs : List Term) (i : ℕ) (x y : Term) → slice_get xs i ≡ Some x → slice_get xs i ≡ Some y → x ≡ y
 same_term xs i x y at_x at_y = cc (at_x, at_y)
 
 pub fixed_still : (xs : List Term) (ds es : List (List (ℤ × ℤ))) (i : ℕ) → AllByRecursion (IsTermOf (length ds)) xs → AreDomains es → IsNarrower ds es → IsFixedPlace xs ds i → IsFixedPlace xs es i

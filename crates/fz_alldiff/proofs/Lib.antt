@@ -1,4 +1,7 @@
 pub mod Clearing
 pub mod Removing
 pub mod Resting
+pub mod Spanning
+pub mod Freeing
+pub mod Filling
 pub mod Names

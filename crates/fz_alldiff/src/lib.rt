@@ -2,7 +2,10 @@
 #![tactic(auto)]
 
 pub mod all_different;
+mod close;
 mod differ;
+mod far;
+mod span;
 
 pub use all_different::AllDifferent;
 

@@ -85,16 +85,22 @@ fn the_number_of_a_fixed_term_leaves_the_others(rt: HostRuntime) -> Result<(), F
     let alloc = rt.alloc();
     let (x, y, z) = (Term::Var(0), Term::Var(1), Term::Var(2));
     let (one, two, three) = (Term::Num(1), Term::Num(2), Term::Num(3));
+    let far = Term::Num(2147483647);
     // the terms; the greatest numbers of x, y and z; the answer; the ends of x
     let rows = [
         ([x, y, z], (2, 2, 2), Answer::Fix, (1, 2)),
         ([x, y, z], (2, 1, 2), Answer::Failed, (2, 2)),
-        ([x, y, z], (3, 2, 1), Answer::Subsumed, (3, 3)),
+        ([x, y, z], (3, 2, 1), Answer::NoFix, (2, 3)),
+        ([z, y, x], (3, 2, 1), Answer::NoFix, (3, 3)),
         ([x, y, z], (3, 1, 3), Answer::Fix, (2, 3)),
         ([x, two, three], (3, 3, 3), Answer::Subsumed, (1, 1)),
-        ([x, one, one], (3, 3, 3), Answer::Failed, (2, 3)),
+        ([x, y, y], (3, 1, 3), Answer::Failed, (1, 3)),
+        ([x, one, one], (3, 3, 3), Answer::Failed, (1, 3)),
         ([x, x, z], (3, 3, 3), Answer::Fix, (1, 3)),
-        ([x, x, z], (2, 3, 1), Answer::Failed, (2, 2)),
+        ([x, x, z], (2, 3, 1), Answer::NoFix, (2, 2)),
+        ([x, far, y], (3, 1, 3), Answer::Fix, (2, 3)),
+        ([x, far, y], (2, 1, 3), Answer::Subsumed, (2, 2)),
+        ([x, far, far], (3, 3, 3), Answer::Failed, (1, 3)),
     ];
     let model = model(alloc)?;
     for (terms, highs, answer, left) in rows {

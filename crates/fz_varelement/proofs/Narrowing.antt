@@ -1,6 +1,6 @@
 -- Keeping the indices of the terms that may be chosen, the value within their hull, and the last one within the bounds of the value.
-use Rattle.std.proofs.Common.{◌≡◌, ℕ, zero, suc, List, [], ◌∷◌, refl, sym, ap, subst, ◌∙◌, arith, length, inl, Result, Ok, Err}
-use Rattle.std.specs.Prelude.{ℤ, ◌≤ℤ◌, slice_get, Some, OnErr, IfOk}
+use Rattle.std.proofs.Common.{◌≡◌, ℕ, zero, suc, List, [], ◌∷◌, refl, sym, ap, subst, ◌∙◌, ◌<◌, arith, length, inl, Result, Ok, Err}
+use Rattle.std.specs.Prelude.{ℤ, pos, ◌≤ℤ◌, slice_get, Some, OnErr, IfOk}
 use Rattle.std.specs.List.{AllByRecursion}
 use Rattle.std.proofs.lemmas.Int.{ints}
 use Rattle.fz_sets.specs.Sets.{IsInSet}
@@ -21,11 +21,13 @@ use Rattle.fz_strength.proofs.VariableElements.{element_value}
 use Rattle.fz_prop.specs.declared.answer.Answer.{Answer}
 use Rattle.fz_prop.specs.declared.answer.Answer.TheVariants.{Fix, NoFix, Subsumed, Failed}
 use Rattle.fz_prop.specs.Answers.{IsAnswerOf, IsCorrectOf, IsDecided}
-use Rattle.fz_prop.specs.Stores.{Stored, Shrinks, IsTermOf, IsTermChange}
+use Rattle.fz_prop.specs.Stores.{Stored, Shrinks, IsTermOf, FitsTerm, IsTermChange}
+use Rattle.fz_prop.proofs.Grown.{term_limits}
+use Rattle.fz_prop.proofs.Twice.{room_after}
 use Rattle.fz_prop.proofs.Filled.{term_ranges, one_left, still_only}
 use Rattle.fz_prop.proofs.TermChanges.{term_within, only_in, within_kept, kept_term, none_kept, falls_of, same_store, fixed_stays}
-use Rattle.fz_varelement.specs.Choosing.{IsChosen, IsChoice, AreChoices, IsLess, IsNeverChosen, IsLastWithin, IsLastKept, IsNarrowed, IsRested}
-use Rattle.fz_varelement.proofs.Choosing.{stands_only, stands_term}
+use Rattle.fz_varelement.specs.Choosing.{IsChosen, IsChoice, IsChosenAt, AreAllChosen, IsHull, IsLess, IsNeverChosen, IsLastWithin, IsLastKept, IsNarrowed, IsRested}
+use Rattle.fz_varelement.proofs.Choosing.{stands_from, stands_to, stands_only, stands_term}
 
 -- the terms are of a store with so many variables
 pub record AreTermsOf (n : ℕ) (xs : List Term) (k c : Term) : Type 0 where
@@ -67,22 +69,29 @@ the_choice xs k c ds a of domains within holds =
       same,
     )
 
-pub needs_index : (xs : List Term) (k c : Term) (ds : List (List (ℤ × ℤ))) (indices : List (ℤ × ℤ)) (low high : ℤ) → AreTermsOf (length ds) xs k c → AreDomains ds
-    → AreChoices xs k c ds indices low high → (a : List ℤ) → Within ds a → IsChosen xs k c a → IsInSet indices (term_value a k)
-needs_index xs k c ds indices low high of domains choices = λ a within holds.
-    let p = the_choice xs k c ds a of domains within holds in (choices.indices_are (term_value a k)).1 (p.0, p.1)
+-- the index is that of a term of the list
+pub needs_place : (xs : List Term) (k c : Term) (ds : List (List (ℤ × ℤ))) (last : ℤ) → AreTermsOf (length ds) xs k c → AreDomains ds → FitsTerm k
+    → ((i : ℤ) → i ≤ℤ pos 2147483647 → i ≤ℤ pos (length xs) → i ≤ℤ last) → (a : List ℤ) → Within ds a → IsChosen xs k c a → IsFromTo (pos 1) last (term_value a k)
+needs_place xs k c ds last of domains fits last_is = λ a within holds.
+    let p = the_choice xs k c ds a of domains within holds in
+    let limits = (term_limits ds k (term_value a k) of.index domains fits p.1.index).1 in
+    (stands_from (term_value a k) xs p.0 p.1.stands, last_is (term_value a k) (omega (arith, ints, limits)) (stands_to (term_value a k) xs p.0 p.1.stands))
 
-pub needs_value : (xs : List Term) (k c : Term) (ds : List (List (ℤ × ℤ))) (indices : List (ℤ × ℤ)) (low high : ℤ) → AreTermsOf (length ds) xs k c → AreDomains ds
-    → AreChoices xs k c ds indices low high → (a : List ℤ) → Within ds a → IsChosen xs k c a → IsFromTo low high (term_value a c)
-needs_value xs k c ds indices low high of domains choices = λ a within holds.
+pub needs_choice : (xs : List Term) (k c : Term) (ds : List (List (ℤ × ℤ))) → AreTermsOf (length ds) xs k c → AreDomains ds → (a : List ℤ) → Within ds a → IsChosen xs k c a
+    → IsChosenAt xs k c ds (term_value a k)
+needs_choice xs k c ds of domains = λ a within holds. (let p = the_choice xs k c ds a of domains within holds in (p.0, p.1))
+
+pub needs_value : (xs : List Term) (k c : Term) (ds : List (List (ℤ × ℤ))) (low high : ℤ) → AreTermsOf (length ds) xs k c → AreDomains ds → IsHull xs k c ds low high
+    → (a : List ℤ) → Within ds a → IsChosen xs k c a → IsFromTo low high (term_value a c)
+needs_value xs k c ds low high of domains hull = λ a within holds.
     let p = the_choice xs k c ds a of domains within holds in
     let is_x = stands_term (length ds) (term_value a k) xs p.0 of.terms p.1.stands in
     let x = between_ends ds p.0 (term_value a p.0) is_x domains (term_within ds a p.0 is_x within) in
     let same = p.2 in
     let x_low = x.0 in
     let x_high = x.1 in
-    let from = choices.low_is (term_value a k) p.0 p.1 in
-    let to = choices.high_is (term_value a k) p.0 p.1 in
+    let from = hull.low_is (term_value a k) p.0 p.1 in
+    let to = hull.high_is (term_value a k) p.0 p.1 in
     (omega (arith, ints, same, x_low, from), omega (arith, ints, same, x_high, to))
 
 pub needs_last : (xs : List Term) (k c : Term) (ds : List (List (ℤ × ℤ))) (i : ℤ) (x : Term) → AreTermsOf (length ds) xs k c → AreDomains ds → IsOnly (term_set ds k) i → StandsAt i xs x
@@ -111,7 +120,7 @@ step_correct_of {E} (Err error) t P T r s needs err h shrinks = λ a holds withi
 less_of : (t : Term) (P : ℤ → Type 0) (xs : List Term) (k c : Term) (r s : Stored) → (AllFixed r.doms (k ∷ c ∷ xs) → IsFixedIn r.doms t) → IsTermChange Changed t P r s → IsLess xs k c r s
 less_of t P xs k c r s one h = (falls_of t P r s h, λ fixed. (let f = one fixed in fixed_stays t P r s f.0 f.1 h))
 
-never_of : (t : Term) (P : ℤ → Type 0) (xs : List Term) (k c : Term) (r s : Stored) → IsTermOf (length r.doms) t → ((a : List ℤ) → Within r.doms a → IsChosen xs k c a → P (term_value a t))
+pub never_of : (t : Term) (P : ℤ → Type 0) (xs : List Term) (k c : Term) (r s : Stored) → IsTermOf (length r.doms) t → ((a : List ℤ) → Within r.doms a → IsChosen xs k c a → P (term_value a t))
     → IsTermChange Wiped t P r s → IsNeverChosen xs k c r.doms
 never_of t P xs k c r s is needs h = λ a within holds. none_kept t P r s h (term_value a t) (term_within r.doms a t is within) (needs a within holds)
 
@@ -122,6 +131,24 @@ pub narrowed_by : (change : Change) (t : Term) (P : ℤ → Type 0) (xs : List T
 narrowed_by Same t P xs k c r s not is one needs h = absurd (not refl)
 narrowed_by Changed t P xs k c r s not is one needs h = less_of t P xs k c r s one h
 narrowed_by Wiped t P xs k c r s not is one needs h = never_of t P xs k c r s is needs h
+
+-- two changes, of the index and of the value
+pub correct_both : (first second : Change) (k c : Term) (P Q : ℤ → Type 0) (T : List ℤ → Type 0) (r s t : Stored) → ((a : List ℤ) → Within r.doms a → T a → P (term_value a k))
+    → ((a : List ℤ) → Within r.doms a → T a → Q (term_value a c)) → IsTermChange first k P r s → Shrinks r s → IsTermChange second c Q s t → Shrinks s t → IsCorrectOf T r.doms t.doms
+correct_both first second k c P Q T r s t index value h shrinks g narrows = λ a holds within.
+    within_kept second c Q s t a g narrows (within_kept first k P r s a h shrinks within (index a within holds)) (value a within holds)
+
+pub never_both : (first : Change) (k c : Term) (P Q : ℤ → Type 0) (xs : List Term) (r s t : Stored) → IsTermOf (length r.doms) c → ((a : List ℤ) → Within r.doms a → IsChosen xs k c a → P (term_value a k))
+    → ((a : List ℤ) → Within r.doms a → IsChosen xs k c a → Q (term_value a c)) → IsTermChange first k P r s → Shrinks r s → IsTermChange Wiped c Q s t → IsNeverChosen xs k c r.doms
+never_both first k c P Q xs r s t is index value h shrinks g = λ a within holds.
+    let is_c : IsTermOf (length s.doms) c = subst (λ (n : ℕ). IsTermOf n c) (sym shrinks.narrower.size) is in
+    none_kept c Q s t g (term_value a c) (term_within s.doms a c is_c (within_kept first k P r s a h shrinks within (index a within holds))) (value a within holds)
+
+pub less_both : (k c : Term) (P : ℤ → Type 0) (xs : List Term) (r s t : Stored) → IsTermChange Changed k P r s → Shrinks s t → IsLess xs k c r t
+less_both k c P xs r s t h narrows =
+    let falls = falls_of k P r s h in
+    let after = room_after s t narrows in
+    (omega (arith, falls, after), λ fixed. fixed_stays k P r s fixed.0.0 fixed.0.1 h)
 
 -- all that is left of a term that doesn't change has the property
 pub all_kept : (t : Term) (P : ℤ → Type 0) (r s : Stored) → IsTermChange Same t P r s → (x : ℤ) → IsInSet (term_set r.doms t) x → P x
@@ -165,23 +192,23 @@ last_kept Wiped xs k c i x r s of domains only stands h =
 -- ---- the line
 
 -- where neither the index nor the value nor the last term changed
-line_now : (xs : List Term) (k c : Term) (ds : List (List (ℤ × ℤ))) (indices : List (ℤ × ℤ)) (low high : ℤ) → AreTermsOf (length ds) xs k c → AreDomains ds
-    → AreChoices xs k c ds indices low high → ((i : ℤ) → IsInSet (term_set ds k) i → IsInSet indices i) → ((v : ℤ) → IsInSet (term_set ds c) v → IsFromTo low high v)
+line_now : (xs : List Term) (k c : Term) (ds : List (List (ℤ × ℤ))) (low high : ℤ) → AreTermsOf (length ds) xs k c → AreDomains ds → IsHull xs k c ds low high
+    → AreAllChosen xs k c ds → ((v : ℤ) → IsInSet (term_set ds c) v → IsFromTo low high v)
     → IsLastWithin xs k c ds → IsVariableElementLine xs k c ds
-line_now xs k c ds indices low high of domains choices index value last =
+line_now xs k c ds low high of domains hull all value last =
     let has_k = term_ranges ds k of.index domains in
     let has_c = term_ranges ds c of.value domains in
-    let first = index (least (term_set ds k)) (least_member (term_set ds k) has_k.some has_k.ranges).0 in
+    let first = all (least (term_set ds k)) (least_member (term_set ds k) has_k.some has_k.ranges).0 in
     let from = (value (least (term_set ds c)) (least_member (term_set ds c) has_c.some has_c.ranges).0).0 in
     let to = (value (greatest (term_set ds c)) (greatest_member (term_set ds c) has_c.some has_c.ranges).0).1 in
-    let bottom = choices.low_reached (least (term_set ds k)) first in
-    let top = choices.high_reached (least (term_set ds k)) first in
+    let bottom = hull.low_reached (least (term_set ds k)) first in
+    let top = hull.high_reached (least (term_set ds k)) first in
     let bottom_low = bottom.3 in
     let top_high = top.3 in
     let chosen : (i : ℤ) (x : Term) → IsOnly (term_set ds k) i → StandsAt i xs x → (j : ℤ) (y : Term) → IsChoice xs k c ds j y → y ≡ x = λ i x only stands j y choice.
     stands_only i xs y x (subst (λ (m : ℤ). StandsAt m xs y) (only_in (term_set ds k) i j only choice.index) choice.stands) stands in
     record {
-      index = λ i is. (let p = (choices.indices_are i).0 (index i is) in (p.0, p.1.stands, p.1.overlap));
+      index = λ i is. (let p = all i is in (p.0, p.1.stands, p.1.overlap));
       low = (bottom.1, (bottom.0, bottom.2.index, bottom.2.stands), omega (arith, ints, from, bottom_low));
       high = (top.1, (top.0, top.2.index, top.2.stands), omega (arith, ints, to, top_high));
       one = λ i x only stands.
@@ -193,12 +220,12 @@ line_now xs k c ds indices low high of domains choices index value last =
           (omega (arith, ints, within_low, low_same, from, bottom_low), omega (arith, ints, within_high, high_same, to, top_high));
     }
 
-pub narrowed_last : (change : Change) (xs : List Term) (k c : Term) (indices : List (ℤ × ℤ)) (low high : ℤ) (r s : Stored) → AreTermsOf (length r.doms) xs k c → AreDomains r.doms
-    → AreChoices xs k c r.doms indices low high → ((i : ℤ) → IsInSet (term_set r.doms k) i → IsInSet indices i) → ((v : ℤ) → IsInSet (term_set r.doms c) v → IsFromTo low high v)
+pub narrowed_last : (change : Change) (xs : List Term) (k c : Term) (low high : ℤ) (r s : Stored) → AreTermsOf (length r.doms) xs k c → AreDomains r.doms
+    → IsHull xs k c r.doms low high → AreAllChosen xs k c r.doms → ((v : ℤ) → IsInSet (term_set r.doms c) v → IsFromTo low high v)
     → IsLastKept change xs k c r s → IsNarrowed change xs k c r s
-narrowed_last Same xs k c indices low high r s of domains choices index value h = (h.0, line_now xs k c r.doms indices low high of domains choices index value h.1)
-narrowed_last Changed xs k c indices low high r s of domains choices index value h = h
-narrowed_last Wiped xs k c indices low high r s of domains choices index value h = h
+narrowed_last Same xs k c low high r s of domains hull all value h = (h.0, line_now xs k c r.doms low high of domains hull all value h.1)
+narrowed_last Changed xs k c low high r s of domains hull all value h = h
+narrowed_last Wiped xs k c low high r s of domains hull all value h = h
 
 -- ---- answers
 

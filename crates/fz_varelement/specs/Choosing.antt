@@ -1,5 +1,6 @@
 -- An index into a list of terms: when an assignment makes it true, which terms may be chosen, and what is done of the work on a store.
-use Rattle.std.specs.Prelude.{◌≡◌, ℕ, ◌<◌, ℤ, ◌≤ℤ◌, ◌↔◌, List, ◌∷◌}
+use Rattle.std.specs.Prelude.{◌≡◌, ℕ, ◌<◌, ℤ, ◌≤ℤ◌, ◌↔◌, false, List, ◌∷◌, Option, Some, None}
+use Rattle.std.specs.Int.{int_min, int_max}
 use Rattle.fz_sets.specs.Sets.{IsInSet}
 use Rattle.fz_dom.specs.Shape.{least, greatest}
 use Rattle.fz_dom.specs.declared.change.Change.{Change}
@@ -14,6 +15,7 @@ use Rattle.fz_strength.specs.VariableElements.{IsVariableSelection, StandsAt, Is
 use Rattle.fz_prop.specs.declared.answer.Answer.{Answer}
 use Rattle.fz_prop.specs.declared.answer.Answer.TheVariants.{Fix, Subsumed}
 use Rattle.fz_prop.specs.Stores.{Stored, FitsTerm}
+use Rattle.fz_varelement.specs.declared.choices.Hull.{Hull}
 
 abbrev pub IsChosen : List Term → Term → Term → List ℤ → Type 0
 IsChosen xs k c a = IsElement (term_value a k) (term_values a xs) (term_value a c)
@@ -30,13 +32,29 @@ pub record IsChoice (xs : List Term) (k c : Term) (ds : List (List (ℤ × ℤ))
 abbrev pub IsChoiceBetween : List Term → Term → Term → List (List (ℤ × ℤ)) → ℤ → ℤ → ℤ → Type 0
 IsChoiceBetween xs k c ds i low high = (x : Term) × IsChoice xs k c ds i x × (low ≡ least (term_set ds x)) × (high ≡ greatest (term_set ds x))
 
--- The indices of all that may be chosen, and the hull of these terms. Where there is none, the hull is nothing.
-pub record AreChoices (xs : List Term) (k c : Term) (ds : List (List (ℤ × ℤ))) (indices : List (ℤ × ℤ)) (low high : ℤ) : Type 0 where
-  pub indices_are : (i : ℤ) → IsInSet indices i ↔ ((x : Term) × IsChoice xs k c ds i x)
+-- some term may be chosen at the index i
+abbrev pub IsChosenAt : List Term → Term → Term → List (List (ℤ × ℤ)) → ℤ → Type 0
+IsChosenAt xs k c ds i = (x : Term) × IsChoice xs k c ds i x
+
+-- the indices of all that may be chosen
+abbrev pub AreChoices : List Term → Term → Term → List (List (ℤ × ℤ)) → List (ℤ × ℤ) → Type 0
+AreChoices xs k c ds indices = (i : ℤ) → IsInSet indices i ↔ IsChosenAt xs k c ds i
+
+-- a term may be chosen at each index that is left
+abbrev pub AreAllChosen : List Term → Term → Term → List (List (ℤ × ℤ)) → Type 0
+AreAllChosen xs k c ds = (i : ℤ) → IsInSet (term_set ds k) i → IsChosenAt xs k c ds i
+
+-- The hull of all terms that may be chosen, if there are some.
+pub record IsHull (xs : List Term) (k c : Term) (ds : List (List (ℤ × ℤ))) (low high : ℤ) : Type 0 where
   pub low_is : (i : ℤ) (x : Term) → IsChoice xs k c ds i x → low ≤ℤ least (term_set ds x)
   pub high_is : (i : ℤ) (x : Term) → IsChoice xs k c ds i x → greatest (term_set ds x) ≤ℤ high
-  pub low_reached : (i : ℤ) → IsInSet indices i → (j : ℤ) × (x : Term) × IsChoice xs k c ds j x × (least (term_set ds x) ≤ℤ low)
-  pub high_reached : (i : ℤ) → IsInSet indices i → (j : ℤ) × (x : Term) × IsChoice xs k c ds j x × (high ≤ℤ greatest (term_set ds x))
+  pub low_reached : (i : ℤ) → IsChosenAt xs k c ds i → (j : ℤ) × (x : Term) × IsChoice xs k c ds j x × (least (term_set ds x) ≤ℤ low)
+  pub high_reached : (i : ℤ) → IsChosenAt xs k c ds i → (j : ℤ) × (x : Term) × IsChoice xs k c ds j x × (high ≤ℤ greatest (term_set ds x))
+
+-- a hull with the bounds of one term more, if it may be chosen
+abbrev pub IsWider : Option (ℤ × ℤ) → Hull → Hull → Type 0
+IsWider None h g = (g.low ≡ h.low) × (g.high ≡ h.high) × (g.all ≡ false)
+IsWider (Some r) h g = (g.low ≡ int_min h.low r.0) × (g.high ≡ int_max h.high r.1) × (g.all ≡ h.all)
 
 -- ---- what is done
 

@@ -121,6 +121,17 @@ fn index_value_and_terms_keep_each_other(rt: HostRuntime) -> Result<(), Fail> {
         ),
         (
             k,
+            (1, 3),
+            (5, 9),
+            (2, 4),
+            (6, 7),
+            Answer::NoFix,
+            (3, 3),
+            (6, 7),
+            (6, 7),
+        ),
+        (
+            k,
             (3, 3),
             (7, 9),
             all,

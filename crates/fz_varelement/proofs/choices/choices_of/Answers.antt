@@ -1,6 +1,5 @@
 use Rattle.std.proofs.Common.{◌≡◌, arith, rules}
-use Rattle.std.specs.Prelude.{ℤ, pos, negsuc, ◌+ℤ◌, ◌≤ℤ◌, ◌<ℤ◌}
-use Rattle.std.specs.Int.{int_min, int_max}
+use Rattle.std.specs.Prelude.{ℤ, pos, ◌+ℤ◌, ◌<ℤ◌}
 use Rattle.std.proofs.lemmas.Int.{ints}
 use Rattle.std.proofs.Math.Facts.{to_z-of_z}
 use mir.Val.{SFits, to_z, of_z}
@@ -16,8 +15,6 @@ use Rattle.fz_varelement.proofs.choices.choices_of.Goals as goal
 pub loop-place-preserved : goal.loop-place-preserved
 loop-place-preserved c =
     let j = to_z w32 c.loop-place.place-bits in
-    let low = to_z w32 c.loop-place.low-bits in
-    let high = to_z w32 c.loop-place.high-bits in
     let xs = c.args.terms.now in
     let ds = c.args.store.now.doms in
     let k = c.args.index in
@@ -29,29 +26,16 @@ loop-place-preserved c =
     let next : to_z w32 (of_z w32 (j +ℤ pos 1)) ≡ j +ℤ pos 1 = to_z-of_z (fits_above c.end_of-end.result j below fits_j fits_end) in
     elim c.match-choice.branch [
       | in-Some+in_ok-push w ↦
-          let new = w.in-Some.ensures in
-          let l = w.in-Some.least in
-          let g = w.in-Some.greatest in
-          let fits_l : SFits w32 l = search rules in
-          let fits_g : SFits w32 g = search rules in
-          let fits_m : SFits w32 w.min-low.result = search rules in
-          let fits_n : SFits w32 w.max-high.result = search rules in
-          let few : l ≤ℤ pos 2147483647 = omega (arith, ints, fits_l) in
-          let many : negsuc 2147483647 ≤ℤ g = omega (arith, ints, fits_g) in
-          let min : w.min-low.result ≡ int_min low l = rw (to_z-of_z fits_l) at w.min-low.ensures.value in
-          let max : w.max-high.result ≡ int_max high g = rw (to_z-of_z fits_g) at w.max-high.ensures.value in
-          rw (w.indices-is, w.in_ok-push.ensures.items, w.low-is, w.high-is, to_z-of_z fits_m, to_z-of_z fits_n, next)
-          (choices_more xs k v ds c.loop-place.indices.items low high j l g w.min-low.result w.max-high.result new
-          (term_limits ds k j c.requires.index c.doms.ensures.store.domains c.requires.fits new.1.index) few many min max c.loop-place.invariant)
-      | in_default w ↦ rw (w.indices-is, w.low-is, w.high-is, next)
-          (choices_passed xs k v ds c.loop-place.indices.items low high j w.in_default.ensures c.loop-place.invariant)
+          let new = w.in-Some.ensures.choice in
+          rw (w.indices-is, w.in_ok-push.ensures.items, next)
+          (choices_more xs k v ds c.loop-place.indices.items j (new.0, new.1)
+          (term_limits ds k j c.requires.index c.doms.ensures.store.domains c.requires.fits new.1.index) c.loop-place.invariant)
+      | in_default w ↦ rw (w.indices-is, next) (choices_passed xs k v ds c.loop-place.indices.items j w.in_default.ensures.choice c.loop-place.invariant)
     ]
 
 pub returns : goal.returns
 returns c =
     let j = to_z w32 c.loop-place.place-bits in
-    let low = to_z w32 c.loop-place.low-bits in
-    let high = to_z w32 c.loop-place.high-bits in
     let xs = c.args.terms.now in
     let ds = c.args.store.now.doms in
     let k = c.args.index in
@@ -60,4 +44,4 @@ returns c =
     let test = rw (to_z-of_z fits_end) at c.loop-place-test.false in
     let all : (i : ℤ) (x : Term) → IsChoice xs k v ds i x → i <ℤ j = λ i x choice.
     let below = c.end_of-end.ensures i (stands_to i xs x choice.stands) choice.index in grind (arith, ints, test, below) in
-    choices_all xs k v ds c.loop-place.indices.items c.in_ok-indices.indices low high j all c.loop-place.invariant (rw c.deref.ensures.value at c.in_ok-indices.ensures.one_set)
+    choices_all xs k v ds c.loop-place.indices.items c.in_ok-indices.indices j all c.loop-place.invariant (rw c.deref.ensures.value at c.in_ok-indices.ensures.one_set)

@@ -1,6 +1,6 @@
 use Rattle.std.proofs.Common.{◌<◌, ℕ}
 use Rattle.fz_alldiff.specs.Differing.{IsFixedPlace, IsDone}
-use Rattle.fz_alldiff.proofs.differ.next_fixed.Given as goal
+use Rattle.fz_alldiff.proofs.far.next_fixed.Given as goal
 
 -- those so far that are fixed are done
 abbrev pub invariant-loop-place : goal.invariant-loop-place

@@ -6,7 +6,7 @@ use mir.Val.{SFits}
 use mir.Syntax.{w32}
 use Rattle.fz_alldiff.specs.Differing.{IsOutside}
 use Rattle.fz_alldiff.proofs.Clearing.{cleared_now, only_at}
-use Rattle.fz_alldiff.proofs.differ.clear.Goals as goal
+use Rattle.fz_alldiff.proofs.far.clear.Goals as goal
 
 pub returns-clause-cleared : goal.returns-clause-cleared
 returns-clause-cleared c = λ left.

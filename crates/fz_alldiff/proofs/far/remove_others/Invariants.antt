@@ -1,5 +1,5 @@
 use Rattle.fz_alldiff.proofs.Removing.{IsRemoving}
-use Rattle.fz_alldiff.proofs.differ.remove_others.Given as goal
+use Rattle.fz_alldiff.proofs.far.remove_others.Given as goal
 
 -- the number is in none of the places so far
 abbrev pub invariant-loop-other : goal.invariant-loop-other

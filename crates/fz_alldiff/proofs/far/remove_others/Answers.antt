@@ -8,7 +8,7 @@ use Rattle.fz_dom.specs.declared.change.Change.TheVariants.{Wiped}
 use Rattle.fz_spec.specs.declared.term.Term.TheVariants.{Num}
 use Rattle.fz_prop.specs.Stores.{IsTermChange}
 use Rattle.fz_alldiff.proofs.Removing.{IsRemoving, removing_more, removing_all, never_different}
-use Rattle.fz_alldiff.proofs.differ.remove_others.Goals as goal
+use Rattle.fz_alldiff.proofs.far.remove_others.Goals as goal
 
 pub returns-in-Wiped-clause-failed : goal.returns-in-Wiped-clause-failed
 returns-in-Wiped-clause-failed c = λ left.
@@ -16,9 +16,9 @@ returns-in-Wiped-clause-failed c = λ left.
     let so_far : IsRemoving c.args.terms.now c.args.done.now c.args.value c.args.place c.args.store.now c.loop-other.store c.loop-other.other =
     subst (λ (n : ℤ). IsRemoving c.args.terms.now c.args.done.now n c.args.place c.args.store.now c.loop-other.store c.loop-other.other) (to_z-of_z fits) c.loop-other.invariant in
     let y = get_or c.args.terms.now c.loop-other.other (Num (pos 0)) in
-    never_different c.args.terms.now c.args.done.now c.args.value c.args.place c.args.store.now c.loop-other.store c.remove.new.store c.loop-other.other y
+    never_different c.args.terms.now c.args.done.now c.args.value c.args.place c.args.store.now c.loop-other.store c.remove_from.new.store c.loop-other.other y
     c.requires.terms c.requires.only (λ same. let test = c.if-other-place.false in omega (arith, test, same)) (slice_get-get_or c.args.terms.now c.loop-other.other (Num (pos 0)) c.loop-other-test.true)
-    (subst (λ (n : ℤ). IsTermChange Wiped y (λ x. x ≢ n) c.loop-other.store c.remove.new.store) (to_z-of_z fits) (rw c.in-Wiped.is at c.in_ok-remove.ensures.change))
+    (subst (λ (n : ℤ). IsTermChange Wiped y (λ x. x ≢ n) c.loop-other.store c.remove_from.new.store) (to_z-of_z fits) (rw c.in-Wiped.is at c.in_ok-remove_from.ensures.change))
     so_far
 
 pub loop-other-preserved : goal.loop-other-preserved
@@ -27,11 +27,11 @@ loop-other-preserved c =
     let so_far : IsRemoving c.args.terms.now c.args.done.now c.args.value c.args.place c.args.store.now c.loop-other.store c.loop-other.other =
     subst (λ (n : ℤ). IsRemoving c.args.terms.now c.args.done.now n c.args.place c.args.store.now c.loop-other.store c.loop-other.other) (to_z-of_z fits) c.loop-other.invariant in
     let y = get_or c.args.terms.now c.loop-other.other (Num (pos 0)) in
-    subst (λ (n : ℤ). IsRemoving c.args.terms.now c.args.done.now n c.args.place c.args.store.now c.remove.new.store (c.loop-other.other + 1)) (sym (to_z-of_z fits))
-    (removing_more c.in_ok-remove.field-0 c.args.terms.now c.args.done.now c.args.value c.args.place c.args.store.now c.loop-other.store c.remove.new.store c.loop-other.other y
+    subst (λ (n : ℤ). IsRemoving c.args.terms.now c.args.done.now n c.args.place c.args.store.now c.remove_from.new.store (c.loop-other.other + 1)) (sym (to_z-of_z fits))
+    (removing_more c.in_ok-remove_from.field-0 c.args.terms.now c.args.done.now c.args.value c.args.place c.args.store.now c.loop-other.store c.remove_from.new.store c.loop-other.other y
     c.requires.terms c.requires.only (λ same. let test = c.if-other-place.false in omega (arith, test, same)) (slice_get-get_or c.args.terms.now c.loop-other.other (Num (pos 0)) c.loop-other-test.true)
-    (subst (λ (n : ℤ). IsTermChange c.in_ok-remove.field-0 y (λ x. x ≢ n) c.loop-other.store c.remove.new.store) (to_z-of_z fits) c.in_ok-remove.ensures.change)
-    c.in_default.not-Wiped c.in_ok-remove.ensures.shrinks so_far)
+    (subst (λ (n : ℤ). IsTermChange c.in_ok-remove_from.field-0 y (λ x. x ≢ n) c.loop-other.store c.remove_from.new.store) (to_z-of_z fits) c.in_ok-remove_from.ensures.change)
+    c.in_default.not-Wiped c.in_ok-remove_from.ensures.shrinks so_far)
 
 pub returns-clause-outside : goal.returns-clause-outside
 returns-clause-outside c = λ left.

@@ -1,7 +1,7 @@
 use Rattle.std.proofs.Common.{refl}
 use Rattle.fz_prop.proofs.Twice.{shrinks_twice}
 use Rattle.fz_alldiff.proofs.Resting.{clearing_more, rested_answer, rested_decided}
-use Rattle.fz_alldiff.proofs.differ.keep_different.Goals as goal
+use Rattle.fz_alldiff.proofs.far.keep_each.Goals as goal
 
 pub returns-in_err-clear-clause-shrinks : goal.returns-in_err-clear-clause-shrinks
 returns-in_err-clear-clause-shrinks c = shrinks_twice c.args.store.now c.places.store c.clear.new.store c.places.invariant.shrinks c.clear.ensures.shrinks
