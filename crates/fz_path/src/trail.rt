@@ -1,13 +1,14 @@
 //! The spaces beside a path.
-ghost use Rattle.std.specs.Prelude.{◌≡◌, ◌⊎◌, ◌≤◌, ◌<◌, ◌+◌, ◌-◌, ◌++◌, ◌∷◌, [], ℕ, ℤ, List, length, false, IsTrue, Option, Some, None, IfOk, IfSome, IsSomeAnd, OnOk, OnErr};
-ghost use Rattle.std.specs.List.{AllByRecursion, slice_get};
+ghost use Rattle.std.specs.Prelude.{◌≡◌, ◌⊎◌, ◌↔◌, ◌≤◌, ◌<◌, ◌+◌, ◌-◌, ◌++◌, ◌∷◌, [], ℕ, ℤ, List, length, false, IsTrue, Option, Some, None, IfNone, is_some, IfOk, IfSome, IsSomeAnd, OnOk, OnErr};
+ghost use Rattle.std.specs.List.{AllByRecursion};
+ghost use Rattle.std.specs.Vec.{vec_len, vec_capacity};
 ghost use Rattle.fz_spec.specs.Instance.{Instance};
 ghost use Rattle.fz_tree.specs.declared.decision.Decision.{Decision};
 ghost use Rattle.fz_tree.specs.Frontier as frontier;
-ghost use Rattle.fz_tree.specs.Frontier.{AreEdges, edge_has_rest, next_edges};
+ghost use Rattle.fz_tree.specs.Frontier.{AreEdges, next_edges};
 ghost use Rattle.fz_path.specs.Spaces.{Covers};
 ghost use Rattle.fz_path.specs.Nodes.{IsAt, decisions_of};
-ghost use Rattle.fz_path.specs.Places.{IsNear, AreLeftDownTo, IsOneMore, IsUsedUp, nearest_node, last_of};
+ghost use Rattle.fz_path.specs.Places.{IsNear, AreLeftDownTo, IsOneMore, IsUsedUp, HasUsedCopy, nearest_node, last_of};
 ghost use Rattle.fz_path.specs.Trails.{IsTrail, IsKept, AreKept};
 
 use crate::kept::Kept;
@@ -140,7 +141,8 @@ impl<S: Space> Trail<S> {
         ensures copies { (self.new.copies.items ≡ self.old.copies.items)
             ⊎ IsUsedUp edges.now self.old.copies.items self.new.copies.items }
         ensures nearest { IfSome result (λ k. k.depth ≡ nearest_node self.old.copies.items) }
-        ensures none { result ≡ None → self.new.copies.items ≡ self.old.copies.items }
+        ensures none { IfNone result (self.new.copies.items ≡ self.old.copies.items) }
+        ensures used { IsTrue (is_some result) ↔ HasUsedCopy edges.now self.old.copies.items }
         ensures space { IfSome result (λ k. (m : Instance) (known : Option (List ℤ))
             → IsTrail S.spaced m known edges.now self.old
             → IsKept S.spaced m known edges.now k) }
@@ -173,10 +175,7 @@ impl<S: Space> Trail<S> {
 
     /// Whether the nearest copy stands at the last edge, which takes its last alternative: no other node is remade from it.
     fn has_used_copy(&self, edges: &[Edge]) -> bool
-        ensures at_last { IsTrue result
-            → IfSome (last_of self.now.copies.items) (λ kept. kept.depth + 1 ≡ length edges.now) }
-        ensures spent { IsTrue result
-            → IfSome (last_of edges.now) (λ edge. edge_has_rest edge ≡ false) }
+        ensures { IsTrue result ↔ HasUsedCopy edges.now self.now.copies.items }
     {
         match (self.copies.last(), edges.last()) {
             (Some(kept), Some(edge)) => kept.depth == edges.len() - 1 && !edge.has_rest(),
@@ -245,6 +244,8 @@ impl<S: Space> Trail<S> {
         ensures current { self.new.current ≡ self.old.current }
         ensures spare { (self.new.spare.items ≡ self.old.spare.items)
             ⊎ (self.new.spare.items ≡ self.old.spare.items ++ space ∷ []) }
+        ensures room { vec_len self.old.spare < vec_capacity self.old.spare
+            → self.new.spare.items ≡ self.old.spare.items ++ space ∷ [] }
         ensures trail { (m : Instance) (known : Option (List ℤ)) (es : List frontier.Edge)
             → IsTrail S.spaced m known es self.old
             → IsTrail S.spaced m known es self.new }

@@ -1,4 +1,4 @@
-use Rattle.std.proofs.Common.{List, ◌≡◌, ◌-◌, length, arith, subst, sym, Option, IfSome}
+use Rattle.std.proofs.Common.{List, arith, subst, sym, Option, IfSome}
 use Rattle.fz_path.specs.Nodes.{IsAt}
 use Rattle.fz_path.specs.Places.{AreLeftDownTo}
 use Rattle.fz_path.specs.Trails.{AreKept}

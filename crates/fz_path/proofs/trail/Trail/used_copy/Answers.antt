@@ -5,7 +5,7 @@ use Rattle.fz_path.proofs.trail.Trail.used_copy.Goals as goal
 
 pub returns-clause-copies : goal.returns-clause-copies
 returns-clause-copies g c =
-    popped_used c.args.edges.now c.args.self.now.copies.items c.pop.new.self.items c.pop.result c.pop.ensures.items (c.has_used_copy.ensures.at_last c.if-not-has_used_copy.false) (c.has_used_copy.ensures.spent c.if-not-has_used_copy.false)
+    popped_used c.args.edges.now c.args.self.now.copies.items c.pop.new.self.items c.pop.result c.pop.ensures.items (c.has_used_copy.ensures.0 c.if-not-has_used_copy.false)
 
 pub returns-clause-kept : goal.returns-clause-kept
 returns-clause-kept g c = λ m known t. trail_used g.S.Space.spaced m known c.args.edges.now c.args.self.now _ refl refl refl (returns-clause-copies g c) t
