@@ -3,6 +3,7 @@ pub mod Decisions
 pub mod Nodes
 pub mod Choosing
 pub mod Trails
+pub mod Places
 pub mod Knowing
 pub mod Learning
 pub mod Paths

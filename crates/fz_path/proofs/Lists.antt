@@ -1,10 +1,10 @@
 -- Numbers and domains by their places.
-use Rattle.std.proofs.Common.{◌≡◌, ◌∙◌, ℕ, zero, suc, ◌<◌, List, [], ◌∷◌, length, map, ap, ap₂, sym, refl, arith, Some, slice_set, ◌⊎◌, inl, inr}
+use Rattle.std.proofs.Common.{◌≡◌, ◌∙◌, ℕ, zero, suc, ◌<◌, List, [], ◌∷◌, length, ap, ap₂, sym, refl, arith, Some, slice_set, ◌⊎◌, inl, inr}
 use Rattle.std.specs.Prelude.{ℤ}
 use Rattle.std.specs.List.{slice_get}
 use Rattle.fz_dom.specs.Shape.{least}
 pub use Rattle.fz_strength.proofs.Terms.{number_least, length_least, least_within}
-use Rattle.fz_path.specs.Spaces.{Alone, dom_at, number_at}
+use Rattle.fz_path.specs.Spaces.{Alone, number_at}
 
 pub same_numbers : (a b : List ℤ) → length a ≡ length b → ((v : ℕ) → v < length a → number_at a v ≡ number_at b v) → a ≡ b
 same_numbers [] [] size same = refl

@@ -1,5 +1,6 @@
 pub mod Spaces
 pub mod Nodes
+pub mod Places
 pub mod Trails
 pub mod Steps
 pub mod Paths

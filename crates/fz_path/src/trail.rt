@@ -1,12 +1,15 @@
 //! The spaces beside a path.
-ghost use Rattle.std.specs.Prelude.{◌≡◌, ◌≤◌, ◌<◌, ◌-◌, ◌++◌, ◌∷◌, [], ℕ, ℤ, List, length, take, true, false, IsTrue, Option, None, IfOk, IfSome, OnOk};
+ghost use Rattle.std.specs.Prelude.{◌≡◌, ◌⊎◌, ◌↔◌, ◌≤◌, ◌<◌, ◌+◌, ◌-◌, ◌++◌, ◌∷◌, [], ℕ, ℤ, List, length, false, IsTrue, Option, Some, None, IfNone, is_some, IfOk, IfSome, IsSomeAnd, OnOk, OnErr};
+ghost use Rattle.std.specs.List.{AllByRecursion};
+ghost use Rattle.std.specs.Vec.{vec_len, vec_capacity};
 ghost use Rattle.fz_spec.specs.Instance.{Instance};
 ghost use Rattle.fz_tree.specs.declared.decision.Decision.{Decision};
 ghost use Rattle.fz_tree.specs.Frontier as frontier;
-ghost use Rattle.fz_tree.specs.Frontier.{AreEdges, can_cut, next_edges};
+ghost use Rattle.fz_tree.specs.Frontier.{AreEdges, next_edges};
 ghost use Rattle.fz_path.specs.Spaces.{Covers};
 ghost use Rattle.fz_path.specs.Nodes.{IsAt, decisions_of};
-ghost use Rattle.fz_path.specs.Trails.{IsTrail, IsKept, AreKept, last_of};
+ghost use Rattle.fz_path.specs.Places.{IsNear, AreLeftDownTo, IsOneMore, IsUsedUp, HasUsedCopy, nearest_node, last_of};
+ghost use Rattle.fz_path.specs.Trails.{IsTrail, IsKept, AreKept};
 
 use crate::kept::Kept;
 use crate::space::Space;
@@ -28,7 +31,8 @@ impl<S: Space> Trail<S> {
     /// The root's space alone.
     pub fn new(alloc: Global, root: S, distance: u32) -> Trail<S>
         requires { 1 ≤ distance }
-        ensures { (m : Instance) (known : Option (List ℤ)) (es : List frontier.Edge)
+        ensures distance { result.distance ≡ distance }
+        ensures trail { (m : Instance) (known : Option (List ℤ)) (es : List frontier.Edge)
             → IsAt m known [] (S.spaced root)
             → IsTrail S.spaced m known es result }
     {
@@ -43,7 +47,8 @@ impl<S: Space> Trail<S> {
 
     /// Forgets all but the root.
     pub fn clear(&mut self)
-        ensures { (m : Instance) (known : Option (List ℤ)) (es fs : List frontier.Edge)
+        ensures distance { self.new.distance ≡ self.old.distance }
+        ensures trail { (m : Instance) (known : Option (List ℤ)) (es fs : List frontier.Edge)
             → IsTrail S.spaced m known es self.old
             → IsTrail S.spaced m known fs self.new }
     {
@@ -53,7 +58,10 @@ impl<S: Space> Trail<S> {
 
     /// The path has moved to these edges: what isn't above them goes.
     pub fn retreat(&mut self, edges: &[Edge])
-        ensures { (m : Instance) (known : Option (List ℤ)) (es : List frontier.Edge)
+        ensures distance { self.new.distance ≡ self.old.distance }
+        ensures left { AreLeftDownTo
+            (length edges.now - 1) self.old.copies.items self.new.copies.items }
+        ensures trail { (m : Instance) (known : Option (List ℤ)) (es : List frontier.Edge)
             → edges.now ≡ next_edges es
             → IsTrail S.spaced m known es self.old → IsTrail S.spaced m known edges.now self.new }
     {
@@ -70,6 +78,9 @@ impl<S: Space> Trail<S> {
         requires edges { AreEdges edges.now }
         requires trail { (m : Instance) × (known : Option (List ℤ))
             × IsTrail S.spaced m known edges.now self.old }
+        ensures distance { self.new.distance ≡ self.old.distance }
+        ensures copies { (self.new.copies.items ≡ self.old.copies.items)
+            ⊎ IsUsedUp edges.now self.old.copies.items self.new.copies.items }
         ensures space { IfOk result (λ s. (m : Instance) (known : Option (List ℤ))
             → IsTrail S.spaced m known edges.now self.old
             → IsAt m known edges.now (S.spaced s)) }
@@ -88,6 +99,9 @@ impl<S: Space> Trail<S> {
         requires edges { AreEdges edges.now }
         requires trail { (m : Instance) × (known : Option (List ℤ))
             × IsTrail S.spaced m known edges.now self.old }
+        ensures distance { self.new.distance ≡ self.old.distance }
+        ensures copies { (self.new.copies.items ≡ self.old.copies.items)
+            ⊎ IsUsedUp edges.now self.old.copies.items self.new.copies.items }
         ensures space { IfOk result (λ s. (m : Instance) (known : Option (List ℤ))
             → IsTrail S.spaced m known edges.now self.old
             → IsAt m known edges.now (S.spaced s)) }
@@ -104,6 +118,10 @@ impl<S: Space> Trail<S> {
 
     /// A space above the node below the edges: the nearest copy, or what was one.
     fn nearest(&mut self, edges: &[Edge]) -> Result<Kept<S>, AllocError>
+        ensures distance { self.new.distance ≡ self.old.distance }
+        ensures copies { (self.new.copies.items ≡ self.old.copies.items)
+            ⊎ IsUsedUp edges.now self.old.copies.items self.new.copies.items }
+        ensures nearest { IfOk result (λ k. k.depth ≡ nearest_node self.old.copies.items) }
         ensures space { IfOk result (λ k. (m : Instance) (known : Option (List ℤ))
             → IsTrail S.spaced m known edges.now self.old
             → IsKept S.spaced m known edges.now k) }
@@ -119,6 +137,12 @@ impl<S: Space> Trail<S> {
 
     /// The nearest copy itself, where no other node is remade from it.
     fn used_copy(&mut self, edges: &[Edge]) -> Option<Kept<S>>
+        ensures distance { self.new.distance ≡ self.old.distance }
+        ensures copies { (self.new.copies.items ≡ self.old.copies.items)
+            ⊎ IsUsedUp edges.now self.old.copies.items self.new.copies.items }
+        ensures nearest { IfSome result (λ k. k.depth ≡ nearest_node self.old.copies.items) }
+        ensures none { IfNone result (self.new.copies.items ≡ self.old.copies.items) }
+        ensures used { IsTrue (is_some result) ↔ HasUsedCopy edges.now self.old.copies.items }
         ensures space { IfSome result (λ k. (m : Instance) (known : Option (List ℤ))
             → IsTrail S.spaced m known edges.now self.old
             → IsKept S.spaced m known edges.now k) }
@@ -134,6 +158,9 @@ impl<S: Space> Trail<S> {
 
     /// A copy of the nearest copy, or of the root's space.
     fn copy_of_nearest(&mut self) -> Result<Kept<S>, AllocError>
+        ensures distance { self.new.distance ≡ self.old.distance }
+        ensures copies { self.new.copies.items ≡ self.old.copies.items }
+        ensures nearest { IfOk result (λ k. k.depth ≡ nearest_node self.old.copies.items) }
         ensures space { IfOk result (λ k. (m : Instance) (known : Option (List ℤ))
             (es : List frontier.Edge)
             → IsTrail S.spaced m known es self.old → IsKept S.spaced m known es k) }
@@ -147,7 +174,9 @@ impl<S: Space> Trail<S> {
     }
 
     /// Whether the nearest copy stands at the last edge, which takes its last alternative: no other node is remade from it.
-    fn has_used_copy(&self, edges: &[Edge]) -> bool {
+    fn has_used_copy(&self, edges: &[Edge]) -> bool
+        ensures { IsTrue result ↔ HasUsedCopy edges.now self.now.copies.items }
+    {
         match (self.copies.last(), edges.last()) {
             (Some(kept), Some(edge)) => kept.depth == edges.len() - 1 && !edge.has_rest(),
             _ => false,
@@ -159,7 +188,14 @@ impl<S: Space> Trail<S> {
     /// # Errors
     /// `AllocError` where there is no memory.
     pub fn keep(&mut self, depth: usize, space: &S) -> Result<(), AllocError>
-        ensures { (m : Instance) (known : Option (List ℤ)) (es : List frontier.Edge)
+        ensures distance { self.new.distance ≡ self.old.distance }
+        ensures copies { (self.new.copies.items ≡ self.old.copies.items)
+            ⊎ IsOneMore S.spaced depth space.now self.old.copies.items self.new.copies.items }
+        ensures near { OnOk result ((m : Instance) (known : Option (List ℤ))
+            (es : List frontier.Edge) → depth ≡ length es → IsTrail S.spaced m known es self.old
+            → IsNear self.new.distance self.new.copies.items depth) }
+        ensures none { OnErr result (self.new.copies.items ≡ self.old.copies.items) }
+        ensures trail { (m : Instance) (known : Option (List ℤ)) (es : List frontier.Edge)
             → depth ≡ length es
             → IsAt m known es (S.spaced space.now) → IsTrail S.spaced m known es self.old
             → IsTrail S.spaced m known es self.new }
@@ -174,8 +210,11 @@ impl<S: Space> Trail<S> {
 
     /// Whether no copy is within the commit distance above the node below so many edges.
     fn is_due(&self, depth: usize) -> bool
-        ensures { IsTrue result
-            → IfSome (last_of self.now.copies.items) (λ kept. kept.depth < depth) }
+        ensures due { IsTrue result → IfSome (last_of self.now.copies.items)
+            (λ kept. kept.depth + self.now.distance ≤ depth) }
+        ensures near { result ≡ false → 1 ≤ self.now.distance
+            → IsSomeAnd (last_of self.now.copies.items)
+            (λ kept. depth < kept.depth + self.now.distance) }
     {
         match self.copies.last() {
             Some(kept) => { kept.depth < depth && depth - kept.depth >= self.distance as usize }
@@ -185,9 +224,14 @@ impl<S: Space> Trail<S> {
 
     /// The path goes on below one edge more, and this is the space there.
     pub fn descend(&mut self, space: S)
-        ensures { (m : Instance) (known : Option (List ℤ))
+        ensures distance { self.new.distance ≡ self.old.distance }
+        ensures copies { self.new.copies.items ≡ self.old.copies.items }
+        ensures current { self.new.current ≡ Some space }
+        ensures trail { (m : Instance) (known : Option (List ℤ))
             (es : List frontier.Edge) (e : frontier.Edge)
-            → IsAt m known (es ++ e ∷ []) (S.spaced space) → IsTrail S.spaced m known es self.old
+            → IsAt m known (es ++ e ∷ []) (S.spaced space)
+            → IsNear self.old.distance self.old.copies.items (length es)
+            → IsTrail S.spaced m known es self.old
             → IsTrail S.spaced m known (es ++ e ∷ []) self.new }
     {
         self.current = Some(space);
@@ -195,7 +239,14 @@ impl<S: Space> Trail<S> {
 
     /// A space that is done with.
     pub fn release(&mut self, space: S)
-        ensures { (m : Instance) (known : Option (List ℤ)) (es : List frontier.Edge)
+        ensures distance { self.new.distance ≡ self.old.distance }
+        ensures copies { self.new.copies.items ≡ self.old.copies.items }
+        ensures current { self.new.current ≡ self.old.current }
+        ensures spare { (self.new.spare.items ≡ self.old.spare.items)
+            ⊎ (self.new.spare.items ≡ self.old.spare.items ++ space ∷ []) }
+        ensures room { vec_len self.old.spare < vec_capacity self.old.spare
+            → self.new.spare.items ≡ self.old.spare.items ++ space ∷ [] }
+        ensures trail { (m : Instance) (known : Option (List ℤ)) (es : List frontier.Edge)
             → IsTrail S.spaced m known es self.old
             → IsTrail S.spaced m known es self.new }
     {
@@ -221,10 +272,10 @@ fn drop_current<S: Space>(current: &mut Option<S>, spare: &mut Vec<S>)
 
 /// Drops the copies below a depth.
 fn drop_below<S: Space>(copies: &mut Vec<Kept<S>>, spare: &mut Vec<S>, depth: usize)
-    ensures { (m : Instance) (known : Option (List ℤ)) (es fs : List frontier.Edge)
-        → take depth fs ≡ take depth es
-        → depth ≤ length fs → AreKept S.spaced m known es 0 copies.old.items
-        → AreKept S.spaced m known fs 0 copies.new.items }
+    ensures left { AreLeftDownTo depth copies.old.items copies.new.items }
+    ensures above { (m : Instance) (known : Option (List ℤ)) (es : List frontier.Edge)
+        (distance : ℕ) → AreKept S.spaced m known es distance 0 copies.old.items
+        → AllByRecursion (λ (k : Kept S). k.depth ≤ depth) copies.new.items }
 {
     'copies: while is_below(copies, depth) {
         if let Some(kept) = copies.pop() {
@@ -235,7 +286,8 @@ fn drop_below<S: Space>(copies: &mut Vec<Kept<S>>, spare: &mut Vec<S>, depth: us
 
 /// Whether the last copy is below a depth.
 fn is_below<S: Space>(copies: &[Kept<S>], depth: usize) -> bool
-    ensures below { IsTrue result → 0 < length copies.now }
+    ensures below { IsTrue result
+        → IsSomeAnd (last_of copies.now) (λ kept. depth < kept.depth) }
     ensures above { result ≡ false → IfSome (last_of copies.now) (λ kept. kept.depth ≤ depth) }
 {
     match copies.last() {

@@ -37,6 +37,7 @@ pub fn one_of(alloc: Global, low: i32, high: i32, goal: Goal) -> Result<Arc<Mode
     requires low { IsWithinLimits low }
     requires high { IsWithinLimits high }
     requires goal { (goal ≡ Goal.Satisfy) ⊎ (goal ≡ Goal.Minimize (Term.Var 0)) }
+    ensures { IfOk result (λ m. length (arc_value m).variables ≡ 1) }
 {
     let mut variables = Vec::new(alloc);
     variables.push(integer(alloc, low, high)?)?;
@@ -80,7 +81,9 @@ pub fn two_values(alloc: Global) -> Result<Arc<Model>, AllocError> {
 }
 
 /// `var 1..3: x; solve minimize x;`
-pub fn least_of_three(alloc: Global) -> Result<Arc<Model>, AllocError> {
+pub fn least_of_three(alloc: Global) -> Result<Arc<Model>, AllocError>
+    ensures { IfOk result (λ m. length (arc_value m).variables ≡ 1) }
+{
     one_of(alloc, 1, 3, Goal::Minimize(Term::Var(0)))
 }
 

@@ -1,6 +1,9 @@
 //! Spaces.
-use crate::models::{equals, one_of, two_that_differ};
-use fz_model::{Goal, Model};
+ghost use Rattle.std.specs.Prelude.{◌≡◌, IfOk};
+ghost use Rattle.std.specs.Arc.{arc_value};
+
+use crate::models::{equals, least_of_three, one_of, two_that_differ};
+use fz_model::{Assignment, Goal, Model};
 use fz_path::{Space as Spaces, Status};
 use fz_space::Space;
 use std::alloc::AllocError;
@@ -22,7 +25,9 @@ fn show(rt: &HostRuntime, what: &str, space: &mut Space) -> Result<(), AllocErro
 }
 
 /// The space of the root of a model.
-fn root(rt: &HostRuntime, model: Arc<Model>) -> Result<Space, AllocError> {
+fn root(rt: &HostRuntime, model: Arc<Model>) -> Result<Space, AllocError>
+    ensures { IfOk result (λ s. s.model ≡ arc_value model) }
+{
     <Space as Spaces>::root(rt.alloc(), model)
 }
 
@@ -57,7 +62,15 @@ fn empty(rt: &HostRuntime) -> Result<(), AllocError> {
     show(rt, "an empty domain", &mut space)
 }
 
+/// Of the least of three values what is better than the second is left.
+fn bettered(rt: &HostRuntime) -> Result<(), AllocError> {
+    let mut space = root(rt, least_of_three(rt.alloc())?)?;
+    space.tell_bound(&Assignment::new(rt.alloc(), &[2])?)?;
+    show(rt, "better than 2", &mut space)
+}
+
 pub fn all(rt: &HostRuntime) -> Result<(), AllocError> {
     unequal(rt)?;
-    empty(rt)
+    empty(rt)?;
+    bettered(rt)
 }

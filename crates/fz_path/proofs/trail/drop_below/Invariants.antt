@@ -1,11 +1,9 @@
-use Rattle.std.proofs.Common.{ℤ, Option, List, length}
-use Rattle.fz_spec.specs.Instance.{Instance}
-use Rattle.fz_tree.specs.Frontier as frontier
-use Rattle.fz_path.specs.Trails.{AreKept}
+use Rattle.std.proofs.Common.{length}
+use Rattle.fz_path.specs.Places.{AreLeftDownTo}
 use Rattle.fz_path.proofs.trail.drop_below.Given as goal
 
 abbrev pub invariant-copies : goal.invariant-copies
-invariant-copies g l = (m : Instance) (known : Option (List ℤ)) (es : List frontier.Edge) → AreKept g.S.Space.spaced m known es 0 l.initial.copies.items → AreKept g.S.Space.spaced m known es 0 l.copies.items
+invariant-copies g l = AreLeftDownTo l.depth l.initial.copies.items l.copies.items
 
 abbrev pub decreases-copies : goal.decreases-copies
 decreases-copies g l = length l.copies.items

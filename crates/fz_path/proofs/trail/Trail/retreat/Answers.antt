@@ -1,12 +1,27 @@
-use Rattle.std.proofs.Common.{arith, subst, sym, Option, IfSome}
+use Rattle.std.proofs.Common.{List, arith, subst, sym, Option, IfSome}
 use Rattle.fz_path.specs.Nodes.{IsAt}
+use Rattle.fz_path.specs.Places.{AreLeftDownTo}
+use Rattle.fz_path.specs.Trails.{AreKept}
+use Rattle.fz_path.specs.declared.kept.Kept.{Kept}
 use Rattle.fz_path.proofs.Decisions.{retreat_code}
+use Rattle.fz_path.proofs.Trails.{kept_front, kept_beside}
+use Rattle.fz_path.proofs.Places.{near_left}
 use Rattle.fz_path.proofs.trail.Trail.retreat.Goals as goal
 
-pub returns : goal.returns
-returns g c = λ m known es is t. record {
-  distance = t.distance;
-  root = t.root;
-  copies = c.drop_below.ensures m known es c.args.edges.now (retreat_code es c.args.edges.now c.count_above-depth.result c.count_above-depth.ensures is) (omega (arith, c.count_above-depth.ensures)) t.copies;
-  current = subst (λ (o : Option _). IfSome o (λ s. IsAt m known c.args.edges.now (g.S.Space.spaced s))) (sym c.drop_current.ensures) tt;
-}
+pub returns-clause-trail : goal.returns-clause-trail
+returns-clause-trail g c = λ m known es is t.
+    let spaced = g.S.Space.spaced in
+    let fs = c.args.edges.now in
+    let depth = c.count_above-depth.result in
+    let distance = c.args.self.now.distance in
+    let old = c.args.self.now.copies.items in
+    let new = c.drop_below.new.copies.items in
+    let left : AreLeftDownTo depth old new = c.drop_below.ensures.left in
+    let front = kept_front spaced m known es distance 0 new left.gone (subst (λ (ks : List (Kept _)). AreKept spaced m known es distance 0 ks) left.parts t.copies) in
+    record {
+      distance = t.distance;
+      root = t.root;
+      copies = kept_beside spaced m known es fs distance depth 0 new (retreat_code es fs depth c.count_above-depth.ensures is) (omega (arith, c.count_above-depth.ensures)) (c.drop_below.ensures.above m known es distance t.copies) front;
+      near = near_left distance es fs depth old new is c.count_above-depth.ensures left t.near;
+      current = subst (λ (o : Option _). IfSome o (λ s. IsAt m known fs (spaced s))) (sym c.drop_current.ensures) tt;
+    }

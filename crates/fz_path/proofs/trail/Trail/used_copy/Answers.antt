@@ -1,13 +1,14 @@
-use Rattle.fz_path.proofs.Trails.{popped, popped_at}
+use Rattle.std.proofs.Common.{refl}
+use Rattle.fz_path.proofs.Trails.{popped_at}
+use Rattle.fz_path.proofs.Places.{popped_used, trail_used}
 use Rattle.fz_path.proofs.trail.Trail.used_copy.Goals as goal
 
+pub returns-clause-copies : goal.returns-clause-copies
+returns-clause-copies g c =
+    popped_used c.args.edges.now c.args.self.now.copies.items c.pop.new.self.items c.pop.result c.pop.ensures.items (c.has_used_copy.ensures.0 c.if-not-has_used_copy.false)
+
 pub returns-clause-kept : goal.returns-clause-kept
-returns-clause-kept g c = λ m known t. record {
-  distance = t.distance;
-  root = t.root;
-  copies = (popped g.S.Space.spaced m known c.args.edges.now c.args.self.now.copies.items c.pop.new.self.items c.pop.result c.pop.ensures.items t.copies).0;
-  current = t.current;
-}
+returns-clause-kept g c = λ m known t. trail_used g.S.Space.spaced m known c.args.edges.now c.args.self.now _ refl refl refl (returns-clause-copies g c) t
 
 pub returns-clause-space : goal.returns-clause-space
 returns-clause-space g c = popped_at g.S.Space.spaced c.args.edges.now c.args.self.now c.pop.new.self.items c.pop.result c.pop.ensures.items
