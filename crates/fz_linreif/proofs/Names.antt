@@ -1,5 +1,5 @@
 -- A reified linear constraint by its name is its relation, reified.
-use Rattle.std.proofs.Common.{◌≡◌, ◌≢◌, ℕ, suc, ◌<◌, ◌≤◌, List, [], ◌∷◌, ◌++◌, refl, sym, ap, subst, ◌∙◌, map, length, arith}
+use Rattle.std.proofs.Common.{◌≡◌, ◌≢◌, ℕ, suc, ◌<◌, ◌≤◌, List, [], ◌∷◌, ◌++◌, refl, ap, subst, map, length, arith}
 use Rattle.std.specs.Prelude.{ℤ, Option, Some, ◌↔◌, slice_get}
 use Rattle.std.specs.List.{AllByRecursion}
 use Rattle.fz_strength.specs.declared.cost.Cost.TheVariants as costs
@@ -12,7 +12,6 @@ use Rattle.fz_spec.specs.Constraints.{One, Numbers, Terms, Constraint, IsTrueOf,
 use Rattle.fz_spec.specs.Truth.{weighted_sum, HoldsOfSum, IsReified, IsReifiedOf, plain_of}
 use Rattle.fz_strength.specs.declared.relation.Relation.{Relation}
 use Rattle.fz_strength.specs.declared.relation.Relation.TheVariants.{Equal, NotEqual, AtMost, Below}
-use Rattle.fz_strength.specs.declared.event.Event.{Event}
 use Rattle.fz_strength.specs.declared.event.Event.TheVariants.{Any, Bound, Fixed}
 use Rattle.fz_strength.specs.Domains.{dom_at}
 use Rattle.fz_strength.specs.Events.{IsOnly, IsFixedIn, AllFixed, Wait, wait_for, waits_for, AreBelow, AreFixed, variables_of}
@@ -27,7 +26,7 @@ use Rattle.fz_prop.specs.Stores.{IsTermOf}
 use Rattle.fz_prop.specs.Truths.{IsSame, TruthWith, LineWith}
 use Rattle.fz_prop.proofs.Answering.{answer_of, correct_of}
 use Rattle.fz_rel.proofs.ReifiedNames.{before_events, after_events, waited, same_reified}
-use Rattle.fz_strength.proofs.Waits.{term_fixed, terms_fixed, variables_waited}
+use Rattle.fz_strength.proofs.Waits.{term_fixed, terms_fixed}
 use Rattle.fz_prop.proofs.Waits.{term_below, terms_below}
 use Rattle.fz_linear.specs.Terms.{AreTermsOf}
 use Rattle.fz_linear.specs.Sums.{SumTruth}

@@ -1,7 +1,7 @@
 -- What the ends of a sum show, of all assignments and of narrower domains; and runs where they show nothing.
-use Rattle.std.proofs.Common.{◌≡◌, ℕ, List, [], refl, sym, ap, subst, map, length, arith}
-use Rattle.std.specs.Prelude.{ℤ, pos, ◌+ℤ◌, ◌≤ℤ◌, ◌<ℤ◌}
-use Rattle.std.proofs.lemmas.Int.{ints, by_lt_z}
+use Rattle.std.proofs.Common.{◌≡◌, List, refl, sym, subst, map, length, arith}
+use Rattle.std.specs.Prelude.{ℤ, pos, ◌+ℤ◌, ◌≤ℤ◌}
+use Rattle.std.proofs.lemmas.Int.{ints}
 use Rattle.fz_dom.specs.Shape.{least}
 use Rattle.fz_dom.specs.declared.change.Change.{Change}
 use Rattle.fz_spec.specs.declared.term.Term.{Term}
@@ -12,7 +12,6 @@ use Rattle.fz_strength.specs.declared.relation.Relation.TheVariants.{Equal, NotE
 use Rattle.fz_strength.specs.Domains.{term_set, AreDomains, Within, IsNarrower}
 use Rattle.fz_strength.specs.Events.{IsOnly}
 use Rattle.fz_strength.specs.Promises.{IsTruth}
-use Rattle.fz_strength.specs.Relations.{Relates}
 use Rattle.fz_strength.specs.Sums.{least_sum, greatest_sum}
 use Rattle.fz_strength.specs.ReifiedSums.{IsSumShown, IsSumRefuted}
 use Rattle.fz_strength.proofs.Terms.{within_before, least_within}
@@ -25,11 +24,11 @@ use Rattle.fz_prop.specs.Truths.{Sides, AreSides, IsSame, IsAbout, TruthWith, Li
 use Rattle.fz_prop.proofs.Answering.{same_answer}
 use Rattle.fz_sets.proofs.Numbers.{above_of_not}
 use Rattle.fz_prop.proofs.Numbers.{same_of_not}
-use Rattle.fz_prop.proofs.Reifying.{one_answer, zero_answer, open_line, shown_about, refuted_about}
+use Rattle.fz_prop.proofs.Reifying.{one_answer, zero_answer, shown_about, refuted_about}
 use Rattle.fz_prop.proofs.Settling.{settled_answer, settled_correct}
 use Rattle.fz_linear.specs.Terms.{AreTermsOf}
 use Rattle.fz_linear.specs.Sums.{SumTruth, SumLine, SumFalse, AgainstLine, IsAnswerSum, IsAnswerAgainst}
-use Rattle.fz_linear.proofs.Slacks.{terms_of, sum_above, sum_below, sums_rise, least_sum_rises, greatest_sum_falls}
+use Rattle.fz_linear.proofs.Slacks.{terms_of, least_sum_negated, sum_above, sum_below, sums_rise, least_sum_rises, greatest_sum_falls}
 use Rattle.fz_linear.proofs.Bounds.{low_enough, one_sum}
 use Rattle.fz_linear.proofs.Above.{high_enough}
 use Rattle.fz_linreif.specs.ReifiedLinears.{sum_sides}
@@ -225,3 +224,29 @@ zero_follows relation ks ts c b answer r s are is_b zero domains narrower still 
     plain_answer relation ks ts c b answer r.doms s.doms
     (zero_answer answer (SumTruth relation ks ts c) (strict_sides relation ks ts c) b r.doms s.doms is_b zero (are_sides relation ks ts c r.doms) domains narrower
     (strict_against relation ks ts c answer r s are narrower still not h))
+
+-- ---- an order whose Boolean is fixed: its line and what speaks against it never hold together
+
+order_sides : (ks : List ℤ) (ts : List Term) (c : ℤ) (ds : List (List (ℤ × ℤ))) → AreTermsOf (length ds) ts → AreSides (sum_sides AtMost ks ts c) ds
+order_sides ks ts c ds are = record {
+  one = λ es domains narrower line refuted.
+      let low = line.reached in
+      refuted (least_sum es ks ts) (omega (arith, ints)) (sums_rise ks ts es domains (still_terms ds es ts are narrower)) low;
+  zero = λ es domains narrower line shown.
+      let high = line.reached in
+      let turned = least_sum_negated ks ts es in
+      let all = shown (greatest_sum es ks ts) (sums_rise ks ts es domains (still_terms ds es ts are narrower)) (omega (arith, ints)) in
+      absurd (omega (arith, ints, high, turned, all));
+}
+
+pub true_answer : (ks : List ℤ) (ts : List Term) (c : ℤ) (b : Term) (answer : Answer) (ds es : List (List (ℤ × ℤ))) → AreTermsOf (length ds) ts → IsTermOf (length ds) b
+    → IsOnly (term_set ds b) (pos 1) → AreDomains es → IsNarrower ds es → IsAnswerSum AtMost ks ts c answer ds es
+    → IsAnswerOf answer (TruthWith (SumTruth AtMost ks ts c) b) (LineWith (sum_sides AtMost ks ts c) b) ds es
+true_answer ks ts c b answer ds es are is_b one domains narrower h =
+    one_answer answer (SumTruth AtMost ks ts c) (sum_sides AtMost ks ts c) b ds es is_b one (order_sides ks ts c ds are) domains narrower h
+
+pub false_answer : (ks : List ℤ) (ts : List Term) (c : ℤ) (b : Term) (answer : Answer) (ds es : List (List (ℤ × ℤ))) → AreTermsOf (length ds) ts → IsTermOf (length ds) b
+    → IsOnly (term_set ds b) (pos 0) → AreDomains es → IsNarrower ds es → IsAnswerAgainst AtMost ks ts c answer ds es
+    → IsAnswerOf answer (TruthWith (SumTruth AtMost ks ts c) b) (LineWith (sum_sides AtMost ks ts c) b) ds es
+false_answer ks ts c b answer ds es are is_b zero domains narrower h =
+    zero_answer answer (SumTruth AtMost ks ts c) (sum_sides AtMost ks ts c) b ds es is_b zero (order_sides ks ts c ds are) domains narrower h

@@ -1,4 +1,4 @@
-use Rattle.std.proofs.Common.{◌≡◌, ◌<◌, ◌≤◌, length, arith, sym, subst}
+use Rattle.std.proofs.Common.{◌<◌, ◌≤◌, length, arith}
 use Rattle.fz_strength.specs.Events.{variables_of}
 use Rattle.fz_linreif.proofs.Names.{event_before, event_after}
 use Rattle.fz_linreif.proofs.reified.ReifiedLinearPropagator.event.Goals as goal
