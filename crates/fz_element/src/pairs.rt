@@ -29,16 +29,17 @@ pub fn pairs_of(
 {
     let _ = store.doms();
     let (first, end) = (first_of(store, index), end_of(store, index, numbers.len()));
-    let mut indices = Vec::new(alloc);
-    let mut values = Vec::new(alloc);
+    let room = numbers.len().min(64);
+    let mut places = Vec::with_capacity(alloc, room)?;
+    let mut found = Vec::with_capacity(alloc, room)?;
     for place in first..end {
         if let Some(number) = paired(store, index, numbers, value, place) {
-            indices.push((place, place))?;
-            values.push((number, number))?;
+            places.push((place, place))?;
+            found.push((number, number))?;
         }
     }
-    let indices = Dom::from_ranges(alloc, &indices)?;
-    let values = Dom::from_ranges(alloc, &values)?;
+    let indices = Dom::from_ranges(alloc, &places)?;
+    let values = Dom::from_ranges(alloc, &found)?;
     Ok((indices, values))
 }
 

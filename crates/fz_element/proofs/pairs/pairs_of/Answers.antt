@@ -28,12 +28,12 @@ loop-place-preserved c =
       | in-Some+in_ok-push+in_ok-push-2 w ↦
           let pair = w.in-Some.ensures in
           let fits_n : SFits w32 w.in-Some.number = search rules in
-          rw (w.indices-is, w.values-is, w.in_ok-push.ensures.items, w.in_ok-push-2.ensures.items, to_z-of_z fits_n, next)
-          (pairs_more xs d e c.loop-place.indices.items c.loop-place.values.items j w.in-Some.number pair
+          rw (w.places-is, w.found-is, w.in_ok-push.ensures.items, w.in_ok-push-2.ensures.items, to_z-of_z fits_n, next)
+          (pairs_more xs d e c.loop-place.places.items c.loop-place.found.items j w.in-Some.number pair
           (term_limits ds c.args.index j c.requires.index c.doms.ensures.store.domains c.requires.fits_index pair.index)
           (term_limits ds c.args.value w.in-Some.number c.requires.value c.doms.ensures.store.domains c.requires.fits_value pair.number) c.loop-place.invariant)
-      | in_default w ↦ rw (w.indices-is, w.values-is, next)
-          (pairs_passed xs d e c.loop-place.indices.items c.loop-place.values.items j w.in_default.ensures c.loop-place.invariant)
+      | in_default w ↦ rw (w.places-is, w.found-is, next)
+          (pairs_passed xs d e c.loop-place.places.items c.loop-place.found.items j w.in_default.ensures c.loop-place.invariant)
     ]
 
 pub returns : goal.returns
@@ -46,5 +46,5 @@ returns c =
     let test = rw (to_z-of_z fits_end) at c.loop-place-test.false in
     let all : (k n : ℤ) → IsPair xs d e k n → k <ℤ j = λ k n pair.
     let below = c.end_of-end.ensures k (element_to k xs n pair.stands) pair.index in grind (arith, ints, test, below) in
-    pairs_all xs d e c.loop-place.indices.items c.loop-place.values.items c.in_ok-indices.indices c.in_ok-values.values j all c.loop-place.invariant
+    pairs_all xs d e c.loop-place.places.items c.loop-place.found.items c.in_ok-indices.indices c.in_ok-values.values j all c.loop-place.invariant
     (rw c.deref.ensures.value at c.in_ok-indices.ensures.one_set) (rw c.deref-2.ensures.value at c.in_ok-values.ensures.one_set)

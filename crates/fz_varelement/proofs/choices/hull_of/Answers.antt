@@ -1,9 +1,8 @@
 use Rattle.std.proofs.Common.{rules}
 use Rattle.std.proofs.Math.Facts.{to_z-of_z}
-use Rattle.std.specs.Prelude.{◌<ℤ◌, ◌≤ℤ◌}
 use mir.Val.{SFits, to_z}
 use mir.Syntax.{w32}
-use Rattle.fz_varelement.proofs.Choosing.{IsHullAt, hull_more, hull_next, hull_all}
+use Rattle.fz_varelement.proofs.Choosing.{hull_more, hull_next, hull_all}
 use Rattle.fz_varelement.proofs.choices.hull_of.Goals as goal
 
 pub returns-in_default-clause-hull : goal.returns-in_default-clause-hull

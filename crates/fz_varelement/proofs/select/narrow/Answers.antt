@@ -1,16 +1,11 @@
-use Rattle.std.proofs.Common.{◌≡◌, sym, subst, rules, length}
+use Rattle.std.proofs.Common.{rules, length}
 use Rattle.std.specs.Prelude.{pos}
-use Rattle.std.specs.List.{AllByRecursion}
 use Rattle.std.proofs.Math.Facts.{to_z-of_z}
-use Rattle.std.proofs.lemmas.Result.{IfOk-weaker}
 use mir.Val.{SFits}
 use mir.Syntax.{w32}
 use Rattle.fz_dom.specs.Changes.{IsFromTo}
-use Rattle.fz_dom.specs.declared.change.Change.{Change}
-use Rattle.fz_prop.specs.Answers.{IsCorrectOf}
-use Rattle.fz_prop.specs.Stores.{Stored, Shrinks, IsTermOf, IsTermChange}
-use Rattle.fz_prop.proofs.TermChanges.{same_store}
-use Rattle.fz_varelement.specs.Choosing.{IsChosen, IsNarrowed}
+use Rattle.fz_prop.specs.Stores.{IsTermChange}
+use Rattle.fz_varelement.specs.Choosing.{IsChosen}
 use Rattle.fz_varelement.proofs.Narrowing.{AreTermsOf, needs_place, step_correct, narrowed_by}
 use Rattle.fz_varelement.proofs.select.narrow.Goals as goal
 
