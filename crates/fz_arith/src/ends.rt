@@ -40,7 +40,10 @@ fn quotient(x: i32, y: i32) -> i64
     requires { y ≢ pos 0 }
     ensures { result ≡ int_div x y }
 {
-    i64::from(x) / i64::from(y)
+    match x.checked_div(y) {
+        Some(quotient) => i64::from(quotient),
+        None => -i64::from(x),
+    }
 }
 
 /// What a truncated quotient leaves; all of the number where the divisor is 0.
