@@ -1,7 +1,6 @@
 //! Columns of a table: the rows whose number is left, and the numbers of some rows.
 ghost use Rattle.std.specs.Prelude.{◌≡◌, ◌↔◌, ◌⊎◌, ℕ, ℤ, [], ◌∷◌, length, IfOk, OnOk};
-ghost use Rattle.fz_sets.specs.Sets.{IsInSet};
-ghost use Rattle.fz_dom.specs.Changes.{IsFromTo};
+ghost use Rattle.fz_sets.specs.Sets.{IsInSet, single};
 ghost use Rattle.fz_strength.specs.Domains.{term_set};
 ghost use Rattle.fz_prop.specs.Stores.{IsTermOf};
 ghost use Rattle.fz_table.specs.RowSets.{HasRow};
@@ -9,7 +8,7 @@ ghost use Rattle.fz_table.specs.Supports.{IsIn, AreInOrder, HasNumber, AreSized,
 
 use crate::row_set::RowSet;
 use crate::spans::Spans;
-use crate::supports::{Support, between};
+use crate::supports::{Support, above, from, up_to};
 use fz_dom::Dom;
 use fz_prop::Store;
 use fz_spec::term::Term;
@@ -79,7 +78,7 @@ impl Column {
         found.clear();
         match term {
             Term::Var(variable) => self.join_in(store.dom(variable), found),
-            Term::Num(number) => self.join_between(number, number, found),
+            Term::Num(number) => self.join_one(number, found),
         }
     }
 
@@ -90,27 +89,21 @@ impl Column {
             ↔ (HasRow rows.old i ⊎ IsLeftIn self.now dom.now i) }
         ensures size { length rows.new ≡ length rows.old }
     {
+        let mut rest: &[Support] = &self.supports;
         for (low, high) in dom.ranges() {
-            self.join_between(low, high, rows);
+            rest = from(rest, low);
+            join_all(up_to(rest, high), rows);
         }
     }
 
-    /// Puts the rows that have a number from a low to a high, or one of them, into a set.
-    fn join_between(&self, low: i32, high: i32, rows: &mut RowSet)
+    /// Puts the rows that have a number into a set.
+    fn join_one(&self, number: i32, rows: &mut RowSet)
         requires { AreSized self.now (length rows.old) }
         ensures rows { (i : ℕ) → HasRow rows.new i
-            ↔ (HasRow rows.old i ⊎ IsLeftIn self.now ((low, high) ∷ []) i) }
+            ↔ (HasRow rows.old i ⊎ IsLeftIn self.now (single number) i) }
         ensures size { length rows.new ≡ length rows.old }
     {
-        join_all(self.part(low, high), rows);
-    }
-
-    /// The supports of the numbers from a low to a high, both among them.
-    fn part(&self, low: i32, high: i32) -> &[Support]
-        ensures { (s : Support) → IsIn s result.now
-            ↔ (IsIn s self.now × IsFromTo low high s.number) }
-    {
-        between(&self.supports, low, high)
+        join_all(up_to(from(&self.supports, number), number), rows);
     }
 
     /// The numbers of a domain that some rows have.
@@ -123,8 +116,10 @@ impl Column {
             ↔ (IsInSet dom.now n × StandsIn self.now rows.now n)) }
     {
         let mut numbers = Spans::new(alloc);
+        let mut rest: &[Support] = &self.supports;
         for (low, high) in dom.ranges() {
-            add_numbers(self.part(low, high), rows, &mut numbers)?;
+            rest = from(rest, low);
+            add_numbers(up_to(rest, high), rows, &mut numbers)?;
         }
         Ok(numbers)
     }
@@ -144,13 +139,18 @@ fn join_all(supports: &[Support], rows: &mut RowSet)
 
 /// Adds the numbers of supports that have some rows.
 fn add_numbers(supports: &[Support], rows: &RowSet, numbers: &mut Spans) -> Result<(), AllocError>
-    requires { AreSized supports.now (length rows.now) }
+    requires sized { AreSized supports.now (length rows.now) }
+    requires order { AreInOrder supports.now }
     ensures { OnOk result ((n : ℤ) → IsInSet numbers.new n
         ↔ (IsInSet numbers.old n ⊎ StandsIn supports.now rows.now n)) }
 {
-    for support in supports {
+    let mut left = supports;
+    while let Some((support, others)) = left.split_first() {
         if rows.meets(support.rows) {
             numbers.add(support.number)?;
+            left = above(others, support.number);
+        } else {
+            left = others;
         }
     }
     Ok(())

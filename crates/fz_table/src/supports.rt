@@ -1,11 +1,14 @@
 //! Numbers with the rows that have them in a column of a table.
-ghost use Rattle.std.specs.Prelude.{◌≡◌, ◌≤ℤ◌, ◌/◌, ◌↔◌, ◌⊎◌, ℕ, ℤ, IfOk, OnOk, IsTrue};
-ghost use Rattle.fz_dom.specs.Changes.{IsFromTo};
+ghost use Rattle.std.specs.Prelude.{◌≡◌, ◌≤◌, ◌≤ℤ◌, ◌<ℤ◌, ◌/◌, ◌↔◌, ◌⊎◌, ℕ, ℤ, length, IfOk, OnOk, IsTrue};
+ghost use Rattle.std.specs.List.{AllWithin};
 ghost use Rattle.fz_table.specs.RowSets.{IsOneOf};
 ghost use Rattle.fz_table.specs.Supports.{IsIn, AreInOrder, IsRising, HasNumber, IsPlaced, IsAdded};
 
 use crate::row_set::Rows;
 use std::alloc::{AllocError, Global};
+
+/// How many supports are looked at one after the other before a place is found by halves.
+const NEAR: usize = 4;
 
 /// A number and some rows that have it.
 #[derive(Clone, Copy, Drop)]
@@ -86,32 +89,63 @@ fn add(supports: &mut Vec<Support>, number: i32, row: usize) -> Result<(), Alloc
     Ok(())
 }
 
-/// The supports of the numbers from a low to a high, both among them.
-pub fn between(supports: &[Support], low: i32, high: i32) -> &[Support]
-    requires { AreInOrder supports.now }
-    ensures { (s : Support) → IsIn s result.now
-        ↔ (IsIn s supports.now × IsFromTo low high s.number) }
-{
-    up_to(from(supports, low), high)
-}
-
 /// The supports of the numbers at or above a value.
-fn from(supports: &[Support], value: i32) -> &[Support]
+pub fn from(supports: &[Support], value: i32) -> &[Support]
     requires { AreInOrder supports.now }
     ensures supports { (s : Support) → IsIn s result.now
         ↔ (IsIn s supports.now × (value ≤ℤ s.number)) }
     ensures order { AreInOrder result.now }
 {
-    let start = supports.partition_point(|support| support.number < value);
-    &supports[start..]
+    &supports[count_below(supports, value)..]
+}
+
+/// The supports of the numbers above a value.
+pub fn above(supports: &[Support], value: i32) -> &[Support]
+    requires { AreInOrder supports.now }
+    ensures supports { (s : Support) → IsIn s result.now
+        ↔ (IsIn s supports.now × (value <ℤ s.number)) }
+    ensures order { AreInOrder result.now }
+    ensures few { length result.now ≤ length supports.now }
+{
+    &supports[count_to(supports, value)..]
 }
 
 /// The supports of the numbers at or below a value.
-fn up_to(supports: &[Support], value: i32) -> &[Support]
+pub fn up_to(supports: &[Support], value: i32) -> &[Support]
     requires { AreInOrder supports.now }
-    ensures { (s : Support) → IsIn s result.now
+    ensures supports { (s : Support) → IsIn s result.now
         ↔ (IsIn s supports.now × (s.number ≤ℤ value)) }
+    ensures order { AreInOrder result.now }
 {
-    let end = supports.partition_point(|support| support.number <= value);
-    &supports[..end]
+    &supports[..count_to(supports, value)]
+}
+
+/// How many supports have a number below a value.
+fn count_below(supports: &[Support], value: i32) -> usize
+    requires { AreInOrder supports.now }
+    ensures bound { result ≤ length supports.now }
+    ensures below { AllWithin (λ s. s.number <ℤ value) supports.now 0 result }
+    ensures above { AllWithin (λ s. value ≤ℤ s.number) supports.now result (length supports.now) }
+{
+    for place in 0..supports.len().min(NEAR) {
+        if supports[place].number >= value {
+            return place;
+        }
+    }
+    supports.partition_point(|support| support.number < value)
+}
+
+/// How many supports have a number at or below a value.
+fn count_to(supports: &[Support], value: i32) -> usize
+    requires { AreInOrder supports.now }
+    ensures bound { result ≤ length supports.now }
+    ensures to { AllWithin (λ s. s.number ≤ℤ value) supports.now 0 result }
+    ensures above { AllWithin (λ s. value <ℤ s.number) supports.now result (length supports.now) }
+{
+    for place in 0..supports.len().min(NEAR) {
+        if supports[place].number > value {
+            return place;
+        }
+    }
+    supports.partition_point(|support| support.number <= value)
 }

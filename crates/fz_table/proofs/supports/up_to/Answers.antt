@@ -1,14 +1,15 @@
-use Rattle.std.proofs.Common.{rules}
-use Rattle.std.specs.Prelude.{int_le}
-use Rattle.std.proofs.lemmas.List.Sorted.{IsPartitionPoint-from_clause}
+use Rattle.std.proofs.Common.{◌≡◌, ◌≤ℤ◌, ◌<ℤ◌, arith, rules, to_z, of_z, w32}
+use Rattle.std.proofs.lemmas.Int.{ints}
 use Rattle.fz_table.specs.declared.supports.Support.{Support}
-use Rattle.fz_table.proofs.Filling.{partitioned_to, taken_in}
+use Rattle.fz_table.proofs.Filling.{taken_in, taken_order}
 use Rattle.fz_table.proofs.supports.up_to.Goals as goal
 
-pub returns : goal.returns
-returns c =
-    let xs = c.args.supports.now in
+pub returns-clause-supports : goal.returns-clause-supports
+returns-clause-supports c =
     let value = c.args.value in
-    let n = c.partition_point-end.result in
-    let p = IsPartitionPoint-from_clause (λ (s : Support). int_le s.number value) xs n c.partition_point-end.ensures.partitioned (partitioned_to xs value c.requires) (λ a r f' k. search rules) in
-    taken_in xs value n p.0 p.1
+    let kept : to_z w32 (of_z w32 value) ≡ value = search rules in
+    taken_in c.args.supports.now (λ (s : Support). s.number ≤ℤ value) (λ (s : Support). value <ℤ s.number) c.count_to.result (λ s p q. omega (arith, ints, p, q))
+    (rw kept at c.count_to.ensures.to) (rw kept at c.count_to.ensures.above)
+
+pub returns-clause-order : goal.returns-clause-order
+returns-clause-order c = taken_order c.args.supports.now c.count_to.result c.requires
