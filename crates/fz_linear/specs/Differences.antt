@@ -18,6 +18,9 @@ abbrev pub IsDifferenceOf : ℕ → ℕ → List ℤ → List Term → Type 0
 IsDifferenceOf x y ks ts =
     ((ks ≡ pos 1 ∷ negsuc 0 ∷ []) × (ts ≡ Var x ∷ Var y ∷ [])) ⊎ ((ks ≡ negsuc 0 ∷ pos 1 ∷ []) × (ts ≡ Var y ∷ Var x ∷ []))
 
+abbrev pub IsNoDifference : List ℤ → List Term → Type 0
+IsNoDifference ks ts = (x y : ℕ) → IsDifferenceOf x y ks ts → ⊥
+
 -- the first is to be so far above the second as the number of the sum says
 pub record IsDifferenceIn (d : Difference) (ks : List ℤ) (ts : List Term) (c : ℤ) : Type 0 where
   pub sum : IsDifferenceOf d.first d.second ks ts

@@ -1,5 +1,5 @@
 //! Differences of two variables that are a number, or aren't: propagators of two variables, on whole domains.
-ghost use Rattle.std.specs.Prelude.{◌≡◌, ◌≢◌, ◌↔◌, ◌<◌, ℤ, neg_ℤ, ◌-ℤ◌, ◌+ℤ◌, List, length, IfOk, IfSome, OnErr};
+ghost use Rattle.std.specs.Prelude.{◌≡◌, ◌≢◌, ◌↔◌, ◌<◌, ℕ, ℤ, negsuc, ◌≤ℤ◌, [], ◌∷◌, IsNone, MatchOption, neg_ℤ, ◌-ℤ◌, ◌+ℤ◌, List, length, IfOk, IfSome, OnErr};
 ghost use Rattle.fz_sets.specs.Sets.{IsInSet, IsWithinLimits};
 ghost use Rattle.fz_spec.specs.declared.term.Term.TheVariants.{Var};
 ghost use Rattle.fz_strength.specs.declared.relation.Relation.TheVariants.{Equal, NotEqual};
@@ -9,7 +9,7 @@ ghost use Rattle.fz_strength.specs.Sums.{sum_event_of};
 ghost use Rattle.fz_strength.specs.Sums as sums;
 ghost use Rattle.fz_prop.specs.Answers.{IsCorrectOf, IsDecided};
 ghost use Rattle.fz_prop.specs.Stores.{Shrinks, IsStore, IsChangeAt};
-ghost use Rattle.fz_linear.specs.Differences.{IsDifferenceOf, IsDifferenceIn, DifferenceTruth, IsAnswerDifference};
+ghost use Rattle.fz_linear.specs.Differences.{IsDifferenceOf, IsNoDifference, IsDifferenceIn, DifferenceTruth, IsAnswerDifference};
 
 use fz_prop::terms::value_of;
 use fz_prop::{Answer, Change, Event, Store};
@@ -46,7 +46,9 @@ pub fn event_of(relation: Relation, factors: &[i32]) -> Event
 
 /// The difference that a sum is, if it is one of two variables.
 pub fn difference_of(factors: &[i32], terms: &[Term], number: i32) -> Option<Difference>
-    ensures { IfSome result (λ d. IsDifferenceIn d factors.now terms.now number) }
+    ensures some { IfSome result (λ d. IsDifferenceIn d factors.now terms.now number) }
+    ensures none { IsNone result → (x y : ℕ) → x ≢ y → (negsuc 2147483646 ≤ℤ number)
+        → IsDifferenceOf x y factors.now terms.now → ⊥ }
 {
     let (first, second) = pair_of(factors, terms)?;
     if first == second {
@@ -62,11 +64,23 @@ pub fn difference_of(factors: &[i32], terms: &[Term], number: i32) -> Option<Dif
 
 /// The two variables, the first of which less the second a sum is.
 fn pair_of(factors: &[i32], terms: &[Term]) -> Option<(u32, u32)>
-    ensures { IfSome result (λ p. IsDifferenceOf p.0 p.1 factors.now terms.now) }
+    ensures { MatchOption result (IsNoDifference factors.now terms.now)
+        (λ p. IsDifferenceOf p.0 p.1 factors.now terms.now) }
 {
-    match (factors, terms) {
-        ([1, -1], [Term::Var(first), Term::Var(second)]) => Some((*first, *second)),
-        ([-1, 1], [Term::Var(second), Term::Var(first)]) => Some((*first, *second)),
+    match terms {
+        [Term::Var(first), Term::Var(second)] => ordered(factors, *first, *second),
+        _ => None,
+    }
+}
+
+/// Two variables in the order in which the factors make them a difference.
+fn ordered(factors: &[i32], first: u32, second: u32) -> Option<(u32, u32)>
+    ensures { MatchOption result (IsNoDifference factors.now (Var first ∷ Var second ∷ []))
+        (λ p. IsDifferenceOf p.0 p.1 factors.now (Var first ∷ Var second ∷ [])) }
+{
+    match factors {
+        [1, -1] => Some((first, second)),
+        [-1, 1] => Some((second, first)),
         _ => None,
     }
 }
