@@ -1,6 +1,6 @@
 -- Draining keeps what is settled.
-use Rattle.std.proofs.Common.{◌≡◌, inl, inr, ℕ, ◌<◌, List, [], ◌∷◌, refl, sym, ◌∙◌, ap, subst, arith, length}
-use Rattle.std.specs.Prelude.{slice_index, slice_index_or}
+use Rattle.std.proofs.Common.{◌≡◌, ◌⊎◌, inl, inr, ℕ, zero, suc, ◌<◌, ◌≤◌, List, [], ◌∷◌, refl, sym, ◌∙◌, ap, subst, arith, length}
+use Rattle.std.specs.Prelude.{slice_index, slice_index_or, slice_set}
 use Rattle.std.specs.List.{AllByRecursion}
 use Rattle.std.proofs.lemmas.Bool.{cases_lt}
 use Rattle.std.proofs.lemmas.Option.{slice_get_within}
@@ -11,10 +11,11 @@ use Rattle.fz_strength.specs.Events.{Wait, level}
 use Rattle.fz_strength.specs.Lines.{waits}
 use Rattle.fz_prop.specs.Stores.{Stored, IsStore, IsListed, IsTaken, mark_at, without_first}
 use Rattle.fz_agenda.specs.Agendas.{IsSettled, AreWoken}
-use Rattle.fz_agenda.specs.Queues.{IsWoken}
-use Rattle.fz_agenda.specs.Wakes.{Waking, waiting_at, IsListedAt, IsIndexOf, HaveSize, HasVariable, Extends, AllAwake, IsDraining}
+use Rattle.fz_agenda.specs.Queues.{Lineup, IsWoken}
+use Rattle.fz_agenda.specs.Wakes.{Waking, waiting_at, IsListedAt, IsIndexOf, HaveSize, HasVariable, Extends, AllAwake, WaitsFor, IsCalled, IsDraining}
 use Rattle.fz_agenda.proofs.Settled.{may_be_taken}
-use Rattle.fz_agenda.proofs.Woken.{one_awake, settled_woken}
+use Rattle.fz_agenda.proofs.Waking.{later}
+use Rattle.fz_agenda.proofs.Woken.{one_awake, same_woken, woken_twice, woken_by_more, settled_woken}
 
 -- an idle one waits for no change up to the level
 above : (w : Waking) (event : Event) (states : List ℕ) (v n i : ℕ) → AllAwake w v n states → IsListed (waiting_at w event v) i → i < length states → slice_index states i ≡ 0 → n < level event
@@ -43,37 +44,65 @@ are_woken : (cs : List Constraint) (w : Waking) (states : List ℕ) (s : Stored)
 are_woken cs w states s v index size awake = λ i c is idle.
     all_above w (waits c) states v (mark_at s v) i awake (index i c is) (omega (arith, size, slice_get_within cs i c is)) idle
 
-pub draining_start : (w : Waking) (s : Stored) (states : List ℕ) → IsStore s → IsDraining w s states s states
-draining_start w s states store = record { store = store; doms = refl; size = refl; settled = λ cs index settled. settled; still = λ none. (refl, refl) }
+-- what was drained so far, and no mark has risen
+pub record IsUnderWay (w : Waking) (s : Stored) (l : Lineup) (t : Stored) (m : Lineup) : Type 0 where
+  pub draining : IsDraining w s l t m
+  pub marks : (v : ℕ) → mark_at t v ≤ mark_at s v
+
+pub draining_start : (w : Waking) (s : Stored) (l : Lineup) → IsStore s → IsUnderWay w s l s l
+draining_start w s l store = record {
+  draining = record { store = store; doms = refl; woken = same_woken (IsCalled w s) w.costs l; settled = λ cs index settled. settled; still = λ none. (refl, refl) };
+  marks = λ v. omega arith;
+}
 
 something : (s t : Stored) (v : ℕ) (rest : List ℕ) → t.changed ≡ v ∷ rest → s.changed ≡ [] → t ≡ s → ⊥
 something s t v rest is none same = let e : v ∷ rest ≡ [] = sym is ∙ (ap (λ (u : Stored). u.changed) same ∙ none) in cc
 
+called : (w : Waking) (s t : Stored) (l k m : Lineup) (v n : ℕ) → IsUnderWay w s l t k → n ≡ mark_at t v → IsWoken (WaitsFor w v n) w.costs k m → IsWoken (IsCalled w s) w.costs l m
+called w s t l k m v n under marked woken =
+    woken_twice (IsCalled w s) w.costs l k m under.draining.woken
+    (woken_by_more (WaitsFor w v n) (IsCalled w s) w.costs k m (λ i waits. (v, later w v n (mark_at s v) i (omega (arith, marked, under.marks v)) waits)) woken)
+
 -- those that wait for the first are woken, not all of them where memory gave out
-pub draining_woken : (w : Waking) (s t : Stored) (states mid after : List ℕ) (v : ℕ) (rest : List ℕ) → IsDraining w s states t mid → t.changed ≡ v ∷ rest → IsWoken mid after → IsDraining w s states t after
-draining_woken w s t states mid after v rest draining is woken = record {
-  store = draining.store;
-  doms = draining.doms;
-  size = woken.size ∙ draining.size;
-  settled = λ cs index settled. settled_woken cs mid after t woken (draining.settled cs index settled);
-  still = λ none. absurd (something s t v rest is none (draining.still none).0);
+pub draining_woken : (w : Waking) (s t : Stored) (l k m : Lineup) (v n : ℕ) (rest : List ℕ) → IsUnderWay w s l t k → t.changed ≡ v ∷ rest → n ≡ mark_at t v → IsWoken (WaitsFor w v n) w.costs k m
+    → IsDraining w s l t m
+draining_woken w s t l k m v n rest under is marked woken = record {
+  store = under.draining.store;
+  doms = under.draining.doms;
+  woken = called w s t l k m v n under marked woken;
+  settled = λ cs index settled. settled_woken cs (WaitsFor w v n) w.costs k m t woken (under.draining.settled cs index settled);
+  still = λ none. absurd (something s t v rest is none (under.draining.still none).0);
 }
 
+lower : (xs : List ℕ) (v u : ℕ) → slice_index (slice_set xs v 0) u ≤ slice_index xs u
+lower [] v u = omega arith
+lower (x ∷ xs) zero zero = omega arith
+lower (x ∷ xs) zero (suc u) = omega arith
+lower (x ∷ xs) (suc v) zero = omega arith
+lower (x ∷ xs) (suc v) (suc u) = lower xs v u
+
 -- and then it is taken from the list
-pub draining_taken : (w : Waking) (s t u : Stored) (states mid after : List ℕ) (v n : ℕ) (rest : List ℕ) → IsDraining w s states t mid → t.changed ≡ v ∷ rest → IsWoken mid after
-    → n ≡ mark_at t v → AllAwake w v n after → IsTaken t u → IsStore u → IsDraining w s states u after
-draining_taken w s t u states mid after v n rest draining is woken marked awake taken store =
+pub draining_taken : (w : Waking) (s t u : Stored) (l k m : Lineup) (v n : ℕ) (rest : List ℕ) → IsUnderWay w s l t k → t.changed ≡ v ∷ rest → IsWoken (WaitsFor w v n) w.costs k m
+    → n ≡ mark_at t v → AllAwake w v n m.states → IsTaken t u → IsStore u → IsUnderWay w s l u m
+draining_taken w s t u l k m v n rest under is woken marked awake taken store =
+    let draining = under.draining in
     let first : taken.first ≡ v = let e : taken.first ∷ taken.rest ≡ v ∷ rest = sym taken.list ∙ is in cc in
     let at : u ≡ without_first t v taken.rest = taken.taken ∙ ap (λ (k : ℕ). without_first t k taken.rest) first in
     record {
-      store = store;
-      doms = ap (λ (x : Stored). x.doms) at ∙ draining.doms;
-      size = woken.size ∙ draining.size;
-      settled = λ cs index settled.
-          let before : IsSettled cs after t = settled_woken cs mid after t woken (draining.settled cs index settled) in
-          subst (λ (x : Stored). IsSettled cs after x) (sym at)
-          (may_be_taken cs after t v taken.rest before (are_woken cs w after t v index before.size (subst (λ (k : ℕ). AllAwake w v k after) marked awake)));
-      still = λ none. absurd (something s t v rest is none (draining.still none).0);
+      draining = record {
+        store = store;
+        doms = ap (λ (x : Stored). x.doms) at ∙ draining.doms;
+        woken = called w s t l k m v n under marked woken;
+        settled = λ cs index settled.
+            let before : IsSettled cs m.states t = settled_woken cs (WaitsFor w v n) w.costs k m t woken (draining.settled cs index settled) in
+            subst (λ (x : Stored). IsSettled cs m.states x) (sym at)
+            (may_be_taken cs m.states t v taken.rest before (are_woken cs w m.states t v index before.size (subst (λ (k : ℕ). AllAwake w v k m.states) marked awake)));
+        still = λ none. absurd (something s t v rest is none (draining.still none).0);
+      };
+      marks = λ x.
+          let low = lower t.marks v x in
+          let now : mark_at u x ≡ slice_index (slice_set t.marks v 0) x = ap (λ (y : Stored). mark_at y x) at in
+          omega (arith, low, now, under.marks x);
     }
 
 pub has_variable : (w : Waking) (n v : ℕ) → HaveSize w n → v < n → HasVariable w v
@@ -81,20 +110,64 @@ has_variable w n v size below = record { any = omega (arith, size.any, below); b
 
 -- ---- one more in a list
 
-pub extends_any : (any bound fixed after : List (List ℕ)) → ((v i : ℕ) → IsListed (slice_index_or any v []) i → IsListed (slice_index_or after v []) i)
-    → Extends (record { any = any; bound = bound; fixed = fixed }) (record { any = after; bound = bound; fixed = fixed })
-extends_any any bound fixed after h Any v i listed = h v i listed
-extends_any any bound fixed after h Bound v i listed = listed
-extends_any any bound fixed after h Fixed v i listed = listed
+-- the lists of one kind change
+abbrev pub AreOnly : List (List ℕ) → List (List ℕ) → ℕ → ℕ → Type 0
+AreOnly lists after p place = (v i : ℕ) → IsListed (slice_index_or after v []) i → IsListed (slice_index_or lists v []) i ⊎ ((v ≡ p) × (i ≡ place))
 
-pub extends_bound : (any bound fixed after : List (List ℕ)) → ((v i : ℕ) → IsListed (slice_index_or bound v []) i → IsListed (slice_index_or after v []) i)
-    → Extends (record { any = any; bound = bound; fixed = fixed }) (record { any = any; bound = after; fixed = fixed })
-extends_bound any bound fixed after h Any v i listed = listed
-extends_bound any bound fixed after h Bound v i listed = h v i listed
-extends_bound any bound fixed after h Fixed v i listed = listed
+-- whoever is listed was listed, or is the one that waits for a change of a kind at a variable
+abbrev pub IsOnly : Waking → Waking → Event → ℕ → ℕ → Type 0
+IsOnly w u event p place = (e : Event) (v i : ℕ) → IsListed (waiting_at u e v) i → IsListed (waiting_at w e v) i ⊎ ((e ≡ event) × (v ≡ p) × (i ≡ place))
 
-pub extends_fixed : (any bound fixed after : List (List ℕ)) → ((v i : ℕ) → IsListed (slice_index_or fixed v []) i → IsListed (slice_index_or after v []) i)
-    → Extends (record { any = any; bound = bound; fixed = fixed }) (record { any = any; bound = bound; fixed = after })
-extends_fixed any bound fixed after h Any v i listed = listed
-extends_fixed any bound fixed after h Bound v i listed = listed
-extends_fixed any bound fixed after h Fixed v i listed = h v i listed
+-- in the lists of one kind one more stands at a variable
+pub record IsGrown (event : Event) (w u : Waking) (p place : ℕ) : Type 0 where
+  pub extends : Extends w u
+  pub only : IsOnly w u event p place
+
+tell : (event : Event) (v i p place : ℕ) (L : Type 0) → L ⊎ ((v ≡ p) × (i ≡ place)) → L ⊎ ((event ≡ event) × (v ≡ p) × (i ≡ place))
+tell event v i p place L (inl l) = inl l
+tell event v i p place L (inr e) = inr (refl, e.0, e.1)
+
+pub any_grown : (w : Waking) (after : List (List ℕ)) (p place : ℕ) → ((v i : ℕ) → IsListed (slice_index_or w.any v []) i → IsListed (slice_index_or after v []) i) → AreOnly w.any after p place
+    → IsGrown Any w (record { any = after; bound = w.bound; fixed = w.fixed; costs = w.costs }) p place
+any_grown w after p place grows only = record { extends = extends; only = others }
+  where
+    extends : Extends w (record { any = after; bound = w.bound; fixed = w.fixed; costs = w.costs })
+    extends Any v i listed = grows v i listed
+    extends Bound v i listed = listed
+    extends Fixed v i listed = listed
+
+    others : (e : Event) (v i : ℕ) → IsListed (waiting_at (record { any = after; bound = w.bound; fixed = w.fixed; costs = w.costs }) e v) i
+        → IsListed (waiting_at w e v) i ⊎ ((e ≡ Any) × (v ≡ p) × (i ≡ place))
+    others Any v i listed = tell Any v i p place (IsListed (waiting_at w Any v) i) (only v i listed)
+    others Bound v i listed = inl listed
+    others Fixed v i listed = inl listed
+
+pub bound_grown : (w : Waking) (after : List (List ℕ)) (p place : ℕ) → ((v i : ℕ) → IsListed (slice_index_or w.bound v []) i → IsListed (slice_index_or after v []) i) → AreOnly w.bound after p place
+    → IsGrown Bound w (record { any = w.any; bound = after; fixed = w.fixed; costs = w.costs }) p place
+bound_grown w after p place grows only = record { extends = extends; only = others }
+  where
+    extends : Extends w (record { any = w.any; bound = after; fixed = w.fixed; costs = w.costs })
+    extends Any v i listed = listed
+    extends Bound v i listed = grows v i listed
+    extends Fixed v i listed = listed
+
+    others : (e : Event) (v i : ℕ) → IsListed (waiting_at (record { any = w.any; bound = after; fixed = w.fixed; costs = w.costs }) e v) i
+        → IsListed (waiting_at w e v) i ⊎ ((e ≡ Bound) × (v ≡ p) × (i ≡ place))
+    others Any v i listed = inl listed
+    others Bound v i listed = tell Bound v i p place (IsListed (waiting_at w Bound v) i) (only v i listed)
+    others Fixed v i listed = inl listed
+
+pub fixed_grown : (w : Waking) (after : List (List ℕ)) (p place : ℕ) → ((v i : ℕ) → IsListed (slice_index_or w.fixed v []) i → IsListed (slice_index_or after v []) i) → AreOnly w.fixed after p place
+    → IsGrown Fixed w (record { any = w.any; bound = w.bound; fixed = after; costs = w.costs }) p place
+fixed_grown w after p place grows only = record { extends = extends; only = others }
+  where
+    extends : Extends w (record { any = w.any; bound = w.bound; fixed = after; costs = w.costs })
+    extends Any v i listed = listed
+    extends Bound v i listed = listed
+    extends Fixed v i listed = grows v i listed
+
+    others : (e : Event) (v i : ℕ) → IsListed (waiting_at (record { any = w.any; bound = w.bound; fixed = after; costs = w.costs }) e v) i
+        → IsListed (waiting_at w e v) i ⊎ ((e ≡ Fixed) × (v ≡ p) × (i ≡ place))
+    others Any v i listed = inl listed
+    others Bound v i listed = inl listed
+    others Fixed v i listed = tell Fixed v i p place (IsListed (waiting_at w Fixed v) i) (only v i listed)

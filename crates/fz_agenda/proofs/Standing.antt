@@ -1,169 +1,215 @@
--- What is queued stands in a queue.
-use Rattle.std.proofs.Common.{◌≡◌, ◌⊎◌, inl, inr, ℕ, zero, suc, ◌+◌, ◌<◌, ◌≤◌, List, [], ◌∷◌, ◌++◌, refl, sym, ◌∙◌, subst, arith, length, get_or-set_same, get_or-set_other}
-use Rattle.std.specs.Prelude.{slice_index, slice_index_or, slice_set, Bool, true, IsTrue, ◌↔◌}
-use Rattle.std.proofs.lemmas.Bool.{cases_eq, cases_lt}
+-- Whoever is queued stands in one queue.
+use Rattle.std.proofs.Common.{◌≡◌, ◌⊎◌, inl, inr, ℕ, zero, suc, ◌+◌, ◌<◌, ◌≤◌, List, [], ◌∷◌, ◌++◌, refl, sym, ◌∙◌, ap, subst, arith, length, Bool, true, false, cond, nat_eq, get_or-set_same, get_or-set_other}
+use Rattle.std.specs.Prelude.{◌↔◌, IsTrue, Option, Some, None, MatchOption, slice_index, slice_index_or, slice_set}
+use Rattle.std.specs.List.{concat}
+use Rattle.std.proofs.lemmas.Bool.{cases_eq, eq-eqb, ne_eqb}
 use Rattle.std.proofs.lemmas.List.{length-set}
-use Rattle.fz_sets.proofs.Lists.{below_or_same, by_place}
-use Rattle.fz_prop.specs.Stores.{IsListed}
-use Rattle.fz_prop.proofs.Steps.{listed_before, listed_last}
-use Rattle.fz_agenda.specs.Queues.{IsWaiting, IsAgenda, StillWaiting, IsAtRest}
+use Rattle.std.proofs.lemmas.List.Sums.{sum_by-cons, sum_by-append}
+use Rattle.fz_sets.proofs.Lists.{by_place}
+use Rattle.fz_agenda.specs.Queues.{Lineup, lineup, line_of, IsFirst, counts_queued, counts_same, times, IsLineup, AreEmptyBelow, IsAgenda, IsAtRest, IsIdle, without_first}
 
-abbrev queue_at : List (List ℕ) → ℕ → List ℕ
-queue_at queues class = slice_index_or queues class []
+-- ---- how often a number stands in lists
 
--- one more in a queue
-waiting_still : (queues : List (List ℕ)) (q : List ℕ) (lowest now class p i : ℕ) → now ≤ lowest → class < length queues → q ≡ queue_at queues class ++ p ∷ [] → IsWaiting queues lowest i
-    → IsWaiting (slice_set queues class q) now i
-waiting_still queues q lowest now class p i falls inside is waiting = elim (cases_eq waiting.class class) [
-  | inl e ↦ record {
-    class = class;
-    above = (let a = waiting.above in omega (arith, a, falls, e));
-    listed = subst (λ (l : List ℕ). IsListed l i) (sym (get_or-set_same queues class q [] inside ∙ is))
-        (listed_before (queue_at queues class) (p ∷ []) i (subst (λ (k : ℕ). IsListed (queue_at queues k) i) e waiting.listed));
-  }
-  | inr ne ↦ record {
-    class = waiting.class;
-    above = (let a = waiting.above in omega (arith, a, falls));
-    listed = subst (λ (l : List ℕ). IsListed l i) (sym (get_or-set_other queues class waiting.class q [] ne)) waiting.listed;
-  }
-]
+one_if : (b : Bool) → b ≡ true → cond {A = ℕ} b 1 0 ≡ 1
+one_if b e = ap (λ (x : Bool). cond {A = ℕ} x 1 0) e
 
-pub agenda_queued : (states after : List ℕ) (queues left : List (List ℕ)) (q : List ℕ) (lowest now class p : ℕ) → IsAgenda states queues lowest → p < length states → class < 6
-    → now ≤ lowest → now ≤ class → q ≡ queue_at queues class ++ p ∷ [] → left ≡ slice_set queues class q → after ≡ slice_set states p 1 → IsAgenda after left now
-agenda_queued states after queues left q lowest now class p agenda within low falls below is at_queues at_states =
-    let inside : class < length queues = omega (arith, low, agenda.classes) in
-    rw (at_queues, at_states) (record {
-      classes = length-set queues class q ∙ agenda.classes;
-      known = by_place (λ i. slice_index (slice_set states p 1) i ≤ 2) p
-          (omega (arith, get_or-set_same states p 1 0 within))
-          (λ i ne. omega (arith, get_or-set_other states p i 1 0 ne, agenda.known i));
-      waiting = by_place (λ i. slice_index (slice_set states p 1) i ≡ 1 → IsWaiting (slice_set queues class q) now i) p
-          (λ one. record {
-            class = class;
-            above = below;
-            listed = subst (λ (l : List ℕ). IsListed l p) (sym (get_or-set_same queues class q [] inside ∙ is)) (listed_last (queue_at queues class) p);
-          })
-          (λ i ne one. waiting_still queues q lowest now class p i falls inside is (agenda.waiting i (sym (get_or-set_other states p i 1 0 ne) ∙ one)));
-    })
+none_if : (b : Bool) → b ≡ false → cond {A = ℕ} b 1 0 ≡ 0
+none_if b e = ap (λ (x : Bool). cond {A = ℕ} x 1 0) e
 
-pub agenda_still : (states : List ℕ) (queues left : List (List ℕ)) (lowest now : ℕ) → IsAgenda states queues lowest → length left ≡ length queues
-    → StillWaiting states queues lowest left now → IsAgenda states left now
-agenda_still states queues left lowest now agenda size still = record {
-  classes = size ∙ agenda.classes;
-  known = agenda.known;
-  waiting = λ i one. still i one (agenda.waiting i one);
-}
+same_once : (i : ℕ) → counts_same i i ≡ 1
+same_once i = one_if (nat_eq i i) (eq-eqb i i refl)
 
-not_one : (k : ℕ) → (k ≡ 0) ⊎ (k ≡ 2) → k ≡ 1 → ⊥
-not_one k (inl p) one = omega (arith, p, one)
-not_one k (inr p) one = omega (arith, p, one)
+other_never : (i x : ℕ) → (x ≡ i → ⊥) → counts_same i x ≡ 0
+other_never i x ne = none_if (nat_eq x i) (ne_eqb x i ne)
 
-at_most_two : (k : ℕ) → (k ≡ 0) ⊎ (k ≡ 2) → k ≤ 2
-at_most_two k (inl p) = omega (arith, p)
-at_most_two k (inr p) = omega (arith, p)
+times_last : (i p : ℕ) (q : List ℕ) → times i (q ++ p ∷ []) ≡ times i q + counts_same i p
+times_last i p q =
+    let whole : times i (q ++ p ∷ []) ≡ times i q + times i (p ∷ []) = sum_by-append (counts_same i) q (p ∷ []) in
+    let one : times i (p ∷ []) ≡ counts_same i p + times i [] = sum_by-cons (counts_same i) p [] in
+    let none : times i [] ≡ 0 = refl in
+    omega (arith, whole, one, none)
 
-pub agenda_finished : (states after : List ℕ) (queues left : List (List ℕ)) (lowest now p k : ℕ) → IsAgenda states queues lowest → p < length states → (k ≡ 0) ⊎ (k ≡ 2) → after ≡ slice_set states p k
-    → length left ≡ length queues → StillWaiting after queues lowest left now → IsAgenda after left now
-agenda_finished states after queues left lowest now p k agenda within kind at size still =
-    let one_before : (i : ℕ) → slice_index (slice_set states p k) i ≡ 1 → slice_index states i ≡ 1 =
-    by_place (λ i. slice_index (slice_set states p k) i ≡ 1 → slice_index states i ≡ 1) p
-    (λ one. absurd (not_one k kind (sym (get_or-set_same states p k 0 within) ∙ one)))
-    (λ i ne one. sym (get_or-set_other states p i k 0 ne) ∙ one) in
-    agenda_still after queues left lowest now (rw at (record {
-      classes = agenda.classes;
-      known = by_place (λ i. slice_index (slice_set states p k) i ≤ 2) p
-          (omega (arith, get_or-set_same states p k 0 within, at_most_two k kind))
-          (λ i ne. omega (arith, get_or-set_other states p i k 0 ne, agenda.known i));
-      waiting = λ i one. agenda.waiting i (one_before i one);
-    })) size still
-
--- where no queue holds anything that is queued, nothing is
-rests_one : (x : ℕ) → x ≤ 2 → (x ≡ 1 → ⊥) → (x ≡ 0) ⊎ (x ≡ 2)
-rests_one zero low other = inl refl
-rests_one (suc zero) low other = absurd (other refl)
-rests_one (suc (suc zero)) low other = inr refl
-rests_one (suc (suc (suc x))) low other = absurd (omega (arith, low))
-
-pub at_rest : (states : List ℕ) (queues : List (List ℕ)) (lowest : ℕ) → IsAgenda states queues lowest → ((i : ℕ) → IsWaiting queues lowest i → ⊥) → IsAtRest states
-at_rest states queues lowest agenda none = λ i. rests_one (slice_index states i) (agenda.known i) (λ one. none i (agenda.waiting i one))
-
--- ---- the first of a queue
-
-not_first : (states rest : List ℕ) (place i : ℕ) → (slice_index states place ≡ 1 → ⊥) → slice_index states i ≡ 1 → IsListed (place ∷ rest) i → IsListed rest i
-not_first states rest place i stale one (inl e) = absurd (stale (subst (λ (k : ℕ). slice_index states k ≡ 1) (sym e) one))
-not_first states rest place i stale one (inr h) = h
-
-pub stale_leaves : (states queue left rest : List ℕ) (place : ℕ) → queue ≡ place ∷ rest → left ≡ rest → (slice_index states place ≡ 1 → ⊥)
-    → (i : ℕ) → slice_index states i ≡ 1 → IsListed queue i → IsListed left i
-stale_leaves states queue left rest place is moved stale i one listed =
-    let whole : IsListed (place ∷ rest) i = subst (λ (l : List ℕ). IsListed l i) is listed in
-    subst (λ (l : List ℕ). IsListed l i) (sym moved) (not_first states rest place i stale one whole)
-
--- of these queues those from the lowest to a class are empty, and what was waiting is
-pub record IsSifted (states : List ℕ) (before after : List (List ℕ)) (lowest class : ℕ) : Type 0 where
-  pub size : length after ≡ length before
-  pub kept : StillWaiting states before lowest after lowest
-  pub empty : (k : ℕ) → lowest ≤ k → k < class → queue_at after k ≡ []
-
-pub sifted_none : (states : List ℕ) (queues : List (List ℕ)) (lowest : ℕ) → IsSifted states queues queues lowest lowest
-sifted_none states queues lowest = record { size = refl; kept = λ i one waiting. waiting; empty = λ k above below. absurd (omega (arith, above, below)) }
-
-sifted_set : (states : List ℕ) (before after : List (List ℕ)) (lowest class : ℕ) (q : List ℕ) → IsSifted states before after lowest class → class < length after
-    → ((i : ℕ) → slice_index states i ≡ 1 → IsListed (queue_at after class) i → IsListed q i) → StillWaiting states before lowest (slice_set after class q) lowest
-sifted_set states before after lowest class q sifted inside kept i one waiting =
-    let w : IsWaiting after lowest i = sifted.kept i one waiting in
-    elim (cases_eq w.class class) [
-      | inl e ↦ record {
-        class = class;
-        above = (let a = w.above in omega (arith, a, e));
-        listed = subst (λ (l : List ℕ). IsListed l i) (sym (get_or-set_same after class q [] inside)) (kept i one (subst (λ (k : ℕ). IsListed (queue_at after k) i) e w.listed));
-      }
-      | inr ne ↦ record {
-        class = w.class;
-        above = w.above;
-        listed = subst (λ (l : List ℕ). IsListed l i) (sym (get_or-set_other after class w.class q [] ne)) w.listed;
-      }
-    ]
-
--- whoever waits from the lowest class on waits from the first that isn't empty
-waits_later : (after : List (List ℕ)) (lowest class i : ℕ) → ((k : ℕ) → lowest ≤ k → k < class → queue_at after k ≡ []) → IsWaiting after lowest i → IsWaiting after class i
-waits_later after lowest class i empty waiting = elim (cases_lt waiting.class class) [
-  | inl below ↦ absurd (subst (λ (l : List ℕ). IsListed l i) (empty waiting.class waiting.above below) waiting.listed)
-  | inr above ↦ record { class = waiting.class; above = above; listed = waiting.listed }
-]
-
--- the class where something was found is the lowest
-pub sifted_found : (states : List ℕ) (before after : List (List ℕ)) (lowest class : ℕ) (q : List ℕ) → IsSifted states before after lowest class → class < length after
-    → ((i : ℕ) → slice_index states i ≡ 1 → IsListed (queue_at after class) i → IsListed q i) → StillWaiting states before lowest (slice_set after class q) class
-sifted_found states before after lowest class q sifted inside kept i one waiting =
-    waits_later (slice_set after class q) lowest class i
-    (λ k above below. get_or-set_other after class k q [] (λ e. absurd (omega (arith, e, below))) ∙ sifted.empty k above below)
-    (sifted_set states before after lowest class q sifted inside kept i one waiting)
-
-pub sifted_more : (states : List ℕ) (before after : List (List ℕ)) (lowest class : ℕ) (q : List ℕ) → IsSifted states before after lowest class → class < length after
-    → ((i : ℕ) → slice_index states i ≡ 1 → IsListed (queue_at after class) i → IsListed q i) → q ≡ [] → IsSifted states before (slice_set after class q) lowest (class + 1)
-sifted_more states before after lowest class q sifted inside kept none = record {
-  size = length-set after class q ∙ sifted.size;
-  kept = sifted_set states before after lowest class q sifted inside kept;
-  empty = λ k above below. elim (cases_eq k class) [
-    | inl e ↦ subst (λ (j : ℕ). queue_at (slice_set after class q) j ≡ []) (sym e) (get_or-set_same after class q [] inside ∙ none)
-    | inr ne ↦ get_or-set_other after class k q [] ne ∙ sifted.empty k above (below_or_same k class below ne)
-  ];
-}
-
--- all are empty
-pub sifted_all : (states : List ℕ) (before after : List (List ℕ)) (lowest class : ℕ) → IsSifted states before after lowest class → length after ≤ class
-    → StillWaiting states before lowest after (length after)
-sifted_all states before after lowest class sifted whole i one waiting =
-    waits_later after lowest (length after) i (λ k above below. sifted.empty k above (omega (arith, below, whole))) (sifted.kept i one waiting)
-
--- where nothing is queued any queues serve
-pub agenda_idle : (states : List ℕ) (queues : List (List ℕ)) (lowest : ℕ) → ((i : ℕ) → slice_index states i ≡ 0) → length queues ≡ 6 → IsAgenda states queues lowest
-agenda_idle states queues lowest idle size = record {
-  classes = size;
-  known = λ i. omega (arith, idle i);
-  waiting = λ i one. absurd (omega (arith, idle i, one));
-}
+times_more : (i p c : ℕ) (qs : List (List ℕ)) → c < length qs → times i (concat (slice_set qs c (slice_index_or qs c [] ++ p ∷ []))) ≡ times i (concat qs) + counts_same i p
+times_more i p c [] within = absurd (omega (arith, within))
+times_more i p zero (q ∷ qs) within =
+    let now : times i ((q ++ p ∷ []) ++ concat qs) ≡ times i (q ++ p ∷ []) + times i (concat qs) = sum_by-append (counts_same i) (q ++ p ∷ []) (concat qs) in
+    let was : times i (q ++ concat qs) ≡ times i q + times i (concat qs) = sum_by-append (counts_same i) q (concat qs) in
+    let last = times_last i p q in
+    omega (arith, now, was, last)
+times_more i p (suc c) (q ∷ qs) within =
+    let after = slice_set qs c (slice_index_or qs c [] ++ p ∷ []) in
+    let rest : times i (concat after) ≡ times i (concat qs) + counts_same i p = times_more i p c qs (omega (arith, within)) in
+    let now : times i (q ++ concat after) ≡ times i q + times i (concat after) = sum_by-append (counts_same i) q (concat after) in
+    let was : times i (q ++ concat qs) ≡ times i q + times i (concat qs) = sum_by-append (counts_same i) q (concat qs) in
+    omega (arith, now, was, rest)
 
 pub by_true : (b : Bool) (P : Type 0) → (IsTrue b ↔ P) → b ≡ true → P
 by_true b P test h = test.0 h
+
+-- ---- one that is idle is queued
+
+pub agenda_queued : (states after : List ℕ) (queues left : List (List ℕ)) (lowest now class p : ℕ) → IsAgenda states queues lowest → class < 6 → IsIdle (lineup states queues) p → now ≤ lowest → now ≤ class
+    → left ≡ slice_set queues class (slice_index_or queues class [] ++ p ∷ []) → after ≡ slice_set states p 1 → IsAgenda after left now
+agenda_queued states after queues left lowest now class p agenda low idle falls below at_queues at_states =
+    let lined = agenda.lineup in
+    let inside : class < length queues = omega (arith, low, lined.classes) in
+    let q = slice_index_or queues class [] ++ p ∷ [] in
+    rw (at_queues, at_states) (record {
+      lineup = record {
+        classes = length-set queues class q ∙ lined.classes;
+        known = by_place (λ i. slice_index (slice_set states p 1) i ≤ 2) p
+            (omega (arith, get_or-set_same states p 1 0 idle.0))
+            (λ i ne. omega (arith, get_or-set_other states p i 1 0 ne, lined.known i));
+        each = by_place (λ i. times i (concat (slice_set queues class q)) ≡ counts_queued (slice_index (slice_set states p 1) i)) p
+            (let more : times p (concat (slice_set queues class q)) ≡ times p (concat queues) + counts_same p p = times_more p p class queues inside in
+            let once = same_once p in
+            let none : times p (concat queues) ≡ 0 = lined.each p ∙ ap counts_queued idle.1 in
+            let one : counts_queued (slice_index (slice_set states p 1) p) ≡ 1 = ap counts_queued (get_or-set_same states p 1 0 idle.0) in
+            omega (arith, more, once, none, one))
+            (λ i ne. let more : times i (concat (slice_set queues class q)) ≡ times i (concat queues) + counts_same i p = times_more i p class queues inside in
+            let never = other_never i p (λ e. ne (sym e)) in
+            let was : times i (concat queues) ≡ counts_queued (slice_index states i) = lined.each i in
+            let same : counts_queued (slice_index (slice_set states p 1) i) ≡ counts_queued (slice_index states i) = ap counts_queued (get_or-set_other states p i 1 0 ne) in
+            omega (arith, more, never, was, same));
+      };
+      below = λ k under. get_or-set_other queues class k q [] (λ e. omega (arith, e, under, below)) ∙ agenda.below k (omega (arith, under, falls));
+    })
+
+-- ---- the first leaves
+
+tail_of : (i p : ℕ) (xs ys : List ℕ) → i ∷ xs ≡ p ∷ ys → xs ≡ ys
+tail_of i p xs ys e = cc
+
+no_first : (p : ℕ) (rest : List ℕ) → [] ≡ p ∷ rest → ⊥
+no_first p rest e = cc
+
+line_without : (p : ℕ) (rest : List ℕ) (qs : List (List ℕ)) → concat qs ≡ p ∷ rest → concat (without_first qs) ≡ rest
+line_without p rest [] is = absurd (no_first p rest is)
+line_without p rest ([] ∷ qs) is = line_without p rest qs is
+line_without p rest ((i ∷ q) ∷ qs) is = tail_of i p (q ++ concat qs) rest is
+
+pub length_without : (qs : List (List ℕ)) → length (without_first qs) ≡ length qs
+length_without [] = refl
+length_without ([] ∷ qs) = ap suc (length_without qs)
+length_without ((i ∷ q) ∷ qs) = refl
+
+-- the queues where that of the first class that isn't empty has lost its first
+pub without_is : (c : ℕ) (new : List ℕ) (qs : List (List ℕ)) → c < length qs → AreEmptyBelow qs c → (slice_index_or qs c [] ≡ [] → ⊥)
+    → ((i : ℕ) (rest : List ℕ) → slice_index_or qs c [] ≡ i ∷ rest → new ≡ rest) → slice_set qs c new ≡ without_first qs
+without_is c new [] within below some pops = absurd (omega (arith, within))
+without_is zero new ([] ∷ qs) within below some pops = absurd (some refl)
+without_is zero new ((i ∷ q) ∷ qs) within below some pops = ap (λ (l : List ℕ). l ∷ qs) (pops i q refl)
+without_is (suc c) new ([] ∷ qs) within below some pops =
+    ap (λ (l : List (List ℕ)). [] ∷ l) (without_is c new qs (omega (arith, within)) (λ k under. below (suc k) (omega (arith, under))) some pops)
+without_is (suc c) new ((i ∷ q) ∷ qs) within below some pops = absurd (let e : i ∷ q ≡ [] = below 0 (omega arith) in cc)
+
+pub without_none : (qs : List (List ℕ)) (n : ℕ) → length qs ≤ n → AreEmptyBelow qs n → qs ≡ without_first qs
+without_none [] n whole below = refl
+without_none ([] ∷ qs) n whole below =
+    ap (λ (l : List (List ℕ)). [] ∷ l) (without_none qs (length qs) (omega arith) (λ k under. below (suc k) (omega (arith, under, whole))))
+without_none ((i ∷ q) ∷ qs) n whole below = absurd (let e : i ∷ q ≡ [] = below 0 (omega (arith, whole)) in cc)
+
+queued_one : (x : ℕ) → 1 ≤ counts_queued x → x ≡ 1
+queued_one x some = elim (cases_eq x 1) [
+  | inl e ↦ e
+  | inr ne ↦ absurd (let none : counts_queued x ≡ 0 = none_if (nat_eq x 1) (ne_eqb x 1 ne) in omega (arith, some, none))
+]
+
+pub first_queued : (l : Lineup) (p : ℕ) → IsLineup l → IsFirst l p → slice_index l.states p ≡ 1
+first_queued l p lined first =
+    let here : times p (line_of l) ≡ times p (p ∷ first.0) = ap (times p) first.1 in
+    let once = same_once p in
+    let more : times p (p ∷ first.0) ≡ counts_same p p + times p first.0 = sum_by-cons (counts_same p) p first.0 in
+    let is = lined.each p in
+    queued_one (slice_index l.states p) (omega (arith, here, once, more, is))
+
+not_queued : (k : ℕ) → (k ≡ 0) ⊎ (k ≡ 2) → counts_queued k ≡ 0
+not_queued k (inl e) = ap counts_queued e
+not_queued k (inr e) = ap counts_queued e
+
+at_most_two : (k : ℕ) → (k ≡ 0) ⊎ (k ≡ 2) → k ≤ 2
+at_most_two k (inl e) = omega (arith, e)
+at_most_two k (inr e) = omega (arith, e)
+
+pub agenda_finished : (states after : List ℕ) (queues left : List (List ℕ)) (lowest now p k : ℕ) → IsAgenda states queues lowest → IsFirst (lineup states queues) p → p < length states → (k ≡ 0) ⊎ (k ≡ 2)
+    → left ≡ without_first queues → AreEmptyBelow left now → after ≡ slice_set states p k → IsAgenda after left now
+agenda_finished states after queues left lowest now p k agenda first within kind at_queues below at_states =
+    let lined = agenda.lineup in
+    let rest = first.0 in
+    let line : concat left ≡ rest = ap concat at_queues ∙ line_without p rest queues first.1 in
+    let split : (i : ℕ) → times i (concat queues) ≡ counts_same i p + times i (concat left) =
+    λ i. ap (times i) first.1 ∙ sum_by-cons (counts_same i) p rest ∙ ap (λ (xs : List ℕ). counts_same i p + times i xs) (sym line) in
+    record {
+      lineup = record {
+        classes = ap length at_queues ∙ length_without queues ∙ lined.classes;
+        known = subst (λ (xs : List ℕ). (i : ℕ) → slice_index xs i ≤ 2) (sym at_states) (by_place (λ i. slice_index (slice_set states p k) i ≤ 2) p
+            (omega (arith, get_or-set_same states p k 0 within, at_most_two k kind))
+            (λ i ne. omega (arith, get_or-set_other states p i k 0 ne, lined.known i)));
+        each = subst (λ (xs : List ℕ). (i : ℕ) → times i (concat left) ≡ counts_queued (slice_index xs i)) (sym at_states)
+            (by_place (λ i. times i (concat left) ≡ counts_queued (slice_index (slice_set states p k) i)) p
+            (let more = split p in
+            let once = same_once p in
+            let was = lined.each p in
+            let one : counts_queued (slice_index states p) ≡ 1 = ap counts_queued (first_queued (lineup states queues) p lined first) in
+            let none : counts_queued (slice_index (slice_set states p k) p) ≡ 0 = ap counts_queued (get_or-set_same states p k 0 within) ∙ not_queued k kind in
+            omega (arith, more, once, was, one, none))
+            (λ i ne. let more = split i in
+            let never = other_never i p (λ e. ne (sym e)) in
+            let was = lined.each i in
+            let same : counts_queued (slice_index (slice_set states p k) i) ≡ counts_queued (slice_index states i) = ap counts_queued (get_or-set_other states p i k 0 ne) in
+            omega (arith, more, never, was, same)));
+      };
+      below = below;
+    }
+
+-- ---- which is the first
+
+pub line_first : (c i : ℕ) (rest : List ℕ) (qs : List (List ℕ)) → c < length qs → AreEmptyBelow qs c → slice_index_or qs c [] ≡ i ∷ rest → (after : List ℕ) × (concat qs ≡ i ∷ after)
+line_first c i rest [] within below is = absurd (omega (arith, within))
+line_first zero i rest (q ∷ qs) within below is = (rest ++ concat qs, ap (λ (l : List ℕ). l ++ concat qs) is)
+line_first (suc c) i rest (q ∷ qs) within below is =
+    let next = line_first c i rest qs (omega (arith, within)) (λ k under. below (suc k) (omega (arith, under))) is in
+    (next.0, ap (λ (l : List ℕ). l ++ concat qs) (below 0 (omega arith)) ∙ next.1)
+
+pub line_none : (qs : List (List ℕ)) (n : ℕ) → length qs ≤ n → AreEmptyBelow qs n → concat qs ≡ []
+line_none [] n whole below = refl
+line_none (q ∷ qs) n whole below =
+    ap (λ (l : List ℕ). l ++ concat qs) (below 0 (omega (arith, whole))) ∙ line_none qs (length qs) (omega arith) (λ k under. below (suc k) (omega (arith, under, whole)))
+
+rests_one : (x : ℕ) → x ≤ 2 → counts_queued x ≡ 0 → (x ≡ 0) ⊎ (x ≡ 2)
+rests_one zero low none = inl refl
+rests_one (suc zero) low none = absurd (let one : counts_queued 1 ≡ 1 = refl in omega (arith, none, one))
+rests_one (suc (suc zero)) low none = inr refl
+rests_one (suc (suc (suc x))) low none = absurd (omega (arith, low))
+
+pub at_rest : (l : Lineup) → IsLineup l → line_of l ≡ [] → IsAtRest l.states
+at_rest l lined none = λ i.
+    let never : times i (line_of l) ≡ 0 = ap (times i) none in
+    rests_one (slice_index l.states i) (lined.known i) (sym (lined.each i) ∙ never)
+
+-- ---- none is queued
+
+all_empty : (qs : List (List ℕ)) → ((k : ℕ) → slice_index_or qs k [] ≡ []) → concat qs ≡ []
+all_empty qs empty = line_none qs (length qs) (omega arith) (λ k under. empty k)
+
+pub agenda_idle : (states : List ℕ) (queues : List (List ℕ)) → length queues ≡ 6 → ((i : ℕ) → slice_index states i ≡ 0) → ((k : ℕ) → slice_index_or queues k [] ≡ [])
+    → (lowest : ℕ) → IsAgenda states queues lowest
+agenda_idle states queues size idle empty = λ lowest. record {
+  lineup = record {
+    classes = size;
+    known = λ i. omega (arith, idle i);
+    each = λ i. ap (times i) (all_empty queues empty) ∙ sym (ap counts_queued (idle i));
+  };
+  below = λ k under. empty k;
+}
+
+-- what the first of the cheapest class says
+pub found_first : (r : Option ℕ) (states : List ℕ) (qs : List (List ℕ)) (class : ℕ) (q : List ℕ) → IsLineup (lineup states qs) → class < length qs → AreEmptyBelow qs class
+    → (slice_index_or qs class [] ≡ [] → ⊥) → q ≡ slice_index_or qs class [] → MatchOption r (q ≡ []) (λ i. (rest : List ℕ) × (q ≡ i ∷ rest)) → MatchOption r (concat qs ≡ []) (λ i. IsFirst (lineup states qs) i)
+found_first None states qs class q lined within below some is none = absurd (some (sym is ∙ none))
+found_first (Some i) states qs class q lined within below some is one = line_first class i one.0 qs within below (sym is ∙ one.1)
+
+pub found_queued : (r : Option ℕ) (states : List ℕ) (qs : List (List ℕ)) → IsLineup (lineup states qs) → MatchOption r (concat qs ≡ []) (λ i. IsFirst (lineup states qs) i)
+    → MatchOption r (IsAtRest states) (λ i. slice_index states i ≡ 1)
+found_queued None states qs lined none = at_rest (lineup states qs) lined none
+found_queued (Some i) states qs lined first = first_queued (lineup states qs) i lined first

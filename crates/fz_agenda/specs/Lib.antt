@@ -1,3 +1,4 @@
 pub mod Agendas
+pub mod Bits
 pub mod Queues
 pub mod Wakes

@@ -1,40 +1,33 @@
 //! Which propagators are queued.
-ghost use Rattle.std.specs.Prelude.{◌≡◌, ◌⊎◌, ℕ, ◌<◌, ◌≤◌, List, [], length, slice_index, slice_index_or, slice_set, replicate, take, IfOk, OnOk, OnErr, IsNone, IfSome, IsTrue, ◌↔◌};
+ghost use Rattle.std.specs.Prelude.{◌≡◌, ◌↔◌, ℕ, ◌<◌, ◌+◌, ◌*◌, List, [], ◌∷◌, ◌++◌, length, slice_index, slice_index_or, slice_set, replicate, IfOk, OnOk, OnErr, MatchOption, if◌then◌else◌};
+ghost use Rattle.std.specs.List.{concat};
+ghost use Rattle.std.specs.Int.{bit_at};
 ghost use Rattle.fz_prop.specs.Stores.{IsListed};
-ghost use Rattle.fz_agenda.specs.Queues.{IsWaiting, IsAgenda, StillWaiting, IsWoken, IsAtRest};
+ghost use Rattle.fz_agenda.specs.Queues.{lineup, line_of, IsFirst, AreEmptyBelow, IsAgenda, IsAtRest, class_of, cost_at, IsIdle, IsQueued, without_first, IsFinished, AreAwake, IsWoken};
 
 use crate::queue::Queue;
+use crate::states::States;
 use fz_prop::Cost;
 use std::alloc::{AllocError, Global};
 use std::marker::Model;
 
-const IDLE: u8 = 0;
-
-const QUEUED: u8 = 1;
-
-const GONE: u8 = 2;
-
 /// For each propagator of a space whether it is idle, queued or gone, and a queue for each class of cost.
-///
-/// Contracts see the states alone: 0 idle, 1 queued, 2 gone.
 #[derive(Drop)]
 pub struct Agenda {
-    states: Vec<u8>,
-    /// One that stands in a queue and isn't queued any more is passed over.
+    states: States,
     queues: Vec<Queue>,
     /// Nothing is queued in a class below this one.
     lowest: usize,
 }
 
 impl Model for Agenda {
-    ghost use Rattle.std.specs.Prelude.{List, ℕ};
-    ghost use Rattle.fz_agenda.specs.Queues.{IsAgenda};
+    ghost use Rattle.fz_agenda.specs.Queues.{Lineup, lineup, IsAgenda};
 
-    ghost Value = { List ℕ };
+    ghost Value = { Lineup };
 
-    ghost view = { λ a. a.states.items };
+    ghost view = { λ a. lineup a.states a.queues.items };
 
-    ghost invariant = { λ a. IsAgenda a.states.items a.queues.items a.lowest };
+    ghost invariant = { λ a. IsAgenda a.states a.queues.items a.lowest };
 }
 
 impl Agenda {
@@ -43,10 +36,11 @@ impl Agenda {
     /// # Errors
     /// `AllocError` where there is no memory.
     pub fn new(alloc: Global, count: usize) -> Result<Agenda, AllocError>
-        ensures { IfOk result (λ a. a ≡ replicate count 0) }
+        ensures states { IfOk result (λ a. a.states ≡ replicate count 0) }
+        ensures queues { IfOk result (λ a. a.queues ≡ replicate 6 []) }
     {
         let queues = empty_queues(alloc)?;
-        let states = Vec::from_elem(alloc, IDLE, count)?;
+        let states = States::new(alloc, count)?;
         Ok(Agenda {
             states,
             queues,
@@ -57,10 +51,11 @@ impl Agenda {
     /// The first that is queued, of the cheapest class.
     pub fn next(&mut self) -> Option<u32>
         ensures same { self.new ≡ self.old }
-        ensures none { IsNone result → IsAtRest self.new }
-        ensures some { IfSome result (λ i. slice_index self.new i ≡ 1) }
+        ensures first { MatchOption result (line_of self.old ≡ []) (λ i. IsFirst self.old i) }
+        ensures none { MatchOption result (IsAtRest self.old.states)
+            (λ i. slice_index self.old.states i ≡ 1) }
     {
-        first_of(&mut self.queues, &mut self.lowest, &self.states)
+        first_of(&self.queues, &mut self.lowest, &self.states)
     }
 
     /// Queues a propagator that is idle; one that is queued or gone stays what it is.
@@ -68,8 +63,10 @@ impl Agenda {
     /// # Errors
     /// `AllocError` where there is no memory; nothing is queued then.
     pub fn wake(&mut self, place: u32, cost: Cost) -> Result<(), AllocError>
-        ensures woken { IsWoken self.old self.new }
-        ensures awake { OnOk result (place < length self.new → slice_index self.new place ≡ 0 → ⊥) }
+        ensures idle { OnOk result
+            (IsIdle self.old place → IsQueued (class_of cost) place self.old self.new) }
+        ensures other { (IsIdle self.old place → ⊥) → self.new ≡ self.old }
+        ensures err { OnErr result (self.new ≡ self.old) }
     {
         enqueue(
             &mut self.queues,
@@ -80,31 +77,38 @@ impl Agenda {
         )
     }
 
-    /// One that has run is idle.
+    /// Those of a word that are idle; what bits beyond the last propagator say is not known.
+    pub fn idle_in(&self, word: u32) -> u64
+        ensures { (k : ℕ) → k < 64 → IsIdle self.now (word * 64 + k) → bit_at result k ≡ 1 }
+    {
+        self.states.idle_in(word as usize)
+    }
+
+    /// The first has run and is idle.
     pub fn rest(&mut self, place: u32)
-        requires { place < length self.old }
-        ensures { self.new ≡ slice_set self.old place 0 }
+        requires { IsFirst self.old place }
+        ensures { IsFinished place 0 self.old self.new }
     {
         finish(
             &mut self.queues,
             &mut self.lowest,
             &mut self.states,
             place,
-            IDLE,
+            false,
         );
     }
 
-    /// One that has run is gone.
+    /// The first has run and is gone.
     pub fn retire(&mut self, place: u32)
-        requires { place < length self.old }
-        ensures { self.new ≡ slice_set self.old place 2 }
+        requires { IsFirst self.old place }
+        ensures { IsFinished place 2 self.old self.new }
     {
         finish(
             &mut self.queues,
             &mut self.lowest,
             &mut self.states,
             place,
-            GONE,
+            true,
         );
     }
 
@@ -115,9 +119,8 @@ impl Agenda {
     pub fn copy(&self) -> Result<Agenda, AllocError>
         ensures { IfOk result (λ a. a ≡ self.now) }
     {
-        let alloc = *self.states.allocator();
-        let queues = copies(alloc, &self.queues)?;
-        let states = Vec::from_slice(alloc, &self.states)?;
+        let states = self.states.copy()?;
+        let queues = copies(*self.queues.allocator(), &self.queues)?;
         Ok(Agenda {
             states,
             queues,
@@ -130,19 +133,21 @@ impl Agenda {
     /// # Errors
     /// `AllocError` where there is no memory; what it then has is an agenda, and nothing else is known of it.
     pub fn copy_from(&mut self, other: &Agenda) -> Result<(), AllocError>
-        requires { length self.old ≡ length other.now }
+        requires { length self.old.states ≡ length other.now.states }
         ensures same { OnOk result (self.new ≡ other.now) }
     {
-        clear(&mut self.states);
-        overwrite(&mut self.queues, &other.queues)?;
+        if overwrite(&mut self.queues, &other.queues).is_err() {
+            clear(&mut self.queues, &mut self.states);
+            return Err(AllocError);
+        }
+        self.states.copy_from(&other.states);
         self.lowest = other.lowest;
-        self.states.copy_from_slice(&other.states);
         Ok(())
     }
 
     /// How many propagators there are.
     pub fn len(&self) -> usize
-        ensures { result ≡ length self.now }
+        ensures { result ≡ length self.now.states }
     {
         self.states.len()
     }
@@ -150,7 +155,7 @@ impl Agenda {
 
 /// The place of a class among the queues; cheaper ones come first.
 fn class_of(cost: Cost) -> usize
-    ensures { result < 6 }
+    ensures { result ≡ class_of cost }
 {
     match cost {
         Cost::Unary => 0,
@@ -164,7 +169,7 @@ fn class_of(cost: Cost) -> usize
 
 /// A queue for each class.
 fn empty_queues(alloc: Global) -> Result<Vec<Queue>, AllocError>
-    ensures { IfOk result (λ v. length v.items ≡ 6) }
+    ensures { IfOk result (λ v. v.items ≡ replicate 6 []) }
 {
     let mut queues = Vec::with_capacity(alloc, 6)?;
     for _made in 0..6usize {
@@ -196,102 +201,115 @@ fn overwrite(queues: &mut Vec<Queue>, others: &[Queue]) -> Result<(), AllocError
     Ok(())
 }
 
-/// Nothing is queued any more.
-fn clear(states: &mut Vec<u8>)
-    ensures size { length states.new.items ≡ length states.old.items }
-    ensures idle { (i : ℕ) → slice_index states.new.items i ≡ 0 }
+/// Nothing is queued, and all are idle.
+fn clear(queues: &mut Vec<Queue>, states: &mut States)
+    requires { length queues.old.items ≡ 6 }
+    ensures agenda { (lowest : ℕ) → IsAgenda states.new queues.new.items lowest }
+    ensures size { length states.new ≡ length states.old }
 {
-    for i in 0..states.len() {
-        states[i] = IDLE;
-    }
+    states.clear();
+    clear_queues(queues);
 }
 
-/// Whether a propagator is queued.
-fn is_queued(states: &[u8], place: u32) -> bool
-    ensures { IsTrue result ↔ (slice_index states.now place ≡ 1) }
-{
-    match states.get(place as usize) {
-        Some(state) => *state == QUEUED,
-        None => false,
-    }
-}
-
-/// The first of a queue that is queued; those before it leave the queue.
-fn first_in(queue: &mut Queue, states: &[u8]) -> Option<u32>
-    ensures kept { (i : ℕ) → slice_index states.now i ≡ 1 → IsListed queue.old i
-        → IsListed queue.new i }
-    ensures none { IsNone result → queue.new ≡ [] }
-    ensures some { IfSome result (λ i. slice_index states.now i ≡ 1) }
-{
-    'stale: while let Some(place) = queue.first() {
-        if is_queued(states, place) {
-            return Some(place);
-        }
-        queue.pop();
-    }
-    None
-}
-
-/// The first of all queues that is queued, from the lowest class on; those before it leave their queues.
-fn first_of(queues: &mut Vec<Queue>, lowest: &mut usize, states: &[u8]) -> Option<u32>
+/// Nothing stands in a queue.
+fn clear_queues(queues: &mut Vec<Queue>)
     ensures size { length queues.new.items ≡ length queues.old.items }
-    ensures kept { StillWaiting states.now queues.old.items lowest.old
-        queues.new.items lowest.new }
-    ensures none { IsNone result → (i : ℕ) → IsWaiting queues.new.items lowest.new i → ⊥ }
-    ensures some { IfSome result (λ i. slice_index states.now i ≡ 1) }
+    ensures empty { (k : ℕ) → slice_index_or queues.new.items k [] ≡ [] }
 {
-    for class in *lowest..queues.len() {
-        if let Some(place) = first_in(&mut queues[class], states) {
-            *lowest = class;
-            return Some(place);
+    for i in 0..queues.len() {
+        queues[i].clear();
+    }
+}
+
+/// The first that is queued, of the cheapest class.
+fn first_of(queues: &[Queue], lowest: &mut usize, states: &States) -> Option<u32>
+    requires agenda { IsAgenda states.now queues.now lowest.old }
+    ensures agenda { IsAgenda states.now queues.now lowest.new }
+    ensures first { MatchOption result (concat queues.now ≡ [])
+        (λ i. IsFirst (lineup states.now queues.now) i) }
+    ensures none { MatchOption result (IsAtRest states.now)
+        (λ i. slice_index states.now i ≡ 1) }
+{
+    *lowest = lowest_from(queues, *lowest);
+    match queues.get(*lowest) {
+        Some(queue) => queue.first(),
+        None => None,
+    }
+}
+
+/// The first class from one on in which any is queued, or the number of classes.
+fn lowest_from(queues: &[Queue], lowest: usize) -> usize
+    requires { AreEmptyBelow queues.now lowest }
+    ensures below { AreEmptyBelow queues.now result }
+    ensures here { result < length queues.now → slice_index_or queues.now result [] ≡ [] → ⊥ }
+{
+    for class in lowest..queues.len() {
+        if queues[class].first().is_some() {
+            return class;
         }
     }
-    *lowest = queues.len();
-    None
+    queues.len().max(lowest)
 }
 
 /// Queues a propagator that is idle.
 fn enqueue(
     queues: &mut Vec<Queue>,
     lowest: &mut usize,
-    states: &mut Vec<u8>,
+    states: &mut States,
     place: u32,
     class: usize,
 ) -> Result<(), AllocError>
     requires class { class < 6 }
-    requires agenda { IsAgenda states.old.items queues.old.items lowest.old }
-    ensures agenda { IsAgenda states.new.items queues.new.items lowest.new }
-    ensures woken { IsWoken states.old.items states.new.items }
-    ensures awake { OnOk result
-        (place < length states.new.items → slice_index states.new.items place ≡ 0 → ⊥) }
+    requires agenda { IsAgenda states.old queues.old.items lowest.old }
+    ensures agenda { IsAgenda states.new queues.new.items lowest.new }
+    ensures idle { OnOk result (IsIdle (lineup states.old queues.old.items) place
+        → IsQueued class place (lineup states.old queues.old.items)
+        (lineup states.new queues.new.items)) }
+    ensures other { (IsIdle (lineup states.old queues.old.items) place → ⊥)
+        → lineup states.new queues.new.items ≡ lineup states.old queues.old.items }
+    ensures err { OnErr result
+        (lineup states.new queues.new.items ≡ lineup states.old queues.old.items) }
 {
-    if !is_idle(states, place) {
+    if !states.is_idle(place as usize) {
         return Ok(());
     }
     queues[class].push(place)?;
     *lowest = (*lowest).min(class);
-    states[place as usize] = QUEUED;
+    states.queue(place as usize);
     Ok(())
 }
 
-/// Whether a propagator is there and idle.
-fn is_idle(states: &[u8], place: u32) -> bool
-    ensures { IsTrue result ↔ ((place < length states.now) × (slice_index states.now place ≡ 0)) }
+/// The first has run: it is idle or gone, and leaves its queue.
+fn finish(
+    queues: &mut Vec<Queue>,
+    lowest: &mut usize,
+    states: &mut States,
+    place: u32,
+    is_gone: bool,
+)
+    requires first { IsFirst (lineup states.old queues.old.items) place }
+    requires agenda { IsAgenda states.old queues.old.items lowest.old }
+    ensures agenda { IsAgenda states.new queues.new.items lowest.new }
+    ensures finished { IsFinished place (if is_gone then 2 else 0)
+        (lineup states.old queues.old.items) (lineup states.new queues.new.items) }
 {
-    match states.get(place as usize) {
-        Some(state) => *state == IDLE,
-        None => false,
+    *lowest = pop_first(queues, *lowest);
+    if is_gone {
+        states.retire(place as usize);
+    } else {
+        states.rest(place as usize);
     }
 }
 
-/// One that has run is idle or gone, and leaves its queue.
-fn finish(queues: &mut Vec<Queue>, lowest: &mut usize, states: &mut Vec<u8>, place: u32, state: u8)
-    requires place { place < length states.old.items }
-    requires state { (state ≡ 0) ⊎ (state ≡ 2) }
-    requires agenda { IsAgenda states.old.items queues.old.items lowest.old }
-    ensures states { states.new.items ≡ slice_set states.old.items place state }
-    ensures agenda { IsAgenda states.new.items queues.new.items lowest.new }
+/// The first of the cheapest class leaves; that class.
+fn pop_first(queues: &mut Vec<Queue>, lowest: usize) -> usize
+    requires { AreEmptyBelow queues.old.items lowest }
+    ensures queues { queues.new.items ≡ without_first queues.old.items }
+    ensures below { AreEmptyBelow queues.new.items result }
 {
-    states[place as usize] = state;
-    let _ = first_of(queues, lowest, states);
+    let class = lowest_from(queues, lowest);
+    if class < queues.len() {
+        queues[class].pop();
+    }
+    class
 }

@@ -6,7 +6,9 @@
 pub mod agenda;
 pub mod draining;
 pub mod laws;
+mod members;
 pub mod queue;
+mod states;
 pub mod wakes;
 
 pub use agenda::Agenda;

@@ -81,7 +81,8 @@ impl Queue {
         self.append(other)
     }
 
-    fn clear(&mut self)
+    /// All leave.
+    pub fn clear(&mut self)
         ensures { self.new ≡ [] }
     {
         self.places.clear();

@@ -1,27 +1,31 @@
 //! Who waits for which change.
-ghost use Rattle.std.specs.Prelude.{◌≡◌, ℕ, ◌<◌, ◌≤◌, List, [], ◌∷◌, ◌++◌, length, slice_index_or, IfOk, OnOk, OnErr};
+ghost use Rattle.std.specs.Prelude.{◌≡◌, ◌⊎◌, ◌↔◌, ℕ, ◌<◌, ◌≤◌, List, [], ◌∷◌, ◌++◌, length, slice_index_or, false, IsTrue, IfOk, OnOk, OnErr};
+ghost use Rattle.std.specs.List.{concat};
+ghost use Rattle.fz_strength.specs.declared.event.Event.{Event};
 ghost use Rattle.fz_strength.specs.declared.event.Event.TheVariants.{Any, Bound, Fixed};
 ghost use Rattle.fz_prop.specs.Stores.{IsListed};
-ghost use Rattle.fz_agenda.specs.Queues.{IsWoken, AreAwake};
-ghost use Rattle.fz_agenda.specs.Wakes.{Waking, waiting_at, HaveSize, HasVariable, Extends, AllAwake};
+ghost use Rattle.fz_agenda.specs.Queues.{cost_at, AreAwake, IsWoken};
+ghost use Rattle.fz_agenda.specs.Wakes.{Waking, waiting_at, with_cost, HaveSize, HasVariable, Extends, WaitsFor, AllAwake};
 
 use crate::agenda::Agenda;
+use crate::members::{Members, lowest_bit, without_bit};
 use fz_prop::{Cost, Event};
 use std::alloc::{AllocError, Global};
 use std::marker::Model;
 
-/// Those that wait for one change, by their numbers.
+/// Those that wait for one change, 64 to a word: propagators that come in one after another share words.
 #[derive(Drop)]
 pub struct Waiters {
-    places: Vec<u32>,
+    words: Vec<Members>,
 }
 
 impl Model for Waiters {
     ghost use Rattle.std.specs.Prelude.{List, ℕ};
+    ghost use Rattle.std.specs.List.{concat};
 
     ghost Value = { List ℕ };
 
-    ghost view = { λ w. w.places.items };
+    ghost view = { λ w. concat w.words.items };
 }
 
 impl Waiters {
@@ -29,24 +33,39 @@ impl Waiters {
         ensures { result ≡ [] }
     {
         Waiters {
-            places: Vec::new(alloc),
+            words: Vec::new(alloc),
         }
     }
 
-    fn places(&self) -> &[u32]
-        ensures { result.now ≡ self.now }
+    fn words(&self) -> &[Members]
+        ensures { concat result.now ≡ self.now }
     {
-        &self.places
+        &self.words
     }
 
-    fn push(&mut self, place: u32) -> Result<(), AllocError>
-        ensures ok { OnOk result (self.new ≡ self.old ++ place ∷ []) }
+    /// One more waits.
+    fn add(&mut self, place: u32) -> Result<(), AllocError>
+        ensures ok { OnOk result
+            ((i : ℕ) → IsListed self.new i ↔ (IsListed self.old i ⊎ (i ≡ place))) }
         ensures err { OnErr result (self.new ≡ self.old) }
     {
-        match self.places.push(place) {
-            Ok(()) => Ok(()),
-            Err(_) => Err(AllocError),
+        if join_last(&mut self.words, place) {
+            return Ok(());
         }
+        self.words.push(Members::one(place))?;
+        Ok(())
+    }
+}
+
+/// Puts a propagator into the last word, where it belongs there; whether it does.
+fn join_last(words: &mut Vec<Members>, place: u32) -> bool
+    ensures joined { IsTrue result → (i : ℕ) → IsListed (concat words.new.items) i
+        ↔ (IsListed (concat words.old.items) i ⊎ (i ≡ place)) }
+    ensures other { result ≡ false → words.new.items ≡ words.old.items }
+{
+    match words.len() {
+        0 => false,
+        count => words[count - 1].join(place),
     }
 }
 
@@ -69,6 +88,7 @@ impl Model for Wakes {
       any = w.any.items;
       bound = w.bound.items;
       fixed = w.fixed.items;
+      costs = w.costs.items;
     } };
 }
 
@@ -78,7 +98,8 @@ impl Wakes {
     /// # Errors
     /// `AllocError` where there is no memory.
     pub fn new(alloc: Global, count: usize) -> Result<Wakes, AllocError>
-        ensures { IfOk result (λ w. HaveSize w count) }
+        ensures size { IfOk result (λ w. HaveSize w count) }
+        ensures costs { IfOk result (λ w. w.costs ≡ []) }
     {
         let any = empty_lists(alloc, count)?;
         let bound = empty_lists(alloc, count)?;
@@ -94,9 +115,10 @@ impl Wakes {
     /// The class of the next propagator's cost.
     ///
     /// # Errors
-    /// `AllocError` where there is no memory.
+    /// `AllocError` where there is no memory; the lists are then as they were.
     pub fn add_cost(&mut self, cost: Cost) -> Result<(), AllocError>
-        ensures { self.new ≡ self.old }
+        ensures ok { OnOk result (self.new ≡ with_cost self.old cost) }
+        ensures err { OnErr result (self.new ≡ self.old) }
     {
         match self.costs.push(cost) {
             Ok(()) => Ok(()),
@@ -113,6 +135,9 @@ impl Wakes {
         ensures size { (n : ℕ) → HaveSize self.old n → HaveSize self.new n }
         ensures extends { Extends self.old self.new }
         ensures listed { OnOk result (IsListed (waiting_at self.new event variable) place) }
+        ensures only { (e : Event) (v i : ℕ) → IsListed (waiting_at self.new e v) i
+            → IsListed (waiting_at self.old e v) i ⊎ ((e ≡ event) × (v ≡ variable) × (i ≡ place)) }
+        ensures costs { self.new.costs ≡ self.old.costs }
     {
         match event {
             Event::Any => list_at(&mut self.any, variable, place),
@@ -127,8 +152,9 @@ impl Wakes {
     /// `AllocError` where there is no memory.
     pub fn wake(&self, variable: u32, level: u8, agenda: &mut Agenda) -> Result<(), AllocError>
         requires { HasVariable self.now variable }
-        ensures woken { IsWoken agenda.old agenda.new }
-        ensures awake { OnOk result (AllAwake self.now variable level agenda.new) }
+        ensures woken { IsWoken (WaitsFor self.now variable level) self.now.costs
+            agenda.old agenda.new }
+        ensures awake { OnOk result (AllAwake self.now variable level agenda.new.states) }
     {
         match level {
             0 => Ok(()),
@@ -140,31 +166,34 @@ impl Wakes {
 
     fn wake_any(&self, variable: u32, agenda: &mut Agenda) -> Result<(), AllocError>
         requires { HasVariable self.now variable }
-        ensures woken { IsWoken agenda.old agenda.new }
-        ensures any { OnOk result (AreAwake agenda.new (waiting_at self.now Any variable)) }
+        ensures woken { IsWoken (WaitsFor self.now variable 1) self.now.costs
+            agenda.old agenda.new }
+        ensures any { OnOk result (AreAwake agenda.new.states (waiting_at self.now Any variable)) }
     {
-        wake_all(waiters_of(&self.any, variable), &self.costs, agenda)
+        wake_listed(&self.any, variable, &self.costs, agenda)
     }
 
     fn wake_bound(&self, variable: u32, agenda: &mut Agenda) -> Result<(), AllocError>
         requires { HasVariable self.now variable }
-        ensures woken { IsWoken agenda.old agenda.new }
-        ensures any { OnOk result (AreAwake agenda.new (waiting_at self.now Any variable)) }
-        ensures bound { OnOk result (AreAwake agenda.new (waiting_at self.now Bound variable)) }
+        ensures woken { IsWoken (WaitsFor self.now variable 2) self.now.costs
+            agenda.old agenda.new }
+        ensures any { OnOk result (AreAwake agenda.new.states (waiting_at self.now Any variable)) }
+        ensures bound { OnOk result (AreAwake agenda.new.states (waiting_at self.now Bound variable)) }
     {
         self.wake_any(variable, agenda)?;
-        wake_all(waiters_of(&self.bound, variable), &self.costs, agenda)
+        wake_listed(&self.bound, variable, &self.costs, agenda)
     }
 
     fn wake_fixed(&self, variable: u32, agenda: &mut Agenda) -> Result<(), AllocError>
         requires { HasVariable self.now variable }
-        ensures woken { IsWoken agenda.old agenda.new }
-        ensures any { OnOk result (AreAwake agenda.new (waiting_at self.now Any variable)) }
-        ensures bound { OnOk result (AreAwake agenda.new (waiting_at self.now Bound variable)) }
-        ensures fixed { OnOk result (AreAwake agenda.new (waiting_at self.now Fixed variable)) }
+        ensures woken { IsWoken (WaitsFor self.now variable 3) self.now.costs
+            agenda.old agenda.new }
+        ensures any { OnOk result (AreAwake agenda.new.states (waiting_at self.now Any variable)) }
+        ensures bound { OnOk result (AreAwake agenda.new.states (waiting_at self.now Bound variable)) }
+        ensures fixed { OnOk result (AreAwake agenda.new.states (waiting_at self.now Fixed variable)) }
     {
         self.wake_bound(variable, agenda)?;
-        wake_all(waiters_of(&self.fixed, variable), &self.costs, agenda)
+        wake_listed(&self.fixed, variable, &self.costs, agenda)
     }
 }
 
@@ -186,33 +215,61 @@ fn list_at(lists: &mut Vec<Waiters>, variable: u32, place: u32) -> Result<(), Al
     ensures extends { (v i : ℕ) → IsListed (slice_index_or lists.old.items v []) i
         → IsListed (slice_index_or lists.new.items v []) i }
     ensures listed { OnOk result (IsListed (slice_index_or lists.new.items variable []) place) }
+    ensures only { (v i : ℕ) → IsListed (slice_index_or lists.new.items v []) i
+        → IsListed (slice_index_or lists.old.items v []) i ⊎ ((v ≡ variable) × (i ≡ place)) }
 {
-    lists[variable as usize].push(place)
+    lists[variable as usize].add(place)
 }
 
-/// Those that wait for a change of a variable.
-fn waiters_of(lists: &[Waiters], variable: u32) -> &[u32]
+/// Queues those that wait for a change of a variable and are idle.
+fn wake_listed(
+    lists: &[Waiters],
+    variable: u32,
+    costs: &[Cost],
+    agenda: &mut Agenda,
+) -> Result<(), AllocError>
     requires { variable < length lists.now }
-    ensures { result.now ≡ slice_index_or lists.now variable [] }
+    ensures woken { IsWoken (IsListed (slice_index_or lists.now variable [])) costs.now
+        agenda.old agenda.new }
+    ensures awake { OnOk result
+        (AreAwake agenda.new.states (slice_index_or lists.now variable [])) }
 {
-    lists[variable as usize].places()
+    wake_words(lists[variable as usize].words(), costs, agenda)
+}
+
+/// Queues those of some words that are idle.
+fn wake_words(words: &[Members], costs: &[Cost], agenda: &mut Agenda) -> Result<(), AllocError>
+    ensures woken { IsWoken (IsListed (concat words.now)) costs.now agenda.old agenda.new }
+    ensures awake { OnOk result (AreAwake agenda.new.states (concat words.now)) }
+{
+    for members in words {
+        wake_members(members, costs, agenda)?;
+    }
+    Ok(())
+}
+
+/// Queues those of a word that are idle.
+fn wake_members(members: &Members, costs: &[Cost], agenda: &mut Agenda) -> Result<(), AllocError>
+    ensures woken { IsWoken (IsListed members.now) costs.now agenda.old agenda.new }
+    ensures awake { OnOk result (AreAwake agenda.new.states members.now) }
+{
+    let (word, bits) = members.parts();
+    let mut left = bits & agenda.idle_in(word);
+    'places: while left != 0 {
+        let bit = lowest_bit(left);
+        let place = word * 64 + bit;
+        agenda.wake(place, cost_at(costs, place))?;
+        left = without_bit(left, bit);
+    }
+    Ok(())
 }
 
 /// The class of a propagator's cost.
-fn cost_at(costs: &[Cost], place: u32) -> Cost {
+fn cost_at(costs: &[Cost], place: u32) -> Cost
+    ensures { result ≡ cost_at costs.now place }
+{
     match costs.get(place as usize) {
         Some(cost) => *cost,
         None => Cost::Cubic,
     }
-}
-
-/// Queues those of a list that are idle.
-fn wake_all(places: &[u32], costs: &[Cost], agenda: &mut Agenda) -> Result<(), AllocError>
-    ensures woken { IsWoken agenda.old agenda.new }
-    ensures awake { OnOk result (AreAwake agenda.new places.now) }
-{
-    for place in places {
-        agenda.wake(*place, cost_at(costs, *place))?;
-    }
-    Ok(())
 }

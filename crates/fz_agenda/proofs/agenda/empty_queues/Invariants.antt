@@ -1,5 +1,5 @@
-use Rattle.std.proofs.Common.{◌≡◌, length}
+use Rattle.std.proofs.Common.{◌≡◌, [], replicate}
 use Rattle.fz_agenda.proofs.agenda.empty_queues.Given as goal
 
 abbrev pub invariant-loop-made : goal.invariant-loop-made
-invariant-loop-made l = length l.queues.items ≡ l._made
+invariant-loop-made l = l.queues.items ≡ replicate l._made []

@@ -1,35 +1,20 @@
-use Rattle.std.proofs.Common.{◌≡◌, ◌<◌, ◌≤◌, ◌∙◌, [], sym, subst, rules, length}
-use Rattle.std.specs.Prelude.{slice_index, slice_index_or, ℕ, List}
+use Rattle.std.proofs.Common.{[], ◌≤◌, ◌∙◌, length, rules}
 use Rattle.fz_sets.proofs.Lists.{same_at}
-use Rattle.fz_prop.specs.Stores.{IsListed}
-use Rattle.fz_agenda.proofs.Standing.{sifted_found, sifted_more, sifted_all}
+use Rattle.fz_agenda.proofs.Standing.{found_first, found_queued, line_none, at_rest}
+use Rattle.fz_agenda.specs.Queues.{lineup}
 use Rattle.fz_agenda.proofs.agenda.first_of.Goals as goal
 
--- what first_in says of the queue of this class
-read : (states queues-at left : List ℕ) (queue : List ℕ) → queue ≡ queues-at → ((i : ℕ) → slice_index states i ≡ 1 → IsListed queue i → IsListed left i)
-    → (i : ℕ) → slice_index states i ≡ 1 → IsListed queues-at i → IsListed left i
-read states queues-at left queue is kept i one listed = kept i one (subst (λ (l : List ℕ). IsListed l i) (sym is) listed)
+pub returns-in-Some-clause-first : goal.returns-in-Some-clause-first
+returns-in-Some-clause-first c =
+    let found = c.in-Some.ensures.lookup in
+    found_first c.first.result c.args.states.now c.args.queues.now c.lowest_from.result c.in-Some.queue.now c.requires.agenda.lineup found.3.0 c.lowest_from.ensures.below (c.lowest_from.ensures.here found.3.0)
+    (found.1 ∙ same_at c.args.queues.now c.lowest_from.result c.in-Some.queue.now [] found.3.0) c.first.ensures
 
-pub returns-in-Some-clause-kept : goal.returns-in-Some-clause-kept
-returns-in-Some-clause-kept c =
-    let queues = c.loop-class.queues.items in
-    let class = c.loop-class.class in
-    let inside : class < length queues = search rules in
-    sifted_found c.args.states.now c.args.queues.now.items queues c.args.lowest.now class c.first_in.new.queue c.loop-class.invariant inside
-    (read c.args.states.now (slice_index_or queues class []) c.first_in.new.queue c.index_mut.result.now (c.index_mut.ensures.value ∙ same_at queues class c.index_mut.result.now [] inside) c.first_in.ensures.kept)
+pub returns-in-Some-clause-none : goal.returns-in-Some-clause-none
+returns-in-Some-clause-none c = found_queued c.first.result c.args.states.now c.args.queues.now c.requires.agenda.lineup (returns-in-Some-clause-first c)
 
-pub loop-class-preserved : goal.loop-class-preserved
-loop-class-preserved c =
-    let queues = c.loop-class.queues.items in
-    let class = c.loop-class.class in
-    let inside : class < length queues = search rules in
-    let none : c.first_in.new.queue ≡ [] = search rules in
-    sifted_more c.args.states.now c.args.queues.now.items queues c.args.lowest.now class c.first_in.new.queue c.loop-class.invariant inside
-    (read c.args.states.now (slice_index_or queues class []) c.first_in.new.queue c.index_mut.result.now (c.index_mut.ensures.value ∙ same_at queues class c.index_mut.result.now [] inside) c.first_in.ensures.kept)
-    none
+pub returns-in-None-clause-first : goal.returns-in-None-clause-first
+returns-in-None-clause-first c = let past : length c.args.queues.now ≤ c.lowest_from.result = search rules in line_none c.args.queues.now c.lowest_from.result past c.lowest_from.ensures.below
 
-pub returns-clause-kept : goal.returns-clause-kept
-returns-clause-kept c =
-    let ended : length c.loop-class.queues.items ≡ c.len.result = search rules in
-    let whole : length c.loop-class.queues.items ≤ c.loop-class.class = search rules in
-    rw (← ended) (sifted_all c.args.states.now c.args.queues.now.items c.loop-class.queues.items c.args.lowest.now c.loop-class.class c.loop-class.invariant whole)
+pub returns-in-None-clause-none : goal.returns-in-None-clause-none
+returns-in-None-clause-none c = at_rest (lineup c.args.states.now c.args.queues.now) c.requires.agenda.lineup (returns-in-None-clause-first c)

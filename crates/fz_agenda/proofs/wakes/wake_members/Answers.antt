@@ -1,0 +1,38 @@
+use Rattle.std.proofs.Common.{◌≡◌, ◌+◌, ◌*◌, refl, ap, rules}
+use Rattle.fz_agenda.specs.Bits.{members_of}
+use Rattle.fz_agenda.specs.Queues.{class_of}
+use Rattle.fz_prop.specs.Stores.{IsListed}
+use Rattle.fz_agenda.proofs.Waking.{waking_start, waking_wake, waking_more, all_awake}
+use Rattle.fz_agenda.proofs.Woken.{woken_twice}
+use Rattle.fz_agenda.proofs.wakes.wake_members.Goals as goal
+
+pub places-init : goal.places-init
+places-init c = waking_start c.parts-word.result.0 c.parts-word.result.1 c.idle_in.result c.args.costs.now c.args.agenda.now c.idle_in.ensures
+
+pub places-preserved : goal.places-preserved
+places-preserved c =
+    let word = c.parts-word.result.0 in
+    let bit = c.lowest_bit-bit.result in
+    let class = class_of c.cost_at.result in
+    waking_more word c.parts-word.result.1 c.places.left c.without_bit-left.result bit c.args.costs.now c.args.agenda.now c.places.agenda c.wake.new.self class (word * 64 + bit) c.places.invariant
+    (waking_wake c.wake.result word c.parts-word.result.1 c.places.left bit c.args.costs.now c.args.agenda.now c.places.agenda c.wake.new.self class (word * 64 + bit) c.places.invariant c.lowest_bit-bit.ensures.place
+    c.lowest_bit-bit.ensures.bit refl c.wake.ensures.idle c.wake.ensures.other c.wake.ensures.err (ap class_of c.cost_at.ensures))
+    c.lowest_bit-bit.ensures.place refl c.in_ok-wake.ensures.idle c.wake.ensures.other c.without_bit-left.ensures.here c.without_bit-left.ensures.others
+
+pub returns-clause-awake : goal.returns-clause-awake
+returns-clause-awake c =
+    let none : c.places.left ≡ 0 = search rules in
+    rw c.parts-word.ensures.members (all_awake c.parts-word.result.0 c.parts-word.result.1 c.places.left c.args.costs.now c.args.agenda.now c.places.agenda c.places.invariant none)
+
+pub returns-clause-woken : goal.returns-clause-woken
+returns-clause-woken c = rw c.parts-word.ensures.members c.places.invariant.woken
+
+pub returns-in_err-wake-clause-woken : goal.returns-in_err-wake-clause-woken
+returns-in_err-wake-clause-woken c =
+    let word = c.parts-word.result.0 in
+    let bits = c.parts-word.result.1 in
+    let bit = c.lowest_bit-bit.result in
+    let class = class_of c.cost_at.result in
+    rw c.parts-word.ensures.members (woken_twice (IsListed (members_of word bits)) c.args.costs.now c.args.agenda.now c.places.agenda c.wake.new.self c.places.invariant.woken
+    (waking_wake c.wake.result word bits c.places.left bit c.args.costs.now c.args.agenda.now c.places.agenda c.wake.new.self class (word * 64 + bit) c.places.invariant c.lowest_bit-bit.ensures.place
+    c.lowest_bit-bit.ensures.bit refl c.wake.ensures.idle c.wake.ensures.other c.wake.ensures.err (ap class_of c.cost_at.ensures)))

@@ -1,0 +1,38 @@
+-- Propagators by words of bits: propagator i is bit i % 64 of word i / 64.
+use Rattle.std.specs.Prelude.{◌≡◌, ℕ, zero, suc, ◌+◌, ◌*◌, ◌/◌, ◌%◌, List, [], ◌∷◌, map, length, slice_index, nat_eq, if◌then◌else◌}
+use Rattle.std.specs.List.{range_with_len}
+use Rattle.std.specs.Int.{bit_at}
+
+-- the propagators of the first n bits of a word that are set
+unfoldable pub first_members : ℕ → ℕ → ℕ → List ℕ
+first_members word bits zero = []
+first_members word bits (suc n) = if nat_eq (bit_at bits n) 1 then ((word * 64 + n) ∷ first_members word bits n) else first_members word bits n
+
+unfoldable pub members_of : ℕ → ℕ → List ℕ
+members_of word bits = first_members word bits 64
+
+-- a propagator's bit of some words
+abbrev pub bit_of : List ℕ → ℕ → ℕ
+bit_of words i = bit_at (slice_index words (i / 64)) (i % 64)
+
+-- gone where it isn't alive, else queued or idle
+abbrev pub state_at : List ℕ → List ℕ → ℕ → ℕ
+state_at alive queued i = if nat_eq (bit_of alive i) 1 then bit_of queued i else 2
+
+unfoldable pub states_of : List ℕ → List ℕ → ℕ → List ℕ
+states_of alive queued count = map (state_at alive queued) (range_with_len 0 count)
+
+-- how many words so many propagators take
+abbrev pub words_for : ℕ → ℕ
+words_for count = suc (count / 64)
+
+-- a word for each of so many
+pub record HaveWords (living waiting : List ℕ) (count : ℕ) : Type 0 where
+  pub alive : length living ≡ words_for count
+  pub queued : length waiting ≡ words_for count
+
+-- the bit of one is set to a value, and no other changes
+pub record IsBitSet (place value : ℕ) (words after : List ℕ) : Type 0 where
+  pub size : length after ≡ length words
+  pub here : bit_of after place ≡ value
+  pub others : (i : ℕ) → (i ≡ place → ⊥) → bit_of after i ≡ bit_of words i
