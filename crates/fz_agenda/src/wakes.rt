@@ -168,7 +168,8 @@ impl Wakes {
         requires { HasVariable self.now variable }
         ensures woken { IsWoken (WaitsFor self.now variable 1) self.now.costs
             agenda.old agenda.new }
-        ensures any { OnOk result (AreAwake agenda.new.states (waiting_at self.now Any variable)) }
+        ensures any { OnOk result
+            (AreAwake agenda.new.states (waiting_at self.now Any variable)) }
     {
         wake_listed(&self.any, variable, &self.costs, agenda)
     }
@@ -177,8 +178,10 @@ impl Wakes {
         requires { HasVariable self.now variable }
         ensures woken { IsWoken (WaitsFor self.now variable 2) self.now.costs
             agenda.old agenda.new }
-        ensures any { OnOk result (AreAwake agenda.new.states (waiting_at self.now Any variable)) }
-        ensures bound { OnOk result (AreAwake agenda.new.states (waiting_at self.now Bound variable)) }
+        ensures any { OnOk result
+            (AreAwake agenda.new.states (waiting_at self.now Any variable)) }
+        ensures bound { OnOk result
+            (AreAwake agenda.new.states (waiting_at self.now Bound variable)) }
     {
         self.wake_any(variable, agenda)?;
         wake_listed(&self.bound, variable, &self.costs, agenda)
@@ -188,9 +191,12 @@ impl Wakes {
         requires { HasVariable self.now variable }
         ensures woken { IsWoken (WaitsFor self.now variable 3) self.now.costs
             agenda.old agenda.new }
-        ensures any { OnOk result (AreAwake agenda.new.states (waiting_at self.now Any variable)) }
-        ensures bound { OnOk result (AreAwake agenda.new.states (waiting_at self.now Bound variable)) }
-        ensures fixed { OnOk result (AreAwake agenda.new.states (waiting_at self.now Fixed variable)) }
+        ensures any { OnOk result
+            (AreAwake agenda.new.states (waiting_at self.now Any variable)) }
+        ensures bound { OnOk result
+            (AreAwake agenda.new.states (waiting_at self.now Bound variable)) }
+        ensures fixed { OnOk result
+            (AreAwake agenda.new.states (waiting_at self.now Fixed variable)) }
     {
         self.wake_bound(variable, agenda)?;
         wake_listed(&self.fixed, variable, &self.costs, agenda)

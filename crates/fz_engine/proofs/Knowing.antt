@@ -21,7 +21,6 @@ use Rattle.fz_spec.specs.declared.limits.TheConstants.{ELEMENT_LIMIT}
 use Rattle.fz_spec.specs.Instance.{Instance, Variable}
 use Rattle.fz_model.specs.Kept as kept
 use Rattle.fz_model.specs.Kept.{IsNumberOf, kind_at, FitsElement, FitsList, FitsAsked, AllFit, FitsRow, HasSetOf, IsVariable, IsConstraint, IsModel}
-use Rattle.fz_strength.specs.declared.event.Event.{Event}
 use Rattle.fz_strength.specs.declared.event.Event.TheVariants.{Any, Bound, Fixed}
 use Rattle.fz_strength.specs.declared.relation.Relation.{Relation}
 use Rattle.fz_strength.specs.Elements.{waits_of_selection}

@@ -15,7 +15,7 @@ use Rattle.fz_strength.proofs.Terms.{term_narrower}
 use Rattle.fz_prop.specs.Stores.{Stored, IsStore, Shrinks}
 use Rattle.fz_prop.proofs.Twice.{narrower_twice}
 use Rattle.fz_agenda.specs.Agendas.{IsSettled}
-use Rattle.fz_agenda.specs.Queues.{IsAtRest, counts_queued, queued}
+use Rattle.fz_agenda.specs.Queues.{Lineup, IsAtRest, counts_queued, queued}
 use Rattle.fz_agenda.specs.Wakes.{Waking, HaveSize, IsIndexOf, IsDraining, IsDrained}
 use Rattle.fz_agenda.proofs.Settled.{settled_lasts, all_rest_at_rest, may_be_idle, may_be_gone}
 use Rattle.fz_agenda.proofs.Places.{within_of}
@@ -53,7 +53,7 @@ run_twice cs r s t mid after p q = record {
   settled = q.settled;
 }
 
-pub run_drained : (cs : List Constraint) (w : Waking) (r s t : Stored) (mid after : List ℕ) → IsIndexOf cs w → IsRun cs r s mid → IsDraining w s mid t after → IsRun cs r t after
+pub run_drained : (cs : List Constraint) (w : Waking) (r s t : Stored) (mid after : Lineup) → IsIndexOf cs w → IsRun cs r s mid.states → IsDraining w s mid t after → IsRun cs r t after.states
 run_drained cs w r s t mid after index run draining = record {
   store = draining.store;
   narrower = subst (λ (ds : List (List (ℤ × ℤ))). IsNarrower r.doms ds) (sym draining.doms) run.narrower;
@@ -126,16 +126,17 @@ work_by_room : (r rr n q qq : ℕ) → r < rr → q ≤ n → r * (n + 1) + q < 
 work_by_room r rr n q qq less few = let more : (n + 1) * (r + 1) ≤ (n + 1) * rr = mul-le-mul_left (n + 1) (omega (arith, less)) in omega (arith, more, few)
 
 -- a step leaves less to do
-pub work_falls : (w : Waking) (s t u : Stored) (states mid after : List ℕ) → HasMoved s states t mid → length mid ≡ length states → IsDrained s → IsDraining w t mid u after → work u after < work s states
+pub work_falls : (w : Waking) (s t u : Stored) (states : List ℕ) (mid after : Lineup) → HasMoved s states t mid.states → length mid.states ≡ length states → IsDrained s → IsDraining w t mid u after
+    → work u after.states < work s states
 work_falls w s t u states mid after (inl less) size drained draining =
     let same : room u.doms ≡ room t.doms = ap room draining.doms in
     let lower : room u.doms < room s.doms = omega (arith, same, less) in
-    let whole : length after ≡ length states = draining.size ∙ size in
-    let few : queued after ≤ length states = omega (arith, queued_few after, whole) in
-    rw whole (work_by_room (room u.doms) (room s.doms) (length states) (queued after) (queued states) lower few)
+    let whole : length after.states ≡ length states = draining.woken.size ∙ size in
+    let few : queued after.states ≤ length states = omega (arith, queued_few after.states, whole) in
+    rw whole (work_by_room (room u.doms) (room s.doms) (length states) (queued after.states) (queued states) lower few)
 work_falls w s t u states mid after (inr moved) size drained draining =
     let still = draining.still (ap (λ (x : Stored). x.changed) moved.0 ∙ drained.none) in
-    let whole : length after ≡ length states = draining.size ∙ size in
+    let whole : length after.states ≡ length states = draining.woken.size ∙ size in
     let same : room u.doms ≡ room s.doms = ap (λ (x : Stored). room x.doms) (still.0 ∙ moved.0) in
-    let fewer : queued after < queued states = subst (λ (x : List ℕ). queued x < queued states) (sym still.1) moved.1 in
+    let fewer : queued after.states < queued states = subst (λ (x : List ℕ). queued x < queued states) (sym (ap (λ (l : Lineup). l.states) still.1)) moved.1 in
     rw (whole, same) (omega (arith, fewer))

@@ -1,6 +1,7 @@
 //! Running propagators until all rest.
 ghost use Rattle.std.specs.Prelude.{◌≡◌, ◌<◌, true, false, List, length, IfOk, slice_get, slice_index, Some};
 ghost use Rattle.fz_agenda.specs.Agendas.{IsSettled};
+ghost use Rattle.fz_agenda.specs.Queues.{IsFirst};
 ghost use Rattle.fz_agenda.specs.Wakes.{IsIndexOf, HaveSize, IsDrained};
 ghost use Rattle.fz_engine.specs.Runs.{AreOf, IsRun, AreNeverTrue, AllRest, HasMoved};
 ghost use Rattle.fz_engine.specs.Steps.{IsProgress};
@@ -34,8 +35,8 @@ pub fn settle(
     requires size { HaveSize wakes.now (length store.old.doms) }
     requires index { IsIndexOf kinds.now wakes.now }
     requires terms { AreOf kinds.now store.old.doms }
-    requires settled { IsSettled kinds.now agenda.old store.old }
-    ensures run { IsRun kinds.now store.old store.new agenda.new }
+    requires settled { IsSettled kinds.now agenda.old.states store.old }
+    ensures run { IsRun kinds.now store.old store.new agenda.new.states }
     ensures rests { IfOk result (λ b. b ≡ true → AllRest kinds.now store.new.doms) }
     ensures failed { IfOk result (λ b. b ≡ false → AreNeverTrue kinds.now store.old.doms) }
 {
@@ -53,9 +54,9 @@ fn run_all(
     requires size { HaveSize wakes.now (length store.old.doms) }
     requires index { IsIndexOf kinds.now wakes.now }
     requires terms { AreOf kinds.now store.old.doms }
-    requires settled { IsSettled kinds.now agenda.old store.old }
+    requires settled { IsSettled kinds.now agenda.old.states store.old }
     requires drained { IsDrained store.old }
-    ensures run { IsRun kinds.now store.old store.new agenda.new }
+    ensures run { IsRun kinds.now store.old store.new agenda.new.states }
     ensures rests { IfOk result (λ b. b ≡ true → AllRest kinds.now store.new.doms) }
     ensures failed { IfOk result (λ b. b ≡ false → AreNeverTrue kinds.now store.old.doms) }
 {
@@ -80,11 +81,11 @@ fn step(
     requires size { HaveSize wakes.now (length store.old.doms) }
     requires index { IsIndexOf kinds.now wakes.now }
     requires terms { AreOf kinds.now store.old.doms }
-    requires settled { IsSettled kinds.now agenda.old store.old }
+    requires settled { IsSettled kinds.now agenda.old.states store.old }
     requires drained { IsDrained store.old }
-    ensures run { IsRun kinds.now store.old store.new agenda.new }
+    ensures run { IsRun kinds.now store.old store.new agenda.new.states }
     ensures progress { IfOk result
-        (λ p. IsProgress p kinds.now store.old agenda.old store.new agenda.new) }
+        (λ p. IsProgress p kinds.now store.old agenda.old.states store.new agenda.new.states) }
 {
     let _ = store.doms();
     match agenda.next() {
@@ -101,15 +102,16 @@ fn run_next(
     store: &mut Store,
     agenda: &mut Agenda,
 ) -> Result<Progress, AllocError>
-    requires queued { slice_index agenda.old place ≡ 1 }
+    requires first { IsFirst agenda.old place }
+    requires queued { slice_index agenda.old.states place ≡ 1 }
     requires size { HaveSize wakes.now (length store.old.doms) }
     requires index { IsIndexOf kinds.now wakes.now }
     requires terms { AreOf kinds.now store.old.doms }
-    requires settled { IsSettled kinds.now agenda.old store.old }
+    requires settled { IsSettled kinds.now agenda.old.states store.old }
     requires drained { IsDrained store.old }
-    ensures run { IsRun kinds.now store.old store.new agenda.new }
+    ensures run { IsRun kinds.now store.old store.new agenda.new.states }
     ensures progress { IfOk result
-        (λ p. IsProgress p kinds.now store.old agenda.old store.new agenda.new) }
+        (λ p. IsProgress p kinds.now store.old agenda.old.states store.new agenda.new.states) }
 {
     if !run(kinds, place, store, agenda)? {
         return Ok(Progress::Failed);
@@ -125,12 +127,13 @@ fn run(
     store: &mut Store,
     agenda: &mut Agenda,
 ) -> Result<bool, AllocError>
-    requires queued { slice_index agenda.old place ≡ 1 }
+    requires first { IsFirst agenda.old place }
+    requires queued { slice_index agenda.old.states place ≡ 1 }
     requires terms { AreOf kinds.now store.old.doms }
-    requires settled { IsSettled kinds.now agenda.old store.old }
-    ensures run { IsRun kinds.now store.old store.new agenda.new }
+    requires settled { IsSettled kinds.now agenda.old.states store.old }
+    ensures run { IsRun kinds.now store.old store.new agenda.new.states }
     ensures moved { IfOk result
-        (λ b. b ≡ true → HasMoved store.old agenda.old store.new agenda.new) }
+        (λ b. b ≡ true → HasMoved store.old agenda.old.states store.new agenda.new.states) }
     ensures failed { IfOk result (λ b. b ≡ false → AreNeverTrue kinds.now store.old.doms) }
 {
     match kind_at(kinds, place).run(store)? {

@@ -1,5 +1,5 @@
 //! What the spaces of a model share.
-ghost use Rattle.std.specs.Prelude.{◌≡◌, ℕ, ◌<◌, ◌≤◌, List, length, IfOk, OnOk, slice_get, Some};
+ghost use Rattle.std.specs.Prelude.{◌≡◌, ℕ, ◌<◌, ◌≤◌, List, [], ◌∷◌, ◌++◌, length, IfOk, OnOk, slice_get, Some};
 ghost use Rattle.std.specs.List.{AllByRecursion};
 ghost use Rattle.std.specs.Arc.{arc_value};
 ghost use Rattle.fz_spec.specs.Constraints as meaning;
@@ -10,7 +10,8 @@ ghost use Rattle.fz_prop.specs.Stores.{Stored, IsListed};
 ghost use Rattle.fz_agenda.specs.Agendas.{IsSettled};
 ghost use Rattle.fz_agenda.specs.Wakes.{waiting_at, IsListedAt, IsIndexOf, HaveSize, HasVariable, Extends};
 ghost use Rattle.fz_engine.specs.Known.{IsKept};
-ghost use Rattle.fz_engine.specs.Plans.{Planned, IsPlan};
+ghost use Rattle.fz_strength.specs.Costs.{cost_of};
+ghost use Rattle.fz_engine.specs.Plans.{Planned, HasCosts, IsPlan, IsFull};
 
 use crate::kind::Kind;
 use fz_agenda::{Agenda, Wakes};
@@ -76,6 +77,7 @@ impl Plan {
     pub fn wakes(&self) -> &Wakes
         ensures wakes { result.now ≡ self.now.wakes }
         ensures index { IsIndexOf self.now.model.constraints self.now.wakes }
+        ensures costs { HasCosts self.now.model.constraints self.now.wakes }
         ensures size { HaveSize self.now.wakes (length self.now.model.variables) }
     {
         &self.wakes
@@ -98,6 +100,7 @@ fn kinds_of(alloc: Global, constraints: &[Constraint]) -> Result<Vec<Kind>, Allo
 fn wakes_in(alloc: Global, kinds: &[Kind], model: &fz_model::Model) -> Result<Wakes, AllocError>
     requires { kinds.now ≡ model.now.constraints }
     ensures index { IfOk result (λ w. IsIndexOf model.now.constraints w) }
+    ensures costs { IfOk result (λ w. HasCosts model.now.constraints w) }
     ensures size { IfOk result (λ w. HaveSize w (length model.now.variables)) }
 {
     let variables = model.variables();
@@ -110,6 +113,7 @@ fn wakes_of(alloc: Global, kinds: &[Kind], variables: usize) -> Result<Wakes, Al
     requires inside { (i : ℕ) (c : meaning.Constraint) → slice_get kinds.now i ≡ Some c
         → AreBelow (waits c) variables }
     ensures index { IfOk result (λ w. IsIndexOf kinds.now w) }
+    ensures costs { IfOk result (λ w. HasCosts kinds.now w) }
     ensures size { IfOk result (λ w. HaveSize w variables) }
 {
     let mut wakes = Wakes::new(alloc, variables)?;
@@ -126,6 +130,7 @@ fn list(wakes: &mut Wakes, kind: &Kind, place: u32, variables: usize) -> Result<
     ensures size { HaveSize wakes.new variables }
     ensures extends { Extends wakes.old wakes.new }
     ensures listed { OnOk result (IsListedAt wakes.new place (waits kind.now)) }
+    ensures costs { OnOk result (wakes.new.costs ≡ wakes.old.costs ++ cost_of kind.now ∷ []) }
 {
     wakes.add_cost(kind.cost())?;
     list_all(wakes, kind, place, variables)
@@ -138,6 +143,7 @@ fn list_all(wakes: &mut Wakes, kind: &Kind, place: u32, variables: usize) -> Res
     ensures size { HaveSize wakes.new variables }
     ensures extends { Extends wakes.old wakes.new }
     ensures listed { OnOk result (IsListedAt wakes.new place (waits kind.now)) }
+    ensures costs { wakes.new.costs ≡ wakes.old.costs }
 {
     let count = kind.vars().len();
     for i in 0..count {
@@ -155,6 +161,7 @@ fn list_one(wakes: &mut Wakes, kind: &Kind, place: u32, i: usize) -> Result<(), 
     ensures extends { Extends wakes.old wakes.new }
     ensures listed { OnOk result ((w : Wait) → slice_get (waits kind.now) i ≡ Some w
         → IsListed (waiting_at wakes.new w.event w.variable) place) }
+    ensures costs { wakes.new.costs ≡ wakes.old.costs }
 {
     let variable = kind.vars()[i];
     wakes.list(variable, kind.event(i), place)
@@ -163,7 +170,8 @@ fn list_one(wakes: &mut Wakes, kind: &Kind, place: u32, i: usize) -> Result<(), 
 /// An agenda on which each propagator is queued.
 pub fn agenda_of(alloc: Global, kinds: &[Kind]) -> Result<Agenda, AllocError>
     requires few { length kinds.now ≤ 1000000 }
-    ensures { IfOk result (λ a. (s : Stored) → IsSettled kinds.now a s) }
+    ensures settled { IfOk result (λ a. (s : Stored) → IsSettled kinds.now a.states s) }
+    ensures full { IfOk result (λ a. IsFull kinds.now a) }
 {
     let mut agenda = Agenda::new(alloc, kinds.len())?;
     for (place, kind) in kinds.iter().enumerate() {

@@ -25,9 +25,9 @@ pub fn rest(
     failed: &mut bool,
     front: &mut usize,
 ) -> Result<Status, AllocError>
-    requires alive { failed.old ≡ false → IsAlive plan.now.model agenda.old store.old }
+    requires alive { failed.old ≡ false → IsAlive plan.now.model agenda.old.states store.old }
     requires front { failed.old ≡ false → FrontFixed front.old store.old.doms }
-    ensures alive { failed.new ≡ false → IsAlive plan.now.model agenda.new store.new }
+    ensures alive { failed.new ≡ false → IsAlive plan.now.model agenda.new.states store.new }
     ensures front { failed.new ≡ false → FrontFixed front.new store.new.doms }
     ensures covers { (known : Option (List ℤ)) (ds : List Decision)
         → Covers known ds (spaced plan.now.model store.old failed.old)

@@ -24,7 +24,8 @@ pub struct Parts {
 /// # Errors
 /// `AllocError` where there is no memory.
 pub fn parts_of(alloc: Global, plan: &Plan) -> Result<Parts, AllocError>
-    ensures alive { IfOk result (λ p. p.failed ≡ false → IsAlive plan.now.model p.agenda p.store) }
+    ensures alive { IfOk result
+        (λ p. p.failed ≡ false → IsAlive plan.now.model p.agenda.states p.store) }
     ensures covers { IfOk result (λ p. Covers None [] (spaced plan.now.model p.store p.failed)) }
 {
     match Store::new(alloc, plan.model())? {
@@ -36,7 +37,8 @@ pub fn parts_of(alloc: Global, plan: &Plan) -> Result<Parts, AllocError>
 /// The parts of a space that has failed.
 fn failed_parts(alloc: Global, plan: &Plan) -> Result<Parts, AllocError>
     requires { HasEmpty (declared_sets plan.now.model.variables) }
-    ensures alive { IfOk result (λ p. p.failed ≡ false → IsAlive plan.now.model p.agenda p.store) }
+    ensures alive { IfOk result
+        (λ p. p.failed ≡ false → IsAlive plan.now.model p.agenda.states p.store) }
     ensures covers { IfOk result (λ p. Covers None [] (spaced plan.now.model p.store p.failed)) }
 {
     let _ = plan.kinds();
@@ -51,7 +53,8 @@ fn failed_parts(alloc: Global, plan: &Plan) -> Result<Parts, AllocError>
 /// The parts of a space with these domains.
 fn live_parts(alloc: Global, plan: &Plan, store: Store) -> Result<Parts, AllocError>
     requires { store ≡ fresh (declared_sets plan.now.model.variables) }
-    ensures alive { IfOk result (λ p. p.failed ≡ false → IsAlive plan.now.model p.agenda p.store) }
+    ensures alive { IfOk result
+        (λ p. p.failed ≡ false → IsAlive plan.now.model p.agenda.states p.store) }
     ensures covers { IfOk result (λ p. Covers None [] (spaced plan.now.model p.store p.failed)) }
 {
     let _ = plan.model();

@@ -43,7 +43,8 @@ impl Model for Space {
 
     ghost view = { λ s. spaced (arc_value s.plan).model s.store s.failed };
 
-    ghost invariant = { λ s. s.failed ≡ false → IsAlive (arc_value s.plan).model s.agenda s.store
+    ghost invariant = { λ s. s.failed ≡ false
+        → IsAlive (arc_value s.plan).model s.agenda.states s.store
         × FrontFixed s.front s.store.doms };
 }
 

@@ -2,7 +2,7 @@ use Rattle.fz_engine.proofs.Running.{run_none, run_twice, terms_last, size_lasts
 use Rattle.fz_engine.proofs.engine.run_all.Goals as goal
 
 pub steps-init : goal.steps-init
-steps-init c = record { run = run_none c.args.kinds.now c.args.store.now c.args.agenda.now c.doms.ensures.store c.requires.settled; drained = c.requires.drained }
+steps-init c = record { run = run_none c.args.kinds.now c.args.store.now c.args.agenda.now.states c.doms.ensures.store c.requires.settled; drained = c.requires.drained }
 
 pub step-requires : goal.step-requires
 step-requires c = record {
@@ -15,4 +15,4 @@ step-requires c = record {
 
 pub returns-in_err-progress-clause-run : goal.returns-in_err-progress-clause-run
 returns-in_err-progress-clause-run c =
-    run_twice c.args.kinds.now c.args.store.now c.steps.store c.step.new.store c.steps.agenda c.step.new.agenda c.steps.invariant.run c.step.ensures.run
+    run_twice c.args.kinds.now c.args.store.now c.steps.store c.step.new.store c.steps.agenda.states c.step.new.agenda.states c.steps.invariant.run c.step.ensures.run

@@ -15,5 +15,5 @@ returns-clause-run c =
 
 pub returns-clause-progress : goal.returns-clause-progress
 returns-clause-progress c =
-    let size : length c.run.new.agenda ≡ length c.args.agenda.now = c.run.ensures.run.settled.size ∙ sym c.requires.settled.size in
-    (c.in_ok-drain.ensures.drained, work_falls c.args.wakes.now c.args.store.now c.run.new.store c.drain.new.store c.args.agenda.now c.run.new.agenda c.drain.new.agenda (c.in_ok-run.ensures.moved c.if-not-branch.false) size c.requires.drained c.drain.ensures.draining)
+    let size : length c.run.new.agenda.states ≡ length c.args.agenda.now.states = c.run.ensures.run.settled.size ∙ sym c.requires.settled.size in
+    (c.in_ok-drain.ensures.drained, work_falls c.args.wakes.now c.args.store.now c.run.new.store c.drain.new.store c.args.agenda.now.states c.run.new.agenda c.drain.new.agenda (c.in_ok-run.ensures.moved c.if-not-branch.false) size c.requires.drained c.drain.ensures.draining)

@@ -13,6 +13,7 @@ loop-i-preserved c = record {
   size = c.list_one.ensures.size c.args.variables c.loop-i.invariant.size;
   extends = extends_twice c.args.wakes.now c.loop-i.wakes c.list_one.new.wakes c.loop-i.invariant.extends c.list_one.ensures.extends;
   listed = listed_more c.loop-i.wakes c.list_one.new.wakes c.args.place (waits c.args.kind.now) c.loop-i.i c.list_one.ensures.extends c.loop-i.invariant.listed c.in_ok-list_one.ensures.listed;
+  costs = c.list_one.ensures.costs ∙ c.loop-i.invariant.costs;
 }
 
 pub returns-clause-listed : goal.returns-clause-listed

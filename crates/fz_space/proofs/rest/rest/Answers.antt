@@ -15,21 +15,21 @@ settle-requires-clause-terms c =
 
 pub returns-in_err-rests-clause-alive : goal.returns-in_err-rests-clause-alive
 returns-in_err-rests-clause-alive c = λ _.
-    alive_settled c.args.plan.now.model c.kinds.result.now c.args.agenda.now c.settle.new.agenda c.args.store.now c.settle.new.store c.kinds.ensures (c.requires.alive c.if-failed.false) c.settle.ensures.run
+    alive_settled c.args.plan.now.model c.kinds.result.now c.args.agenda.now.states c.settle.new.agenda.states c.args.store.now c.settle.new.store c.kinds.ensures (c.requires.alive c.if-failed.false) c.settle.ensures.run
 
 pub returns-clause-alive : goal.returns-clause-alive
 returns-clause-alive c = λ _.
-    alive_settled c.args.plan.now.model c.kinds.result.now c.args.agenda.now c.settle.new.agenda c.args.store.now c.settle.new.store c.kinds.ensures (c.requires.alive c.if-failed.false) c.settle.ensures.run
+    alive_settled c.args.plan.now.model c.kinds.result.now c.args.agenda.now.states c.settle.new.agenda.states c.args.store.now c.settle.new.store c.kinds.ensures (c.requires.alive c.if-failed.false) c.settle.ensures.run
 
 pub returns-clause-answer : goal.returns-clause-answer
 returns-clause-answer c =
     let m = c.args.plan.now.model in
     let store = c.settle.new.store in
-    let agenda = c.settle.new.agenda in
+    let agenda = c.settle.new.agenda.states in
     let status = c.status_at.result in
     subst (λ (failed : Bool). IsStatus status (spaced m store failed)) (sym c.if-failed.false)
     (left_is m agenda store status
-    (alive_settled m c.kinds.result.now c.args.agenda.now agenda c.args.store.now store c.kinds.ensures (c.requires.alive c.if-failed.false) c.settle.ensures.run)
+    (alive_settled m c.kinds.result.now c.args.agenda.now.states agenda c.args.store.now store c.kinds.ensures (c.requires.alive c.if-failed.false) c.settle.ensures.run)
     (subst (λ (cs : List Constraint). AllRest cs store.doms) c.kinds.ensures (c.in_ok-rests.ensures.rests c.if-not-rests.false))
     (subst (λ (ds : List (List (ℤ × ℤ))). IsLeft status ds) c.doms-3.ensures.doms c.status_at.ensures))
 

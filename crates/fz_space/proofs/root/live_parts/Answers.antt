@@ -11,9 +11,9 @@ returns-clause-alive c =
     let m = c.args.plan.now.model in
     let store = c.args.store in
     let doms : store.doms ≡ declared_sets m.variables = ap (λ (s : Stored). s.doms) c.requires in
-    λ _. alive_root m c.in_ok-agenda.agenda store doms
+    λ _. alive_root m c.in_ok-agenda.agenda.states store doms
     (terms_declared m c.model.ensures.kept)
-    (subst (λ (cs : List Constraint). IsSettled cs c.in_ok-agenda.agenda store) c.kinds.ensures (c.in_ok-agenda.ensures store))
+    (subst (λ (cs : List Constraint). IsSettled cs c.in_ok-agenda.agenda.states store) c.kinds.ensures (c.in_ok-agenda.ensures.settled store))
 
 pub returns-clause-covers : goal.returns-clause-covers
 returns-clause-covers c = covers_root c.args.plan.now.model c.args.store (ap (λ (s : Stored). s.doms) c.requires)

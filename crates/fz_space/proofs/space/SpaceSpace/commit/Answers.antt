@@ -9,7 +9,7 @@ use Rattle.fz_space.proofs.space.SpaceSpace.commit.Goals as goal
 
 pub invariant_of-self : goal.invariant_of-self
 invariant_of-self c = λ alive. (
-  c.take.ensures.alive (arc_value c.self.inside.plan).model c.self.inside.agenda (λ before. (c.self.invariant before).0) alive,
+  c.take.ensures.alive (arc_value c.self.inside.plan).model c.self.inside.agenda.states (λ before. (c.self.invariant before).0) alive,
   c.take.ensures.front c.self.inside.front (λ before. (c.self.invariant before).1) alive,
 )
 
@@ -28,6 +28,6 @@ returns-clause-lacking c =
     on_ok_weaker c.take.result
     (λ lacking d at beyond.
     let is = at_some c.args.choice.now c.args.alternative d c.decision.result at c.decision.ensures in
-    lacking_now (arc_value c.self.inside.plan).model c.self.inside.agenda c.self.inside.store c.self.inside.failed c.take.new.failed c.args.self.now c.decision.result d c.self.view_is is
+    lacking_now (arc_value c.self.inside.plan).model c.self.inside.agenda.states c.self.inside.store c.self.inside.failed c.take.new.failed c.args.self.now c.decision.result d c.self.view_is is
     (λ alive. (c.self.invariant alive).0) c.take.ensures.stays lacking beyond)
     c.take.ensures.lacking

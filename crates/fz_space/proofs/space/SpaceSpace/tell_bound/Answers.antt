@@ -8,6 +8,6 @@ invariant_of-self c =
     let m = (arc_value c.self.inside.plan).model in
     let same : c.model.result.now ≡ m = search rules in
     λ alive. (
-      alive_told m c.model.result.now c.self.inside.agenda c.self.inside.store c.keep_better.new.store c.self.inside.failed c.keep_better.new.failed same c.keep_better.ensures.alive (λ before. (c.self.invariant before).0) alive,
+      alive_told m c.model.result.now c.self.inside.agenda.states c.self.inside.store c.keep_better.new.store c.self.inside.failed c.keep_better.new.failed same c.keep_better.ensures.alive (λ before. (c.self.invariant before).0) alive,
       c.keep_better.ensures.front c.self.inside.front (λ before. (c.self.invariant before).1) alive,
     )
