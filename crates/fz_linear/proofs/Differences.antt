@@ -23,7 +23,7 @@ use Rattle.fz_prop.specs.Truths.{IsAbout, IsSame}
 use Rattle.fz_prop.proofs.Filled.{narrower_ranges, one_left, still_only}
 use Rattle.fz_prop.proofs.Grown.{term_limits}
 use Rattle.fz_prop.proofs.TermChanges.{only_in, within_kept, kept_term, none_kept}
-use Rattle.fz_linear.specs.Differences.{IsDifferenceOf, DifferenceTruth, IsCloseAbove, DifferenceLine, IsAnswerDifference}
+use Rattle.fz_linear.specs.Differences.{IsDifferenceOf, DifferenceTruth, IsCloseAbove, DifferenceLine, IsAnswerDifference, ArePartners}
 use Rattle.fz_linear.specs.Sums.{SumTruth, SumLine}
 use Rattle.fz_linear.proofs.Spans.{spanned, ends_rise}
 
@@ -97,6 +97,12 @@ turned_same x y c d is = record {
   line = λ ds l.
       let back : neg_ℤ d ≡ c = omega (arith, ints, is) in
       (subst (λ (n : ℤ). IsCloseAbove ds x y n) back l.1, subst (λ (n : ℤ). IsCloseAbove ds y x n) is l.0);
+}
+
+pub turned_partners : (ds : List (List (ℤ × ℤ))) (x y : ℕ) (c d : ℤ) → d ≡ neg_ℤ c → ArePartners ds y x d → ArePartners ds x y c
+turned_partners ds x y c d is h = record {
+  below = λ z i. let same : (z +ℤ d) ≡ (z -ℤ c) = omega (arith, ints, is) in subst (λ (u : ℤ). IsInSet (dom_at ds y) u) same (h.above z i);
+  above = λ z i. let same : (z -ℤ d) ≡ (z +ℤ c) = omega (arith, ints, is) in subst (λ (u : ℤ). IsInSet (dom_at ds x) u) same (h.below z i);
 }
 
 -- ---- a number that leaves the other

@@ -7,9 +7,10 @@ ghost use Rattle.fz_strength.specs.Domains.{dom_at, AreDomains};
 ghost use Rattle.fz_strength.specs.Events.{IsOnly, IsFixedIn};
 ghost use Rattle.fz_strength.specs.Sums.{sum_event_of};
 ghost use Rattle.fz_strength.specs.Sums as sums;
+ghost use Rattle.fz_prop.specs.declared.answer.Answer.TheVariants.{Failed};
 ghost use Rattle.fz_prop.specs.Answers.{IsCorrectOf, IsDecided};
 ghost use Rattle.fz_prop.specs.Stores.{Shrinks, IsStore, IsChangeAt};
-ghost use Rattle.fz_linear.specs.Differences.{IsDifferenceOf, IsNoDifference, IsDifferenceIn, DifferenceTruth, IsAnswerDifference};
+ghost use Rattle.fz_linear.specs.Differences.{IsDifferenceOf, IsNoDifference, IsDifferenceIn, DifferenceTruth, IsAnswerDifference, ArePartners};
 
 use fz_prop::terms::value_of;
 use fz_prop::{Answer, Change, Event, Store};
@@ -97,6 +98,8 @@ pub fn keep_above_by(store: &mut Store, d: Difference) -> Result<Answer, AllocEr
         store.old.doms store.new.doms }
     ensures answer { IfOk result (λ r.
         IsAnswerDifference Equal d.first d.second d.above r store.old.doms store.new.doms) }
+    ensures partners { IfOk result (λ r. r ≢ Failed
+        → ArePartners store.new.doms d.first d.second d.above) }
     ensures checking { IfOk result
         (λ r. IsFixedIn store.old.doms (Var d.first) → IsDecided r) }
 {
@@ -142,6 +145,8 @@ fn keep_first(store: &mut Store, d: Difference) -> Result<Answer, AllocError>
         store.old.doms store.new.doms }
     ensures answer { IfOk result (λ r.
         IsAnswerDifference Equal d.first d.second d.above r store.old.doms store.new.doms) }
+    ensures partners { IfOk result (λ r. r ≢ Failed
+        → ArePartners store.new.doms d.first d.second d.above) }
     ensures checking { IfOk result (λ r.
         IsFixedIn store.old.doms (Var d.first) ⊎ IsFixedIn store.old.doms (Var d.second)
         → IsDecided r) }
@@ -165,6 +170,8 @@ fn keep_second(store: &mut Store, d: Difference) -> Result<Answer, AllocError>
         store.old.doms store.new.doms }
     ensures answer { IfOk result (λ r.
         IsAnswerDifference Equal d.first d.second d.above r store.old.doms store.new.doms) }
+    ensures partners { IfOk result (λ r. r ≢ Failed
+        → ArePartners store.new.doms d.first d.second d.above) }
     ensures checking { IfOk result
         (λ r. IsFixedIn store.old.doms (Var d.first) → IsDecided r) }
     ensures old_store { IsStore store.old }
@@ -209,6 +216,7 @@ fn partnered(store: &Store, d: Difference) -> Answer
         → IsInSet (dom_at store.now.doms d.first) (z +ℤ d.above) }
     ensures answer { IsAnswerDifference Equal d.first d.second d.above result
         store.now.doms store.now.doms }
+    ensures partners { ArePartners store.now.doms d.first d.second d.above }
     ensures checking { IsFixedIn store.now.doms (Var d.first) → IsDecided result }
     ensures store { IsStore store.now }
 {

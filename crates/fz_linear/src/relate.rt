@@ -7,7 +7,7 @@ ghost use Rattle.fz_strength.specs.Events.{AllFixed};
 ghost use Rattle.fz_prop.specs.declared.answer.Answer.TheVariants.{Fix};
 ghost use Rattle.fz_prop.specs.Answers.{IsCorrectOf, IsDecided};
 ghost use Rattle.fz_prop.specs.Stores.{Shrinks, FitsTerm};
-ghost use Rattle.fz_linear.specs.Differences.{IsDifferenceIn};
+ghost use Rattle.fz_linear.specs.Differences.{IsDifferenceIn, IsPruned};
 ghost use Rattle.fz_linear.specs.Terms.{AreTermsOf};
 ghost use Rattle.fz_linear.specs.Precisions.{Allows};
 ghost use Rattle.fz_linear.specs.Sums.{SumTruth, SumFalse, IsAnswerSum, IsAnswerAgainst};
@@ -80,6 +80,7 @@ pub fn relate_whole(
         store.old.doms store.new.doms }
     ensures answer { IfOk result
         (λ r. IsAnswerSum relation factors.now terms.now number r store.old.doms store.new.doms) }
+    ensures pruned { IfOk result (λ r. IsPruned relation difference r store.new.doms) }
     ensures checking { IfOk result (λ r. AllFixed store.old.doms terms.now → IsDecided r) }
 {
     match (relation, difference) {
