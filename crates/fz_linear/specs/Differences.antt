@@ -21,6 +21,10 @@ abbrev pub IsDifferenceOf : ℕ → ℕ → List ℤ → List Term → Type 0
 IsDifferenceOf x y ks ts =
     ((ks ≡ pos 1 ∷ negsuc 0 ∷ []) × (ts ≡ Var x ∷ Var y ∷ [])) ⊎ ((ks ≡ negsuc 0 ∷ pos 1 ∷ []) × (ts ≡ Var y ∷ Var x ∷ []))
 
+-- it isn't the difference of two that differ, unless the number has no negative
+abbrev pub IsNoneOfTwo : List ℤ → List Term → ℤ → Type 0
+IsNoneOfTwo ks ts c = (x y : ℕ) → x ≢ y → (negsuc 2147483646 ≤ℤ c) → IsDifferenceOf x y ks ts → ⊥
+
 abbrev pub IsNoDifference : List ℤ → List Term → Type 0
 IsNoDifference ks ts = (x y : ℕ) → IsDifferenceOf x y ks ts → ⊥
 

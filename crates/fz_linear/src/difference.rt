@@ -10,7 +10,7 @@ ghost use Rattle.fz_strength.specs.Sums as sums;
 ghost use Rattle.fz_prop.specs.declared.answer.Answer.TheVariants.{Failed};
 ghost use Rattle.fz_prop.specs.Answers.{IsCorrectOf, IsDecided};
 ghost use Rattle.fz_prop.specs.Stores.{Shrinks, IsStore, IsChangeAt};
-ghost use Rattle.fz_linear.specs.Differences.{IsDifferenceOf, IsNoDifference, IsDifferenceIn, DifferenceTruth, IsAnswerDifference, ArePartners};
+ghost use Rattle.fz_linear.specs.Differences.{IsDifferenceOf, IsNoneOfTwo, IsNoDifference, IsDifferenceIn, DifferenceTruth, IsAnswerDifference, ArePartners};
 
 use fz_prop::terms::value_of;
 use fz_prop::{Answer, Change, Event, Store};
@@ -48,8 +48,7 @@ pub fn event_of(relation: Relation, factors: &[i32]) -> Event
 /// The difference that a sum is, if it is one of two variables.
 pub fn difference_of(factors: &[i32], terms: &[Term], number: i32) -> Option<Difference>
     ensures some { IfSome result (λ d. IsDifferenceIn d factors.now terms.now number) }
-    ensures none { IsNone result → (x y : ℕ) → x ≢ y → (negsuc 2147483646 ≤ℤ number)
-        → IsDifferenceOf x y factors.now terms.now → ⊥ }
+    ensures none { IsNone result → IsNoneOfTwo factors.now terms.now number }
 {
     let (first, second) = pair_of(factors, terms)?;
     if first == second {
