@@ -1,5 +1,5 @@
 //! Differences of two variables that are a number, or aren't: propagators of two variables, on whole domains.
-ghost use Rattle.std.specs.Prelude.{◌≡◌, ◌≢◌, ◌⊎◌, ◌↔◌, ◌<◌, ℕ, ℤ, negsuc, ◌≤ℤ◌, [], ◌∷◌, IsNone, MatchOption, neg_ℤ, ◌-ℤ◌, ◌+ℤ◌, List, length, IfOk, IfSome, OnErr};
+ghost use Rattle.std.specs.Prelude.{◌≡◌, ◌≢◌, ◌⊎◌, ◌↔◌, ◌<◌, ℤ, [], ◌∷◌, IsNone, MatchOption, neg_ℤ, ◌-ℤ◌, ◌+ℤ◌, List, length, IfOk, IfSome, OnErr};
 ghost use Rattle.fz_sets.specs.Sets.{IsInSet, IsWithinLimits, set_size};
 ghost use Rattle.fz_spec.specs.declared.term.Term.TheVariants.{Var};
 ghost use Rattle.fz_strength.specs.declared.relation.Relation.TheVariants.{Equal, NotEqual};
@@ -112,7 +112,12 @@ pub fn keep_above_by(store: &mut Store, d: Difference) -> Result<Answer, AllocEr
 
 /// The same difference, with the second variable first.
 fn turned(d: Difference) -> Difference
-    ensures { result ≡ record { first = d.second; second = d.first; above = d.below; below = d.above } }
+    ensures { result ≡ record {
+      first = d.second;
+      second = d.first;
+      above = d.below;
+      below = d.above;
+    } }
 {
     Difference {
         first: d.second,
