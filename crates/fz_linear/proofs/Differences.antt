@@ -1,8 +1,9 @@
 -- Two variables whose difference is a number, or isn't.
-use Rattle.std.proofs.Common.{◌≡◌, ◌≢◌, ◌⊎◌, ℕ, ◌<◌, List, [], ◌∷◌, sym, ap, subst, ◌∙◌, arith, length, inl, inr}
+use Rattle.std.proofs.Common.{◌≡◌, ◌≢◌, ◌⊎◌, ℕ, ◌<◌, List, [], ◌∷◌, refl, sym, ap, subst, ◌∙◌, arith, length, inl, inr}
 use Rattle.std.specs.Prelude.{ℤ, pos, negsuc, neg_ℤ, ◌+ℤ◌, ◌-ℤ◌, ◌≤ℤ◌, ◌↔◌}
 use Rattle.std.proofs.lemmas.Int.{ints}
-use Rattle.fz_sets.specs.Sets.{IsInSet, IsWithinLimits}
+use Rattle.fz_sets.specs.Sets.{IsInSet, IsWithinLimits, AreRanges, set_size}
+use Rattle.fz_dom.proofs.Lists.{same_or_less}
 use Rattle.fz_dom.specs.Shape.{least, greatest}
 use Rattle.fz_dom.specs.declared.change.Change.{Change}
 use Rattle.fz_dom.specs.declared.change.Change.TheVariants.{Same, Changed, Wiped}
@@ -11,7 +12,7 @@ use Rattle.fz_spec.specs.declared.term.Term.TheVariants.{Var}
 use Rattle.fz_spec.specs.Truth.{weighted_sum}
 use Rattle.fz_strength.specs.declared.relation.Relation.{Relation}
 use Rattle.fz_strength.specs.declared.relation.Relation.TheVariants.{Equal, NotEqual}
-use Rattle.fz_strength.specs.Domains.{dom_at, number_at, AreDomains, Within}
+use Rattle.fz_strength.specs.Domains.{dom_at, number_at, AreDomains, Within, IsNarrower}
 use Rattle.fz_strength.specs.Events.{IsOnly, IsFixedIn}
 use Rattle.fz_strength.specs.Sums.{RestsAtMost, AllButOneFixed}
 use Rattle.fz_strength.proofs.SumLaws.{neg_product}
@@ -19,9 +20,10 @@ use Rattle.fz_prop.specs.declared.answer.Answer.TheVariants.{Subsumed, Failed}
 use Rattle.fz_prop.specs.Answers.{IsAnswerOf, IsCorrectOf}
 use Rattle.fz_prop.specs.Stores.{Stored, Shrinks, IsChangeAt}
 use Rattle.fz_prop.specs.Truths.{IsAbout, IsSame}
+use Rattle.fz_prop.proofs.Filled.{narrower_ranges, one_left, still_only}
 use Rattle.fz_prop.proofs.Grown.{term_limits}
 use Rattle.fz_prop.proofs.TermChanges.{only_in, within_kept, kept_term, none_kept}
-use Rattle.fz_linear.specs.Differences.{IsDifferenceOf, DifferenceTruth, IsCloseAbove, DifferenceLine, IsAnswerDifference}
+use Rattle.fz_linear.specs.Differences.{IsDifferenceOf, DifferenceTruth, IsCloseAbove, DifferenceLine, IsAnswerDifference, ArePartners}
 use Rattle.fz_linear.specs.Sums.{SumTruth, SumLine}
 use Rattle.fz_linear.proofs.Spans.{spanned, ends_rise}
 
@@ -86,6 +88,22 @@ apart_sum x y c ks ts h = elim h [
         l (turned_sum ds (Var y) (Var x) (one_of_two ds (Var y) (Var x) fixed)) a within (sym (sum_of_turned (number_at a x) (number_at a y)) ∙ e);
   })
 ]
+
+-- ---- the same difference, with the second variable first
+
+pub turned_same : (x y : ℕ) (c d : ℤ) → d ≡ neg_ℤ c → IsSame (DifferenceTruth Equal y x d) (DifferenceTruth Equal x y c) (DifferenceLine Equal y x d) (DifferenceLine Equal x y c)
+turned_same x y c d is = record {
+  truth = λ a. ((λ e. omega (arith, ints, is, e)), (λ e. omega (arith, ints, is, e)));
+  line = λ ds l.
+      let back : neg_ℤ d ≡ c = omega (arith, ints, is) in
+      (subst (λ (n : ℤ). IsCloseAbove ds x y n) back l.1, subst (λ (n : ℤ). IsCloseAbove ds y x n) is l.0);
+}
+
+pub turned_partners : (ds : List (List (ℤ × ℤ))) (x y : ℕ) (c d : ℤ) → d ≡ neg_ℤ c → ArePartners ds y x d → ArePartners ds x y c
+turned_partners ds x y c d is h = record {
+  below = λ z i. let same : (z +ℤ d) ≡ (z -ℤ c) = omega (arith, ints, is) in subst (λ (u : ℤ). IsInSet (dom_at ds y) u) same (h.above z i);
+  above = λ z i. let same : (z -ℤ d) ≡ (z +ℤ c) = omega (arith, ints, is) in subst (λ (u : ℤ). IsInSet (dom_at ds x) u) same (h.below z i);
+}
 
 -- ---- a number that leaves the other
 
@@ -191,3 +209,50 @@ fixed_partners ds x y c v is_x is_y only back =
           let last = at_y (greatest (dom_at es y)) (narrower.members y (greatest (dom_at es y)) sy.high) in
           line_of_ends es x y c (omega (arith, ints, low, first)) (omega (arith, ints, high, last)) (ends_rise (dom_at es y) sy)),
     )
+
+-- ---- where each number of the first has its partner in the second: the first is fixed where one of the two was; and with as many
+-- numbers in the second each of its numbers has its partner too
+
+pub first_fixed : (x y : ℕ) (c : ℤ) (ds es : List (List (ℤ × ℤ))) → x < length ds → AreDomains es → IsNarrower ds es → ((z : ℤ) → IsInSet (dom_at es x) z → IsInSet (dom_at es y) (z -ℤ c))
+    → IsFixedIn ds (Var x) ⊎ IsFixedIn ds (Var y) → IsFixedIn es (Var x)
+first_fixed x y c ds es is_x domains narrower partners fixed = elim fixed [
+  | inl f ↦ (f.0, still_only ds es (Var x) f.0 is_x f.1 domains narrower)
+  | inr f ↦ (
+    f.0 +ℤ c,
+    one_left (dom_at es x) (f.0 +ℤ c) (narrower_ranges ds es (Var x) is_x domains narrower)
+        (λ u i. let e = only_in (dom_at ds y) f.0 (u -ℤ c) f.1 (narrower.members y (u -ℤ c) (partners u i)) in omega (arith, ints, e)),
+  )
+]
+
+abbrev moved : ℤ → List (ℤ × ℤ) → List (ℤ × ℤ)
+moved c [] = []
+moved c (r ∷ rs) = (r.0 -ℤ c, r.1 -ℤ c) ∷ moved c rs
+
+moved_ranges : (c : ℤ) (d : List (ℤ × ℤ)) → AreRanges d → AreRanges (moved c d)
+moved_ranges c [] h = tt
+moved_ranges c (r ∷ []) h = omega (arith, ints, h)
+moved_ranges c (r ∷ s ∷ rs) h = let a = h.0 in let b = h.1 in (omega (arith, ints, a), omega (arith, ints, b), moved_ranges c (s ∷ rs) h.2)
+
+moved_size : (c : ℤ) (d : List (ℤ × ℤ)) → set_size (moved c d) ≡ set_size d
+moved_size c [] = refl
+moved_size c (r ∷ rs) =
+    let width : ((r.1 -ℤ c) -ℤ (r.0 -ℤ c)) ≡ (r.1 -ℤ r.0) = omega (arith, ints) in
+    let rest = moved_size c rs in
+    rw (width, rest) refl
+
+moved_in : (c : ℤ) (d : List (ℤ × ℤ)) (z : ℤ) → IsInSet (moved c d) z → IsInSet d (z +ℤ c)
+moved_in c [] z i = absurd i
+moved_in c (r ∷ rs) z i = elim i [
+  | inl here ↦ (let a = here.0 in let b = here.1 in inl (omega (arith, ints, a), omega (arith, ints, b)))
+  | inr later ↦ inr (moved_in c rs z later)
+]
+
+pub as_many : (d e : List (ℤ × ℤ)) (c : ℤ) → AreRanges d → AreRanges e → set_size d ≡ set_size e → ((z : ℤ) → IsInSet d z → IsInSet e (z -ℤ c)) → (z : ℤ) → IsInSet e z → IsInSet d (z +ℤ c)
+as_many d e c ranges others size partners z i =
+    let size_is = moved_size c d in
+    let among : (x : ℤ) → IsInSet (moved c d) x → IsInSet e x = λ x j.
+    (let same : ((x +ℤ c) -ℤ c) ≡ x = omega (arith, ints) in subst (λ (u : ℤ). IsInSet e u) same (partners (x +ℤ c) (moved_in c d x j))) in
+    elim (same_or_less e (moved c d) others (moved_ranges c d ranges) among) [
+      | inl same ↦ moved_in c d z (subst (λ (s : List (ℤ × ℤ)). IsInSet s z) (sym same) i)
+      | inr less ↦ absurd (omega (arith, size, size_is, less))
+    ]

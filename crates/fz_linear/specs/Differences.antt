@@ -1,6 +1,8 @@
 -- How the difference of two variables relates to a number: when an assignment makes it so, and what is left where its propagator
 -- rests.
-use Rattle.std.specs.Prelude.{◌≡◌, ◌≢◌, ◌⊎◌, ℕ, ℤ, pos, negsuc, neg_ℤ, ◌+ℤ◌, ◌-ℤ◌, ◌≤ℤ◌, List, [], ◌∷◌}
+use Rattle.std.specs.Prelude.{Some, ◌≡◌, ◌≢◌, ◌⊎◌, ℕ, ℤ, pos, negsuc, neg_ℤ, ◌+ℤ◌, ◌-ℤ◌, ◌≤ℤ◌, List, [], ◌∷◌}
+use Rattle.std.specs.declared.option.Option.{Option}
+use Rattle.fz_sets.specs.Sets.{IsInSet}
 use Rattle.fz_dom.specs.Shape.{least, greatest}
 use Rattle.fz_spec.specs.declared.term.Term.{Term}
 use Rattle.fz_spec.specs.declared.term.Term.TheVariants.{Var}
@@ -11,12 +13,17 @@ use Rattle.fz_strength.specs.Events.{IsFixedIn}
 use Rattle.fz_strength.specs.Relations.{Relates}
 use Rattle.fz_linear.specs.declared.difference.Difference.{Difference}
 use Rattle.fz_prop.specs.declared.answer.Answer.{Answer}
+use Rattle.fz_prop.specs.declared.answer.Answer.TheVariants.{Failed}
 use Rattle.fz_prop.specs.Answers.{IsAnswerOf}
 
 -- the sum is the first variable less the second
 abbrev pub IsDifferenceOf : ℕ → ℕ → List ℤ → List Term → Type 0
 IsDifferenceOf x y ks ts =
     ((ks ≡ pos 1 ∷ negsuc 0 ∷ []) × (ts ≡ Var x ∷ Var y ∷ [])) ⊎ ((ks ≡ negsuc 0 ∷ pos 1 ∷ []) × (ts ≡ Var y ∷ Var x ∷ []))
+
+-- it isn't the difference of two that differ, unless the number has no negative
+abbrev pub IsNoneOfTwo : List ℤ → List Term → ℤ → Type 0
+IsNoneOfTwo ks ts c = (x y : ℕ) → x ≢ y → (negsuc 2147483646 ≤ℤ c) → IsDifferenceOf x y ks ts → ⊥
 
 abbrev pub IsNoDifference : List ℤ → List Term → Type 0
 IsNoDifference ks ts = (x y : ℕ) → IsDifferenceOf x y ks ts → ⊥
@@ -48,3 +55,13 @@ DifferenceLine relation x y c ds = ⊥
 
 abbrev pub IsAnswerDifference : Relation → ℕ → ℕ → ℤ → Answer → List (List (ℤ × ℤ)) → List (List (ℤ × ℤ)) → Type 0
 IsAnswerDifference relation x y c answer ds es = IsAnswerOf answer (DifferenceTruth relation x y c) (DifferenceLine relation x y c) ds es
+
+-- each number left of the one has its partner in the other
+pub record ArePartners (ds : List (List (ℤ × ℤ))) (x y : ℕ) (c : ℤ) : Type 0 where
+  pub below : (z : ℤ) → IsInSet (dom_at ds x) z → IsInSet (dom_at ds y) (z -ℤ c)
+  pub above : (z : ℤ) → IsInSet (dom_at ds y) z → IsInSet (dom_at ds x) (z +ℤ c)
+
+-- of a sum that is to be a number, and is known to be a difference, nothing else is left, unless the run failed
+abbrev pub IsPruned : Relation → Option Difference → Answer → List (List (ℤ × ℤ)) → Type 0
+IsPruned Equal (Some d) answer ds = answer ≢ Failed → ArePartners ds d.first d.second d.above
+IsPruned relation difference answer ds = Unit {0}

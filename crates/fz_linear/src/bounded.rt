@@ -13,7 +13,7 @@ ghost use Rattle.fz_linear.specs.Sums.{SumTruth, SumFalse, IsAnswerSum, IsAnswer
 use crate::narrow::{Precision, ends_of};
 use crate::pass::{tighten_all, tighten_between};
 use crate::side::Side;
-use crate::sums::{Ends, are_loose, gap, is_loose, sum_ends};
+use crate::sums::{Ends, are_loose, gap, is_loose};
 use fz_prop::{Answer, Store};
 use fz_spec::term::Term;
 use std::alloc::AllocError;
@@ -71,12 +71,14 @@ fn next(number: i32) -> i128
 /// Narrows a store so that a sum is above a number.
 pub fn keep_above(
     store: &mut Store,
+    precision: Precision,
     factors: &[i32],
     terms: &[Term],
     number: i32,
 ) -> Result<Answer, AllocError>
     requires same { length factors.now ≡ length terms.now }
     requires few { length terms.now ≤ ELEMENT_LIMIT + 1 }
+    requires allowed { Allows precision factors.now }
     requires inside { AreTermsOf (length store.old.doms) terms.now }
     ensures shrinks { Shrinks store.old store.new }
     ensures correct { IsCorrectOf (SumFalse AtMost factors.now terms.now number)
@@ -90,7 +92,7 @@ pub fn keep_above(
         least,
         greatest,
         widest,
-    } = sum_ends(store, factors, terms);
+    } = ends_of(store, precision, factors, terms);
     let bound = next(number);
     if greatest < bound {
         return Ok(Answer::Failed);

@@ -1,15 +1,16 @@
 //! Differences of two variables that are a number, or aren't: propagators of two variables, on whole domains.
-ghost use Rattle.std.specs.Prelude.{◌≡◌, ◌≢◌, ◌↔◌, ◌<◌, ℕ, ℤ, negsuc, ◌≤ℤ◌, [], ◌∷◌, IsNone, MatchOption, neg_ℤ, ◌-ℤ◌, ◌+ℤ◌, List, length, IfOk, IfSome, OnErr};
-ghost use Rattle.fz_sets.specs.Sets.{IsInSet, IsWithinLimits};
+ghost use Rattle.std.specs.Prelude.{◌≡◌, ◌≢◌, ◌⊎◌, ◌↔◌, ◌<◌, ℤ, [], ◌∷◌, IsNone, MatchOption, neg_ℤ, ◌-ℤ◌, ◌+ℤ◌, List, length, IfOk, IfSome, OnErr};
+ghost use Rattle.fz_sets.specs.Sets.{IsInSet, IsWithinLimits, set_size};
 ghost use Rattle.fz_spec.specs.declared.term.Term.TheVariants.{Var};
 ghost use Rattle.fz_strength.specs.declared.relation.Relation.TheVariants.{Equal, NotEqual};
-ghost use Rattle.fz_strength.specs.Domains.{dom_at};
+ghost use Rattle.fz_strength.specs.Domains.{dom_at, AreDomains};
 ghost use Rattle.fz_strength.specs.Events.{IsOnly, IsFixedIn};
 ghost use Rattle.fz_strength.specs.Sums.{sum_event_of};
 ghost use Rattle.fz_strength.specs.Sums as sums;
+ghost use Rattle.fz_prop.specs.declared.answer.Answer.TheVariants.{Failed};
 ghost use Rattle.fz_prop.specs.Answers.{IsCorrectOf, IsDecided};
 ghost use Rattle.fz_prop.specs.Stores.{Shrinks, IsStore, IsChangeAt};
-ghost use Rattle.fz_linear.specs.Differences.{IsDifferenceOf, IsNoDifference, IsDifferenceIn, DifferenceTruth, IsAnswerDifference};
+ghost use Rattle.fz_linear.specs.Differences.{IsDifferenceOf, IsNoneOfTwo, IsNoDifference, IsDifferenceIn, DifferenceTruth, IsAnswerDifference, ArePartners};
 
 use fz_prop::terms::value_of;
 use fz_prop::{Answer, Change, Event, Store};
@@ -47,8 +48,7 @@ pub fn event_of(relation: Relation, factors: &[i32]) -> Event
 /// The difference that a sum is, if it is one of two variables.
 pub fn difference_of(factors: &[i32], terms: &[Term], number: i32) -> Option<Difference>
     ensures some { IfSome result (λ d. IsDifferenceIn d factors.now terms.now number) }
-    ensures none { IsNone result → (x y : ℕ) → x ≢ y → (negsuc 2147483646 ≤ℤ number)
-        → IsDifferenceOf x y factors.now terms.now → ⊥ }
+    ensures none { IsNone result → IsNoneOfTwo factors.now terms.now number }
 {
     let (first, second) = pair_of(factors, terms)?;
     if first == second {
@@ -85,7 +85,8 @@ fn ordered(factors: &[i32], first: u32, second: u32) -> Option<(u32, u32)>
     }
 }
 
-/// Narrows a store so that a variable is so far above another: each keeps the numbers that have a partner in the other.
+/// Narrows a store so that a variable is so far above another: each keeps the numbers that have a partner in the other. The one that has
+/// more is narrowed first, since the other mostly has no number to lose then.
 pub fn keep_above_by(store: &mut Store, d: Difference) -> Result<Answer, AllocError>
     requires first { d.first < length store.old.doms }
     requires second { d.second < length store.old.doms }
@@ -96,17 +97,72 @@ pub fn keep_above_by(store: &mut Store, d: Difference) -> Result<Answer, AllocEr
         store.old.doms store.new.doms }
     ensures answer { IfOk result (λ r.
         IsAnswerDifference Equal d.first d.second d.above r store.old.doms store.new.doms) }
+    ensures partners { IfOk result (λ r. r ≢ Failed
+        → ArePartners store.new.doms d.first d.second d.above) }
     ensures checking { IfOk result
         (λ r. IsFixedIn store.old.doms (Var d.first) → IsDecided r) }
 {
+    let (first, second) = sizes(store, d);
+    if first < second {
+        keep_first(store, turned(d))
+    } else {
+        keep_first(store, d)
+    }
+}
+
+/// The same difference, with the second variable first.
+fn turned(d: Difference) -> Difference
+    ensures { result ≡ record {
+      first = d.second;
+      second = d.first;
+      above = d.below;
+      below = d.above;
+    } }
+{
+    Difference {
+        first: d.second,
+        second: d.first,
+        above: d.below,
+        below: d.above,
+    }
+}
+
+/// How many numbers are left of the two variables.
+fn sizes(store: &Store, d: Difference) -> (u64, u64)
+    requires first { d.first < length store.now.doms }
+    requires second { d.second < length store.now.doms }
+    ensures first { result.0 ≡ set_size (dom_at store.now.doms d.first) }
+    ensures second { result.1 ≡ set_size (dom_at store.now.doms d.second) }
+    ensures domains { AreDomains store.now.doms }
+{
+    (store.dom(d.first).size(), store.dom(d.second).size())
+}
+
+/// Narrows a store so, the first of the two before the second.
+fn keep_first(store: &mut Store, d: Difference) -> Result<Answer, AllocError>
+    requires first { d.first < length store.old.doms }
+    requires second { d.second < length store.old.doms }
+    requires apart { d.first ≢ d.second }
+    requires turned { d.below ≡ neg_ℤ d.above }
+    ensures shrinks { Shrinks store.old store.new }
+    ensures correct { IsCorrectOf (DifferenceTruth Equal d.first d.second d.above)
+        store.old.doms store.new.doms }
+    ensures answer { IfOk result (λ r.
+        IsAnswerDifference Equal d.first d.second d.above r store.old.doms store.new.doms) }
+    ensures partners { IfOk result (λ r. r ≢ Failed
+        → ArePartners store.new.doms d.first d.second d.above) }
+    ensures checking { IfOk result (λ r.
+        IsFixedIn store.old.doms (Var d.first) ⊎ IsFixedIn store.old.doms (Var d.second)
+        → IsDecided r) }
+{
     match keep_partners(store, d.first, d.second, d.above)? {
         Change::Wiped => Ok(Answer::Failed),
-        _ => keep_below_by(store, d),
+        _ => keep_second(store, d),
     }
 }
 
 /// The same, where each number of the first has its partner in the second.
-fn keep_below_by(store: &mut Store, d: Difference) -> Result<Answer, AllocError>
+fn keep_second(store: &mut Store, d: Difference) -> Result<Answer, AllocError>
     requires first { d.first < length store.old.doms }
     requires second { d.second < length store.old.doms }
     requires apart { d.first ≢ d.second }
@@ -118,10 +174,16 @@ fn keep_below_by(store: &mut Store, d: Difference) -> Result<Answer, AllocError>
         store.old.doms store.new.doms }
     ensures answer { IfOk result (λ r.
         IsAnswerDifference Equal d.first d.second d.above r store.old.doms store.new.doms) }
+    ensures partners { IfOk result (λ r. r ≢ Failed
+        → ArePartners store.new.doms d.first d.second d.above) }
     ensures checking { IfOk result
         (λ r. IsFixedIn store.old.doms (Var d.first) → IsDecided r) }
     ensures old_store { IsStore store.old }
 {
+    let (first, second) = sizes(store, d);
+    if first == second {
+        return Ok(partnered(store, d));
+    }
     match keep_partners(store, d.second, d.first, d.below)? {
         Change::Wiped => Ok(Answer::Failed),
         _ => Ok(partnered(store, d)),
@@ -158,6 +220,7 @@ fn partnered(store: &Store, d: Difference) -> Answer
         → IsInSet (dom_at store.now.doms d.first) (z +ℤ d.above) }
     ensures answer { IsAnswerDifference Equal d.first d.second d.above result
         store.now.doms store.now.doms }
+    ensures partners { ArePartners store.now.doms d.first d.second d.above }
     ensures checking { IsFixedIn store.now.doms (Var d.first) → IsDecided result }
     ensures store { IsStore store.now }
 {

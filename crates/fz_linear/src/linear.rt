@@ -9,6 +9,7 @@ ghost use Rattle.fz_strength.specs.Lines.{waits};
 ghost use Rattle.fz_strength.specs.Promises.{IsCorrect, Suits};
 ghost use Rattle.fz_prop.specs.Answers.{IsAnswer, IsDecided};
 ghost use Rattle.fz_prop.specs.Stores.{Shrinks, FitsTerm};
+ghost use Rattle.fz_linear.specs.Linears.{IsPrunedOf};
 
 use crate::difference::{Difference, difference_of, event_of};
 use crate::narrow::{Precision, precision_of};
@@ -143,6 +144,7 @@ impl Linear {
         ensures shrinks { Shrinks store.old store.new }
         ensures correct { IsCorrect self.now store.old.doms store.new.doms }
         ensures answer { IfOk result (λ r. IsAnswer r self.now store.old.doms store.new.doms) }
+        ensures pruned { IfOk result (λ r. IsPrunedOf self.now r store.new.doms) }
         ensures checking { IfOk result
             (λ r. AreFixed (waits self.now) store.old.doms → IsDecided r) }
     {

@@ -7,7 +7,7 @@ ghost use Rattle.fz_strength.specs.Events.{AllFixed};
 ghost use Rattle.fz_prop.specs.declared.answer.Answer.TheVariants.{Fix};
 ghost use Rattle.fz_prop.specs.Answers.{IsCorrectOf, IsDecided};
 ghost use Rattle.fz_prop.specs.Stores.{Shrinks, FitsTerm};
-ghost use Rattle.fz_linear.specs.Differences.{IsDifferenceIn};
+ghost use Rattle.fz_linear.specs.Differences.{IsDifferenceIn, IsPruned};
 ghost use Rattle.fz_linear.specs.Terms.{AreTermsOf};
 ghost use Rattle.fz_linear.specs.Precisions.{Allows};
 ghost use Rattle.fz_linear.specs.Sums.{SumTruth, SumFalse, IsAnswerSum, IsAnswerAgainst};
@@ -25,7 +25,7 @@ use std::alloc::AllocError;
 ///
 /// # Errors
 /// `AllocError` where there is no memory for a domain; the store is then narrower, and no assignment is lost.
-pub fn relate_within(
+pub fn relate(
     store: &mut Store,
     precision: Precision,
     relation: Relation,
@@ -54,11 +54,11 @@ pub fn relate_within(
     }
 }
 
-/// Narrows a store by how a sum relates to a number, as `relate_within` does; where the sum is known to be the difference of two
+/// Narrows a store by how a sum relates to a number, as `relate` does; where the sum is known to be the difference of two
 /// variables, which is to be the number or isn't, on whole domains.
 ///
 /// # Errors
-/// As `relate_within`.
+/// As `relate`.
 pub fn relate_whole(
     store: &mut Store,
     difference: Option<Difference>,
@@ -80,48 +80,23 @@ pub fn relate_whole(
         store.old.doms store.new.doms }
     ensures answer { IfOk result
         (λ r. IsAnswerSum relation factors.now terms.now number r store.old.doms store.new.doms) }
+    ensures pruned { IfOk result (λ r. IsPruned relation difference r store.new.doms) }
     ensures checking { IfOk result (λ r. AllFixed store.old.doms terms.now → IsDecided r) }
 {
     match (relation, difference) {
         (Relation::Equal, Some(difference)) => keep_above_by(store, difference),
         (Relation::NotEqual, Some(difference)) => keep_apart_by(store, difference),
-        _ => relate_within(store, precision, relation, factors, terms, number),
+        _ => relate(store, precision, relation, factors, terms, number),
     }
-}
-
-/// Narrows a store by how a sum relates to a number.
-///
-/// # Errors
-/// As `relate_within`.
-pub fn relate(
-    store: &mut Store,
-    relation: Relation,
-    factors: &[i32],
-    terms: &[Term],
-    number: i32,
-) -> Result<Answer, AllocError>
-    requires bounded { relation ≢ Below }
-    requires same { length factors.now ≡ length terms.now }
-    requires few { length terms.now ≤ ELEMENT_LIMIT + 1 }
-    requires inside { AreTermsOf (length store.old.doms) terms.now }
-    requires fits { AllByRecursion FitsTerm terms.now }
-    ensures shrinks { Shrinks store.old store.new }
-    ensures correct { IsCorrectOf (SumTruth relation factors.now terms.now number)
-        store.old.doms store.new.doms }
-    ensures answer { IfOk result
-        (λ r. IsAnswerSum relation factors.now terms.now number r store.old.doms store.new.doms) }
-    ensures still { IfOk result (λ r. r ≡ Fix → store.new ≡ store.old) }
-    ensures checking { IfOk result (λ r. AllFixed store.old.doms terms.now → IsDecided r) }
-{
-    relate_within(store, Precision::Wide, relation, factors, terms, number)
 }
 
 /// Narrows a store so that a sum doesn't so relate to a number.
 ///
 /// # Errors
-/// As `relate_within`.
+/// As `relate`.
 pub fn relate_against(
     store: &mut Store,
+    precision: Precision,
     relation: Relation,
     factors: &[i32],
     terms: &[Term],
@@ -130,6 +105,7 @@ pub fn relate_against(
     requires bounded { relation ≢ Below }
     requires same { length factors.now ≡ length terms.now }
     requires few { length terms.now ≤ ELEMENT_LIMIT + 1 }
+    requires allowed { Allows precision factors.now }
     requires inside { AreTermsOf (length store.old.doms) terms.now }
     requires fits { AllByRecursion FitsTerm terms.now }
     ensures shrinks { Shrinks store.old store.new }
@@ -141,8 +117,8 @@ pub fn relate_against(
     ensures checking { IfOk result (λ r. AllFixed store.old.doms terms.now → IsDecided r) }
 {
     match relation {
-        Relation::Equal => keep_apart(store, Precision::Wide, factors, terms, number),
-        Relation::NotEqual => keep_equal(store, Precision::Wide, factors, terms, number),
-        _ => keep_above(store, factors, terms, number),
+        Relation::Equal => keep_apart(store, precision, factors, terms, number),
+        Relation::NotEqual => keep_equal(store, precision, factors, terms, number),
+        _ => keep_above(store, precision, factors, terms, number),
     }
 }

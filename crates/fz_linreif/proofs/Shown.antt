@@ -1,6 +1,6 @@
 -- What the ends of a sum show, of all assignments and of narrower domains; and runs where they show nothing.
 use Rattle.std.proofs.Common.{◌≡◌, List, refl, sym, subst, map, length, arith}
-use Rattle.std.specs.Prelude.{ℤ, pos, ◌+ℤ◌, ◌≤ℤ◌}
+use Rattle.std.specs.Prelude.{ℤ, pos, ◌+ℤ◌, ◌≤ℤ◌, Bool, true, false}
 use Rattle.std.proofs.lemmas.Int.{ints}
 use Rattle.fz_dom.specs.Shape.{least}
 use Rattle.fz_dom.specs.declared.change.Change.{Change}
@@ -24,14 +24,14 @@ use Rattle.fz_prop.specs.Truths.{Sides, AreSides, IsSame, IsAbout, TruthWith, Li
 use Rattle.fz_prop.proofs.Answering.{same_answer}
 use Rattle.fz_sets.proofs.Numbers.{above_of_not}
 use Rattle.fz_prop.proofs.Numbers.{same_of_not}
-use Rattle.fz_prop.proofs.Reifying.{one_answer, zero_answer, shown_about, refuted_about}
+use Rattle.fz_prop.proofs.Reifying.{one_correct, zero_correct, one_answer, zero_answer, shown_about, refuted_about}
 use Rattle.fz_prop.proofs.Settling.{settled_answer, settled_correct}
 use Rattle.fz_linear.specs.Terms.{AreTermsOf}
 use Rattle.fz_linear.specs.Sums.{SumTruth, SumLine, SumFalse, AgainstLine, IsAnswerSum, IsAnswerAgainst}
 use Rattle.fz_linear.proofs.Slacks.{terms_of, least_sum_negated, sum_above, sum_below, sums_rise, least_sum_rises, greatest_sum_falls}
 use Rattle.fz_linear.proofs.Bounds.{low_enough, one_sum}
 use Rattle.fz_linear.proofs.Above.{high_enough}
-use Rattle.fz_linreif.specs.ReifiedLinears.{sum_sides}
+use Rattle.fz_linreif.specs.ReifiedLinears.{sum_sides, truth_number, SaidTruth, IsAnswerSaid}
 
 -- ---- of all assignments
 
@@ -209,21 +209,30 @@ strict_against relation ks ts c Subsumed r s are narrower still not h = (
 )
 strict_against relation ks ts c Failed r s are narrower still not h = h
 
-pub one_follows : (relation : Relation) (ks : List ℤ) (ts : List Term) (c : ℤ) (b : Term) (answer : Answer) (r s : Stored) → AreTermsOf (length r.doms) ts → IsTermOf (length r.doms) b
-    → IsOnly (term_set r.doms b) (pos 1) → AreDomains s.doms → IsNarrower r.doms s.doms → (answer ≡ Fix → s ≡ r) → (IsSumRefuted relation r.doms ks ts c → ⊥)
-    → IsAnswerSum relation ks ts c answer r.doms s.doms → IsAnswerOf answer (TruthWith (SumTruth relation ks ts c) b) (LineWith (sum_sides relation ks ts c) b) r.doms s.doms
-one_follows relation ks ts c b answer r s are is_b one domains narrower still not h =
-    plain_answer relation ks ts c b answer r.doms s.doms
-    (one_answer answer (SumTruth relation ks ts c) (strict_sides relation ks ts c) b r.doms s.doms is_b one (are_sides relation ks ts c r.doms) domains narrower
-    (strict_line relation ks ts c answer r s are narrower still not h))
+-- ---- the Boolean is fixed, and a run did what it says
 
-pub zero_follows : (relation : Relation) (ks : List ℤ) (ts : List Term) (c : ℤ) (b : Term) (answer : Answer) (r s : Stored) → AreTermsOf (length r.doms) ts → IsTermOf (length r.doms) b
-    → IsOnly (term_set r.doms b) (pos 0) → AreDomains s.doms → IsNarrower r.doms s.doms → (answer ≡ Fix → s ≡ r) → (IsSumShown relation r.doms ks ts c → ⊥)
-    → IsAnswerAgainst relation ks ts c answer r.doms s.doms → IsAnswerOf answer (TruthWith (SumTruth relation ks ts c) b) (LineWith (sum_sides relation ks ts c) b) r.doms s.doms
-zero_follows relation ks ts c b answer r s are is_b zero domains narrower still not h =
-    plain_answer relation ks ts c b answer r.doms s.doms
-    (zero_answer answer (SumTruth relation ks ts c) (strict_sides relation ks ts c) b r.doms s.doms is_b zero (are_sides relation ks ts c r.doms) domains narrower
-    (strict_against relation ks ts c answer r s are narrower still not h))
+pub said_correct : (said : Bool) (relation : Relation) (ks : List ℤ) (ts : List Term) (c : ℤ) (b : Term) (ds es : List (List (ℤ × ℤ))) → IsTermOf (length ds) b
+    → IsOnly (term_set ds b) (truth_number said) → IsCorrectOf (SaidTruth said relation ks ts c) ds es → IsCorrectOf (TruthWith (SumTruth relation ks ts c) b) ds es
+said_correct true relation ks ts c b ds es is_b fixed h = one_correct (SumTruth relation ks ts c) b ds es is_b fixed h
+said_correct false relation ks ts c b ds es is_b fixed h = zero_correct (SumTruth relation ks ts c) b ds es is_b fixed h
+
+strict_answer : (said : Bool) (relation : Relation) (ks : List ℤ) (ts : List Term) (c : ℤ) (b : Term) (answer : Answer) (r s : Stored) → AreTermsOf (length r.doms) ts → IsTermOf (length r.doms) b
+    → IsOnly (term_set r.doms b) (truth_number said) → AreDomains s.doms → IsNarrower r.doms s.doms → (answer ≡ Fix → s ≡ r) → (IsSumShown relation r.doms ks ts c → ⊥)
+    → (IsSumRefuted relation r.doms ks ts c → ⊥) → IsAnswerSaid said relation ks ts c answer r.doms s.doms
+    → IsAnswerOf answer (TruthWith (SumTruth relation ks ts c) b) (LineWith (strict_sides relation ks ts c) b) r.doms s.doms
+strict_answer true relation ks ts c b answer r s are is_b fixed domains narrower still not_shown not_refuted h =
+    one_answer answer (SumTruth relation ks ts c) (strict_sides relation ks ts c) b r.doms s.doms is_b fixed (are_sides relation ks ts c r.doms) domains narrower
+    (strict_line relation ks ts c answer r s are narrower still not_refuted h)
+strict_answer false relation ks ts c b answer r s are is_b fixed domains narrower still not_shown not_refuted h =
+    zero_answer answer (SumTruth relation ks ts c) (strict_sides relation ks ts c) b r.doms s.doms is_b fixed (are_sides relation ks ts c r.doms) domains narrower
+    (strict_against relation ks ts c answer r s are narrower still not_shown h)
+
+pub said_answer : (said : Bool) (relation : Relation) (ks : List ℤ) (ts : List Term) (c : ℤ) (b : Term) (answer : Answer) (r s : Stored) → AreTermsOf (length r.doms) ts → IsTermOf (length r.doms) b
+    → IsOnly (term_set r.doms b) (truth_number said) → AreDomains s.doms → IsNarrower r.doms s.doms → (answer ≡ Fix → s ≡ r) → (IsSumShown relation r.doms ks ts c → ⊥)
+    → (IsSumRefuted relation r.doms ks ts c → ⊥) → IsAnswerSaid said relation ks ts c answer r.doms s.doms
+    → IsAnswerOf answer (TruthWith (SumTruth relation ks ts c) b) (LineWith (sum_sides relation ks ts c) b) r.doms s.doms
+said_answer said relation ks ts c b answer r s are is_b fixed domains narrower still not_shown not_refuted h =
+    plain_answer relation ks ts c b answer r.doms s.doms (strict_answer said relation ks ts c b answer r s are is_b fixed domains narrower still not_shown not_refuted h)
 
 -- ---- an order whose Boolean is fixed: its line and what speaks against it never hold together
 
@@ -239,14 +248,10 @@ order_sides ks ts c ds are = record {
       absurd (omega (arith, ints, high, turned, all));
 }
 
-pub true_answer : (ks : List ℤ) (ts : List Term) (c : ℤ) (b : Term) (answer : Answer) (ds es : List (List (ℤ × ℤ))) → AreTermsOf (length ds) ts → IsTermOf (length ds) b
-    → IsOnly (term_set ds b) (pos 1) → AreDomains es → IsNarrower ds es → IsAnswerSum AtMost ks ts c answer ds es
+pub order_answer : (said : Bool) (ks : List ℤ) (ts : List Term) (c : ℤ) (b : Term) (answer : Answer) (ds es : List (List (ℤ × ℤ))) → AreTermsOf (length ds) ts → IsTermOf (length ds) b
+    → IsOnly (term_set ds b) (truth_number said) → AreDomains es → IsNarrower ds es → IsAnswerSaid said AtMost ks ts c answer ds es
     → IsAnswerOf answer (TruthWith (SumTruth AtMost ks ts c) b) (LineWith (sum_sides AtMost ks ts c) b) ds es
-true_answer ks ts c b answer ds es are is_b one domains narrower h =
-    one_answer answer (SumTruth AtMost ks ts c) (sum_sides AtMost ks ts c) b ds es is_b one (order_sides ks ts c ds are) domains narrower h
-
-pub false_answer : (ks : List ℤ) (ts : List Term) (c : ℤ) (b : Term) (answer : Answer) (ds es : List (List (ℤ × ℤ))) → AreTermsOf (length ds) ts → IsTermOf (length ds) b
-    → IsOnly (term_set ds b) (pos 0) → AreDomains es → IsNarrower ds es → IsAnswerAgainst AtMost ks ts c answer ds es
-    → IsAnswerOf answer (TruthWith (SumTruth AtMost ks ts c) b) (LineWith (sum_sides AtMost ks ts c) b) ds es
-false_answer ks ts c b answer ds es are is_b zero domains narrower h =
-    zero_answer answer (SumTruth AtMost ks ts c) (sum_sides AtMost ks ts c) b ds es is_b zero (order_sides ks ts c ds are) domains narrower h
+order_answer true ks ts c b answer ds es are is_b fixed domains narrower h =
+    one_answer answer (SumTruth AtMost ks ts c) (sum_sides AtMost ks ts c) b ds es is_b fixed (order_sides ks ts c ds are) domains narrower h
+order_answer false ks ts c b answer ds es are is_b fixed domains narrower h =
+    zero_answer answer (SumTruth AtMost ks ts c) (sum_sides AtMost ks ts c) b ds es is_b fixed (order_sides ks ts c ds are) domains narrower h

@@ -1,5 +1,5 @@
 //! Keeping a sum and a Boolean by one another.
-ghost use Rattle.std.specs.Prelude.{◌≡◌, ◌≢◌, ◌+◌, ◌≤◌, pos, List, length, IfOk};
+ghost use Rattle.std.specs.Prelude.{◌≡◌, ◌≢◌, ◌+◌, ◌≤◌, List, length, IfOk, MatchOption};
 ghost use Rattle.std.specs.List.{AllByRecursion};
 ghost use Rattle.fz_spec.specs.declared.limits.TheConstants.{ELEMENT_LIMIT};
 ghost use Rattle.fz_strength.specs.declared.relation.Relation.TheVariants.{AtMost, Below};
@@ -7,16 +7,19 @@ ghost use Rattle.fz_strength.specs.Domains.{term_set};
 ghost use Rattle.fz_strength.specs.Events.{IsOnly, IsFixedIn, AllFixed};
 ghost use Rattle.fz_strength.specs.Promises.{IsTruth};
 ghost use Rattle.fz_strength.specs.ReifiedSums.{IsSumShown, IsSumRefuted};
+ghost use Rattle.fz_prop.specs.declared.answer.Answer.TheVariants.{Fix};
 ghost use Rattle.fz_prop.specs.Answers.{IsAnswerOf, IsCorrectOf, IsDecided};
-ghost use Rattle.fz_prop.specs.Stores.{Shrinks, IsStore, IsTermOf, FitsTerm};
+ghost use Rattle.fz_prop.specs.Stores.{Shrinks, IsTermOf, FitsTerm};
 ghost use Rattle.fz_prop.specs.Truths.{TruthWith, LineWith};
+ghost use Rattle.fz_linear.specs.Precisions.{Allows};
 ghost use Rattle.fz_linear.specs.Terms.{AreTermsOf};
 ghost use Rattle.fz_linear.specs.Sums.{SumTruth};
-ghost use Rattle.fz_linreif.specs.ReifiedLinears.{sum_sides};
+ghost use Rattle.fz_linreif.specs.ReifiedLinears.{sum_sides, truth_number, SaidTruth, IsAnswerSaid};
 
 use crate::decide::{is_refuted, is_shown};
+use fz_linear::narrow::{Precision, ends_of};
 use fz_linear::relate::{relate, relate_against};
-use fz_linear::sums::{Ends, sum_ends};
+use fz_linear::sums::Ends;
 use fz_prop::terms::{keep_only, value_of};
 use fz_prop::{Answer, Store};
 use fz_spec::term::Term;
@@ -29,6 +32,7 @@ use std::alloc::AllocError;
 /// `AllocError` where there is no memory for a domain; the store is then narrower, and no assignment is lost.
 pub fn keep_reified(
     store: &mut Store,
+    precision: Precision,
     relation: Relation,
     factors: &[i32],
     terms: &[Term],
@@ -38,6 +42,7 @@ pub fn keep_reified(
     requires bounded { relation ≢ Below }
     requires same { length factors.now ≡ length terms.now }
     requires few { length terms.now ≤ ELEMENT_LIMIT + 1 }
+    requires allowed { Allows precision factors.now }
     requires inside { AreTermsOf (length store.old.doms) terms.now }
     requires fits { AllByRecursion FitsTerm terms.now }
     requires boolean { IsTermOf (length store.old.doms) r }
@@ -52,56 +57,76 @@ pub fn keep_reified(
     ensures checking { IfOk result
         (λ a. AllFixed store.old.doms terms.now → IsFixedIn store.old.doms r → IsDecided a) }
 {
-    match (relation, value_of(store, r)) {
-        (Relation::AtMost, Some(1)) => keep_true(store, factors, terms, number, r),
-        (Relation::AtMost, Some(_)) => keep_false(store, factors, terms, number, r),
-        _ => decide(store, relation, factors, terms, number, r),
+    match (relation, truth_of(store, r)) {
+        (Relation::AtMost, Some(said)) => {
+            keep_order(store, precision, factors, terms, number, r, said)
+        }
+        _ => decide(store, precision, relation, factors, terms, number, r),
     }
 }
 
-/// Narrows a store so that a sum is at most a number, where the Boolean says that it is.
-fn keep_true(
-    store: &mut Store,
-    factors: &[i32],
-    terms: &[Term],
-    number: i32,
-    r: Term,
-) -> Result<Answer, AllocError>
-    requires same { length factors.now ≡ length terms.now }
-    requires few { length terms.now ≤ ELEMENT_LIMIT + 1 }
-    requires inside { AreTermsOf (length store.old.doms) terms.now }
-    requires fits { AllByRecursion FitsTerm terms.now }
-    requires boolean { IsTermOf (length store.old.doms) r }
-    requires said { IsOnly (term_set store.old.doms r) (pos 1) }
-    ensures shrinks { Shrinks store.old store.new }
-    ensures correct { IsCorrectOf (TruthWith (SumTruth AtMost factors.now terms.now number) r)
-        store.old.doms store.new.doms }
-    ensures answer { IfOk result (λ a. IsAnswerOf a
-        (TruthWith (SumTruth AtMost factors.now terms.now number) r)
-        (LineWith (sum_sides AtMost factors.now terms.now number) r)
-        store.old.doms store.new.doms) }
-    ensures checking { IfOk result (λ a. AllFixed store.old.doms terms.now → IsDecided a) }
+/// What a Boolean is fixed to, if it is.
+fn truth_of(store: &Store, r: Term) -> Option<bool>
+    requires boolean { IsTermOf (length store.now.doms) r }
+    requires truth { IsTruth store.now.doms r }
+    ensures { MatchOption result (IsFixedIn store.now.doms r → ⊥)
+        (λ said. IsOnly (term_set store.now.doms r) (truth_number said)) }
 {
-    let _ = r;
-    let answer = relate(store, Relation::AtMost, factors, terms, number);
-    let _ = store.doms();
-    answer
+    match value_of(store, r) {
+        Some(1) => Some(true),
+        Some(_) => Some(false),
+        None => None,
+    }
 }
 
-/// Narrows a store so that a sum is above a number, where the Boolean says that it isn't at most that.
-fn keep_false(
+/// Narrows a store so that a sum so relates to a number, or so that it doesn't, as is said.
+fn relate_as(
     store: &mut Store,
+    said: bool,
+    precision: Precision,
+    relation: Relation,
+    factors: &[i32],
+    terms: &[Term],
+    number: i32,
+) -> Result<Answer, AllocError>
+    requires bounded { relation ≢ Below }
+    requires same { length factors.now ≡ length terms.now }
+    requires few { length terms.now ≤ ELEMENT_LIMIT + 1 }
+    requires allowed { Allows precision factors.now }
+    requires inside { AreTermsOf (length store.old.doms) terms.now }
+    requires fits { AllByRecursion FitsTerm terms.now }
+    ensures shrinks { Shrinks store.old store.new }
+    ensures correct { IsCorrectOf (SaidTruth said relation factors.now terms.now number)
+        store.old.doms store.new.doms }
+    ensures answer { IfOk result (λ a.
+        IsAnswerSaid said relation factors.now terms.now number a store.old.doms store.new.doms) }
+    ensures still { IfOk result (λ a. a ≡ Fix → store.new ≡ store.old) }
+    ensures checking { IfOk result (λ a. AllFixed store.old.doms terms.now → IsDecided a) }
+{
+    if said {
+        relate(store, precision, relation, factors, terms, number)
+    } else {
+        relate_against(store, precision, relation, factors, terms, number)
+    }
+}
+
+/// Narrows a store so that a sum is at most a number, or above it, as a Boolean that is fixed says.
+fn keep_order(
+    store: &mut Store,
+    precision: Precision,
     factors: &[i32],
     terms: &[Term],
     number: i32,
     r: Term,
+    said: bool,
 ) -> Result<Answer, AllocError>
     requires same { length factors.now ≡ length terms.now }
     requires few { length terms.now ≤ ELEMENT_LIMIT + 1 }
+    requires allowed { Allows precision factors.now }
     requires inside { AreTermsOf (length store.old.doms) terms.now }
     requires fits { AllByRecursion FitsTerm terms.now }
     requires boolean { IsTermOf (length store.old.doms) r }
-    requires said { IsOnly (term_set store.old.doms r) (pos 0) }
+    requires fixed { IsOnly (term_set store.old.doms r) (truth_number said) }
     ensures shrinks { Shrinks store.old store.new }
     ensures correct { IsCorrectOf (TruthWith (SumTruth AtMost factors.now terms.now number) r)
         store.old.doms store.new.doms }
@@ -112,7 +137,15 @@ fn keep_false(
     ensures checking { IfOk result (λ a. AllFixed store.old.doms terms.now → IsDecided a) }
 {
     let _ = r;
-    let answer = relate_against(store, Relation::AtMost, factors, terms, number);
+    let answer = relate_as(
+        store,
+        said,
+        precision,
+        Relation::AtMost,
+        factors,
+        terms,
+        number,
+    );
     let _ = store.doms();
     answer
 }
@@ -121,6 +154,7 @@ fn keep_false(
 /// nothing by the Boolean.
 fn decide(
     store: &mut Store,
+    precision: Precision,
     relation: Relation,
     factors: &[i32],
     terms: &[Term],
@@ -130,6 +164,7 @@ fn decide(
     requires bounded { relation ≢ Below }
     requires same { length factors.now ≡ length terms.now }
     requires few { length terms.now ≤ ELEMENT_LIMIT + 1 }
+    requires allowed { Allows precision factors.now }
     requires inside { AreTermsOf (length store.old.doms) terms.now }
     requires fits { AllByRecursion FitsTerm terms.now }
     requires boolean { IsTermOf (length store.old.doms) r }
@@ -148,7 +183,7 @@ fn decide(
         least,
         greatest,
         ..
-    } = sum_ends(store, factors, terms);
+    } = ends_of(store, precision, factors, terms);
     if is_shown(relation, least, greatest, number) {
         let change = keep_only(store, r, 1)?;
         return Ok(Answer::settled(change));
@@ -157,12 +192,13 @@ fn decide(
         let change = keep_only(store, r, 0)?;
         return Ok(Answer::settled(change));
     }
-    follow(store, relation, factors, terms, number, r)
+    follow(store, precision, relation, factors, terms, number, r)
 }
 
 /// Narrows a store by what a Boolean says of a sum, where the ends of the sum decide nothing.
 fn follow(
     store: &mut Store,
+    precision: Precision,
     relation: Relation,
     factors: &[i32],
     terms: &[Term],
@@ -172,6 +208,7 @@ fn follow(
     requires bounded { relation ≢ Below }
     requires same { length factors.now ≡ length terms.now }
     requires few { length terms.now ≤ ELEMENT_LIMIT + 1 }
+    requires allowed { Allows precision factors.now }
     requires inside { AreTermsOf (length store.old.doms) terms.now }
     requires fits { AllByRecursion FitsTerm terms.now }
     requires boolean { IsTermOf (length store.old.doms) r }
@@ -188,11 +225,10 @@ fn follow(
     ensures checking { IfOk result
         (λ a. AllFixed store.old.doms terms.now → IsFixedIn store.old.doms r → IsDecided a) }
 {
-    let answer = match value_of(store, r) {
-        Some(1) => relate(store, relation, factors, terms, number)?,
-        Some(_) => relate_against(store, relation, factors, terms, number)?,
-        None => Answer::Fix,
+    let Some(said) = truth_of(store, r) else {
+        return Ok(Answer::Fix);
     };
+    let answer = relate_as(store, said, precision, relation, factors, terms, number)?;
     let _ = store.doms();
     Ok(answer)
 }

@@ -12,6 +12,7 @@ ghost use Rattle.fz_prop.specs.Stores.{Shrinks, FitsTerm};
 ghost use Rattle.fz_strength.specs.Events.{variables_of};
 
 use crate::follow::keep_reified;
+use fz_linear::narrow::{Precision, precision_of};
 use fz_prop::variables::variables_of;
 use fz_prop::{Answer, Cost, Event, Propagator, Store};
 use fz_spec::builtin::Builtin;
@@ -29,6 +30,8 @@ pub struct ReifiedLinear {
     terms: Vec<Term>,
     number: i32,
     r: Term,
+    /// In how many bits the sum is added up.
+    precision: Precision,
     /// The variables of the terms, so many, before that of the Boolean.
     variables: Vec<u32>,
     summed: usize,
@@ -49,7 +52,7 @@ impl Model for ReifiedLinear {
     } };
 
     ghost invariant = { λ p. IsReifiedLinear p.name p.relation p.factors.items p.terms.items p.r
-        p.variables.items p.summed };
+        p.precision p.variables.items p.summed };
 }
 
 impl ReifiedLinear {
@@ -88,6 +91,7 @@ impl ReifiedLinear {
             terms: Vec::from_slice(alloc, terms)?,
             number,
             r,
+            precision: precision_of(factors),
             variables,
             summed,
         })
@@ -108,6 +112,7 @@ impl ReifiedLinear {
     {
         keep_reified(
             store,
+            self.precision,
             self.relation,
             &self.factors,
             &self.terms,
@@ -155,6 +160,7 @@ impl Propagator for ReifiedLinear {
             terms,
             number: self.number,
             r: self.r,
+            precision: self.precision,
             variables,
             summed: self.summed,
         })

@@ -296,6 +296,24 @@ fn orders_follow_their_boolean(rt: HostRuntime) -> Result<(), Fail> {
             Answer::Subsumed,
             [ALL, ALL, ZERO],
         ),
+        Row(
+            Relation::AtMost,
+            Shape::Pair,
+            [2147483647, 2147483647],
+            2147483647,
+            [ALL, ALL, ONE],
+            Answer::NoFix,
+            [(0, 1), (0, 1), ONE],
+        ),
+        Row(
+            Relation::AtMost,
+            Shape::Pair,
+            [2147483647, 2147483647],
+            2147483647,
+            [(0, 1), ALL, ZERO],
+            Answer::NoFix,
+            [(0, 1), (1, 9), ZERO],
+        ),
     ];
     for row in rows {
         assert_eq!(rt; observed(rt.alloc(), &model, row)?, Some(expected(row)));
@@ -406,6 +424,15 @@ fn equations_follow_their_boolean(rt: HostRuntime) -> Result<(), Fail> {
             Answer::Failed,
             [ALL, ALL, OPEN],
         ),
+        Row(
+            Relation::Equal,
+            Shape::Pair,
+            [2147483647, -2147483647],
+            2147483647,
+            [(4, 9), (0, 2), OPEN],
+            Answer::Subsumed,
+            [(4, 9), (0, 2), ZERO],
+        ),
     ];
     for row in rows {
         assert_eq!(rt; observed(rt.alloc(), &model, row)?, Some(expected(row)));
@@ -470,6 +497,15 @@ fn disequations_follow_their_boolean(rt: HostRuntime) -> Result<(), Fail> {
             [ALL, ALL, OPEN],
             Answer::Subsumed,
             [ALL, ALL, ZERO],
+        ),
+        Row(
+            Relation::NotEqual,
+            Shape::Pair,
+            [2147483647, 1],
+            2147483647,
+            [(1, 1), ALL, ONE],
+            Answer::Subsumed,
+            [(1, 1), (1, 9), ONE],
         ),
     ];
     for row in rows {

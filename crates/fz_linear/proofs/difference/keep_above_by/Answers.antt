@@ -1,72 +1,27 @@
-use Rattle.std.proofs.Math.Facts.{to_z-of_z}
-use mir.Val.{SFits}
-use mir.Syntax.{w32}
-use Rattle.std.proofs.Common.{rules, ◌≡◌, arith}
-use Rattle.std.specs.Prelude.{ℤ, ◌-ℤ◌}
-use Rattle.std.proofs.lemmas.Int.{ints}
+use Rattle.std.proofs.Common.{◌≢◌}
 use Rattle.std.proofs.lemmas.Result.{IfOk-weaker}
-use Rattle.fz_spec.specs.declared.term.Term.TheVariants.{Var}
 use Rattle.fz_strength.specs.declared.relation.Relation.TheVariants.{Equal}
-use Rattle.fz_strength.specs.Domains.{number_at}
-use Rattle.fz_strength.specs.Events.{IsFixedIn}
 use Rattle.fz_prop.specs.declared.answer.Answer.{Answer}
-use Rattle.fz_prop.specs.Answers.{IsCorrectOf, IsDecided}
-use Rattle.fz_prop.proofs.Answering.{answer_twice, correct_twice}
-use Rattle.fz_prop.proofs.Filled.{still_only}
-use Rattle.fz_prop.proofs.Twice.{shrinks_twice}
-use Rattle.fz_linear.specs.Differences.{DifferenceTruth, DifferenceLine, IsAnswerDifference}
-use Rattle.fz_linear.proofs.Differences.{partners_after, correct_partners, failed_partners}
+use Rattle.fz_prop.specs.declared.answer.Answer.TheVariants.{Failed}
+use Rattle.fz_prop.proofs.Answering.{same_answer}
+use Rattle.fz_linear.specs.Differences.{DifferenceTruth, DifferenceLine, IsAnswerDifference, ArePartners}
+use Rattle.fz_linear.proofs.Differences.{turned_same, turned_partners}
 use Rattle.fz_linear.proofs.difference.keep_above_by.Goals as goal
 
-partner : (x y c : ℤ) → (x -ℤ y) ≡ c → (x -ℤ c) ≡ y
-partner x y c e = omega (arith, ints, e)
-
-corrected : (c : goal.After-keep_below_by) → IsCorrectOf (DifferenceTruth Equal c.args.d.first c.args.d.second c.args.d.above) c.args.store.now.doms c.keep_partners.new.store.doms
-corrected c =
+pub returns-then-first-second-clause-answer : goal.returns-then-first-second-clause-answer
+returns-then-first-second-clause-answer c =
     let d = c.args.d in
-    let fits : SFits w32 d.above = search rules in
-    correct_partners c.in_ok-keep_partners.field-0 d.first d.second d.above (DifferenceTruth Equal d.first d.second d.above) c.args.store.now c.keep_partners.new.store c.requires.second
-    (rw (to_z-of_z fits) at c.in_ok-keep_partners.ensures.change) c.in_ok-keep_partners.ensures.shrinks (λ a e. partner (number_at a d.first) (number_at a d.second) d.above e)
+    let before = c.args.store.now.doms in
+    let after = c.keep_first.new.store.doms in
+    IfOk-weaker c.keep_first.result (λ (r : Answer). IsAnswerDifference Equal d.second d.first d.below r before after) (λ (r : Answer). IsAnswerDifference Equal d.first d.second d.above r before after)
+    (λ r h. same_answer r (DifferenceTruth Equal d.second d.first d.below) (DifferenceTruth Equal d.first d.second d.above) (DifferenceLine Equal d.second d.first d.below) (DifferenceLine Equal d.first d.second d.above)
+    before after (turned_same d.first d.second d.above d.below c.requires.turned) h)
+    (rw c.turned.ensures at c.keep_first.ensures.answer)
 
-pub keep_below_by-requires-clause-partners : goal.keep_below_by-requires-clause-partners
-keep_below_by-requires-clause-partners c =
+pub returns-then-first-second-clause-partners : goal.returns-then-first-second-clause-partners
+returns-then-first-second-clause-partners c =
     let d = c.args.d in
-    let fits : SFits w32 d.above = search rules in
-    partners_after c.in_ok-keep_partners.field-0 d.first d.second d.above c.args.store.now c.keep_partners.new.store c.requires.apart (rw (to_z-of_z fits) at c.in_ok-keep_partners.ensures.change) c.in_default.not-Wiped
-
-pub returns-in-Wiped-clause-answer : goal.returns-in-Wiped-clause-answer
-returns-in-Wiped-clause-answer c =
-    let d = c.args.d in
-    let fits : SFits w32 d.above = search rules in
-    failed_partners d.first d.second d.above (DifferenceTruth Equal d.first d.second d.above) (DifferenceLine Equal d.first d.second d.above) c.args.store.now c.keep_partners.new.store c.requires.first c.requires.second
-    (rw (to_z-of_z fits, c.in-Wiped.is) at c.in_ok-keep_partners.ensures.change) (λ a e. partner (number_at a d.first) (number_at a d.second) d.above e)
-
-pub returns-in_default-clause-shrinks : goal.returns-in_default-clause-shrinks
-returns-in_default-clause-shrinks c =
-    shrinks_twice c.args.store.now c.keep_partners.new.store c.keep_below_by.new.store c.in_ok-keep_partners.ensures.shrinks c.keep_below_by.ensures.shrinks
-
-pub returns-in_default-clause-correct : goal.returns-in_default-clause-correct
-returns-in_default-clause-correct c =
-    let d = c.args.d in
-    correct_twice (DifferenceTruth Equal d.first d.second d.above) c.args.store.now.doms c.keep_partners.new.store.doms c.keep_below_by.new.store.doms (corrected c) c.keep_below_by.ensures.correct
-
-pub returns-in_default-clause-answer : goal.returns-in_default-clause-answer
-returns-in_default-clause-answer c =
-    let d = c.args.d in
-    IfOk-weaker c.keep_below_by.result (λ (r : Answer). IsAnswerDifference Equal d.first d.second d.above r c.keep_partners.new.store.doms c.keep_below_by.new.store.doms)
-    (λ (r : Answer). IsAnswerDifference Equal d.first d.second d.above r c.args.store.now.doms c.keep_below_by.new.store.doms)
-    (λ r h. answer_twice r (DifferenceTruth Equal d.first d.second d.above) (DifferenceLine Equal d.first d.second d.above) c.args.store.now c.keep_partners.new.store c.keep_below_by.new.store
-    c.in_ok-keep_partners.ensures.shrinks (corrected c) h)
-    c.keep_below_by.ensures.answer
-
-pub returns-in_default-clause-checking : goal.returns-in_default-clause-checking
-returns-in_default-clause-checking c =
-    let x = Var c.args.d.first in
-    IfOk-weaker c.keep_below_by.result (λ (r : Answer). IsFixedIn c.keep_partners.new.store.doms x → IsDecided r)
-    (λ (r : Answer). IsFixedIn c.args.store.now.doms x → IsDecided r)
-    (λ r h fixed. h (
-      fixed.0,
-      still_only c.args.store.now.doms c.keep_partners.new.store.doms x fixed.0 c.requires.first fixed.1
-          c.keep_below_by.ensures.old_store.domains c.in_ok-keep_partners.ensures.shrinks.narrower,
-    ))
-    c.keep_below_by.ensures.checking
+    let after = c.keep_first.new.store.doms in
+    IfOk-weaker c.keep_first.result (λ (r : Answer). r ≢ Failed → ArePartners after d.second d.first d.below) (λ (r : Answer). r ≢ Failed → ArePartners after d.first d.second d.above)
+    (λ r h not. turned_partners after d.first d.second d.above d.below c.requires.turned (h not))
+    (rw c.turned.ensures at c.keep_first.ensures.partners)

@@ -1,35 +1,18 @@
-use Rattle.std.proofs.Common.{◌≡◌, rules}
-use Rattle.std.specs.Prelude.{pos}
 use Rattle.std.proofs.lemmas.Result.{IfOk-weaker}
 use Rattle.std.proofs.Math.Facts.{to_z-of_z}
 use Rattle.fz_strength.specs.Events.{AllFixed, IsFixedIn}
 use Rattle.fz_prop.specs.declared.answer.Answer.{Answer}
 use Rattle.fz_prop.specs.Answers.{IsDecided}
-use Rattle.fz_rel.proofs.Shown.{zero_left}
 use Rattle.fz_linreif.proofs.follow.keep_reified.Goals as goal
 
-pub keep_false-requires-clause-said : goal.keep_false-requires-clause-said
-keep_false-requires-clause-said c =
-    let other : c.in-AtMost-Some.field-0-1 ≡ pos 1 → ⊥ = search rules in
-    zero_left c.args.store.now.doms c.args.r c.in-AtMost-Some.field-0-1 c.requires.truth c.in-AtMost-Some.ensures other
-
-pub returns-in-AtMost-Some-eq1-clause-correct : goal.returns-in-AtMost-Some-eq1-clause-correct
-returns-in-AtMost-Some-eq1-clause-correct c = rw (c.in-AtMost-Some-eq1.is-0) (rw (to_z-of_z c.ranges.number) at c.keep_true.ensures.correct)
-
-pub returns-in-AtMost-Some-eq1-clause-checking : goal.returns-in-AtMost-Some-eq1-clause-checking
-returns-in-AtMost-Some-eq1-clause-checking c =
-    let ds = c.args.store.now.doms in
-    IfOk-weaker c.keep_true.result (λ (a : Answer). AllFixed ds c.args.terms.now → IsDecided a) (λ (a : Answer). AllFixed ds c.args.terms.now → IsFixedIn ds c.args.r → IsDecided a)
-    (λ a h all fixed. h all) c.keep_true.ensures.checking
-
 pub returns-in-AtMost-Some-clause-correct : goal.returns-in-AtMost-Some-clause-correct
-returns-in-AtMost-Some-clause-correct c = rw (c.in-AtMost-Some.is-0) (rw (to_z-of_z c.ranges.number) at c.keep_false.ensures.correct)
+returns-in-AtMost-Some-clause-correct c = rw (c.in-AtMost-Some.is-0) (rw (to_z-of_z c.ranges.number) at c.keep_order.ensures.correct)
 
 pub returns-in-AtMost-Some-clause-checking : goal.returns-in-AtMost-Some-clause-checking
 returns-in-AtMost-Some-clause-checking c =
     let ds = c.args.store.now.doms in
-    IfOk-weaker c.keep_false.result (λ (a : Answer). AllFixed ds c.args.terms.now → IsDecided a) (λ (a : Answer). AllFixed ds c.args.terms.now → IsFixedIn ds c.args.r → IsDecided a)
-    (λ a h all fixed. h all) c.keep_false.ensures.checking
+    IfOk-weaker c.keep_order.result (λ (a : Answer). AllFixed ds c.args.terms.now → IsDecided a) (λ (a : Answer). AllFixed ds c.args.terms.now → IsFixedIn ds c.args.r → IsDecided a)
+    (λ a h all fixed. h all) c.keep_order.ensures.checking
 
 pub returns-in_default-clause-correct : goal.returns-in_default-clause-correct
 returns-in_default-clause-correct c = rw (to_z-of_z c.ranges.number) at c.decide.ensures.correct

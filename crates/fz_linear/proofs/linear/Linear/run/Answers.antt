@@ -7,8 +7,11 @@ use Rattle.fz_strength.specs.Events.{AreFixed, AllFixed}
 use Rattle.fz_strength.specs.Lines.{waits}
 use Rattle.fz_prop.specs.declared.answer.Answer.{Answer}
 use Rattle.fz_prop.specs.Answers.{IsAnswer, IsDecided}
+use Rattle.fz_linear.specs.Differences.{IsPruned}
+use Rattle.fz_linear.specs.Linears.{IsPrunedOf}
 use Rattle.fz_linear.specs.Sums.{IsAnswerSum}
 use Rattle.fz_linear.proofs.Names.{linear_of, never_below, terms_are, fixed_are, answer_is, correct_is}
+use Rattle.fz_linear.proofs.Pruning.{pruned_of}
 use Rattle.fz_linear.proofs.linear.Linear.run.Goals as goal
 
 pub relate_whole-requires-clause-bounded : goal.relate_whole-requires-clause-bounded
@@ -46,3 +49,12 @@ returns-clause-checking c =
     (λ (r : Answer). AreFixed (waits (linear_of p.name p.factors.items p.terms.items p.last)) c.args.store.now.doms → IsDecided r)
     (λ r h fixed. h (fixed_are p.name p.relation p.factors.items p.terms.items p.last c.args.store.now.doms c.self.invariant.relation_is c.self.invariant.moved.factors_are c.self.invariant.moved.terms_are fixed))
     (rw c.deref-2.ensures.value at c.relate_whole.ensures.checking))
+
+pub returns-clause-pruned : goal.returns-clause-pruned
+returns-clause-pruned c =
+    let p = c.self.inside in
+    let after = c.relate_whole.new.store.doms in
+    rw (← c.self.view_is)
+    (IfOk-weaker c.relate_whole.result (λ (r : Answer). IsPruned p.relation p.difference r after) (λ (r : Answer). IsPrunedOf (linear_of p.name p.factors.items p.terms.items p.last) r after)
+    (λ r h. pruned_of p.name p.relation p.factors.items p.terms.items p.number p.last p.difference r after c.self.invariant.relation_is c.self.invariant.moved c.self.invariant.differs c.self.invariant.told h)
+    c.relate_whole.ensures.pruned)

@@ -6,27 +6,27 @@ use Rattle.std.specs.Prelude.{ℤ, ◌+ℤ◌, ◌-ℤ◌, neg_ℤ}
 use Rattle.std.proofs.lemmas.Int.{ints}
 use Rattle.fz_strength.specs.declared.relation.Relation.TheVariants.{Equal}
 use Rattle.fz_spec.specs.declared.term.Term.TheVariants.{Var}
-use Rattle.fz_strength.specs.Domains.{number_at}
+use Rattle.fz_strength.specs.Domains.{dom_at, number_at}
 use Rattle.fz_prop.specs.Answers.{IsCorrectOf}
 use Rattle.fz_prop.proofs.Answering.{answer_twice}
-use Rattle.fz_prop.proofs.Filled.{still_only}
+use Rattle.fz_prop.proofs.Filled.{still_only, term_ranges}
 use Rattle.fz_linear.specs.Differences.{DifferenceTruth, DifferenceLine}
-use Rattle.fz_linear.proofs.Differences.{partners_after, partners_still, correct_partners, failed_partners}
-use Rattle.fz_linear.proofs.difference.keep_below_by.Goals as goal
+use Rattle.fz_linear.proofs.Differences.{partners_after, partners_still, correct_partners, failed_partners, as_many}
+use Rattle.fz_linear.proofs.difference.keep_second.Goals as goal
 
 -- the second has its partner so far below it in the first
 turned : (x y c d : ℤ) → d ≡ neg_ℤ c → (x -ℤ y) ≡ c → (y -ℤ d) ≡ x
 turned x y c d is e = omega (arith, ints, is, e)
 
-corrected : (c : goal.After-partnered) → IsCorrectOf (DifferenceTruth Equal c.args.d.first c.args.d.second c.args.d.above) c.args.store.now.doms c.keep_partners.new.store.doms
+corrected : (c : goal.After-partnered-in_default) → IsCorrectOf (DifferenceTruth Equal c.args.d.first c.args.d.second c.args.d.above) c.args.store.now.doms c.keep_partners.new.store.doms
 corrected c =
     let d = c.args.d in
     let fits : SFits w32 d.below = search rules in
     correct_partners c.in_ok-keep_partners.field-0 d.second d.first d.below (DifferenceTruth Equal d.first d.second d.above) c.args.store.now c.keep_partners.new.store c.requires.first
     (rw (to_z-of_z fits) at c.in_ok-keep_partners.ensures.change) c.in_ok-keep_partners.ensures.shrinks (λ a e. turned (number_at a d.first) (number_at a d.second) d.above d.below c.requires.turned e)
 
-pub partnered-requires-clause-partners : goal.partnered-requires-clause-partners
-partnered-requires-clause-partners c =
+pub partnered-requires-in_default-clause-partners : goal.partnered-requires-in_default-clause-partners
+partnered-requires-in_default-clause-partners c =
     let d = c.args.d in
     let fits : SFits w32 d.below = search rules in
     partners_still c.in_ok-keep_partners.field-0 d.second d.first d.above d.below c.args.store.now c.keep_partners.new.store (λ e. c.requires.apart (sym e)) c.requires.turned
@@ -34,6 +34,14 @@ partnered-requires-clause-partners c =
 
 pub partnered-requires-clause-back : goal.partnered-requires-clause-back
 partnered-requires-clause-back c =
+    let d = c.args.d in
+    let told = c.sizes-first.ensures in
+    let ds = c.args.store.now.doms in
+    as_many (dom_at ds d.first) (dom_at ds d.second) d.above (term_ranges ds (Var d.first) c.requires.first told.domains).ranges (term_ranges ds (Var d.second) c.requires.second told.domains).ranges
+    (omega (arith, told.first, told.second, c.if-first-second.true)) c.requires.partners
+
+pub partnered-requires-in_default-clause-back : goal.partnered-requires-in_default-clause-back
+partnered-requires-in_default-clause-back c =
     let d = c.args.d in
     let fits : SFits w32 d.below = search rules in
     λ z i.
@@ -55,13 +63,13 @@ returns-in_default-clause-correct c = corrected c
 pub returns-in_default-clause-answer : goal.returns-in_default-clause-answer
 returns-in_default-clause-answer c =
     let d = c.args.d in
-    answer_twice c.partnered.result (DifferenceTruth Equal d.first d.second d.above) (DifferenceLine Equal d.first d.second d.above) c.args.store.now c.keep_partners.new.store c.keep_partners.new.store
-    c.in_ok-keep_partners.ensures.shrinks (corrected c) c.partnered.ensures.answer
+    answer_twice c.partnered-in_default.result (DifferenceTruth Equal d.first d.second d.above) (DifferenceLine Equal d.first d.second d.above) c.args.store.now c.keep_partners.new.store c.keep_partners.new.store
+    c.in_ok-keep_partners.ensures.shrinks (corrected c) c.partnered-in_default.ensures.answer
 
 pub returns-in_default-clause-checking : goal.returns-in_default-clause-checking
 returns-in_default-clause-checking c = λ fixed.
-    c.partnered.ensures.checking (
+    c.partnered-in_default.ensures.checking (
       fixed.0,
       still_only c.args.store.now.doms c.keep_partners.new.store.doms (Var c.args.d.first) fixed.0 c.requires.first fixed.1
-          c.partnered.ensures.store.domains c.in_ok-keep_partners.ensures.shrinks.narrower,
+          c.partnered-in_default.ensures.store.domains c.in_ok-keep_partners.ensures.shrinks.narrower,
     )
