@@ -1,5 +1,6 @@
 //! What is found of tasks that share a bounded resource.
 ghost use Rattle.std.specs.Prelude.{◌≡◌, ℕ, ℤ, pos, ◌+ℤ◌, negsuc, MatchOption, ◌<◌, ◌<ℤ◌, ◌≤ℤ◌, IsNone, IsTrue, ◌↔◌, IfSome, List, length, slice_get, Some};
+ghost use Rattle.std.specs.Int.{int_max};
 ghost use Rattle.std.specs.List.{AllByRecursion};
 ghost use Rattle.fz_strength.specs.Cumulatives.{IsSound, IsRoom, HasRoom};
 ghost use Rattle.fz_cumul.specs.Tasks.{IsAt, profile_of, IsConflict};
@@ -67,6 +68,8 @@ pub fn are_within(loads: &[i128], bound: i32) -> bool
 pub fn peak(loads: &[i128]) -> i128
     ensures above { AllByRecursion (λ load. load ≤ℤ result) loads.now }
     ensures positive { pos 0 ≤ℤ result }
+    ensures least { (bound : ℤ) → pos 0 ≤ℤ bound
+        → AllByRecursion (λ load. load ≤ℤ bound) loads.now → result ≤ℤ bound }
 {
     let mut peak = 0;
     for i in 0..loads.len() {
@@ -79,6 +82,7 @@ pub fn peak(loads: &[i128]) -> i128
 fn greater(peak: i128, load: i128) -> i128
     ensures peak { peak ≤ℤ result }
     ensures load { load ≤ℤ result }
+    ensures greater { result ≡ int_max peak load }
 {
     peak.max(load)
 }
