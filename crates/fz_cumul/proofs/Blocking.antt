@@ -6,8 +6,8 @@ use Rattle.std.proofs.lemmas.Int.{ints, by_lt_z}
 use Rattle.fz_sets.proofs.Lists.{all_at}
 use Rattle.fz_strength.specs.declared.open_task.OpenTask.{OpenTask}
 use Rattle.fz_strength.specs.Cumulatives.{IsSound, others_at}
-use Rattle.fz_cumul.specs.Findings.{IsFound}
-use Rattle.fz_cumul.specs.declared.finding.Finding.TheVariants.{Stuck, Later, Earlier}
+use Rattle.fz_cumul.specs.Findings.{IsBlockedAt}
+use Rattle.fz_cumul.specs.declared.finding.Blocked.TheVariants.{Everywhere, Before, After}
 use Rattle.fz_cumul.specs.Tasks.{IsConflict, IsBlocked, IsStretch}
 use Rattle.fz_cumul.proofs.Parts.{part_grows, others_grow}
 
@@ -64,11 +64,11 @@ blocks_to tasks bound place task start time since until sound lasts h conflict e
       },
     ))
 
--- ---- what is found so
+-- ---- where the task is blocked
 
-pub later_found : (tasks : List OpenTask) (bound low : ℤ) (place : ℕ) (task : OpenTask) (time since until first : ℤ) → AllByRecursion IsSound tasks → pos 0 <ℤ task.duration
-    → IsStretch tasks place time since until → slice_get tasks place ≡ Some task → IsConflict tasks bound place task task.earliest time → first ≡ until → IsFound tasks low bound (Later place first)
-later_found tasks bound low place task time since until first sound lasts h at conflict is =
+pub blocked_before : (tasks : List OpenTask) (bound : ℤ) (place : ℕ) (task : OpenTask) (time since until first : ℤ) → AllByRecursion IsSound tasks → pos 0 <ℤ task.duration
+    → IsStretch tasks place time since until → slice_get tasks place ≡ Some task → IsConflict tasks bound place task task.earliest time → first ≡ until → IsBlockedAt tasks bound place (Before first)
+blocked_before tasks bound place task time since until first sound lasts h at conflict is =
     let begun = conflict.begun in
     let end = h.lasting in
     record {
@@ -80,18 +80,18 @@ later_found tasks bound low place task time since until first sound lasts h at c
       );
     }
 
-pub stuck_later : (tasks : List OpenTask) (bound low : ℤ) (place : ℕ) (task : OpenTask) (time since until : ℤ) → AllByRecursion IsSound tasks → pos 0 <ℤ task.duration
-    → IsStretch tasks place time since until → slice_get tasks place ≡ Some task → IsConflict tasks bound place task task.earliest time → task.latest <ℤ until → IsFound tasks low bound (Stuck place)
-stuck_later tasks bound low place task time since until sound lasts h at conflict below = record {
+pub blocked_always_from : (tasks : List OpenTask) (bound : ℤ) (place : ℕ) (task : OpenTask) (time since until : ℤ) → AllByRecursion IsSound tasks → pos 0 <ℤ task.duration
+    → IsStretch tasks place time since until → slice_get tasks place ≡ Some task → IsConflict tasks bound place task task.earliest time → task.latest <ℤ until → IsBlockedAt tasks bound place Everywhere
+blocked_always_from tasks bound place task time since until sound lasts h at conflict below = record {
   task = task;
   at = at;
   holds = λ start from to. blocks_from tasks bound place task task.earliest time since until sound lasts h conflict start from (omega (arith, ints, to, below));
 }
 
-pub earlier_found : (tasks : List OpenTask) (bound low : ℤ) (place : ℕ) (task : OpenTask) (time since until last : ℤ) → AllByRecursion IsSound tasks → pos 0 <ℤ task.duration
+pub blocked_after : (tasks : List OpenTask) (bound : ℤ) (place : ℕ) (task : OpenTask) (time since until last : ℤ) → AllByRecursion IsSound tasks → pos 0 <ℤ task.duration
     → IsStretch tasks place time since until → slice_get tasks place ≡ Some task → IsConflict tasks bound place task task.latest time → last ≡ (since -ℤ task.duration)
-    → IsFound tasks low bound (Earlier place last)
-earlier_found tasks bound low place task time since until last sound lasts h at conflict is =
+    → IsBlockedAt tasks bound place (After last)
+blocked_after tasks bound place task time since until last sound lasts h at conflict is =
     let lasting = conflict.lasting in
     let begun = h.begun in
     record {
@@ -103,10 +103,10 @@ earlier_found tasks bound low place task time since until last sound lasts h at 
       );
     }
 
-pub stuck_earlier : (tasks : List OpenTask) (bound low : ℤ) (place : ℕ) (task : OpenTask) (time since until : ℤ) → AllByRecursion IsSound tasks → pos 0 <ℤ task.duration
+pub blocked_always_to : (tasks : List OpenTask) (bound : ℤ) (place : ℕ) (task : OpenTask) (time since until : ℤ) → AllByRecursion IsSound tasks → pos 0 <ℤ task.duration
     → IsStretch tasks place time since until → slice_get tasks place ≡ Some task → IsConflict tasks bound place task task.latest time → (since -ℤ task.duration) <ℤ task.earliest
-    → IsFound tasks low bound (Stuck place)
-stuck_earlier tasks bound low place task time since until sound lasts h at conflict below = record {
+    → IsBlockedAt tasks bound place Everywhere
+blocked_always_to tasks bound place task time since until sound lasts h at conflict below = record {
   task = task;
   at = at;
   holds = λ start from to. blocks_to tasks bound place task task.latest time since until sound lasts h conflict start (omega (arith, ints, from, below)) to;

@@ -8,5 +8,6 @@ pub mod Stretches
 pub mod Sharing
 pub mod Stepping
 pub mod Narrowing
+pub mod FreeStarts
 pub mod Resting
 pub mod Names

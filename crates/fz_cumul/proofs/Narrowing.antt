@@ -3,10 +3,10 @@ use Rattle.std.proofs.Common.{List, refl, sym, subst, arith, length, inr}
 use Rattle.std.specs.Prelude.{ℤ, ◌≤ℤ◌, ◌<ℤ◌}
 use Rattle.std.proofs.lemmas.Int.{ints}
 use Rattle.fz_sets.specs.Sets.{IsInSet}
-use Rattle.fz_dom.specs.Shape.{least, greatest}
+use Rattle.fz_dom.specs.Shape.{least}
 use Rattle.fz_dom.specs.declared.change.Change.{Change}
 use Rattle.fz_dom.specs.declared.change.Change.TheVariants.{Same, Changed, Wiped}
-use Rattle.fz_dom.proofs.Ranges.{least_member, greatest_member}
+use Rattle.fz_dom.proofs.Ranges.{least_member}
 use Rattle.fz_spec.specs.declared.term.Term.{Term}
 use Rattle.fz_spec.specs.declared.term.Term.TheVariants.{Num, Var}
 use Rattle.fz_spec.specs.Constraints.{term_value}
@@ -36,12 +36,6 @@ pub narrowed_from : (change : Change) (t : Term) (value : ℤ) (r s : Stored) �
 narrowed_from change t value r s of domains below h =
     let has = term_ranges r.doms t of domains in
     narrowed change t (λ x. value ≤ℤ x) r s (least (term_set r.doms t)) (least_member (term_set r.doms t) has.some has.ranges).0 (λ above. omega (arith, ints, above, below)) h
-
-pub narrowed_to : (change : Change) (t : Term) (value : ℤ) (r s : Stored) → IsTermOf (length r.doms) t → AreDomains r.doms → value <ℤ greatest (term_set r.doms t)
-    → IsTermChange change t (λ x. x ≤ℤ value) r s → IsNarrowed (answer_to change) t (λ x. x ≤ℤ value) r.doms s.doms
-narrowed_to change t value r s of domains above h =
-    let has = term_ranges r.doms t of domains in
-    narrowed change t (λ x. x ≤ℤ value) r s (greatest (term_set r.doms t)) (greatest_member (term_set r.doms t) has.some has.ranges).0 (λ below. omega (arith, ints, above, below)) h
 
 -- ---- by the truth and the line of the constraint
 

@@ -5,10 +5,8 @@ use Rattle.std.specs.List.{AllByRecursion}
 use Rattle.std.proofs.lemmas.Int.{ints, by_lt_z}
 use Rattle.fz_sets.proofs.Lists.{some_is, all_read_more}
 use Rattle.fz_strength.specs.declared.open_task.OpenTask.{OpenTask}
-use Rattle.fz_strength.specs.Cumulatives.{IsSound, IsRoom, HasRoom, parts_at}
-use Rattle.fz_cumul.specs.Findings.{IsFound}
+use Rattle.fz_strength.specs.Cumulatives.{IsSound, IsRoom, HasRoom, RestsCumulative, parts_at}
 use Rattle.fz_cumul.specs.Tasks.{profile_of}
-use Rattle.fz_cumul.specs.declared.finding.Finding.TheVariants.{Rest, Overload}
 use Rattle.fz_cumul.proofs.Parts.{part_in, part_sound, parts_split}
 use Rattle.fz_cumul.proofs.Peaks.{IsBoundedAt, bounded_always}
 
@@ -24,15 +22,15 @@ some_passed all [] bound not = absurd (not tt)
 some_passed all (task ∷ tasks) bound not =
     by_lt_z bound (parts_at task.latest all) (λ passed. (task.latest, passed)) (λ within. some_passed all tasks bound (λ rest. not (within, rest)))
 
-pub overload_found : (tasks : List OpenTask) (low high : ℤ) → (AllByRecursion (λ (load : ℤ). load ≤ℤ high) (profile_of tasks) → ⊥) → IsFound tasks low high Overload
-overload_found tasks low high not = some_passed tasks tasks high not
+pub overload_found : (tasks : List OpenTask) (high : ℤ) → (AllByRecursion (λ (load : ℤ). load ≤ℤ high) (profile_of tasks) → ⊥) → (time : ℤ) × (high <ℤ parts_at time tasks)
+overload_found tasks high not = some_passed tasks tasks high not
 
 all_bounded : (all tasks : List OpenTask) (bound : ℤ) → AllByRecursion (λ (load : ℤ). load ≤ℤ bound) (loads_at all tasks) → AllByRecursion (IsBoundedAt all bound) tasks
 all_bounded all [] bound h = tt
 all_bounded all (task ∷ tasks) bound h = ((λ part. h.0), all_bounded all tasks bound h.1)
 
 pub rest_found : (tasks : List OpenTask) (low high : ℤ) → pos 0 ≤ℤ low → low ≤ℤ high → AllByRecursion IsSound tasks → AllByRecursion (λ (load : ℤ). load ≤ℤ high) (profile_of tasks)
-    → ((place : ℕ) (task : OpenTask) → slice_get tasks place ≡ Some task → HasRoom tasks high place task) → IsFound tasks low high Rest
+    → ((place : ℕ) (task : OpenTask) → slice_get tasks place ≡ Some task → HasRoom tasks high place task) → RestsCumulative tasks low high
 rest_found tasks low high positive ends sound within room = record {
   bound = positive;
   sound = sound;

@@ -67,7 +67,7 @@ impl Cumulative {
     /// Narrows a store, as `propagate` does: nothing is kept between runs.
     ///
     /// # Errors
-    /// `AllocError` where there is no memory; the store is then left as it was.
+    /// `AllocError` where there is no memory; the store is then narrower, and no assignment is lost.
     pub fn run(&self, store: &mut Store) -> Result<Answer, AllocError>
         requires inside { AreBelow (waits self.now) (length store.old.doms) }
         requires suits { Suits self.now store.old.doms }

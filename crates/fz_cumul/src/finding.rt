@@ -1,78 +1,59 @@
 //! What is found of tasks that share a bounded resource.
-ghost use Rattle.std.specs.Prelude.{◌≡◌, ℕ, ℤ, pos, ◌+ℤ◌, negsuc, MatchOption, ◌<◌, ◌<ℤ◌, ◌≤ℤ◌, IsNone, IsTrue, ◌↔◌, IfSome, IfOk, List, length, slice_get, Some};
+ghost use Rattle.std.specs.Prelude.{◌≡◌, ℕ, ℤ, pos, ◌+ℤ◌, negsuc, MatchOption, ◌<◌, ◌<ℤ◌, ◌≤ℤ◌, IsNone, IsTrue, ◌↔◌, IfSome, List, length, slice_get, Some};
+ghost use Rattle.std.specs.Int.{int_max};
 ghost use Rattle.std.specs.List.{AllByRecursion};
 ghost use Rattle.fz_strength.specs.Cumulatives.{IsSound, IsRoom, HasRoom};
 ghost use Rattle.fz_cumul.specs.Tasks.{IsAt, profile_of, IsConflict};
-ghost use Rattle.fz_cumul.specs.Findings.{IsFound};
+ghost use Rattle.fz_cumul.specs.Findings.{IsNegative, IsBlockedAt};
 
-use crate::profile::{conflict, profile, stretch_at};
+use crate::profile::{conflict, stretch_at};
 use crate::tasks::minus;
 use fz_strength::open_task::OpenTask;
-use std::alloc::{AllocError, Global};
 
-/// What is found of tasks and a bound.
+/// What may be negative.
 #[derive(Clone, Copy)]
-pub enum Finding {
-    /// The line holds.
-    Rest,
-    /// The least of the bound is below 0.
-    NegativeBound,
-    /// The least duration at this place is below 0.
-    NegativeDuration(usize),
-    /// The least usage at this place is below 0.
-    NegativeUsage(usize),
-    /// The compulsory parts pass the bound.
-    Overload,
-    /// The task at this place has no start that is left.
-    Stuck(usize),
-    /// The task at this place starts no earlier than this.
-    Later(usize, i32),
-    /// The task at this place starts no later than this.
-    Earlier(usize, i32),
+pub enum Negative {
+    /// The bound.
+    Bound,
+    /// The duration at this place.
+    Duration(usize),
+    /// The usage at this place.
+    Usage(usize),
 }
 
-/// The first thing that is found of tasks and a bound from a least to a greatest.
-///
-/// # Errors
-/// `AllocError` where there is no memory.
-pub fn find(alloc: Global, tasks: &[OpenTask], low: i32, high: i32) -> Result<Finding, AllocError>
-    requires { low ≤ℤ high }
-    ensures { IfOk result (λ f. IsFound tasks.now low high f) }
+/// The starts of a task, of those that are left, at which it passes the bound with the parts of the others.
+#[derive(Clone, Copy)]
+pub enum Blocked {
+    /// All.
+    Everywhere,
+    /// Those before a time.
+    Before(i32),
+    /// Those after a time.
+    After(i32),
+}
+
+/// What may be negative of tasks and the least of a bound.
+pub fn first_negative(tasks: &[OpenTask], low: i32) -> Option<Negative>
+    ensures bound { IsNone result → pos 0 ≤ℤ low }
+    ensures sound { IsNone result → AllByRecursion IsSound tasks.now }
+    ensures some { IfSome result (λ n. IsNegative tasks.now low n) }
 {
     if low < 0 {
-        return Ok(Finding::NegativeBound);
+        return Some(Negative::Bound);
     }
-    if let Some(finding) = negative(tasks) {
-        return Ok(finding);
-    }
-    let loads = profile(alloc, tasks)?;
-    if !are_within(&loads, high) {
-        return Ok(Finding::Overload);
-    }
-    match narrowing(tasks, &loads, peak(&loads), high) {
-        Some(finding) => Ok(finding),
-        None => Ok(Finding::Rest),
-    }
-}
-
-/// The first duration or usage that may be negative.
-fn negative(tasks: &[OpenTask]) -> Option<Finding>
-    ensures none { IsNone result → AllByRecursion IsSound tasks.now }
-    ensures some { IfSome result (λ f. (low high : ℤ) → IsFound tasks.now low high f) }
-{
     for place in 0..tasks.len() {
         if tasks[place].duration < 0 {
-            return Some(Finding::NegativeDuration(place));
+            return Some(Negative::Duration(place));
         }
         if tasks[place].usage < 0 {
-            return Some(Finding::NegativeUsage(place));
+            return Some(Negative::Usage(place));
         }
     }
     None
 }
 
 /// Whether each of these is at most a bound.
-fn are_within(loads: &[i128], bound: i32) -> bool
+pub fn are_within(loads: &[i128], bound: i32) -> bool
     ensures { IsTrue result ↔ AllByRecursion (λ load. load ≤ℤ bound) loads.now }
 {
     for i in 0..loads.len() {
@@ -84,9 +65,11 @@ fn are_within(loads: &[i128], bound: i32) -> bool
 }
 
 /// The greatest of these, 0 where all are negative.
-fn peak(loads: &[i128]) -> i128
+pub fn peak(loads: &[i128]) -> i128
     ensures above { AllByRecursion (λ load. load ≤ℤ result) loads.now }
     ensures positive { pos 0 ≤ℤ result }
+    ensures least { (bound : ℤ) → pos 0 ≤ℤ bound
+        → AllByRecursion (λ load. load ≤ℤ bound) loads.now → result ≤ℤ bound }
 {
     let mut peak = 0;
     for i in 0..loads.len() {
@@ -99,6 +82,7 @@ fn peak(loads: &[i128]) -> i128
 fn greater(peak: i128, load: i128) -> i128
     ensures peak { peak ≤ℤ result }
     ensures load { load ≤ℤ result }
+    ensures greater { result ≡ int_max peak load }
 {
     peak.max(load)
 }
@@ -113,35 +97,15 @@ fn is_small(task: OpenTask, peak: i128, high: i32) -> bool
     }
 }
 
-/// The first task that is blocked at its earliest or at its latest start.
-fn narrowing(tasks: &[OpenTask], loads: &[i128], peak: i128, high: i32) -> Option<Finding>
-    requires sound { AllByRecursion IsSound tasks.now }
-    requires profile { loads.now ≡ profile_of tasks.now }
-    requires some { pos 0 ≤ℤ peak }
-    requires peak { AllByRecursion (λ load. load ≤ℤ peak) loads.now }
-    requires positive { pos 0 ≤ℤ high }
-    requires within { AllByRecursion (λ load. load ≤ℤ high) loads.now }
-    ensures none { IsNone result → (place : ℕ) (task : OpenTask)
-        → slice_get tasks.now place ≡ Some task → HasRoom tasks.now high place task }
-    ensures some { IfSome result (λ f. (low : ℤ) → IsFound tasks.now low high f) }
-{
-    for place in 0..tasks.len() {
-        if let Some(finding) = narrowing_at(tasks, loads, place, peak, high) {
-            return Some(finding);
-        }
-    }
-    None
-}
-
-/// What is found of the task at a place: nothing where it fits upon the peak of the profile, nor where it can start at one time
-/// only, since what it uses is then in the profile, which is within the bound.
-fn narrowing_at(
+/// Where the task at a place is blocked: nowhere if it fits upon the peak of the profile, nor if it can start at one time only,
+/// since what it uses is then in the profile, which is within the bound.
+pub fn where_blocked(
     tasks: &[OpenTask],
     loads: &[i128],
     place: usize,
     peak: i128,
     high: i32,
-) -> Option<Finding>
+) -> Option<Blocked>
     requires sound { AllByRecursion IsSound tasks.now }
     requires profile { loads.now ≡ profile_of tasks.now }
     requires some { pos 0 ≤ℤ peak }
@@ -151,7 +115,7 @@ fn narrowing_at(
     requires place { place < length tasks.now }
     ensures none { IsNone result → (task : OpenTask)
         → slice_get tasks.now place ≡ Some task → HasRoom tasks.now high place task }
-    ensures some { IfSome result (λ f. (low : ℤ) → IsFound tasks.now low high f) }
+    ensures some { IfSome result (λ b. IsBlockedAt tasks.now high place b) }
 {
     let task = tasks[place];
     if task.duration <= 0 {
@@ -169,8 +133,8 @@ fn narrowing_at(
     blocked_at(tasks, loads, place, high)
 }
 
-/// What is found of the task at a place, which lasts.
-fn blocked_at(tasks: &[OpenTask], loads: &[i128], place: usize, high: i32) -> Option<Finding>
+/// Where the task at a place is blocked, which lasts.
+fn blocked_at(tasks: &[OpenTask], loads: &[i128], place: usize, high: i32) -> Option<Blocked>
     requires sound { AllByRecursion IsSound tasks.now }
     requires profile { loads.now ≡ profile_of tasks.now }
     requires place { place < length tasks.now }
@@ -178,7 +142,7 @@ fn blocked_at(tasks: &[OpenTask], loads: &[i128], place: usize, high: i32) -> Op
     ensures none { IsNone result → (task : OpenTask) → slice_get tasks.now place ≡ Some task
         → IsRoom tasks.now high place task task.earliest
         × IsRoom tasks.now high place task task.latest }
-    ensures some { IfSome result (λ f. (low : ℤ) → IsFound tasks.now low high f) }
+    ensures some { IfSome result (λ b. IsBlockedAt tasks.now high place b) }
 {
     let task = tasks[place];
     if let Some(time) = conflict(tasks, loads, place, task.earliest, high) {
@@ -214,33 +178,33 @@ fn no_earlier(time: i64, earliest: i32) -> Option<i32>
     }
 }
 
-/// How much later a task starts that is blocked at its earliest start, by a time where it would pass the bound.
-fn later(tasks: &[OpenTask], place: usize, time: i32) -> Finding
+/// Where a task is blocked that would pass the bound at a time if it began at its earliest start.
+fn later(tasks: &[OpenTask], place: usize, time: i32) -> Blocked
     requires sound { AllByRecursion IsSound tasks.now }
     requires place { place < length tasks.now }
-    ensures { (bound low : ℤ) (task : OpenTask) → slice_get tasks.now place ≡ Some task
+    ensures { (bound : ℤ) (task : OpenTask) → slice_get tasks.now place ≡ Some task
         → pos 0 <ℤ task.duration → IsConflict tasks.now bound place task task.earliest time
-        → IsFound tasks.now low bound result }
+        → IsBlockedAt tasks.now bound place result }
 {
     let until = stretch_at(tasks, place, time).until;
     match no_later(until, tasks[place].latest) {
-        Some(first) => Finding::Later(place, first),
-        None => Finding::Stuck(place),
+        Some(first) => Blocked::Before(first),
+        None => Blocked::Everywhere,
     }
 }
 
-/// How much earlier a task starts that is blocked at its latest start, by a time where it would pass the bound.
-fn earlier(tasks: &[OpenTask], place: usize, time: i32) -> Finding
+/// Where a task is blocked that would pass the bound at a time if it began at its latest start.
+fn earlier(tasks: &[OpenTask], place: usize, time: i32) -> Blocked
     requires sound { AllByRecursion IsSound tasks.now }
     requires place { place < length tasks.now }
-    ensures { (bound low : ℤ) (task : OpenTask) → slice_get tasks.now place ≡ Some task
+    ensures { (bound : ℤ) (task : OpenTask) → slice_get tasks.now place ≡ Some task
         → pos 0 <ℤ task.duration → IsConflict tasks.now bound place task task.latest time
-        → IsFound tasks.now low bound result }
+        → IsBlockedAt tasks.now bound place result }
 {
     let since = stretch_at(tasks, place, time).since;
     let task = tasks[place];
     match no_earlier(minus(since, task.duration), task.earliest) {
-        Some(last) => Finding::Earlier(place, last),
-        None => Finding::Stuck(place),
+        Some(last) => Blocked::After(last),
+        None => Blocked::Everywhere,
     }
 }

@@ -7,6 +7,7 @@ pub mod cumulative;
 mod finding;
 mod narrow;
 mod profile;
+mod starting;
 mod tasks;
 
 pub use cumulative::Cumulative;

@@ -1,6 +1,8 @@
 //! The indices whose number is left.
 ghost use Rattle.std.specs.Prelude.{◌≡◌, ℤ, pos, ◌+ℤ◌, ◌≤ℤ◌, ◌<ℤ◌, List, length, IfOk, MatchOption};
+ghost use Rattle.std.specs.Int.{int_max, int_min};
 ghost use Rattle.fz_sets.specs.Sets.{IsInSet, GREATEST};
+ghost use Rattle.fz_dom.specs.Shape.{least, greatest};
 ghost use Rattle.fz_spec.specs.Truth.{IsElement};
 ghost use Rattle.fz_strength.specs.Domains.{term_set};
 ghost use Rattle.fz_prop.specs.Stores.{IsTermOf, FitsTerm};
@@ -46,7 +48,9 @@ pub fn pairs_of(
 /// The first index from 1 that may be left.
 pub fn first_of(store: &Store, index: Term) -> i32
     requires { IsTermOf (length store.now.doms) index }
-    ensures { (k : ℤ) → pos 1 ≤ℤ k → IsInSet (term_set store.now.doms index) k → result ≤ℤ k }
+    ensures first { result ≡ int_max (least (term_set store.now.doms index)) (pos 1) }
+    ensures below { (k : ℤ) → pos 1 ≤ℤ k
+        → IsInSet (term_set store.now.doms index) k → result ≤ℤ k }
 {
     least_of(store, index).max(1)
 }
@@ -55,7 +59,9 @@ pub fn first_of(store: &Store, index: Term) -> i32
 pub fn end_of(store: &Store, index: Term, count: usize) -> i32
     requires index { IsTermOf (length store.now.doms) index }
     requires fits { FitsTerm index }
-    ensures { (k : ℤ) → k ≤ℤ pos count
+    ensures end { result
+        ≡ int_min (greatest (term_set store.now.doms index)) (pos count) +ℤ pos 1 }
+    ensures above { (k : ℤ) → k ≤ℤ pos count
         → IsInSet (term_set store.now.doms index) k → k <ℤ result }
 {
     let last = greatest_of(store, index).min(last_index(count));
@@ -102,7 +108,8 @@ fn number_at(numbers: &[i32], index: i32) -> Option<i32>
 
 /// The last index of a list, or the greatest `i32` where the list is longer.
 fn last_index(count: usize) -> i32
-    ensures { (k : ℤ) → k ≤ℤ pos 2147483647 → k ≤ℤ pos count → k ≤ℤ result }
+    ensures last { result ≡ int_min (pos count) (pos 2147483647) }
+    ensures above { (k : ℤ) → k ≤ℤ pos 2147483647 → k ≤ℤ pos count → k ≤ℤ result }
 {
     i32::try_from(count).unwrap_or(i32::MAX)
 }

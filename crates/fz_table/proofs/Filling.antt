@@ -1,18 +1,14 @@
 -- Supports that are made of numbers and rows, in the order of the numbers, and the supports of some numbers.
-use Rattle.std.proofs.Common.{◌≡◌, ℕ, ◌+◌, ◌-◌, ◌/◌, ◌<◌, ◌≤◌, List, [], ◌∷◌, ◌++◌, ◌⊎◌, inl, inr, refl, sym, ap, subst, ◌∙◌, arith, length, get_or, take, drop, ◌≤ℤ◌}
+use Rattle.std.proofs.Common.{◌≡◌, ℕ, ◌+◌, ◌/◌, ◌<◌, ◌≤◌, List, [], ◌∷◌, ◌++◌, ◌⊎◌, inl, inr, refl, sym, ap, subst, ◌∙◌, arith, length, get_or, ◌≤ℤ◌}
 use Rattle.std.specs.Prelude.{ℤ, slice_get, Some, ◌↔◌, int_lt, int_le}
-use Rattle.std.specs.List.{AllWithin}
 use Rattle.std.specs.List.Sorted.{IsPartitionedBy}
 use Rattle.std.proofs.lemmas.Bool.{cases_eq}
-use Rattle.std.proofs.lemmas.Bool.Decides.{leb_tells}
 use Rattle.std.proofs.lemmas.Int.{ints}
-use Rattle.std.proofs.Math.Nat.{min-le_left}
-use Rattle.std.proofs.lemmas.List.{length-take}
-use Rattle.std.proofs.lemmas.Option.{slice_get_within, slice_get-get_or, get_or_from_slice_get}
+use Rattle.std.proofs.lemmas.Option.{slice_get_within, slice_get-get_or}
 use Rattle.fz_table.specs.declared.supports.Support.{Support}
 use Rattle.fz_table.specs.RowSets.{IsOneOf}
 use Rattle.fz_table.specs.Supports.{IsIn, AreInOrder, IsRising, HasNumber, IsPlaced, IsAdded}
-use Rattle.fz_table.proofs.Slices.{get_last, get_before, get_more, get_append_left, get_drop, get_take}
+use Rattle.fz_table.proofs.Slices.{get_last, get_before, get_more, get_append_left}
 
 -- ---- a support more
 
@@ -169,12 +165,6 @@ gathered_words places supports k h = λ s is. let w = h.words s is in (w.0, w.1,
 
 -- ---- the supports of some numbers
 
--- what a support has that each later one has too, all from its place on have
-pub all_from : (xs : List Support) (Q : Support → Type 0) (k : ℕ) (d : Support) → AreInOrder xs → k < length xs → ((s t : Support) → s.number ≤ℤ t.number → Q s → Q t)
-    → Q (get_or xs k d) → AllWithin Q xs k (length xs)
-all_from xs Q k d order inside up here = λ j e past below.
-    up (get_or xs k d) (get_or xs j e) (order k j (get_or xs k d) (get_or xs j e) past (slice_get-get_or xs k d inside) (slice_get-get_or xs j e below)) here
-
 pub partitioned_below : (xs : List Support) (value : ℤ) → AreInOrder xs → IsPartitionedBy (λ (s : Support). int_lt s.number value) xs
 partitioned_below xs value order = λ i j d le inside test.
     let up = order i j (get_or xs i d) (get_or xs j d) le (slice_get-get_or xs i d (omega (arith, le, inside))) (slice_get-get_or xs j d inside) in
@@ -184,53 +174,3 @@ pub partitioned_to : (xs : List Support) (value : ℤ) → AreInOrder xs → IsP
 partitioned_to xs value order = λ i j d le inside test.
     let up = order i j (get_or xs i d) (get_or xs j d) le (slice_get-get_or xs i d (omega (arith, le, inside))) (slice_get-get_or xs j d inside) in
     grind (arith, ints)
-
--- a support has what all from a place to another have
-of_all : (P : Support → Type 0) (xs : List Support) (low high k : ℕ) (s : Support) → AllWithin P xs low high → slice_get xs k ≡ Some s → low ≤ k → k < high → P s
-of_all P xs low high k s all at past below = subst P (get_or_from_slice_get xs k s s at) (all k s past below)
-
--- the supports from a place on are those with a property that those before it haven't
-pub dropped_in : (xs : List Support) (P Q : Support → Type 0) (n : ℕ) → ((s : Support) → P s → Q s → ⊥) → AllWithin P xs 0 n → AllWithin Q xs n (length xs)
-    → (s : Support) → IsIn s (drop n xs) ↔ (IsIn s xs × Q s)
-dropped_in xs P Q n apart below above s = (
-  (λ h.
-      let at : slice_get xs (n + h.0) ≡ Some s = sym (get_drop xs n h.0) ∙ h.1 in
-      ((n + h.0, at), of_all Q xs n (length xs) (n + h.0) s above at (omega arith) (slice_get_within xs (n + h.0) s at))),
-  (λ h.
-      let k = h.0.0 in
-      elim (leb_tells n k) [
-        | inl past ↦
-            let beyond = past.1 in
-            (k - n, get_drop xs n (k - n) ∙ (let e : n + (k - n) ≡ k = omega (arith, beyond) in subst (λ (j : ℕ). slice_get xs j ≡ Some s) (sym e) h.0.1))
-        | inr under ↦ absurd (apart s (of_all P xs 0 n k s below h.0.1 (omega arith) under.1) h.1)
-      ]),
-)
-
-pub dropped_order : (xs : List Support) (n : ℕ) → AreInOrder xs → AreInOrder (drop n xs)
-dropped_order xs n order = λ i j s t le at_s at_t.
-    order (n + i) (n + j) s t (omega (arith, le)) (sym (get_drop xs n i) ∙ at_s) (sym (get_drop xs n j) ∙ at_t)
-
--- a support before a place
-taken_at : (xs : List Support) (n k : ℕ) (s : Support) → slice_get (take n xs) k ≡ Some s → (k < n) × (slice_get xs k ≡ Some s)
-taken_at xs n k s at =
-    let few = slice_get_within (take n xs) k s at in
-    let taken = length-take n xs in
-    let most = min-le_left n (length xs) in
-    let under : k < n = omega (arith, few, taken, most) in
-    (under, sym (get_take xs n k under) ∙ at)
-
--- the supports before a place are those with a property that those from it on haven't
-pub taken_in : (xs : List Support) (P Q : Support → Type 0) (n : ℕ) → ((s : Support) → P s → Q s → ⊥) → AllWithin P xs 0 n → AllWithin Q xs n (length xs)
-    → (s : Support) → IsIn s (take n xs) ↔ (IsIn s xs × P s)
-taken_in xs P Q n apart below above s = (
-  (λ h. let w = taken_at xs n h.0 s h.1 in ((h.0, w.1), of_all P xs 0 n h.0 s below w.1 (omega arith) w.0)),
-  (λ h.
-      let k = h.0.0 in
-      elim (leb_tells n k) [
-        | inl past ↦ absurd (apart s h.1 (of_all Q xs n (length xs) k s above h.0.1 past.1 (slice_get_within xs k s h.0.1)))
-        | inr under ↦ (k, get_take xs n k under.1 ∙ h.0.1)
-      ]),
-)
-
-pub taken_order : (xs : List Support) (n : ℕ) → AreInOrder xs → AreInOrder (take n xs)
-taken_order xs n order = λ i j s t le at_s at_t. order i j s t le (taken_at xs n i s at_s).1 (taken_at xs n j t at_t).1

@@ -11,13 +11,12 @@ use Rattle.fz_dom.specs.declared.change.Change.{Change}
 use Rattle.fz_dom.specs.declared.change.Change.TheVariants.{Same, Changed, Wiped}
 use Rattle.fz_dom.proofs.Kept.{limits_of}
 use Rattle.fz_spec.specs.declared.term.Term.{Term}
-use Rattle.fz_spec.specs.declared.term.Term.TheVariants.{Num, Var}
+use Rattle.fz_spec.specs.declared.term.Term.TheVariants.{Var}
 use Rattle.fz_spec.specs.Constraints.{term_value}
 use Rattle.fz_strength.specs.Domains.{dom_at, term_set, room, AreDomains, Within, IsNarrower}
-use Rattle.fz_strength.specs.Events.{IsFixedIn, AllFixed, AreSingle}
+use Rattle.fz_strength.specs.Events.{IsOnly, IsFixedIn, AllFixed, AreSingle}
 use Rattle.fz_strength.specs.Tables.{LieWithin, IsLeftRow, IsSupported, AreSupported}
 use Rattle.fz_strength.proofs.Tables.{single_row}
-use Rattle.fz_strength.proofs.Terms.{is_single}
 use Rattle.fz_prop.specs.declared.answer.Answer.TheVariants.{Subsumed}
 use Rattle.fz_prop.specs.Answers.{IsAnswerOf, IsCorrectOf}
 use Rattle.fz_prop.specs.Stores.{Stored, Shrinks, IsTermOf, IsChangeAt}
@@ -57,30 +56,31 @@ keeping_none xs table s = record {
   supported = λ e j t n below. absurd (omega (arith, below));
 }
 
-number_supported : (xs : List Term) (table : List ℤ) (ds : List (List (ℤ × ℤ))) (rows : List ℕ) (k : ℕ) (m : ℤ) → slice_get xs k ≡ Some (Num m) → ((i : ℕ) × HasRow rows i)
+only_supported : (xs : List Term) (table : List ℤ) (ds : List (List (ℤ × ℤ))) (rows : List ℕ) (k : ℕ) (t : Term) (m : ℤ) → slice_get xs k ≡ Some t → IsOnly (term_set ds t) m → ((i : ℕ) × HasRow rows i)
     → AreLeft xs table ds rows → IsSupported xs table ds k m
-number_supported xs table ds rows k m at some are =
+only_supported xs table ds rows k t m at only some are =
     let start = some.0 * length xs in
     let left = (are some.0).0 some.1 in
     let row = slice_range table start (start + length xs) in
-    let here = number_at_place row k (length xs) left.within.size (slice_get_within xs k (Num m) at) in
-    (row, left, here.1 ∙ ap (λ (x : ℤ). Some x) (is_single here.0 m (left.within.each k (Num m) here.0 at here.1)))
+    let here = number_at_place row k (length xs) left.within.size (slice_get_within xs k t at) in
+    (row, left, here.1 ∙ ap (λ (x : ℤ). Some x) (only_in (term_set ds t) m here.0 only (left.within.each k t here.0 at here.1)))
 
--- a number stands in each row that is left
-pub keeping_number : (xs : List Term) (table : List ℤ) (r s : Stored) (has_changed : Bool) (k : ℕ) (m : ℤ) (rows : List ℕ) → slice_get xs k ≡ Some (Num m) → ((i : ℕ) × HasRow rows i)
+-- the only number that is left of a term stands in each row that is left
+pub keeping_only : (xs : List Term) (table : List ℤ) (r s : Stored) (has_changed : Bool) (k : ℕ) (t : Term) (rows : List ℕ) → slice_get xs k ≡ Some t → IsFixedIn s.doms t → ((i : ℕ) × HasRow rows i)
     → AreLeft xs table r.doms rows → IsKeeping xs table r s has_changed k → IsKeeping xs table r s has_changed (k + 1)
-keeping_number xs table r s has_changed k m rows at some are h = record {
+keeping_only xs table r s has_changed k t rows at fixed some are h = record {
   shrinks = h.shrinks;
   correct = h.correct;
   falls = h.falls;
   same = h.same;
-  supported = λ e j t n below at_t is. elim (cases_eq j k) [
+  supported = λ e j u n below at_u is. elim (cases_eq j k) [
     | inl same ↦
-        let one : t ≡ Num m = cc (at, subst (λ (i : ℕ). slice_get xs i ≡ Some t) same at_t) in
-        let is_m : n ≡ m = is_single n m (subst (λ (u : Term). IsInSet (term_set r.doms u) n) one is) in
+        let before : IsFixedIn r.doms t = subst (λ (w : Stored). IsFixedIn w.doms t) (h.same e) fixed in
+        let one : u ≡ t = cc (at, subst (λ (i : ℕ). slice_get xs i ≡ Some u) same at_u) in
+        let is_m : n ≡ before.0 = only_in (term_set r.doms t) before.0 n before.1 (subst (λ (w : Term). IsInSet (term_set r.doms w) n) one is) in
         subst (λ (i : ℕ). IsSupported xs table r.doms i n) (sym same)
-        (subst (IsSupported xs table r.doms k) (sym is_m) (number_supported xs table r.doms rows k m at some are))
-    | inr other ↦ h.supported e j t n (omega (arith, below, other)) at_t is
+        (subst (IsSupported xs table r.doms k) (sym is_m) (only_supported xs table r.doms rows k t before.0 at before.1 some are))
+    | inr other ↦ h.supported e j u n (omega (arith, below, other)) at_u is
   ];
 }
 

@@ -1,5 +1,5 @@
 -- What stands in the columns of a table: numbers with rows that have them there.
-use Rattle.std.specs.Prelude.{◌≡◌, ◌↔◌, ◌⊎◌, ℕ, ◌<◌, ◌≤◌, ◌+◌, ◌*◌, ◌/◌, ℤ, ◌≤ℤ◌, List, length, slice_get, Some}
+use Rattle.std.specs.Prelude.{◌≡◌, ◌↔◌, ◌⊎◌, ℕ, ◌<◌, ◌≤◌, ◌+◌, ◌*◌, ◌/◌, ℤ, ◌≤ℤ◌, ◌<ℤ◌, List, length, slice_get, Some}
 use Rattle.fz_sets.specs.Sets.{IsInSet}
 use Rattle.fz_table.specs.declared.supports.Support.{Support}
 use Rattle.fz_table.specs.RowSets.{HasRow, IsOneOf, words_for}
@@ -61,7 +61,39 @@ pub record AreColumnsOf (table : List ℤ) (width : ℕ) (columns : List (List S
   pub size : length columns ≡ width
   pub each : (j : ℕ) (column : List Support) → slice_get columns j ≡ Some column → IsColumnOf table width j column
 
--- what a column keeps: its numbers don't fall, and they are in its ranges
-pub record IsKept (column : List Support) (spans : List (ℤ × ℤ)) : Type 0 where
+-- ---- places in a column
+
+-- For each support, where the next number begins.
+pub record AreEnds (column : List Support) (ends : List ℕ) : Type 0 where
+  pub size : length ends ≡ length column
+  pub ahead : (k end : ℕ) → slice_get ends k ≡ Some end → (k < end) × (end ≤ length column)
+  pub same : (k end j : ℕ) (s t : Support) → slice_get ends k ≡ Some end → slice_get column k ≡ Some s → slice_get column j ≡ Some t → k ≤ j → j < end → t.number ≡ s.number
+  pub above : (k end j : ℕ) (s t : Support) → slice_get ends k ≡ Some end → slice_get column k ≡ Some s → slice_get column j ≡ Some t → end ≤ j → s.number <ℤ t.number
+
+-- from a place on, the first support whose number is at or above a value
+pub record IsFirst (column : List Support) (place : ℕ) (value : ℤ) (first : ℕ) : Type 0 where
+  pub from : place ≤ first
+  pub to : first ≤ length column
+  pub below : (k : ℕ) (s : Support) → place ≤ k → k < first → slice_get column k ≡ Some s → s.number <ℤ value
+  pub above : (k : ℕ) (s : Support) → first ≤ k → slice_get column k ≡ Some s → value ≤ℤ s.number
+
+-- from a place on, the end of the supports whose numbers are at or below a value
+pub record IsEnd (column : List Support) (place : ℕ) (value : ℤ) (end : ℕ) : Type 0 where
+  pub from : place ≤ end
+  pub to : end ≤ length column
+  pub within : (k : ℕ) (s : Support) → place ≤ k → k < end → slice_get column k ≡ Some s → s.number ≤ℤ value
+  pub beyond : (k : ℕ) (s : Support) → end ≤ k → slice_get column k ≡ Some s → value <ℤ s.number
+
+-- a support from a place up to another, not with it, has the row
+abbrev pub HasOneBetween : List Support → ℕ → ℕ → ℕ → Type 0
+HasOneBetween column p q i = (k : ℕ) × (s : Support) × (p ≤ k) × (k < q) × (slice_get column k ≡ Some s) × IsOneOf s.rows i
+
+-- a row of the set has a number in a support from a place up to another
+abbrev pub StandsBetween : List Support → List ℕ → ℕ → ℕ → ℤ → Type 0
+StandsBetween column rows p q n = (k : ℕ) × (s : Support) × (p ≤ k) × (k < q) × (slice_get column k ≡ Some s) × (s.number ≡ n) × (i : ℕ) × HasRow rows i × IsOneOf s.rows i
+
+-- what a column keeps: its numbers don't fall, where each of them ends, and its numbers are in its ranges
+pub record IsKept (column : List Support) (ends : List ℕ) (spans : List (ℤ × ℤ)) : Type 0 where
   pub order : AreInOrder column
+  pub ended : AreEnds column ends
   pub spanned : (s : Support) → IsIn s column → IsInSet spans s.number

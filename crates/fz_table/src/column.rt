@@ -8,7 +8,8 @@ ghost use Rattle.fz_table.specs.Supports.{IsIn, AreInOrder, HasNumber, AreSized,
 
 use crate::row_set::RowSet;
 use crate::spans::Spans;
-use crate::supports::{Support, above, from, up_to};
+use crate::supports::Support;
+use crate::walk::{add_numbers, ends_of, first_from, join_to};
 use fz_dom::Dom;
 use fz_prop::Store;
 use fz_spec::term::Term;
@@ -20,6 +21,8 @@ use std::marker::Model;
 pub struct Column {
     /// From the lowest number up.
     supports: Vec<Support>,
+    /// For each of them where the next number begins.
+    ends: Vec<usize>,
     /// The ranges of its numbers.
     spans: Spans,
 }
@@ -33,7 +36,7 @@ impl Model for Column {
 
     ghost view = { λ c. c.supports.items };
 
-    ghost invariant = { λ c. IsKept c.supports.items c.spans };
+    ghost invariant = { λ c. IsKept c.supports.items c.ends.items c.spans };
 }
 
 impl Column {
@@ -45,8 +48,13 @@ impl Column {
         requires { AreInOrder supports.items }
         ensures { IfOk result (λ c. c ≡ supports.items) }
     {
+        let ends = ends_of(alloc, &supports)?;
         let spans = spans_of(alloc, &supports)?;
-        Ok(Column { supports, spans })
+        Ok(Column {
+            supports,
+            ends,
+            spans,
+        })
     }
 
     /// Keeps the rows of a set whose number is left of a term. What the other set has is lost.
@@ -89,10 +97,10 @@ impl Column {
             ↔ (HasRow rows.old i ⊎ IsLeftIn self.now dom.now i) }
         ensures size { length rows.new ≡ length rows.old }
     {
-        let mut rest: &[Support] = &self.supports;
+        let mut place = 0;
         for (low, high) in dom.ranges() {
-            rest = from(rest, low);
-            join_all(up_to(rest, high), rows);
+            let first = first_from(&self.supports, &self.ends, place, low);
+            place = join_to(&self.supports, first, high, rows);
         }
     }
 
@@ -103,7 +111,8 @@ impl Column {
             ↔ (HasRow rows.old i ⊎ IsLeftIn self.now (single number) i) }
         ensures size { length rows.new ≡ length rows.old }
     {
-        join_all(up_to(from(&self.supports, number), number), rows);
+        let first = first_from(&self.supports, &self.ends, 0, number);
+        let _ = join_to(&self.supports, first, number, rows);
     }
 
     /// The numbers of a domain that some rows have.
@@ -116,44 +125,13 @@ impl Column {
             ↔ (IsInSet dom.now n × StandsIn self.now rows.now n)) }
     {
         let mut numbers = Spans::new(alloc);
-        let mut rest: &[Support] = &self.supports;
+        let mut place = 0;
         for (low, high) in dom.ranges() {
-            rest = from(rest, low);
-            add_numbers(up_to(rest, high), rows, &mut numbers)?;
+            let first = first_from(&self.supports, &self.ends, place, low);
+            place = add_numbers(&self.supports, &self.ends, first, high, rows, &mut numbers)?;
         }
         Ok(numbers)
     }
-}
-
-/// Puts the rows of supports into a set.
-fn join_all(supports: &[Support], rows: &mut RowSet)
-    requires { AreSized supports.now (length rows.old) }
-    ensures rows { (i : ℕ) → HasRow rows.new i
-        ↔ (HasRow rows.old i ⊎ ((n : ℤ) × HasNumber supports.now n i)) }
-    ensures size { length rows.new ≡ length rows.old }
-{
-    for support in supports {
-        rows.join(support.rows);
-    }
-}
-
-/// Adds the numbers of supports that have some rows.
-fn add_numbers(supports: &[Support], rows: &RowSet, numbers: &mut Spans) -> Result<(), AllocError>
-    requires sized { AreSized supports.now (length rows.now) }
-    requires order { AreInOrder supports.now }
-    ensures { OnOk result ((n : ℤ) → IsInSet numbers.new n
-        ↔ (IsInSet numbers.old n ⊎ StandsIn supports.now rows.now n)) }
-{
-    let mut left = supports;
-    while let Some((support, others)) = left.split_first() {
-        if rows.meets(support.rows) {
-            numbers.add(support.number)?;
-            left = above(others, support.number);
-        } else {
-            left = others;
-        }
-    }
-    Ok(())
 }
 
 /// The ranges of the numbers of supports.

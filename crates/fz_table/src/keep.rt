@@ -49,7 +49,7 @@ pub fn keep_rows(
     keep_columns(alloc, store, terms, table, columns, &rows)
 }
 
-/// Keeps each variable to the numbers that stand at its place of the rows that are left.
+/// Keeps each variable to the numbers that stand at its place of the rows that are left: one that was fixed has its number there.
 fn keep_columns(
     alloc: Global,
     store: &mut Store,
@@ -76,6 +76,9 @@ fn keep_columns(
         let Term::Var(variable) = *term else {
             continue;
         };
+        if !has_changed && store.dom(variable).is_fixed() {
+            continue;
+        }
         match keep_column(alloc, store, variable, &columns[place], rows)? {
             Change::Wiped => return Ok(Answer::Failed),
             Change::Changed => has_changed = true,

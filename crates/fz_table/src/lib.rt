@@ -9,6 +9,7 @@ mod rows;
 mod spans;
 mod supports;
 pub mod table;
+mod walk;
 
 pub use table::Table;
 

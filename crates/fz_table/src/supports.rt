@@ -7,9 +7,6 @@ ghost use Rattle.fz_table.specs.Supports.{IsIn, AreInOrder, IsRising, HasNumber,
 use crate::row_set::Rows;
 use std::alloc::{AllocError, Global};
 
-/// How many supports are looked at one after the other before a place is found by halves.
-const NEAR: usize = 4;
-
 /// A number and some rows that have it.
 #[derive(Clone, Copy, Drop)]
 pub struct Support {
@@ -89,63 +86,22 @@ fn add(supports: &mut Vec<Support>, number: i32, row: usize) -> Result<(), Alloc
     Ok(())
 }
 
-/// The supports of the numbers at or above a value.
-pub fn from(supports: &[Support], value: i32) -> &[Support]
-    requires { AreInOrder supports.now }
-    ensures supports { (s : Support) → IsIn s result.now
-        ↔ (IsIn s supports.now × (value ≤ℤ s.number)) }
-    ensures order { AreInOrder result.now }
-{
-    &supports[count_below(supports, value)..]
-}
-
-/// The supports of the numbers above a value.
-pub fn above(supports: &[Support], value: i32) -> &[Support]
-    requires { AreInOrder supports.now }
-    ensures supports { (s : Support) → IsIn s result.now
-        ↔ (IsIn s supports.now × (value <ℤ s.number)) }
-    ensures order { AreInOrder result.now }
-    ensures few { length result.now ≤ length supports.now }
-{
-    &supports[count_to(supports, value)..]
-}
-
-/// The supports of the numbers at or below a value.
-pub fn up_to(supports: &[Support], value: i32) -> &[Support]
-    requires { AreInOrder supports.now }
-    ensures supports { (s : Support) → IsIn s result.now
-        ↔ (IsIn s supports.now × (s.number ≤ℤ value)) }
-    ensures order { AreInOrder result.now }
-{
-    &supports[..count_to(supports, value)]
-}
-
 /// How many supports have a number below a value.
-fn count_below(supports: &[Support], value: i32) -> usize
+pub fn count_below(supports: &[Support], value: i32) -> usize
     requires { AreInOrder supports.now }
     ensures bound { result ≤ length supports.now }
     ensures below { AllWithin (λ s. s.number <ℤ value) supports.now 0 result }
     ensures above { AllWithin (λ s. value ≤ℤ s.number) supports.now result (length supports.now) }
 {
-    for place in 0..supports.len().min(NEAR) {
-        if supports[place].number >= value {
-            return place;
-        }
-    }
     supports.partition_point(|support| support.number < value)
 }
 
 /// How many supports have a number at or below a value.
-fn count_to(supports: &[Support], value: i32) -> usize
+pub fn count_to(supports: &[Support], value: i32) -> usize
     requires { AreInOrder supports.now }
     ensures bound { result ≤ length supports.now }
     ensures to { AllWithin (λ s. s.number ≤ℤ value) supports.now 0 result }
     ensures above { AllWithin (λ s. value <ℤ s.number) supports.now result (length supports.now) }
 {
-    for place in 0..supports.len().min(NEAR) {
-        if supports[place].number > value {
-            return place;
-        }
-    }
     supports.partition_point(|support| support.number <= value)
 }

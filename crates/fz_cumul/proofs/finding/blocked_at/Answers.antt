@@ -10,7 +10,7 @@ use Rattle.fz_cumul.proofs.Reading.{read_is}
 use Rattle.fz_cumul.proofs.finding.blocked_at.Goals as goal
 
 pub returns-in-Some-clause-some : goal.returns-in-Some-clause-some
-returns-in-Some-clause-some c = λ low.
+returns-in-Some-clause-some c =
     let d0 : OpenTask = record { earliest = pos 0; latest = pos 0; duration = pos 0; usage = pos 0 } in
     let tasks = c.args.tasks.now in
     let task = get_or tasks c.args.place d0 in
@@ -19,10 +19,10 @@ returns-in-Some-clause-some c = λ low.
     let fits : SFits w32 task.earliest = search rules in
     let fits_time : SFits w32 c.in-Some.time = search rules in
     let met = rw (to_z-of_z fits, to_z-of_z c.ranges.high) at (c.in-Some.ensures.some task at) in
-    c.later.ensures c.args.high low task at lasts (rw (to_z-of_z fits_time) met)
+    c.later.ensures c.args.high task at lasts (rw (to_z-of_z fits_time) met)
 
 pub returns-in-Some-conflict-clause-some : goal.returns-in-Some-conflict-clause-some
-returns-in-Some-conflict-clause-some c = λ low.
+returns-in-Some-conflict-clause-some c =
     let d0 : OpenTask = record { earliest = pos 0; latest = pos 0; duration = pos 0; usage = pos 0 } in
     let tasks = c.args.tasks.now in
     let task = get_or tasks c.args.place d0 in
@@ -31,7 +31,7 @@ returns-in-Some-conflict-clause-some c = λ low.
     let fits : SFits w32 task.latest = search rules in
     let fits_time : SFits w32 c.in-Some-conflict.time = search rules in
     let met = rw (to_z-of_z fits, to_z-of_z c.ranges.high) at (c.in-Some-conflict.ensures.some task at) in
-    c.earlier.ensures c.args.high low task at lasts (rw (to_z-of_z fits_time) met)
+    c.earlier.ensures c.args.high task at lasts (rw (to_z-of_z fits_time) met)
 
 pub returns-clause-none : goal.returns-clause-none
 returns-clause-none c = λ none task at.

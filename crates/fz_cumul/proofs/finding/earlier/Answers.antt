@@ -6,7 +6,7 @@ use mir.Syntax.{w32}
 use Rattle.fz_sets.proofs.Lists.{all_get}
 use Rattle.fz_strength.specs.declared.open_task.OpenTask.{OpenTask}
 use Rattle.fz_strength.specs.Cumulatives.{IsSound}
-use Rattle.fz_cumul.proofs.Blocking.{earlier_found, stuck_earlier}
+use Rattle.fz_cumul.proofs.Blocking.{blocked_after, blocked_always_to}
 use Rattle.fz_cumul.proofs.Reading.{read_is}
 use Rattle.fz_cumul.proofs.finding.earlier.Goals as goal
 
@@ -22,7 +22,7 @@ no_earlier-requires c =
     omega (arith, ints, begun, fits, sound, is)
 
 pub returns-in-Some : goal.returns-in-Some
-returns-in-Some c = λ bound low task at lasts conflict.
+returns-in-Some c = λ bound task at lasts conflict.
     let d0 : OpenTask = record { earliest = pos 0; latest = pos 0; duration = pos 0; usage = pos 0 } in
     let tasks = c.args.tasks.now in
     let s = c.stretch_at-since.result in
@@ -31,11 +31,11 @@ returns-in-Some c = λ bound low task at lasts conflict.
     let last : c.in-Some.last ≡ c.minus.result = search rules in
     let is : c.minus.result ≡ s.since -ℤ (get_or tasks c.args.place d0).duration = search rules in
     rw (to_z-of_z fits)
-    (earlier_found tasks bound low c.args.place task c.args.time s.since s.until c.in-Some.last c.requires.sound lasts (rw (to_z-of_z c.ranges.time) at c.stretch_at-since.ensures.stretch) at conflict
+    (blocked_after tasks bound c.args.place task c.args.time s.since s.until c.in-Some.last c.requires.sound lasts (rw (to_z-of_z c.ranges.time) at c.stretch_at-since.ensures.stretch) at conflict
     (last ∙ is ∙ ap (λ (t : OpenTask). s.since -ℤ t.duration) same))
 
 pub returns-in-None : goal.returns-in-None
-returns-in-None c = λ bound low task at lasts conflict.
+returns-in-None c = λ bound task at lasts conflict.
     let d0 : OpenTask = record { earliest = pos 0; latest = pos 0; duration = pos 0; usage = pos 0 } in
     let tasks = c.args.tasks.now in
     let s = c.stretch_at-since.result in
@@ -43,5 +43,5 @@ returns-in-None c = λ bound low task at lasts conflict.
     let same = sym (read_is tasks c.args.place task d0 at) in
     let below : c.minus.result <ℤ read.earliest = search rules in
     let is : c.minus.result ≡ s.since -ℤ read.duration = search rules in
-    stuck_earlier tasks bound low c.args.place task c.args.time s.since s.until c.requires.sound lasts (rw (to_z-of_z c.ranges.time) at c.stretch_at-since.ensures.stretch) at conflict
+    blocked_always_to tasks bound c.args.place task c.args.time s.since s.until c.requires.sound lasts (rw (to_z-of_z c.ranges.time) at c.stretch_at-since.ensures.stretch) at conflict
     (subst (λ (t : OpenTask). (s.since -ℤ t.duration) <ℤ t.earliest) same (omega (arith, ints, below, is)))

@@ -45,6 +45,6 @@ returns c =
     let fits_end : SFits w32 c.end_of-end.result = search rules in
     let test = rw (to_z-of_z fits_end) at c.loop-place-test.false in
     let all : (k n : ℤ) → IsPair xs d e k n → k <ℤ j = λ k n pair.
-    let below = c.end_of-end.ensures k (element_to k xs n pair.stands) pair.index in grind (arith, ints, test, below) in
+    let below = c.end_of-end.ensures.above k (element_to k xs n pair.stands) pair.index in grind (arith, ints, test, below) in
     pairs_all xs d e c.loop-place.places.items c.loop-place.found.items c.in_ok-indices.indices c.in_ok-values.values j all c.loop-place.invariant
     (rw c.deref.ensures.value at c.in_ok-indices.ensures.one_set) (rw c.deref-2.ensures.value at c.in_ok-values.ensures.one_set)

@@ -1,12 +1,13 @@
-use Rattle.std.proofs.Common.{◌≡◌, ℕ, ◌<◌, ◌∙◌, ap, sym, subst, arith, pos, Bool}
+use Rattle.std.proofs.Common.{◌≡◌, ℕ, ◌<◌, ◌∙◌, refl, ap, sym, subst, arith, pos, Bool}
 use Rattle.std.specs.Prelude.{slice_get, Some}
 use Rattle.std.proofs.lemmas.Option.{slice_get-get_or}
 use Rattle.fz_spec.specs.declared.term.Term.{Term}
 use Rattle.fz_spec.specs.declared.term.Term.TheVariants.{Num, Var}
 use Rattle.std.proofs.Common.{length}
+use Rattle.fz_strength.specs.Events.{IsFixedIn}
 use Rattle.fz_table.specs.Supports.{StandsIn}
 use Rattle.fz_table.proofs.LeftRows.{in_column, column_at}
-use Rattle.fz_table.proofs.Keeping.{IsKeeping, keeping_number, keeping_same, keeping_changed, keeping_correct, keeping_fails, keeping_all}
+use Rattle.fz_table.proofs.Keeping.{IsKeeping, keeping_only, keeping_same, keeping_changed, keeping_correct, keeping_fails, keeping_all}
 use Rattle.fz_table.proofs.keep.keep_columns.Goals.{in-Changed, in-Same}
 use Rattle.fz_table.proofs.keep.keep_columns.Goals as goal
 
@@ -15,7 +16,16 @@ loop-place-preserved-in_default c =
     let xs = c.args.terms.now in
     let k = c.loop-place.place in
     let at : slice_get xs k ≡ Some (Num c.in_default.field-0) = slice_get-get_or xs k (Num (pos 0)) c.loop-place-test.true ∙ ap (λ (t : Term). Some t) c.in_default.is in
-    keeping_number xs c.args.table.now c.args.store.now c.loop-place.store c.loop-place.has_changed k c.in_default.field-0 c.args.rows.now at c.requires.some c.requires.rows c.loop-place.invariant
+    keeping_only xs c.args.table.now c.args.store.now c.loop-place.store c.loop-place.has_changed k (Num c.in_default.field-0) c.args.rows.now at (c.in_default.field-0, refl) c.requires.some c.requires.rows c.loop-place.invariant
+
+pub loop-place-preserved-then-is_fixed : goal.loop-place-preserved-then-is_fixed
+loop-place-preserved-then-is_fixed c =
+    let xs = c.args.terms.now in
+    let k = c.loop-place.place in
+    let v = c.in-Var.variable in
+    let at : slice_get xs k ≡ Some (Var v) = slice_get-get_or xs k (Num (pos 0)) c.loop-place-test.true ∙ ap (λ (t : Term). Some t) c.in-Var.is in
+    let fixed : IsFixedIn c.loop-place.store.doms (Var v) = rw c.dom.ensures.dom at (c.if-is_fixed.ensures.one.0 refl) in
+    keeping_only xs c.args.table.now c.args.store.now c.loop-place.store c.loop-place.has_changed k (Var v) c.args.rows.now at fixed c.requires.some c.requires.rows c.loop-place.invariant
 
 pub keep_column-requires-clause-sized : goal.keep_column-requires-clause-sized
 keep_column-requires-clause-sized c =

@@ -1,20 +1,10 @@
-use Rattle.std.proofs.Common.{◌≤ℤ◌, pos, get_or, arith, rules}
+use Rattle.std.proofs.Common.{arith, rules}
 use Rattle.std.specs.Prelude.{int_lt}
 use Rattle.std.proofs.lemmas.Int.{ints}
 use Rattle.std.proofs.lemmas.List.Sorted.{IsPartitionPoint-from_clause}
 use Rattle.fz_table.specs.declared.supports.Support.{Support}
-use Rattle.fz_table.proofs.Filling.{all_from, partitioned_below}
+use Rattle.fz_table.proofs.Filling.{partitioned_below}
 use Rattle.fz_table.proofs.supports.count_below.Goals as goal
-
-pub returns-then-supports-place-clause-above : goal.returns-then-supports-place-clause-above
-returns-then-supports-place-clause-above c =
-    let xs = c.args.supports.now in
-    let value = c.args.value in
-    let k = c.loop-place.place in
-    let none : Support = record { number = pos 0; rows = record { word = 0; bits = 0 } } in
-    let here : value ≤ℤ (get_or xs k none).number = search rules in
-    let test = c.loop-place-test.true in
-    all_from xs (λ (s : Support). value ≤ℤ s.number) k none c.requires (omega (arith, test)) (λ s t up holds. omega (arith, ints, up, holds)) here
 
 pub returns-clause-below : goal.returns-clause-below
 returns-clause-below c = λ k d past below.

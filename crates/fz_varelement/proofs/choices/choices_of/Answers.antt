@@ -43,5 +43,5 @@ returns c =
     let fits_end : SFits w32 c.end_of-end.result = search rules in
     let test = rw (to_z-of_z fits_end) at c.loop-place-test.false in
     let all : (i : ℤ) (x : Term) → IsChoice xs k v ds i x → i <ℤ j = λ i x choice.
-    let below = c.end_of-end.ensures i (stands_to i xs x choice.stands) choice.index in grind (arith, ints, test, below) in
+    let below = c.end_of-end.ensures.above i (stands_to i xs x choice.stands) choice.index in grind (arith, ints, test, below) in
     choices_all xs k v ds c.loop-place.indices.items c.in_ok-indices.indices j all c.loop-place.invariant (rw c.deref.ensures.value at c.in_ok-indices.ensures.one_set)

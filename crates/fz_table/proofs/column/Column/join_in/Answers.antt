@@ -1,29 +1,28 @@
-use Rattle.std.proofs.Common.{◌≡◌, ℤ, length, subst, sym, ℕ, rules, to_z, of_z, w32}
-use Rattle.fz_table.specs.Supports.{AreSized}
-use Rattle.fz_table.proofs.Finding.{part_sized, part_joined, rest_part, rest_more, joining_more}
+use Rattle.std.proofs.Common.{◌≡◌, ℤ, rules, ◌∙◌, to_z, of_z, w32}
+use Rattle.fz_table.proofs.Finding.{joining_more}
+use Rattle.fz_table.proofs.Walking.{ahead_more, range_joined, joined_range}
 use Rattle.fz_table.proofs.column.Column.join_in.Goals as goal
 
-pub join_all-requires : goal.join_all-requires
-join_all-requires c =
-    let column = c.args.self.now in
-    let r : ℤ × ℤ = (c.in-Some.low, c.in-Some.high) in
-    let kept_low : to_z w32 (of_z w32 c.in-Some.low) ≡ c.in-Some.low = search rules in
-    let kept_high : to_z w32 (of_z w32 c.in-Some.high) ≡ c.in-Some.high = search rules in
-    let part = rest_part column c.loop-low.rest.now c.from-rest.result.now c.up_to.result.now c.loop-low.low-iterator c.next.new.self r c.in-Some.ensures.steps
-    (rw kept_low at c.from-rest.ensures.supports) (rw kept_high at c.up_to.ensures.supports) c.loop-low.invariant.1 in
-    let sized : AreSized column (length c.loop-low.rows) = subst (λ (size : ℕ). AreSized column size) (sym c.loop-low.invariant.0.size) c.requires in
-    part_sized column c.up_to.result.now r.0 r.1 (length c.loop-low.rows) part sized
+pub join_to-place-requires-clause-sized : goal.join_to-place-requires-clause-sized
+join_to-place-requires-clause-sized c =
+    let there : c.deref-in-loop-low-2.result.now ≡ c.args.self.now = c.deref-in-loop-low-2.ensures.value ∙ c.self.view_is in
+    rw (there, c.loop-low.invariant.0.size) c.requires
 
 pub loop-low-preserved : goal.loop-low-preserved
 loop-low-preserved c =
     let column = c.args.self.now in
+    let ranges = c.loop-low.low-iterator in
+    let tail = c.next.new.self in
     let r : ℤ × ℤ = (c.in-Some.low, c.in-Some.high) in
     let kept_low : to_z w32 (of_z w32 c.in-Some.low) ≡ c.in-Some.low = search rules in
     let kept_high : to_z w32 (of_z w32 c.in-Some.high) ≡ c.in-Some.high = search rules in
-    let from = rw kept_low at c.from-rest.ensures.supports in
-    let part = rest_part column c.loop-low.rest.now c.from-rest.result.now c.up_to.result.now c.loop-low.low-iterator c.next.new.self r c.in-Some.ensures.steps
-    from (rw kept_high at c.up_to.ensures.supports) c.loop-low.invariant.1 in (
-      joining_more column c.args.dom.now c.loop-low.low-iterator c.next.new.self r c.args.rows.now c.loop-low.rows c.join_all.new.rows c.in-Some.ensures.steps
-          (part_joined column c.up_to.result.now r.0 r.1 c.loop-low.rows c.join_all.new.rows part c.join_all.ensures.rows) c.join_all.ensures.size c.loop-low.invariant.0,
-      rest_more column c.loop-low.rest.now c.from-rest.result.now c.loop-low.low-iterator c.next.new.self r c.in-Some.ensures.steps from c.from-rest.ensures.order c.loop-low.invariant.1,
+    let here : c.deref.result.now ≡ column = c.deref.ensures.value ∙ c.self.view_is in
+    let there : c.deref-in-loop-low-2.result.now ≡ column = c.deref-in-loop-low-2.ensures.value ∙ c.self.view_is in
+    let first = rw (kept_low, here) at c.first_from-first.ensures in
+    let end = rw (kept_high, there) at c.join_to-place.ensures.end in
+    let joined = rw there at c.join_to-place.ensures.rows in
+    let same = range_joined column c.loop-low.place c.first_from-first.result c.join_to-place.result ranges tail r c.in-Some.ensures.steps first end c.loop-low.invariant.1 in (
+      joining_more column c.args.dom.now ranges tail r c.args.rows.now c.loop-low.rows c.join_to-place.new.rows c.in-Some.ensures.steps
+          (joined_range column c.loop-low.rows c.join_to-place.new.rows r c.first_from-first.result c.join_to-place.result joined same) c.join_to-place.ensures.size c.loop-low.invariant.0,
+      ahead_more column c.loop-low.place c.first_from-first.result c.join_to-place.result ranges tail r c.in-Some.ensures.steps first end c.loop-low.invariant.1,
     )

@@ -1,19 +1,24 @@
-use Rattle.std.proofs.Common.{◌≡◌, length, rules, to_z, of_z, w32}
-use Rattle.fz_table.proofs.Finding.{part_sized, part_joined, part_of}
+use Rattle.std.proofs.Common.{◌≡◌, ℤ, List, [], ◌∷◌, refl, length, rules, sym, subst, ◌∙◌, arith, to_z, of_z, w32}
+use Rattle.std.proofs.lemmas.Int.{ints}
+use Rattle.fz_table.specs.declared.supports.Support.{Support}
+use Rattle.fz_table.specs.Supports.{AreSized}
+use Rattle.fz_table.proofs.Walking.{ahead_all, range_joined, joined_range}
 use Rattle.fz_table.proofs.column.Column.join_one.Goals as goal
 
-pub join_all-requires : goal.join_all-requires
-join_all-requires c =
-    let n = c.args.number in
-    let kept : to_z w32 (of_z w32 n) ≡ n = search rules in
-    let part = part_of c.args.self.now c.from.result.now c.up_to.result.now n n
-    (rw (← c.self.view_is) (rw (kept, c.deref.ensures.value) at c.from.ensures.supports)) (rw kept at c.up_to.ensures.supports) in
-    part_sized c.args.self.now c.up_to.result.now n n (length c.args.rows.now) part c.requires
+pub join_to-requires-clause-sized : goal.join_to-requires-clause-sized
+join_to-requires-clause-sized c =
+    subst (λ (xs : List Support). AreSized xs (length c.args.rows.now)) (sym (c.deref-3.ensures.value ∙ c.self.view_is)) c.requires
 
 pub returns-clause-rows : goal.returns-clause-rows
 returns-clause-rows c =
+    let column = c.args.self.now in
     let n = c.args.number in
+    let r : ℤ × ℤ = (n, n) in
     let kept : to_z w32 (of_z w32 n) ≡ n = search rules in
-    let part = part_of c.args.self.now c.from.result.now c.up_to.result.now n n
-    (rw (← c.self.view_is) (rw (kept, c.deref.ensures.value) at c.from.ensures.supports)) (rw kept at c.up_to.ensures.supports) in
-    part_joined c.args.self.now c.up_to.result.now n n c.args.rows.now c.join_all.new.rows part c.join_all.ensures.rows
+    let here : c.deref.result.now ≡ column = c.deref.ensures.value ∙ c.self.view_is in
+    let there : c.deref-3.result.now ≡ column = c.deref-3.ensures.value ∙ c.self.view_is in
+    let first = rw (kept, here) at c.first_from-first.ensures in
+    let end = rw (kept, there) at c.join_to.ensures.end in
+    let joined = rw there at c.join_to.ensures.rows in
+    let same = range_joined column 0 c.first_from-first.result c.join_to.result (r ∷ []) [] r refl first end (ahead_all column (r ∷ []) (omega (arith, ints))) in
+    joined_range column c.args.rows.now c.join_to.new.rows r c.first_from-first.result c.join_to.result joined same

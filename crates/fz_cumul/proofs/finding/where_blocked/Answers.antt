@@ -6,7 +6,7 @@ use Rattle.std.proofs.Math.Facts.{to_z-of_z}
 use Rattle.fz_strength.specs.declared.open_task.OpenTask.{OpenTask}
 use Rattle.fz_cumul.proofs.Reading.{read_is}
 use Rattle.fz_cumul.proofs.Whole.{fixed_has_room, small_has_room}
-use Rattle.fz_cumul.proofs.finding.narrowing_at.Goals as goal
+use Rattle.fz_cumul.proofs.finding.where_blocked.Goals as goal
 
 pub returns-then-task-clause-none : goal.returns-then-task-clause-none
 returns-then-task-clause-none c = λ none task at.
