@@ -11,7 +11,7 @@ ghost use Rattle.fz_check.specs.Entered.{value_entry, set_entry, IsArrayEntry};
 
 use fz_resolve::resolve::{numbers, set, term, terms};
 use fz_resolve::types::kind_of;
-use fz_resolve::{Entry, Names};
+use fz_resolve::{Entry, Names, NumberList, TermList};
 use fz_spec::asked::Element;
 use fz_spec::kind::Kind;
 use fz_spec::term::Term;
@@ -72,7 +72,7 @@ fn set_value(
         ≡ set_entry (entries.set_of (environment_of names.now) (trees.basic_of basic.now))) }
 {
     match set(alloc, names, basic)? {
-        Some(set) => Ok(Some(Entry::Set(set))),
+        Some(set) => Ok(Some(Entry::Set(Box::new(alloc, set)?))),
         None => Ok(None),
     }
 }
@@ -113,9 +113,16 @@ fn term_list(
         may_vary: true,
     };
     match terms(alloc, names, asked, elements)? {
-        Ok(terms) => Ok(Ok(Entry::Terms { kind, terms })),
+        Ok(terms) => Ok(Ok(terms_entry(alloc, kind, terms)?)),
         Err(at) => Ok(Err(at)),
     }
+}
+
+fn terms_entry(alloc: Global, kind: Kind, terms: Vec<Term>) -> Result<Entry, AllocError>
+    ensures { IfOk result (λ entry. meant entry ≡ entries.Terms kind terms.items) }
+{
+    let list = Box::new(alloc, TermList { kind, terms })?;
+    Ok(Entry::Terms(list))
 }
 
 fn number_list(
@@ -144,7 +151,8 @@ fn numbers_entry(alloc: Global, kind: Kind, terms: &[Term]) -> Result<Entry, All
         ≡ entries.Numbers kind (map entries.number_of terms.now)) }
 {
     let numbers = numbers(alloc, terms)?;
-    Ok(Entry::Numbers { kind, numbers })
+    let list = Box::new(alloc, NumberList { kind, numbers })?;
+    Ok(Entry::Numbers(list))
 }
 
 fn set_list(

@@ -184,8 +184,8 @@ pub(crate) fn push_bounds(
         ++ models.element_constraints (scope env 0) a) }
 {
     match entry {
-        Entry::Terms { terms, .. } if is_bound(&item.value_type) => {
-            push_bound_terms(alloc, constraints, &item.value_type, terms)
+        Entry::Terms(list) if is_bound(&item.value_type) => {
+            push_bound_terms(alloc, constraints, &item.value_type, &list.terms)
         }
         _ => Ok(()),
     }
@@ -238,8 +238,8 @@ pub(crate) fn push_array(
         return Ok(());
     };
     match entry {
-        Entry::Terms { kind, terms } => {
-            let output = array(alloc, item.name, *kind, shape, terms)?;
+        Entry::Terms(list) => {
+            let output = array(alloc, item.name, list.kind, shape, &list.terms)?;
             outputs.push(output)?;
             Ok(())
         }

@@ -259,7 +259,7 @@ fn variables_in(
     match argument {
         Argument::Brackets { arguments, .. } => Ok(members(alloc, names, arguments)?),
         Argument::Simple(Basic::Named(name)) => match names.entry(*name) {
-            Some(Entry::Terms { terms, .. }) => Ok(Some(variables_of(alloc, terms)?)),
+            Some(Entry::Terms(list)) => Ok(Some(variables_of(alloc, &list.terms)?)),
             _ => Ok(None),
         },
         _ => Ok(None),

@@ -13,9 +13,9 @@ use Rattle.fz_resolve.specs.declared.entry.Entry.TheVariants as entry
 abbrev pub meant : Entry → entries.Entry
 meant (entry.Variable kind number) = entries.Variable kind number
 meant (entry.Value kind value) = entries.Value kind value
-meant (entry.Set set) = entries.Set set
-meant (entry.Numbers kind numbers) = entries.Numbers kind numbers.items
-meant (entry.Terms kind terms) = entries.Terms kind terms.items
+meant (entry.Set set) = entries.Set set.value
+meant (entry.Numbers list) = entries.Numbers list.value.kind list.value.numbers.items
+meant (entry.Terms list) = entries.Terms list.value.kind list.value.terms.items
 meant entry.Sets = entries.Sets
 
 -- what each name stands for, by its bytes

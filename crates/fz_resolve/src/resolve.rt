@@ -180,11 +180,13 @@ fn entry_list(alloc: Global, asked: Element, entry: &Entry) -> Result<Option<Arg
         ≡ entries.entry_list asked (meant entry.now)) }
 {
     match entry {
-        Entry::Numbers { kind, numbers } if *kind == asked.kind => {
-            Ok(Some(number_list(alloc, asked.may_vary, numbers)?))
-        }
-        Entry::Terms { kind, terms } if *kind == asked.kind && asked.may_vary => {
-            Ok(Some(Argument::Terms(Vec::from_slice(alloc, terms)?)))
+        Entry::Numbers(list) if list.kind == asked.kind => Ok(Some(number_list(
+            alloc,
+            asked.may_vary,
+            &list.numbers,
+        )?)),
+        Entry::Terms(list) if list.kind == asked.kind && asked.may_vary => {
+            Ok(Some(Argument::Terms(Vec::from_slice(alloc, &list.terms)?)))
         }
         _ => Ok(None),
     }
