@@ -19,10 +19,10 @@ use fz_syntax::{ArrayItem, Basic, ParameterItem, ValueType};
 use std::alloc::{AllocError, Global};
 
 /// What the name of a parameter stands for, if its value has the type.
-pub(crate) fn parameter_entry(
+pub(crate) fn parameter_entry<'a>(
     alloc: Global,
-    names: &Names<'_>,
-    item: &ParameterItem<'_>,
+    names: &Names<'a>,
+    item: &ParameterItem<'a>,
 ) -> Result<Option<Entry>, AllocError>
     requires { BasicFits (trees.basic_of item.now.value) }
     ensures { let p = trees.parameter_item_of item.now in
@@ -35,7 +35,7 @@ pub(crate) fn parameter_entry(
     }
 }
 
-fn one_value(names: &Names<'_>, kind: Kind, basic: &Basic<'_>) -> Option<Entry>
+fn one_value<'a>(names: &Names<'a>, kind: Kind, basic: &Basic<'a>) -> Option<Entry>
     ensures { option_map meant result
         ≡ value_entry kind (entries.term_in (environment_of names.now)
         (record { kind = kind; may_vary = false }) (trees.basic_of basic.now)) }
@@ -62,10 +62,10 @@ fn number_of(term: Term) -> i32
     }
 }
 
-fn set_value(
+fn set_value<'a>(
     alloc: Global,
-    names: &Names<'_>,
-    basic: &Basic<'_>,
+    names: &Names<'a>,
+    basic: &Basic<'a>,
 ) -> Result<Option<Entry>, AllocError>
     requires { BasicFits (trees.basic_of basic.now) }
     ensures { IfOk result (λ entry. option_map meant entry
@@ -78,10 +78,10 @@ fn set_value(
 }
 
 /// What the name of an array stands for, or the place of its first element that hasn't the type.
-pub(crate) fn array_entry(
+pub(crate) fn array_entry<'a>(
     alloc: Global,
-    names: &Names<'_>,
-    item: &ArrayItem<'_>,
+    names: &Names<'a>,
+    item: &ArrayItem<'a>,
 ) -> Result<Result<Entry, u32>, AllocError>
     requires { AllByRecursion BasicFits (map trees.basic_of item.now.list.elements.items) }
     ensures { IfOk result (IsArrayEntry (environment_of names.now) (trees.array_item_of item.now)) }
@@ -97,11 +97,11 @@ pub(crate) fn array_entry(
     }
 }
 
-fn term_list(
+fn term_list<'a>(
     alloc: Global,
-    names: &Names<'_>,
+    names: &Names<'a>,
     kind: Kind,
-    elements: &[Basic<'_>],
+    elements: &[Basic<'a>],
 ) -> Result<Result<Entry, u32>, AllocError>
     ensures { IfOk result (λ entry. entries.with_value meant entry
         ≡ entries.with_value (λ terms. entries.Terms kind terms)
@@ -125,11 +125,11 @@ fn terms_entry(alloc: Global, kind: Kind, terms: Vec<Term>) -> Result<Entry, All
     Ok(Entry::Terms(list))
 }
 
-fn number_list(
+fn number_list<'a>(
     alloc: Global,
-    names: &Names<'_>,
+    names: &Names<'a>,
     kind: Kind,
-    elements: &[Basic<'_>],
+    elements: &[Basic<'a>],
 ) -> Result<Result<Entry, u32>, AllocError>
     ensures { IfOk result (λ entry. entries.with_value meant entry
         ≡ entries.with_value (λ terms. entries.Numbers kind (map entries.number_of terms))
@@ -155,10 +155,10 @@ fn numbers_entry(alloc: Global, kind: Kind, terms: &[Term]) -> Result<Entry, All
     Ok(Entry::Numbers(list))
 }
 
-fn set_list(
+fn set_list<'a>(
     alloc: Global,
-    names: &Names<'_>,
-    elements: &[Basic<'_>],
+    names: &Names<'a>,
+    elements: &[Basic<'a>],
 ) -> Result<Result<Entry, u32>, AllocError>
     requires { AllByRecursion BasicFits (map trees.basic_of elements.now) }
     ensures { IfOk result (λ entry. entries.with_value meant entry

@@ -83,7 +83,7 @@ pub(crate) fn variable_of(alloc: Global, value_type: &ValueType) -> Result<Varia
 }
 
 /// The term that the value of a variable is, if it has one.
-pub(crate) fn value_of(names: &Names<'_>, item: &VariableItem<'_>) -> Option<Term>
+pub(crate) fn value_of<'a>(names: &Names<'a>, item: &VariableItem<'a>) -> Option<Term>
     ensures { let v = trees.variable_item_of item.now in
         result ≡ models.value_term (environment_of names.now) v.value_type v.value }
 {
