@@ -1,7 +1,6 @@
 -- From drafts to what the checker says of a program.
-use Rattle.std.proofs.Common.{◌≡◌, ℕ, ◌+◌, ◌<◌, drop, length, get_or, Some, None, List, [], ◌∷◌, ◌++◌, map, refl, sym, ap, ap₂, ◌∙◌, append-nil}
+use Rattle.std.proofs.Common.{arith, ◌≡◌, ℕ, length, Some, None, List, [], ◌∷◌, ◌++◌, map, refl, sym, ap, ap₂, ◌∙◌, append-nil}
 use Rattle.std.specs.Prelude.{slice_get}
-use Rattle.std.proofs.lemmas.List.{drop_more}
 use Rattle.fz_spec.specs.declared.goal.Goal.{Goal}
 use Rattle.fz_spec.specs.Instance.{Instance, SearchPart}
 use Rattle.fz_language.specs.Trees.{Item, Program}
@@ -61,6 +60,6 @@ model_is p d goal parts a g s =
     let search : search_of (scope_behind empty_scope p.items).entries p.solve.annotations ≡ parts = ap (λ (e : Environment). search_of e p.solve.annotations) env ∙ sym s in
     λ i. record { variables = vs i; constraints = cs i; goal = aim i; outputs = os i; search = search i }
 
--- the items that are left, the first of them apart
-pub left_items : {X Y : Type 0} (f : X → Y) (xs : List X) (i : ℕ) (x : X) → i < length xs → x ≡ get_or xs i x → map f (drop i xs) ≡ f x ∷ map f (drop (i + 1) xs)
-left_items {X} f xs i x l is = ap (map f) (drop_more xs i x l) ∙ ap (λ (y : X). f y ∷ map f (drop (i + 1) xs)) (sym is)
+pub none_left : {X : Type 0} (xs : List X) (n : ℕ) → n ≡ length xs → n ≡ 0 → xs ≡ []
+none_left [] n e z = refl
+none_left (x ∷ xs) n e z = absurd (omega (arith, e, z))

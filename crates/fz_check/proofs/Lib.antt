@@ -9,6 +9,7 @@ pub mod FaultLaws
 pub mod Halves
 pub mod ItemFits
 pub mod Keeps
+pub mod Known
 pub mod Mapped
 pub mod ModelFits
 pub mod PlaceLaws

@@ -1,6 +1,7 @@
 -- What a draft stands for, and what an item makes of it.
 use Rattle.std.specs.Prelude.{◌≡◌, List, [], ◌++◌, Option, MatchOption, length}
-use Rattle.fz_language.specs.Trees.{Item, Program}
+use Rattle.fz_language.specs.Trees.{Item, SolveItem, Program}
+use Rattle.fz_language.specs.Within.{ProgramFits}
 use Rattle.fz_language.specs.Rules.{Counts, all_counted, additions, faults_of}
 use Rattle.fz_language.specs.Models.{Scope, empty_scope, behind, scope_behind, made, variables_of, constraints_of, outputs_of}
 use Rattle.fz_language.specs.Reads.{faults_from, program_faults}
@@ -45,3 +46,10 @@ pub record IsAhead (p : Program) (d : Draft) (rest : List Item) : Type 0 where
   pub variables : made variables_of empty_scope p.items ≡ d.variables.items ++ made variables_of (scope_of d) rest
   pub constraints : made constraints_of empty_scope p.items ≡ d.constraints.items ++ made constraints_of (scope_of d) rest
   pub outputs : made outputs_of empty_scope p.items ≡ d.outputs.items ++ made outputs_of (scope_of d) rest
+
+-- a draft of all items of a program that breaks no rule, and its solve item
+pub record IsOf (p : Program) (d : Draft) (solve : SolveItem) : Type 0 where
+  pub fits : ProgramFits p
+  pub keeps : program_faults p ≡ []
+  pub ahead : IsAhead p d []
+  pub solves : p.solve ≡ solve

@@ -28,10 +28,10 @@ use fz_syntax::{ConstraintItem, Expression, Name};
 use std::alloc::{AllocError, Global};
 
 /// The constraint of an item, or the first rule that it breaks, but for the limits.
-pub(crate) fn call(
+pub(crate) fn call<'a>(
     alloc: Global,
-    names: &Names<'_>,
-    item: &ConstraintItem<'_>,
+    names: &Names<'a>,
+    item: &ConstraintItem<'a>,
 ) -> Result<Result<Constraint, Fault>, AllocError>
     requires { AllByRecursion ExpressionFits (map trees.expression_of item.now.arguments.items) }
     ensures { IfOk result (IsCall (environment_of names.now) (trees.constraint_item_of item.now)) }
@@ -70,10 +70,10 @@ fn unknown(item: &ConstraintItem<'_>) -> Fault
     )
 }
 
-fn call_of_row(
+fn call_of_row<'a>(
     alloc: Global,
-    names: &Names<'_>,
-    item: &ConstraintItem<'_>,
+    names: &Names<'a>,
+    item: &ConstraintItem<'a>,
     row: &Row,
 ) -> Result<Result<Constraint, Fault>, AllocError>
     requires { AllByRecursion ExpressionFits (map trees.expression_of item.now.arguments.items) }
@@ -111,10 +111,10 @@ fn signature_of(signatures: Signatures, arity: usize) -> Option<&'static [Asked]
     None
 }
 
-fn signed(
+fn signed<'a>(
     alloc: Global,
-    names: &Names<'_>,
-    item: &ConstraintItem<'_>,
+    names: &Names<'a>,
+    item: &ConstraintItem<'a>,
     row: &Row,
     signature: &[Asked],
     floats: Option<Fault>,
@@ -126,21 +126,33 @@ fn signed(
         → IfOk result (IsSigned others (environment_of names.now)
         (trees.constraint_item_of item.now) (row_of row.now) signature.now) }
 {
+    // Where all arguments are of the right types, each name is declared.
+    match arguments_of(alloc, names, signature, &item.arguments)? {
+        Ok(arguments) => Ok(typed(alloc, row, item.name, arguments, floats)?),
+        Err(at) => Ok(Err(wrong(names, item, floats, at))),
+    }
+}
+
+/// The first fault of an item whose first argument of a wrong type stands there; `floats` is the first of those that come before.
+fn wrong<'a>(names: &Names<'a>, item: &ConstraintItem<'a>, floats: Option<Fault>, at: u32) -> Fault
+    ensures { let c = trees.constraint_item_of item.now in
+        let names_faults = at_places rule.UnknownName (flat_map
+        (rules.unknown_of (environment_of names.now)) c.arguments) in
+        (others behind : List rules.Fault) → IsFirstOf others floats
+        → IsFirstFault behind (record { rule = rule.WrongType; at = at })
+        → IsFirstFault ((others ++ names_faults) ++ behind) result }
+{
     let unknown = fault_at(
         RuleFault::UnknownName,
         names.unknown_argument(&item.arguments),
     );
-    let early = or_else(floats, unknown);
-    match arguments_of(alloc, names, signature, &item.arguments)? {
-        Ok(arguments) => Ok(typed(alloc, row, item.name, arguments, early)?),
-        Err(at) => Ok(Err(or_this(
-            early,
-            Fault {
-                rule: RuleFault::WrongType,
-                at,
-            },
-        ))),
-    }
+    or_this(
+        or_else(floats, unknown),
+        Fault {
+            rule: RuleFault::WrongType,
+            at,
+        },
+    )
 }
 
 /// The constraint of arguments of the right types, or the first fault.
@@ -168,11 +180,11 @@ fn typed(
 }
 
 /// The arguments, or the place of the first of a wrong type.
-fn arguments_of(
+fn arguments_of<'a>(
     alloc: Global,
-    names: &Names<'_>,
+    names: &Names<'a>,
     signature: &[Asked],
-    expressions: &[Expression<'_>],
+    expressions: &[Expression<'a>],
 ) -> Result<Result<Vec<Argument>, u32>, AllocError>
     requires arity { length signature.now ≡ length expressions.now }
     requires fits { AllByRecursion ExpressionFits (map trees.expression_of expressions.now) }

@@ -25,7 +25,7 @@ use fz_spec::asked::{Asked, Element};
 use fz_syntax::{ArrayItem, Basic, ParameterItem, ValueType, VariableItem};
 
 /// The first rule that the declaration of a variable breaks.
-pub(crate) fn variable_fault(names: &Names<'_>, item: &VariableItem<'_>) -> Option<Fault>
+pub(crate) fn variable_fault<'a>(names: &Names<'a>, item: &VariableItem<'a>) -> Option<Fault>
     ensures { IsFirstOf (rules.item_faults (environment_of names.now) (lang.Variable
         (trees.variable_item_of item.now))) result }
 {
@@ -36,7 +36,7 @@ pub(crate) fn variable_fault(names: &Names<'_>, item: &VariableItem<'_>) -> Opti
     or_else(or_else(or_else(unsupported, unknown), wrong), twice)
 }
 
-fn unknown_in_value(names: &Names<'_>, value: &Option<Basic<'_>>) -> Option<u32>
+fn unknown_in_value<'a>(names: &Names<'a>, value: &Option<Basic<'a>>) -> Option<u32>
     ensures { result ≡ slice_get (rules.unknown_of_value (environment_of names.now)
         (option_map trees.basic_of value.now)) 0 }
 {
@@ -46,7 +46,7 @@ fn unknown_in_value(names: &Names<'_>, value: &Option<Basic<'_>>) -> Option<u32>
     }
 }
 
-fn wrong_at_variable(names: &Names<'_>, item: &VariableItem<'_>) -> Option<u32>
+fn wrong_at_variable<'a>(names: &Names<'a>, item: &VariableItem<'a>) -> Option<u32>
     ensures { let v = trees.variable_item_of item.now in
         result ≡ slice_get (rules.output_array_places v.annotations
         ++ rules.wrong_value (environment_of names.now) v.value_type v.value) 0 }
@@ -55,7 +55,11 @@ fn wrong_at_variable(names: &Names<'_>, item: &VariableItem<'_>) -> Option<u32>
     first_place(misplaced, wrong_value(names, &item.value_type, &item.value))
 }
 
-fn wrong_value(names: &Names<'_>, value_type: &ValueType, value: &Option<Basic<'_>>) -> Option<u32>
+fn wrong_value<'a>(
+    names: &Names<'a>,
+    value_type: &ValueType,
+    value: &Option<Basic<'a>>,
+) -> Option<u32>
     ensures { result ≡ slice_get (rules.wrong_value (environment_of names.now)
         (trees.type_of value_type.now) (option_map trees.basic_of value.now)) 0 }
 {
@@ -66,7 +70,7 @@ fn wrong_value(names: &Names<'_>, value_type: &ValueType, value: &Option<Basic<'
 }
 
 /// The place of an expression that isn't the term that is asked.
-pub(crate) fn wrong_term(names: &Names<'_>, asked: Element, basic: &Basic<'_>) -> Option<u32>
+pub(crate) fn wrong_term<'a>(names: &Names<'a>, asked: Element, basic: &Basic<'a>) -> Option<u32>
     ensures { result ≡ slice_get (rules.wrong_place (entries.resolve (environment_of names.now)
         (Asked.One asked) (lang.Scalar (trees.basic_of basic.now)))) 0 }
 {
@@ -77,9 +81,9 @@ pub(crate) fn wrong_term(names: &Names<'_>, asked: Element, basic: &Basic<'_>) -
 }
 
 /// The first rule that the declaration of a parameter breaks; `entry` is what its name stands for, if it has the type.
-pub(crate) fn parameter_fault(
-    names: &Names<'_>,
-    item: &ParameterItem<'_>,
+pub(crate) fn parameter_fault<'a>(
+    names: &Names<'a>,
+    item: &ParameterItem<'a>,
     entry: &Option<Entry>,
 ) -> Option<Fault>
     requires { let p = trees.parameter_item_of item.now in
@@ -100,9 +104,9 @@ pub(crate) fn parameter_fault(
 }
 
 /// The place of a value that hasn't the type of its parameter.
-fn wrong_parameter(
-    _names: &Names<'_>,
-    item: &ParameterItem<'_>,
+fn wrong_parameter<'a>(
+    _names: &Names<'a>,
+    item: &ParameterItem<'a>,
     entry: &Option<Entry>,
 ) -> Option<u32>
     requires { let p = trees.parameter_item_of item.now in
@@ -120,9 +124,9 @@ fn wrong_parameter(
 
 /// The first rule that the declaration of an array breaks; `shape` are the index ranges of its annotation for output, `wrong` is the
 /// place of the first element that hasn't the type.
-pub(crate) fn array_fault(
-    names: &Names<'_>,
-    item: &ArrayItem<'_>,
+pub(crate) fn array_fault<'a>(
+    names: &Names<'a>,
+    item: &ArrayItem<'a>,
     shape: &Option<Vec<(i32, i32)>>,
     wrong: Option<u32>,
 ) -> Option<Fault>

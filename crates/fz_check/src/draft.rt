@@ -56,6 +56,20 @@ impl<'a> Draft<'a> {
         }
     }
 
+    /// Adds an item and lets it go, or gives the first rule that it breaks.
+    pub(crate) fn take(
+        &mut self,
+        alloc: Global,
+        item: Item<'a>,
+    ) -> Result<Option<Fault>, AllocError>
+        requires counted { (n : Counts) × IsCounted self.old n }
+        requires fits { ItemFits (trees.item_of item) }
+        ensures { (n : Counts) → IsCounted self.old n
+            → IfOk result (IsAdded self.old self.new n (trees.item_of item.entry)) }
+    {
+        self.add(alloc, &item)
+    }
+
     /// Adds an item, or gives the first rule that it breaks.
     pub(crate) fn add(
         &mut self,

@@ -11,7 +11,7 @@ ghost use Rattle.fz_check.specs.Entered.{value_entry, set_entry, IsArrayEntry};
 
 use fz_resolve::resolve::{numbers, set, term, terms};
 use fz_resolve::types::kind_of;
-use fz_resolve::{Entry, Names};
+use fz_resolve::{Entry, Names, NumberList, TermList};
 use fz_spec::asked::Element;
 use fz_spec::kind::Kind;
 use fz_spec::term::Term;
@@ -19,10 +19,10 @@ use fz_syntax::{ArrayItem, Basic, ParameterItem, ValueType};
 use std::alloc::{AllocError, Global};
 
 /// What the name of a parameter stands for, if its value has the type.
-pub(crate) fn parameter_entry(
+pub(crate) fn parameter_entry<'a>(
     alloc: Global,
-    names: &Names<'_>,
-    item: &ParameterItem<'_>,
+    names: &Names<'a>,
+    item: &ParameterItem<'a>,
 ) -> Result<Option<Entry>, AllocError>
     requires { BasicFits (trees.basic_of item.now.value) }
     ensures { let p = trees.parameter_item_of item.now in
@@ -35,7 +35,7 @@ pub(crate) fn parameter_entry(
     }
 }
 
-fn one_value(names: &Names<'_>, kind: Kind, basic: &Basic<'_>) -> Option<Entry>
+fn one_value<'a>(names: &Names<'a>, kind: Kind, basic: &Basic<'a>) -> Option<Entry>
     ensures { option_map meant result
         ≡ value_entry kind (entries.term_in (environment_of names.now)
         (record { kind = kind; may_vary = false }) (trees.basic_of basic.now)) }
@@ -62,26 +62,26 @@ fn number_of(term: Term) -> i32
     }
 }
 
-fn set_value(
+fn set_value<'a>(
     alloc: Global,
-    names: &Names<'_>,
-    basic: &Basic<'_>,
+    names: &Names<'a>,
+    basic: &Basic<'a>,
 ) -> Result<Option<Entry>, AllocError>
     requires { BasicFits (trees.basic_of basic.now) }
     ensures { IfOk result (λ entry. option_map meant entry
         ≡ set_entry (entries.set_of (environment_of names.now) (trees.basic_of basic.now))) }
 {
     match set(alloc, names, basic)? {
-        Some(set) => Ok(Some(Entry::Set(set))),
+        Some(set) => Ok(Some(Entry::Set(Box::new(alloc, set)?))),
         None => Ok(None),
     }
 }
 
 /// What the name of an array stands for, or the place of its first element that hasn't the type.
-pub(crate) fn array_entry(
+pub(crate) fn array_entry<'a>(
     alloc: Global,
-    names: &Names<'_>,
-    item: &ArrayItem<'_>,
+    names: &Names<'a>,
+    item: &ArrayItem<'a>,
 ) -> Result<Result<Entry, u32>, AllocError>
     requires { AllByRecursion BasicFits (map trees.basic_of item.now.list.elements.items) }
     ensures { IfOk result (IsArrayEntry (environment_of names.now) (trees.array_item_of item.now)) }
@@ -97,11 +97,11 @@ pub(crate) fn array_entry(
     }
 }
 
-fn term_list(
+fn term_list<'a>(
     alloc: Global,
-    names: &Names<'_>,
+    names: &Names<'a>,
     kind: Kind,
-    elements: &[Basic<'_>],
+    elements: &[Basic<'a>],
 ) -> Result<Result<Entry, u32>, AllocError>
     ensures { IfOk result (λ entry. entries.with_value meant entry
         ≡ entries.with_value (λ terms. entries.Terms kind terms)
@@ -113,16 +113,23 @@ fn term_list(
         may_vary: true,
     };
     match terms(alloc, names, asked, elements)? {
-        Ok(terms) => Ok(Ok(Entry::Terms { kind, terms })),
+        Ok(terms) => Ok(Ok(terms_entry(alloc, kind, terms)?)),
         Err(at) => Ok(Err(at)),
     }
 }
 
-fn number_list(
+fn terms_entry(alloc: Global, kind: Kind, terms: Vec<Term>) -> Result<Entry, AllocError>
+    ensures { IfOk result (λ entry. meant entry ≡ entries.Terms kind terms.items) }
+{
+    let list = Box::new(alloc, TermList { kind, terms })?;
+    Ok(Entry::Terms(list))
+}
+
+fn number_list<'a>(
     alloc: Global,
-    names: &Names<'_>,
+    names: &Names<'a>,
     kind: Kind,
-    elements: &[Basic<'_>],
+    elements: &[Basic<'a>],
 ) -> Result<Result<Entry, u32>, AllocError>
     ensures { IfOk result (λ entry. entries.with_value meant entry
         ≡ entries.with_value (λ terms. entries.Numbers kind (map entries.number_of terms))
@@ -144,13 +151,14 @@ fn numbers_entry(alloc: Global, kind: Kind, terms: &[Term]) -> Result<Entry, All
         ≡ entries.Numbers kind (map entries.number_of terms.now)) }
 {
     let numbers = numbers(alloc, terms)?;
-    Ok(Entry::Numbers { kind, numbers })
+    let list = Box::new(alloc, NumberList { kind, numbers })?;
+    Ok(Entry::Numbers(list))
 }
 
-fn set_list(
+fn set_list<'a>(
     alloc: Global,
-    names: &Names<'_>,
-    elements: &[Basic<'_>],
+    names: &Names<'a>,
+    elements: &[Basic<'a>],
 ) -> Result<Result<Entry, u32>, AllocError>
     requires { AllByRecursion BasicFits (map trees.basic_of elements.now) }
     ensures { IfOk result (λ entry. entries.with_value meant entry

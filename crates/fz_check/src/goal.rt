@@ -25,7 +25,7 @@ const GOAL_ASKED: Element = Element {
 };
 
 /// The first rule that a solve item breaks.
-pub(crate) fn solve_fault(names: &Names<'_>, solve: &SolveItem<'_>) -> Option<Fault>
+pub(crate) fn solve_fault<'a>(names: &Names<'a>, solve: &SolveItem<'a>) -> Option<Fault>
     ensures { IsFirstOf (rules.solve_faults (environment_of names.now)
         (trees.solve_item_of solve.now)) result }
 {
@@ -37,7 +37,7 @@ pub(crate) fn solve_fault(names: &Names<'_>, solve: &SolveItem<'_>) -> Option<Fa
 }
 
 /// The first rule that a goal breaks.
-fn goal_fault(names: &Names<'_>, objective: &Basic<'_>) -> Option<Fault>
+fn goal_fault<'a>(names: &Names<'a>, objective: &Basic<'a>) -> Option<Fault>
     ensures { IsFirstOf (rules.goal_faults (environment_of names.now)
         (trees.basic_of objective.now)) result }
 {
@@ -51,7 +51,7 @@ fn goal_fault(names: &Names<'_>, objective: &Basic<'_>) -> Option<Fault>
 }
 
 /// The goal of a solve item.
-pub(crate) fn goal(names: &Names<'_>, solve: &SolveItem<'_>) -> Goal
+pub(crate) fn goal<'a>(names: &Names<'a>, solve: &SolveItem<'a>) -> Goal
     ensures { result ≡ models.goal_of (environment_of names.now) (trees.solve_item_of solve.now) }
 {
     match &solve.method {
@@ -62,7 +62,7 @@ pub(crate) fn goal(names: &Names<'_>, solve: &SolveItem<'_>) -> Goal
 }
 
 /// The term of a goal that breaks no rule.
-fn goal_term(names: &Names<'_>, objective: &Basic<'_>) -> Term
+fn goal_term<'a>(names: &Names<'a>, objective: &Basic<'a>) -> Term
     ensures { result ≡ models.goal_term (environment_of names.now) (trees.basic_of objective.now) }
 {
     match term(names, GOAL_ASKED, objective) {

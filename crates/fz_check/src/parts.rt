@@ -83,7 +83,7 @@ pub(crate) fn variable_of(alloc: Global, value_type: &ValueType) -> Result<Varia
 }
 
 /// The term that the value of a variable is, if it has one.
-pub(crate) fn value_of(names: &Names<'_>, item: &VariableItem<'_>) -> Option<Term>
+pub(crate) fn value_of<'a>(names: &Names<'a>, item: &VariableItem<'a>) -> Option<Term>
     ensures { let v = trees.variable_item_of item.now in
         result ≡ models.value_term (environment_of names.now) v.value_type v.value }
 {
@@ -184,8 +184,8 @@ pub(crate) fn push_bounds(
         ++ models.element_constraints (scope env 0) a) }
 {
     match entry {
-        Entry::Terms { terms, .. } if is_bound(&item.value_type) => {
-            push_bound_terms(alloc, constraints, &item.value_type, terms)
+        Entry::Terms(list) if is_bound(&item.value_type) => {
+            push_bound_terms(alloc, constraints, &item.value_type, &list.terms)
         }
         _ => Ok(()),
     }
@@ -238,8 +238,8 @@ pub(crate) fn push_array(
         return Ok(());
     };
     match entry {
-        Entry::Terms { kind, terms } => {
-            let output = array(alloc, item.name, *kind, shape, terms)?;
+        Entry::Terms(list) => {
+            let output = array(alloc, item.name, list.kind, shape, &list.terms)?;
             outputs.push(output)?;
             Ok(())
         }

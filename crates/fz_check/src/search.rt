@@ -22,10 +22,10 @@ struct Words {
 }
 
 /// The parts of the search, those of each annotation one behind another. An annotation of a name that stood before says nothing.
-pub(crate) fn search(
+pub(crate) fn search<'a>(
     alloc: Global,
-    names: &Names<'_>,
-    annotations: &[Annotation<'_>],
+    names: &Names<'a>,
+    annotations: &[Annotation<'a>],
 ) -> Result<Vec<SearchPart>, AllocError>
     ensures { IfOk result (λ parts. parts.items
         ≡ searches.search_of (environment_of names.now) (trees.annotations_of annotations.now)) }
@@ -70,10 +70,10 @@ fn is_new(words: Words, name: &[u8]) -> bool
 }
 
 /// Adds the parts of an annotation, if its name is a search word and none of these.
-fn push_first(
+fn push_first<'a>(
     alloc: Global,
-    names: &Names<'_>,
-    annotation: &Annotation<'_>,
+    names: &Names<'a>,
+    annotation: &Annotation<'a>,
     words: Words,
     parts: &mut Vec<SearchPart>,
 ) -> Result<(), AllocError>
@@ -87,10 +87,10 @@ fn push_first(
     Ok(())
 }
 
-fn push_annotation(
+fn push_annotation<'a>(
     alloc: Global,
-    names: &Names<'_>,
-    annotation: &Annotation<'_>,
+    names: &Names<'a>,
+    annotation: &Annotation<'a>,
     parts: &mut Vec<SearchPart>,
 ) -> Result<(), AllocError>
     ensures { OnOk result (parts.new.items ≡ parts.old.items
@@ -107,11 +107,11 @@ fn push_annotation(
 }
 
 #[cycle(calls)]
-fn push_call(
+fn push_call<'a>(
     alloc: Global,
-    names: &Names<'_>,
-    name: Name<'_>,
-    arguments: &[Argument<'_>],
+    names: &Names<'a>,
+    name: Name<'a>,
+    arguments: &[Argument<'a>],
     parts: &mut Vec<SearchPart>,
 ) -> Result<(), AllocError>
     ensures { OnOk result (parts.new.items ≡ parts.old.items
@@ -144,10 +144,10 @@ fn push_call(
 }
 
 #[cycle(calls)]
-fn push_member_call(
+fn push_member_call<'a>(
     alloc: Global,
-    names: &Names<'_>,
-    member: &Argument<'_>,
+    names: &Names<'a>,
+    member: &Argument<'a>,
     parts: &mut Vec<SearchPart>,
 ) -> Result<(), AllocError>
     ensures { OnOk result (parts.new.items ≡ parts.old.items
@@ -175,10 +175,10 @@ fn is_seq_search(word: &[u8]) -> bool
 }
 
 /// Adds the part of `(variables, pick, value)`, with a fourth argument or without.
-fn push_part(
+fn push_part<'a>(
     alloc: Global,
-    names: &Names<'_>,
-    arguments: &[Argument<'_>],
+    names: &Names<'a>,
+    arguments: &[Argument<'a>],
     parts: &mut Vec<SearchPart>,
 ) -> Result<(), AllocError>
     ensures { OnOk result (parts.new.items ≡ parts.old.items
@@ -208,12 +208,12 @@ fn named<'a>(argument: &Argument<'a>) -> Option<Name<'a>>
     }
 }
 
-fn push_words(
+fn push_words<'a>(
     alloc: Global,
-    names: &Names<'_>,
-    variables: &Argument<'_>,
-    pick: Option<Name<'_>>,
-    value: Option<Name<'_>>,
+    names: &Names<'a>,
+    variables: &Argument<'a>,
+    pick: Option<Name<'a>>,
+    value: Option<Name<'a>>,
     parts: &mut Vec<SearchPart>,
 ) -> Result<(), AllocError>
     ensures { OnOk result (parts.new.items ≡ parts.old.items
@@ -226,12 +226,12 @@ fn push_words(
     }
 }
 
-fn push_over(
+fn push_over<'a>(
     alloc: Global,
-    names: &Names<'_>,
-    variables: &Argument<'_>,
-    pick: Name<'_>,
-    value: Name<'_>,
+    names: &Names<'a>,
+    variables: &Argument<'a>,
+    pick: Name<'a>,
+    value: Name<'a>,
     parts: &mut Vec<SearchPart>,
 ) -> Result<(), AllocError>
     ensures { OnOk result (parts.new.items ≡ parts.old.items
@@ -248,10 +248,10 @@ fn push_over(
 }
 
 /// The variables of a list of variables and numbers, or of a declared array of them.
-fn variables_in(
+fn variables_in<'a>(
     alloc: Global,
-    names: &Names<'_>,
-    argument: &Argument<'_>,
+    names: &Names<'a>,
+    argument: &Argument<'a>,
 ) -> Result<Option<Vec<u32>>, AllocError>
     ensures { IfOk result (λ found. option_map (λ variables. variables.items) found
         ≡ searches.variables_in (environment_of names.now) (trees.argument_of argument.now)) }
@@ -259,7 +259,7 @@ fn variables_in(
     match argument {
         Argument::Brackets { arguments, .. } => Ok(members(alloc, names, arguments)?),
         Argument::Simple(Basic::Named(name)) => match names.entry(*name) {
-            Some(Entry::Terms { terms, .. }) => Ok(Some(variables_of(alloc, terms)?)),
+            Some(Entry::Terms(list)) => Ok(Some(variables_of(alloc, &list.terms)?)),
             _ => Ok(None),
         },
         _ => Ok(None),
@@ -287,10 +287,10 @@ fn push_term(variables: &mut Vec<u32>, term: Term) -> Result<(), AllocError>
     Ok(())
 }
 
-fn members(
+fn members<'a>(
     alloc: Global,
-    names: &Names<'_>,
-    arguments: &[Argument<'_>],
+    names: &Names<'a>,
+    arguments: &[Argument<'a>],
 ) -> Result<Option<Vec<u32>>, AllocError>
     ensures { IfOk result (λ found. option_map (λ variables. variables.items) found
         ≡ option_map searches.joined (all_of (map (searches.member (environment_of names.now))
@@ -316,7 +316,7 @@ fn push_member(variables: &mut Vec<u32>, variable: Option<u32>) -> Result<(), Al
 }
 
 /// The variable that a member of a list is, if it is one; nothing where the list isn't of the form.
-fn member(names: &Names<'_>, argument: &Argument<'_>) -> Option<Option<u32>>
+fn member<'a>(names: &Names<'a>, argument: &Argument<'a>) -> Option<Option<u32>>
     ensures { option_map (λ v. option_list v) result
         ≡ searches.member (environment_of names.now) (trees.argument_of argument.now) }
 {

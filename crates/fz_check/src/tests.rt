@@ -45,7 +45,7 @@ fn program(alloc: Global, method: Method<'static>) -> Result<Program<'static>, A
 fn a_program_is_accepted(rt: HostRuntime) -> Result<(), Fail> {
     let alloc = rt.alloc();
     let program = program(alloc, Method::Satisfy { at: 33 })?;
-    let Ok(model) = check(alloc, &program)? else {
+    let Ok(model) = check(alloc, program)? else {
         assert!(rt; false);
         return Ok(());
     };
@@ -62,7 +62,7 @@ fn a_goal_of_a_boolean_is_of_a_wrong_type(rt: HostRuntime) -> Result<(), Fail> {
         at: 42,
     });
     let program = program(alloc, Method::Minimize { at: 33, objective })?;
-    let Err(fault) = check(alloc, &program)? else {
+    let Err(fault) = check(alloc, program)? else {
         assert!(rt; false);
         return Ok(());
     };

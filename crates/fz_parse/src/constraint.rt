@@ -6,7 +6,7 @@ ghost use Rattle.fz_parse.specs.Steps.{rest, ParsesLow, ParsesAt};
 
 use crate::annotation::annotations;
 use crate::expression::expression;
-use crate::steps::{identifier, is, take};
+use crate::steps::{identifier, is, parts_from, take};
 use crate::stop::Stop;
 use fz_language::keyword::Keyword;
 use fz_language::sign::Sign;
@@ -29,6 +29,7 @@ fn expressions<'a>(
     if is(tokens, *next, TokenKind::Sign(Sign::RightParenthesis)) {
         return Ok(found);
     }
+    found.reserve_exact(parts_from(tokens, *next))?;
     found.push(expression(alloc, tokens, next)?)?;
     'expressions: while is(tokens, *next, TokenKind::Sign(Sign::Comma)) {
         take(tokens, next, TokenKind::Sign(Sign::Comma))?;

@@ -1,17 +1,17 @@
 //! The reading of expressions.
-ghost use Rattle.std.specs.Prelude.{◌≡◌, ◌≤◌, ◌<◌, OnOk, length, map};
+ghost use Rattle.std.specs.Prelude.{◌≡◌, ◌≤◌, ◌<◌, IfOk, OnOk, length, map};
 ghost use Rattle.fz_language.specs.Grammar as grammar;
 ghost use Rattle.fz_syntax.specs.Trees.{number_of, set_of, basic_of, list_of, expression_of};
 ghost use Rattle.fz_parse.specs.Steps.{rest, Parses, ParsesLow, option_of};
 
-use crate::steps::{identifier, integer, is, take};
+use crate::steps::{identifier, integer, is, parts_from, take};
 use crate::stop::Stop;
 use fz_language::keyword::Keyword;
 use fz_language::sign::Sign;
 use fz_language::token_kind::TokenKind;
 use fz_syntax::{Basic, Expression, ListLiteral, Number, SetLiteral};
 use fz_tokens::Tokens;
-use std::alloc::Global;
+use std::alloc::{AllocError, Global};
 
 /// Takes a number.
 pub(crate) fn number(tokens: &Tokens, next: &mut usize) -> Result<Number, Stop>
@@ -111,20 +111,29 @@ pub(crate) fn constant<'a>(
     }
     if is(tokens, *next, TokenKind::Sign(Sign::LeftBrace)) {
         let set = braces(alloc, tokens, next)?;
-        return Ok(Basic::Literal(set));
+        return Ok(Basic::Literal(Box::new(alloc, set)?));
     }
     let low = number(tokens, next)?;
     let high = range_end(tokens, next)?;
-    Ok(number_or_range(low, high))
+    let basic = number_or_range(alloc, low, high)?;
+    Ok(basic)
 }
 
 /// A number, or the range that begins with it.
-fn number_or_range<'a>(low: Number, high: Option<Number>) -> Basic<'a>
-    ensures { basic_of result ≡ grammar.number_or_range (number_of low) (option_of number_of high) }
+fn number_or_range<'a>(
+    alloc: Global,
+    low: Number,
+    high: Option<Number>,
+) -> Result<Basic<'a>, AllocError>
+    ensures { IfOk result (λ basic. basic_of basic
+        ≡ grammar.number_or_range (number_of low) (option_of number_of high)) }
 {
     match high {
-        Some(high) => Basic::Literal(SetLiteral::Range { low, high }),
-        None => Basic::Numeral(low),
+        Some(high) => {
+            let range = Box::new(alloc, SetLiteral::Range { low, high })?;
+            Ok(Basic::Literal(range))
+        }
+        None => Ok(Basic::Numeral(low)),
     }
 }
 
@@ -160,6 +169,7 @@ fn elements<'a>(
     if is(tokens, *next, TokenKind::Sign(Sign::RightBracket)) {
         return Ok(found);
     }
+    found.reserve_exact(parts_from(tokens, *next))?;
     found.push(basic(alloc, tokens, next)?)?;
     'elements: while is(tokens, *next, TokenKind::Sign(Sign::Comma)) {
         take(tokens, next, TokenKind::Sign(Sign::Comma))?;

@@ -62,7 +62,7 @@ fn item<'a>(alloc: Global, tokens: &Tokens<'a>, next: &mut usize) -> Result<Item
     }
     if is(tokens, *next, TokenKind::Keyword(Keyword::Array)) {
         let item = array_item(alloc, tokens, next)?;
-        return Ok(Item::Array(item));
+        return Ok(Item::Array(Box::new(alloc, item)?));
     }
     if begins_type(tokens.kind(*next)) {
         let item = parameter_item(alloc, tokens, next)?;

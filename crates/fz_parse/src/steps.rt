@@ -1,5 +1,5 @@
 //! Steps of the reading: tests and takings of one token.
-ghost use Rattle.std.specs.Prelude.{◌≡◌, ◌<◌, ◌≤◌, ℕ, [], ◌∷◌, OnOk, MatchResult, length, true};
+ghost use Rattle.std.specs.Prelude.{◌≡◌, ◌<◌, ◌≤◌, ◌+◌, ℕ, [], ◌∷◌, OnOk, MatchResult, length, true};
 ghost use Rattle.fz_language.specs.declared.token_kind.TokenKind.TheVariants as kinds;
 ghost use Rattle.fz_language.specs.Kinds.{number};
 ghost use Rattle.fz_grammar.specs.Reading.{head, has};
@@ -8,6 +8,7 @@ ghost use Rattle.fz_parse.specs.Steps.{rest, IsMark, TakesMark, TakesName, Takes
 
 use crate::stop::Stop;
 use fz_language::fault::SyntaxFault;
+use fz_language::sign::Sign;
 use fz_language::token_kind::TokenKind;
 use fz_syntax::{Integer, Name};
 use fz_tokens::Tokens;
@@ -66,4 +67,23 @@ pub(crate) fn integer(tokens: &Tokens, next: &mut usize) -> Result<Integer, Stop
         }
         None => Err(Stop::Fault(SyntaxFault::Unexpected)),
     }
+}
+
+/// How many parts stand from this token on, with commas between them, up to the bracket that closes them: how much room a list
+/// wants. Of a list that isn't closed it is a guess.
+pub(crate) fn parts_from(tokens: &Tokens, from: usize) -> usize
+    ensures { result ≤ length tokens.now.tokens + 1 }
+{
+    let mut commas: usize = 0;
+    let mut level: usize = 0;
+    for index in from..tokens.len() {
+        match tokens.kind(index) {
+            TokenKind::Sign(Sign::Comma) if level == 0 => commas += 1,
+            TokenKind::Sign(Sign::LeftBracket | Sign::LeftBrace) => level += 1,
+            TokenKind::Sign(Sign::RightBracket | Sign::RightBrace) if level > 0 => level -= 1,
+            TokenKind::Sign(Sign::RightBracket | Sign::RightParenthesis | Sign::Semicolon) => break,
+            _ => {}
+        }
+    }
+    commas.saturating_add(1)
 }

@@ -4,6 +4,7 @@ ghost use Rattle.fz_spec.specs.Instance as instance;
 ghost use Rattle.fz_language.specs.Annotations as said;
 ghost use Rattle.fz_language.specs.Numerals.{all_of};
 ghost use Rattle.fz_language.specs.Rules as rules;
+ghost use Rattle.fz_language.specs.Trees as lang;
 ghost use Rattle.fz_syntax.specs.Trees as trees;
 ghost use Rattle.fz_language.specs.Annotations.{shape_among};
 
@@ -124,14 +125,19 @@ fn range_of(argument: &Argument<'_>) -> Option<(i32, i32)>
     ensures { result ≡ said.range_of (trees.argument_of argument.now) }
 {
     match argument {
-        Argument::Simple(
-            Basic::Literal(
-                SetLiteral::Range {
-                    low: Number::Whole(low),
-                    high: Number::Whole(high),
-                },
-            ),
-        ) => Some((low.value, high.value)),
+        Argument::Simple(Basic::Literal(set)) => range_in(set),
+        _ => None,
+    }
+}
+
+fn range_in(set: &SetLiteral) -> Option<(i32, i32)>
+    ensures { result ≡ said.range_of (lang.Simple (lang.Literal (trees.set_of set.now))) }
+{
+    match set {
+        SetLiteral::Range {
+            low: Number::Whole(low),
+            high: Number::Whole(high),
+        } => Some((low.value, high.value)),
         _ => None,
     }
 }
@@ -142,14 +148,20 @@ fn range_at(argument: &Argument<'_>) -> Option<u32>
         result ≡ option_map (λ r. said.place_of tree) (said.range_of tree) }
 {
     match argument {
-        Argument::Simple(
-            Basic::Literal(
-                SetLiteral::Range {
-                    low: Number::Whole(low),
-                    high: Number::Whole(_),
-                },
-            ),
-        ) => Some(low.at),
+        Argument::Simple(Basic::Literal(set)) => range_in_at(set),
+        _ => None,
+    }
+}
+
+fn range_in_at(set: &SetLiteral) -> Option<u32>
+    ensures { let tree = lang.Simple (lang.Literal (trees.set_of set.now)) in
+        result ≡ option_map (λ r. said.place_of tree) (said.range_of tree) }
+{
+    match set {
+        SetLiteral::Range {
+            low: Number::Whole(low),
+            high: Number::Whole(_),
+        } => Some(low.at),
         _ => None,
     }
 }

@@ -9,14 +9,29 @@ use fz_model::Term;
 use fz_spec::asked::Element;
 use fz_spec::kind::Kind;
 
-/// A variable by its number, a value, a set, an array of numbers, of variables and numbers, or of sets.
+/// An array of numbers.
+#[derive(Drop)]
+pub struct NumberList {
+    pub kind: Kind,
+    pub numbers: Vec<i32>,
+}
+
+/// An array of variables and numbers.
+#[derive(Drop)]
+pub struct TermList {
+    pub kind: Kind,
+    pub terms: Vec<Term>,
+}
+
+/// A variable by its number, a value, a set, an array of numbers, of variables and numbers, or of sets. Most entries are variables:
+/// what is larger stands in a box.
 #[derive(Drop)]
 pub enum Entry {
     Variable { kind: Kind, number: u32 },
     Value { kind: Kind, value: i32 },
-    Set(Dom),
-    Numbers { kind: Kind, numbers: Vec<i32> },
-    Terms { kind: Kind, terms: Vec<Term> },
+    Set(Box<Dom>),
+    Numbers(Box<NumberList>),
+    Terms(Box<TermList>),
     Sets,
 }
 

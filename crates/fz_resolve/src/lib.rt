@@ -14,7 +14,7 @@ pub mod rules;
 mod tests;
 pub mod types;
 
-pub use entry::Entry;
+pub use entry::{Entry, NumberList, TermList};
 pub use fault::{Fault, fault_at};
 pub use limits::Room;
 pub use names::Names;

@@ -3,17 +3,31 @@ ghost use Rattle.std.specs.Prelude.{◌≡◌, OnOk, None, option_copied, option
 ghost use Rattle.fz_language.specs.Entries.{nothing_declared, with_entry};
 ghost use Rattle.fz_language.specs.Rules.{unknown_in, unknown_of};
 ghost use Rattle.fz_syntax.specs.Trees.{basic_of, expression_of};
-ghost use Rattle.fz_resolve.specs.Meant.{environment_of, meant};
+ghost use Rattle.fz_resolve.specs.Meant.{environment_of, meant, tail_from};
 
 use crate::entry::Entry;
 use fz_syntax::{Basic, Expression, Name};
 use std::alloc::{AllocError, Global};
 use std::collections::BTreeMap;
 
+/// A name as it is looked up: the number that its last eight bytes make, by which most names are told apart, and its bytes.
+type Key<'a> = (u64, &'a [u8]);
+
+fn key_of(bytes: &[u8]) -> Key<'_>
+    ensures tail { result.0 ≡ tail_from 0 bytes.now }
+    ensures bytes { result.1.now ≡ bytes.now }
+{
+    let mut tail: u64 = 0;
+    for byte in bytes {
+        tail = tail.wrapping_mul(256).wrapping_add(u64::from(*byte));
+    }
+    (tail, bytes)
+}
+
 /// An entry for each name, found by its bytes in time that no input makes longer than the logarithm of their number.
 #[derive(Drop)]
 pub struct Names<'a> {
-    known: BTreeMap<&'a [u8], Entry>,
+    known: BTreeMap<Key<'a>, Entry>,
 }
 
 impl<'a> Names<'a> {
@@ -27,11 +41,11 @@ impl<'a> Names<'a> {
     }
 
     /// What a name stands for.
-    pub fn entry(&self, name: Name<'_>) -> Option<&Entry>
+    pub fn entry(&self, name: Name<'a>) -> Option<&Entry>
         ensures { option_map meant (option_copied result)
             ≡ environment_of self.now name.entry.bytes.now }
     {
-        self.known.get(name.bytes)
+        self.known.get(&key_of(name.bytes))
     }
 
     /// Gives a name an entry.
@@ -39,12 +53,12 @@ impl<'a> Names<'a> {
         ensures { OnOk result (environment_of self.new
             ≡ with_entry name.entry.bytes.now (meant entry) (environment_of self.old)) }
     {
-        self.known.insert(name.bytes, entry)?;
+        self.known.insert(key_of(name.bytes), entry)?;
         Ok(())
     }
 
     /// The place of the name that an expression is, if it isn't declared.
-    pub fn unknown(&self, basic: &Basic<'_>) -> Option<u32>
+    pub fn unknown(&self, basic: &Basic<'a>) -> Option<u32>
         ensures { result ≡ slice_get (unknown_in (environment_of self.now) (basic_of basic.now)) 0 }
     {
         match basic {
@@ -57,7 +71,7 @@ impl<'a> Names<'a> {
     }
 
     /// The same of the elements of a list.
-    pub fn unknown_element(&self, elements: &[Basic<'_>]) -> Option<u32>
+    pub fn unknown_element(&self, elements: &[Basic<'a>]) -> Option<u32>
         ensures { result ≡ slice_get
             (flat_map (unknown_in (environment_of self.now)) (map basic_of elements.now)) 0 }
     {
@@ -70,7 +84,7 @@ impl<'a> Names<'a> {
     }
 
     /// The same of an argument of a constraint.
-    fn unknown_of(&self, argument: &Expression<'_>) -> Option<u32>
+    fn unknown_of(&self, argument: &Expression<'a>) -> Option<u32>
         ensures { result
             ≡ slice_get (unknown_of (environment_of self.now) (expression_of argument.now)) 0 }
     {
@@ -81,7 +95,7 @@ impl<'a> Names<'a> {
     }
 
     /// The same of the arguments of a constraint.
-    pub fn unknown_argument(&self, arguments: &[Expression<'_>]) -> Option<u32>
+    pub fn unknown_argument(&self, arguments: &[Expression<'a>]) -> Option<u32>
         ensures { result ≡ slice_get
             (flat_map (unknown_of (environment_of self.now)) (map expression_of arguments.now)) 0 }
     {

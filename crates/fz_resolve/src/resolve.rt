@@ -24,7 +24,7 @@ use std::alloc::{AllocError, Global};
 pub type Checked<T> = Result<T, u32>;
 
 /// The term that an expression is, if it is what is asked.
-pub fn term(names: &Names<'_>, asked: Element, basic: &Basic<'_>) -> Option<Term>
+pub fn term<'a>(names: &Names<'a>, asked: Element, basic: &Basic<'a>) -> Option<Term>
     ensures { result ≡ term_in (environment_of names.now) asked (basic_of basic.now) }
 {
     match basic {
@@ -47,11 +47,11 @@ fn truth(value: bool) -> Term
 }
 
 /// The terms that the elements of a list are, or the place of the first that isn't what is asked.
-pub fn terms(
+pub fn terms<'a>(
     alloc: Global,
-    names: &Names<'_>,
+    names: &Names<'a>,
     asked: Element,
-    elements: &[Basic<'_>],
+    elements: &[Basic<'a>],
 ) -> Result<Checked<Vec<Term>>, AllocError>
     ensures { IfOk result (λ found. with_value (λ terms. terms.items) found
         ≡ each_of (term_in (environment_of names.now) asked) (map basic_of elements.now)) }
@@ -136,7 +136,11 @@ pub fn literal(alloc: Global, set: &SetLiteral) -> Result<Option<Dom>, AllocErro
 }
 
 /// The set that an expression is.
-pub fn set(alloc: Global, names: &Names<'_>, basic: &Basic<'_>) -> Result<Option<Dom>, AllocError>
+pub fn set<'a>(
+    alloc: Global,
+    names: &Names<'a>,
+    basic: &Basic<'a>,
+) -> Result<Option<Dom>, AllocError>
     requires { BasicFits (basic_of basic.now) }
     ensures { IfOk result (λ found. found
         ≡ entries.set_of (environment_of names.now) (basic_of basic.now)) }
@@ -180,22 +184,24 @@ fn entry_list(alloc: Global, asked: Element, entry: &Entry) -> Result<Option<Arg
         ≡ entries.entry_list asked (meant entry.now)) }
 {
     match entry {
-        Entry::Numbers { kind, numbers } if *kind == asked.kind => {
-            Ok(Some(number_list(alloc, asked.may_vary, numbers)?))
-        }
-        Entry::Terms { kind, terms } if *kind == asked.kind && asked.may_vary => {
-            Ok(Some(Argument::Terms(Vec::from_slice(alloc, terms)?)))
+        Entry::Numbers(list) if list.kind == asked.kind => Ok(Some(number_list(
+            alloc,
+            asked.may_vary,
+            &list.numbers,
+        )?)),
+        Entry::Terms(list) if list.kind == asked.kind && asked.may_vary => {
+            Ok(Some(Argument::Terms(Vec::from_slice(alloc, &list.terms)?)))
         }
         _ => Ok(None),
     }
 }
 
 /// The list that a declared array is, if it is what is asked.
-fn named_list(
+fn named_list<'a>(
     alloc: Global,
-    names: &Names<'_>,
+    names: &Names<'a>,
     asked: Element,
-    name: Name<'_>,
+    name: Name<'a>,
 ) -> Result<Option<Argument>, AllocError>
     ensures { IfOk result (λ found. option_map argument_of found
         ≡ entries.named (environment_of names.now)
@@ -208,11 +214,11 @@ fn named_list(
 }
 
 /// The argument that a list literal is.
-fn listed(
+fn listed<'a>(
     alloc: Global,
-    names: &Names<'_>,
+    names: &Names<'a>,
     asked: Element,
-    elements: &[Basic<'_>],
+    elements: &[Basic<'a>],
 ) -> Result<Checked<Argument>, AllocError>
     ensures { IfOk result (λ found. with_value argument_of found
         ≡ with_value (entries.list_argument asked)
@@ -230,11 +236,11 @@ fn listed(
 
 /// The argument that an expression is where this is asked, or the place where it is of a wrong type: its first token, but in a
 /// list literal for a list the first token of the first element of a wrong type.
-pub fn resolve(
+pub fn resolve<'a>(
     alloc: Global,
-    names: &Names<'_>,
+    names: &Names<'a>,
     asked: Asked,
-    expression: &Expression<'_>,
+    expression: &Expression<'a>,
 ) -> Result<Checked<Argument>, AllocError>
     requires { ExpressionFits (expression_of expression.now) }
     ensures { IfOk result (λ found. with_value argument_of found

@@ -188,7 +188,7 @@ pub fn wrong_length_at(item: &ArrayItem<'_>, shape: &Option<Vec<(i32, i32)>>) ->
 }
 
 /// The place of a name that is declared already.
-pub fn declared_already(names: &Names<'_>, name: Name<'_>) -> Option<u32>
+pub fn declared_already<'a>(names: &Names<'a>, name: Name<'a>) -> Option<u32>
     ensures { result
         ≡ slice_get (rules.declared_already (environment_of names.now)
         (trees.name_of name.entry)) 0 }

@@ -4,7 +4,7 @@ ghost use Rattle.fz_language.specs.Within.{ExpressionFits, SetFits};
 ghost use Rattle.fz_syntax.specs.Trees.{expression_of, set_of};
 
 use crate::annotations::output_shape;
-use crate::entry::Entry;
+use crate::entry::{Entry, NumberList};
 use crate::names::Names;
 use crate::resolve::{literal, resolve};
 use crate::rules::wrong_length_at;
@@ -74,13 +74,13 @@ fn declared(alloc: Global) -> Result<Names<'static>, AllocError> {
     };
     names.declare(name("x", 0), variable)?;
     if let Some(set) = literal(alloc, &members(alloc)?)? {
-        names.declare(name("s", 0), Entry::Set(set))?;
+        names.declare(name("s", 0), Entry::Set(Box::new(alloc, set)?))?;
     }
-    let numbers = Entry::Numbers {
+    let numbers = NumberList {
         kind: Kind::Int,
         numbers: Vec::from_slice(alloc, &[4, 5])?,
     };
-    names.declare(name("ns", 0), numbers)?;
+    names.declare(name("ns", 0), Entry::Numbers(Box::new(alloc, numbers)?))?;
     Ok(names)
 }
 
@@ -123,15 +123,16 @@ fn expressions_are_resolved(rt: HostRuntime) -> Result<(), Fail> {
     Ok(())
 }
 
-fn range(low: i32, high: i32) -> Annotated<'static> {
+fn range(alloc: Global, low: i32, high: i32) -> Result<Annotated<'static>, AllocError> {
     let low = Number::Whole(Integer { value: low, at: 0 });
     let high = Number::Whole(Integer { value: high, at: 0 });
-    Annotated::Simple(Basic::Literal(SetLiteral::Range { low, high }))
+    let set = Box::new(alloc, SetLiteral::Range { low, high })?;
+    Ok(Annotated::Simple(Basic::Literal(set)))
 }
 
 /// `output_array([1..2, 0..2])`
 fn output(alloc: Global) -> Result<Vec<Annotation<'static>>, AllocError> {
-    let ranges = Vec::from_array(alloc, [range(1, 2), range(0, 2)])?;
+    let ranges = Vec::from_array(alloc, [range(alloc, 1, 2)?, range(alloc, 0, 2)?])?;
     let brackets = Annotated::Brackets {
         at: 0,
         arguments: ranges,

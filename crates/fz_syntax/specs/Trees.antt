@@ -62,7 +62,7 @@ type_of (value_type.SetOf at plain) = trees.SetOf at (plain_of plain)
 abbrev pub basic_of : Basic → trees.Basic
 basic_of (basic.Truth value at) = trees.Truth value at
 basic_of (basic.Numeral number) = trees.Numeral (number_of number)
-basic_of (basic.Literal set) = trees.Literal (set_of set)
+basic_of (basic.Literal set) = trees.Literal (set_of set.value)
 basic_of (basic.Named name) = trees.Named (name_of name)
 
 abbrev pub list_of : ListLiteral → trees.ListLiteral
@@ -140,7 +140,7 @@ abbrev pub item_of : Item → trees.Item
 item_of (item.Predicate p) = trees.Predicate (predicate_item_of p)
 item_of (item.Variable v) = trees.Variable (variable_item_of v)
 item_of (item.Parameter p) = trees.Parameter (parameter_item_of p)
-item_of (item.Array a) = trees.Array (array_item_of a)
+item_of (item.Array a) = trees.Array (array_item_of a.value)
 item_of (item.Constraint c) = trees.Constraint (constraint_item_of c)
 
 abbrev pub method_of : Method → trees.Method

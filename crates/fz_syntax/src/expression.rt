@@ -43,12 +43,13 @@ impl SetLiteral {
     }
 }
 
-/// An expression that is no list: `true` or `false`, a number, a set, or a name.
+/// An expression that is no list: `true` or `false`, a number, a set, or a name. A set stands in a box, since it is the largest and
+/// seldom there: lists may have a million elements.
 #[derive(Drop)]
 pub enum Basic<'a> {
     Truth { value: bool, at: u32 },
     Numeral(Number),
-    Literal(SetLiteral),
+    Literal(Box<SetLiteral>),
     Named(Name<'a>),
 }
 

@@ -65,12 +65,12 @@ pub struct ConstraintItem<'a> {
     pub annotations: Vec<Annotation<'a>>,
 }
 
-/// An item before the solve item.
+/// An item before the solve item. The one of an array stands in a box, since it is the largest.
 #[derive(Drop)]
 pub enum Item<'a> {
     Predicate(PredicateItem<'a>),
     Variable(VariableItem<'a>),
     Parameter(ParameterItem<'a>),
-    Array(ArrayItem<'a>),
+    Array(Box<ArrayItem<'a>>),
     Constraint(ConstraintItem<'a>),
 }

@@ -12,14 +12,10 @@ use Rattle.fz_cmd.specs.Meaning.{Options}
 use Rattle.fz_print.specs.Ending.{statistics_text}
 use Rattle.fz_spec.specs.declared.term.Term.{Term}
 use Rattle.fzn.specs.Runs.{AreSome, AreBest, counted, summary_of, wanted}
-use Rattle.fz_language.specs.Grammar.{Spells}
 use Rattle.fz_language.specs.Reads.{Reads, IsRefusedAt}
 use Rattle.fz_language.specs.Reads as reads
 use Rattle.fz_io.specs.Outside.{with_more, AllFlushed}
 use Rattle.fz_print.specs.declared.refusal.Refusal.{Refusal}
-use Rattle.fz_syntax.specs.declared.program.Program as syntax
-use Rattle.fz_syntax.specs.Trees.{program_of}
-use Rattle.fz_tokens.specs.Lexed.{LexedText, IsLexed}
 use Rattle.fzn.specs.declared.reader.Cause.{Cause}
 use Rattle.fzn.specs.declared.status.Status.{Status}
 use Rattle.fzn.specs.declared.status.Status.TheVariants.{Done, Refused, Usage, SourceFault, SinkFault, NoMemory}
@@ -30,11 +26,6 @@ use Rattle.fzn.specs.Promises.{Prints}
 -- the text is refused for this cause
 abbrev pub IsCause : List ℕ → Cause → Type 0
 IsCause text cause = IsRefusedAt text cause.code cause.at
-
--- the text is short, these are its tokens, and they spell this program
-pub record IsSpeltBy (text : LexedText) (p : syntax.Program) : Type 0 where
-  pub lexed : IsLexed text
-  pub spelt : Spells text.tokens (program_of p)
 
 -- the text is refused so
 pub record IsRefusal (text : List ℕ) (r : Refusal) : Type 0 where

@@ -3,10 +3,11 @@ ghost use Rattle.std.specs.Prelude.{◌≡◌, ◌<◌, ◌≤◌, IfOk, MatchRe
 ghost use Rattle.fz_spec.specs.Codes.{code_number};
 ghost use Rattle.fz_spec.specs.declared.limits.TheConstants.{TEXT_LIMIT};
 ghost use Rattle.fz_language.specs.Places.{line_of, column_of};
-ghost use Rattle.fz_language.specs.Reads.{Reads, Accepted};
+ghost use Rattle.fz_language.specs.Reads.{Reads, Accepted, IsProgramText};
 ghost use Rattle.fz_language.specs.Reads as reads;
+ghost use Rattle.fz_syntax.specs.Trees.{program_of};
 ghost use Rattle.fz_tokens.specs.Lexed.{IsLexed};
-ghost use Rattle.fzn.specs.Steps.{IsRefusal, IsCause, IsSpeltBy};
+ghost use Rattle.fzn.specs.Steps.{IsRefusal, IsCause};
 
 use fz_check::{Fault, check};
 use fz_language::fault::{RuleFault, SyntaxFault, TokenFault};
@@ -82,20 +83,24 @@ fn read(alloc: Global, text: &[u8]) -> Result<Result<Model, Cause>, AllocError>
         (IsCause text.now)) }
 {
     match tokens(alloc, text) {
-        Ok(Ok(tokens)) => read_tokens(alloc, &tokens),
+        Ok(Ok(tokens)) => read_tokens(alloc, tokens),
         Ok(Err(fault)) => Ok(Err(unlexed(fault))),
         Err(error) => Err(error),
     }
 }
 
-/// The same of a text that has tokens.
-fn read_tokens(alloc: Global, tokens: &Tokens<'_>) -> Result<Result<Model, Cause>, AllocError>
-    requires lexed { IsLexed tokens.now }
+/// The same of a text that has tokens. They are let go as soon as they are read.
+fn read_tokens(alloc: Global, tokens: Tokens<'_>) -> Result<Result<Model, Cause>, AllocError>
+    requires lexed { IsLexed tokens }
     ensures { IfOk result (λ reading. MatchResult reading
-        (λ model. Reads tokens.now.text (Accepted model)) (IsCause tokens.now.text)) }
+        (λ model. Reads tokens.entry.text (Accepted model)) (IsCause tokens.entry.text)) }
 {
-    match parse(alloc, tokens) {
-        Ok(Ok(program)) => read_program(alloc, tokens, &program),
+    let text = tokens.text();
+    match parse(alloc, &tokens) {
+        Ok(Ok(program)) => {
+            drop(tokens);
+            read_program(alloc, text, program)
+        }
         Ok(Err(fault)) => Ok(Err(unspelt(fault))),
         Err(error) => Err(error),
     }
@@ -104,12 +109,12 @@ fn read_tokens(alloc: Global, tokens: &Tokens<'_>) -> Result<Result<Model, Cause
 /// The same of a text whose tokens spell a program.
 fn read_program(
     alloc: Global,
-    tokens: &Tokens<'_>,
-    program: &Program<'_>,
+    _text: &[u8],
+    program: Program<'_>,
 ) -> Result<Result<Model, Cause>, AllocError>
-    requires spelt { IsSpeltBy tokens.now program.now }
-    ensures { IfOk result (λ reading. MatchResult reading
-        (λ model. Reads tokens.now.text (Accepted model)) (IsCause tokens.now.text)) }
+    requires spelt { IsProgramText _text.now (program_of program) }
+    ensures { IfOk result (λ reading. MatchResult reading (λ model. Reads _text.now (Accepted model))
+        (IsCause _text.now)) }
 {
     match check(alloc, program) {
         Ok(Ok(model)) => Ok(Ok(model)),

@@ -29,15 +29,15 @@ fn model_of_tokens(alloc: Global, tokens: &Tokens<'_>) -> Result<Option<Model>, 
     requires { IsLexed tokens.now }
 {
     match parse(alloc, tokens) {
-        Ok(Ok(program)) => model_of_program(alloc, &program),
+        Ok(Ok(program)) => model_of_program(alloc, program),
         Ok(Err(_)) => Ok(None),
         Err(error) => Err(error),
     }
 }
 
 /// The same of a text whose tokens spell a program.
-fn model_of_program(alloc: Global, program: &Program<'_>) -> Result<Option<Model>, AllocError>
-    requires { ProgramFits (program_of program.now) }
+fn model_of_program(alloc: Global, program: Program<'_>) -> Result<Option<Model>, AllocError>
+    requires { ProgramFits (program_of program) }
 {
     match check(alloc, program) {
         Ok(Ok(model)) => Ok(Some(model)),

@@ -1,4 +1,4 @@
-use Rattle.std.proofs.Common.{List, [], ◌∷◌, map, refl, ap, sym, subst, arith}
+use Rattle.std.proofs.Common.{List, [], ◌∷◌, map, refl, ap, sym, subst, arith, ◌∙◌}
 use Rattle.std.proofs.lemmas.Result.{err_from_is_err_and}
 use Rattle.fz_language.specs.Trees as trees
 use Rattle.fz_language.specs.Grammar.{flatzinc, rules, Expressions, Listed}
@@ -18,7 +18,7 @@ returns-then-is-clause-taken c = λ l low.
 
 pub returns-in_err-expression-clause-taken : goal.returns-in_err-expression-clause-taken
 returns-in_err-expression-clause-taken c =
-    let p = err_from_is_err_and c.from_residual.result c.from_residual.ensures.1 in
+    let p = err_from_is_err_and c.from_residual-in_err-expression.result c.from_residual-in_err-expression.ensures.1 in
     rw (p.1, p.2) (λ l low. stops_first Expressions (later (rules (Listed Expressions)) (head flatzinc (rest c.args.tokens.now c.args.next.now)) c.is.ensures.found c.if-is.false) (c.in_err-expression.ensures.taken l low))
 
 pub expressions-init : goal.expressions-init
@@ -26,7 +26,7 @@ expressions-init c = (
   omega (arith, c.in_ok-expression.ensures.forward),
   λ l low.
       subst (λ (v : List trees.Expression). GoesOn Expressions l (Listed Expressions) (rest c.args.tokens.now c.args.next.now) (rest c.args.tokens.now c.expression.new.next) (λ w. w) v)
-      (first_pushed expression_of c.push.new.self.items c.new-found.result.items c.in_ok-expression.field-0 c.new-found.ensures.items c.in_ok-push.ensures.items)
+      (first_pushed expression_of c.push.new.self.items c.reserve_exact.new.self.items c.in_ok-expression.field-0 (c.reserve_exact.ensures.items ∙ c.new-found.ensures.items) c.in_ok-push.ensures.items)
       (goes_first Expressions (later (rules (Listed Expressions)) (head flatzinc (rest c.args.tokens.now c.args.next.now)) c.is.ensures.found c.if-is.false) (c.in_ok-expression.ensures.taken l low)),
 )
 

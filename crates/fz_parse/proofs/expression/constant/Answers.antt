@@ -1,6 +1,9 @@
 use Rattle.std.proofs.Common.{refl, ◌∙◌, subst, sym, [], ◌∷◌}
 use Rattle.std.proofs.lemmas.Result.{err_from_is_err_and}
 use Rattle.fz_language.specs.Grammar as grammar
+use Rattle.fz_language.specs.Trees as trees
+use Rattle.fz_syntax.specs.declared.expression.SetLiteral.{SetLiteral}
+use Rattle.fz_syntax.specs.Trees.{set_of}
 use Rattle.fz_grammar.specs.Reading.{head}
 use Rattle.fz_parse.specs.Steps.{rest, Read}
 use Rattle.fz_grammar.specs.Grammar.{Rule}
@@ -38,7 +41,7 @@ returns-in_err-set-clause-taken c =
 pub returns-then-is-3-clause-taken : goal.returns-then-is-3-clause-taken
 returns-then-is-3-clause-taken c =
     let h = head grammar.flatzinc (rest c.args.tokens.now c.args.next.now) in
-    λ l. reads_by {n = grammar.Constant} (later (grammar.rules grammar.Constant) h c.is.ensures.found c.if-is.false ∙ later (tail (grammar.rules grammar.Constant)) h c.is-2.ensures.found c.if-is-2.false ∙ first (tail (tail (grammar.rules grammar.Constant))) h c.is-3.ensures.found c.if-is-3.true) (rule_then (c.in_ok-set.ensures.taken l) ended)
+    λ l. subst (λ (s : SetLiteral). Read l (Rule grammar.Constant ∷ []) (trees.Literal (set_of s), tt) (rest c.args.tokens.now c.args.next.now) (rest c.args.tokens.now c.braces.new.next)) (sym c.in_ok-new.ensures.ok) (reads_by {n = grammar.Constant} (later (grammar.rules grammar.Constant) h c.is.ensures.found c.if-is.false ∙ later (tail (grammar.rules grammar.Constant)) h c.is-2.ensures.found c.if-is-2.false ∙ first (tail (tail (grammar.rules grammar.Constant))) h c.is-3.ensures.found c.if-is-3.true) (rule_then (c.in_ok-set.ensures.taken l) ended))
 
 pub returns-in_err-low-clause-taken : goal.returns-in_err-low-clause-taken
 returns-in_err-low-clause-taken c =
@@ -55,4 +58,4 @@ returns-in_err-high-clause-taken c =
 pub returns-clause-taken : goal.returns-clause-taken
 returns-clause-taken c =
     let h = head grammar.flatzinc (rest c.args.tokens.now c.args.next.now) in
-    λ l. subst (λ (v : grammar.Tree grammar.Constant). Read l (Rule grammar.Constant ∷ []) (v, tt) (rest c.args.tokens.now c.args.next.now) (rest c.args.tokens.now c.range_end.new.next)) (sym c.number_or_range.ensures) (reads_by {n = grammar.Constant} (later (grammar.rules grammar.Constant) h c.is.ensures.found c.if-is.false ∙ later (tail (grammar.rules grammar.Constant)) h c.is-2.ensures.found c.if-is-2.false ∙ later (tail (tail (grammar.rules grammar.Constant))) h c.is-3.ensures.found c.if-is-3.false) (rule_then (c.in_ok-low.ensures.taken l) (rule_then (c.in_ok-high.ensures.taken l) ended)))
+    λ l. subst (λ (v : grammar.Tree grammar.Constant). Read l (Rule grammar.Constant ∷ []) (v, tt) (rest c.args.tokens.now c.args.next.now) (rest c.args.tokens.now c.range_end.new.next)) (sym c.in_ok-basic.ensures) (reads_by {n = grammar.Constant} (later (grammar.rules grammar.Constant) h c.is.ensures.found c.if-is.false ∙ later (tail (grammar.rules grammar.Constant)) h c.is-2.ensures.found c.if-is-2.false ∙ later (tail (tail (grammar.rules grammar.Constant))) h c.is-3.ensures.found c.if-is-3.false) (rule_then (c.in_ok-low.ensures.taken l) (rule_then (c.in_ok-high.ensures.taken l) ended)))

@@ -1,4 +1,4 @@
-use Rattle.std.proofs.Common.{List, [], ◌∷◌, map, refl, ap, sym, subst, arith}
+use Rattle.std.proofs.Common.{List, [], ◌∷◌, map, refl, ap, sym, subst, arith, ◌∙◌}
 use Rattle.std.proofs.lemmas.Result.{err_from_is_err_and}
 use Rattle.fz_language.specs.Trees as trees
 use Rattle.fz_language.specs.Grammar.{flatzinc, rules, Elements, Listed}
@@ -18,7 +18,7 @@ returns-then-is-clause-taken c = λ l.
 
 pub returns-in_err-basic-clause-taken : goal.returns-in_err-basic-clause-taken
 returns-in_err-basic-clause-taken c =
-    let p = err_from_is_err_and c.from_residual.result c.from_residual.ensures.1 in
+    let p = err_from_is_err_and c.from_residual-in_err-basic.result c.from_residual-in_err-basic.ensures.1 in
     rw (p.1, p.2) (λ l. stops_first Elements (later (rules (Listed Elements)) (head flatzinc (rest c.args.tokens.now c.args.next.now)) c.is.ensures.found c.if-is.false) (c.in_err-basic.ensures.taken l))
 
 pub elements-init : goal.elements-init
@@ -26,7 +26,7 @@ elements-init c = (
   omega (arith, c.in_ok-basic.ensures.forward),
   λ l.
       subst (λ (v : List trees.Basic). GoesOn Elements l (Listed Elements) (rest c.args.tokens.now c.args.next.now) (rest c.args.tokens.now c.basic.new.next) (λ w. w) v)
-      (first_pushed basic_of c.push.new.self.items c.new-found.result.items c.in_ok-basic.field-0 c.new-found.ensures.items c.in_ok-push.ensures.items)
+      (first_pushed basic_of c.push.new.self.items c.reserve_exact.new.self.items c.in_ok-basic.field-0 (c.reserve_exact.ensures.items ∙ c.new-found.ensures.items) c.in_ok-push.ensures.items)
       (goes_first Elements (later (rules (Listed Elements)) (head flatzinc (rest c.args.tokens.now c.args.next.now)) c.is.ensures.found c.if-is.false) (c.in_ok-basic.ensures.taken l)),
 )
 

@@ -1,8 +1,12 @@
-use Rattle.std.proofs.Common.{◌∙◌}
+use Rattle.std.proofs.Common.{◌∙◌, subst, sym, [], ◌∷◌}
 use Rattle.std.proofs.lemmas.Result.{err_from_is_err_and}
 use Rattle.fz_language.specs.Grammar as grammar
+use Rattle.fz_language.specs.Trees as trees
+use Rattle.fz_grammar.specs.Grammar.{Rule}
+use Rattle.fz_syntax.specs.declared.item.ArrayItem.{ArrayItem}
+use Rattle.fz_syntax.specs.Trees.{array_item_of}
 use Rattle.fz_grammar.specs.Reading.{head}
-use Rattle.fz_parse.specs.Steps.{rest}
+use Rattle.fz_parse.specs.Steps.{rest, Read}
 use Rattle.fz_parse.proofs.Follows.{reads_by, halts_by, first, later, tail, here, rule_then, ended}
 use Rattle.std.proofs.Common.{map}
 use Rattle.fz_language.specs.Kinds.{number}
@@ -40,7 +44,7 @@ returns-in_err-item-3-clause-taken c =
 pub returns-then-is-3-clause-taken : goal.returns-then-is-3-clause-taken
 returns-then-is-3-clause-taken c =
     let h = head grammar.flatzinc (rest c.args.tokens.now c.args.next.now) in
-    reads_by {n = grammar.OneItem} (later (grammar.rules grammar.OneItem) h c.is.ensures.found c.if-is.false ∙ later (tail (grammar.rules grammar.OneItem)) h c.is-2.ensures.found c.if-is-2.false ∙ first (tail (tail (grammar.rules grammar.OneItem))) h c.is-3.ensures.found c.if-is-3.true) (rule_then (c.in_ok-item-3.ensures.taken) ended)
+    subst (λ (a : ArrayItem). Read 0 (Rule grammar.OneItem ∷ []) (trees.Array (array_item_of a), tt) (rest c.args.tokens.now c.args.next.now) (rest c.args.tokens.now c.array_item.new.next)) (sym c.in_ok-new.ensures.ok) (reads_by {n = grammar.OneItem} (later (grammar.rules grammar.OneItem) h c.is.ensures.found c.if-is.false ∙ later (tail (grammar.rules grammar.OneItem)) h c.is-2.ensures.found c.if-is-2.false ∙ first (tail (tail (grammar.rules grammar.OneItem))) h c.is-3.ensures.found c.if-is-3.true) (rule_then (c.in_ok-item-3.ensures.taken) ended))
 
 pub returns-in_err-item-4-clause-taken : goal.returns-in_err-item-4-clause-taken
 returns-in_err-item-4-clause-taken c =
