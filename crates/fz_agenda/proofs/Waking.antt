@@ -1,5 +1,5 @@
 -- Waking word by word.
-use Rattle.std.proofs.Common.{◌≡◌, ◌⊎◌, inl, inr, ℕ, zero, suc, ◌+◌, ◌*◌, ◌/◌, ◌%◌, ◌<◌, ◌≤◌, List, [], ◌∷◌, ◌++◌, refl, sym, ◌∙◌, ap, subst, arith, length, take, Result, Ok, Err}
+use Rattle.std.proofs.Common.{◌≡◌, ◌⊎◌, inl, inr, ℕ, zero, suc, ◌+◌, ◌*◌, ◌/◌, ◌%◌, ◌<◌, ◌≤◌, List, [], ◌∷◌, ◌++◌, refl, sym, ◌∙◌, ap, subst, arith, length, get_or-set_other, take, Result, Ok, Err}
 use Rattle.std.specs.Prelude.{◌↔◌, slice_index, slice_index_or, slice_set, bit_and, OnOk, OnErr}
 use Rattle.std.specs.List.{AllByRecursion, concat}
 use Rattle.std.specs.Int.{bit_at}
@@ -13,7 +13,7 @@ use Rattle.fz_agenda.specs.Bits.{members_of}
 use Rattle.fz_agenda.specs.Queues.{Lineup, class_of, cost_at, IsIdle, IsQueued, AreAwake, IsWoken}
 use Rattle.fz_agenda.specs.Wakes.{Waking, WaitsFor}
 use Rattle.fz_agenda.proofs.Words.{members_are}
-use Rattle.fz_agenda.proofs.Woken.{same_woken, woken_twice, woken_by_more, woken_wake, awake_wake, still_awake, all_still_awake}
+use Rattle.fz_agenda.proofs.Woken.{idle_or_not, same_woken, woken_twice, woken_by_more, woken_wake, awake_wake, still_awake, all_still_awake}
 
 -- ---- the members of a word
 
@@ -25,15 +25,18 @@ all_listed P (x ∷ xs) f = (f x (inl refl), all_listed P xs (λ i h. f i (inr h
 pub record IsWaking (word bits left : ℕ) (costs : List Cost) (l m : Lineup) : Type 0 where
   pub woken : IsWoken (IsListed (members_of word bits)) costs l m
   pub inside : (k : ℕ) → k < 64 → bit_at left k ≡ 1 → bit_at bits k ≡ 1
+  pub idle : (k : ℕ) → k < 64 → bit_at left k ≡ 1 → word * 64 + k < length m.states → slice_index m.states (word * 64 + k) ≡ 0
   pub done : (k : ℕ) → k < 64 → bit_at bits k ≡ 1 → (bit_at left k ≡ 1) ⊎ (word * 64 + k < length m.states → slice_index m.states (word * 64 + k) ≡ 0 → ⊥)
 
-pub waking_start : (word bits idle : ℕ) (costs : List Cost) (l : Lineup) → ((k : ℕ) → k < 64 → IsIdle l (word * 64 + k) → bit_at idle k ≡ 1) → IsWaking word bits (bit_and bits idle) costs l l
+pub waking_start : (word bits idle : ℕ) (costs : List Cost) (l : Lineup) → ((k : ℕ) → k < 64 → word * 64 + k < length l.states → (bit_at idle k ≡ 1) ↔ (slice_index l.states (word * 64 + k) ≡ 0))
+    → IsWaking word bits (bit_and bits idle) costs l l
 waking_start word bits idle costs l are = record {
   woken = same_woken (IsListed (members_of word bits)) costs l;
   inside = λ k small one. ((and_bits bits idle k).0 one).0;
+  idle = λ k small one within. (are k small within).0 ((and_bits bits idle k).0 one).1;
   done = λ k small one. elim (cases_eq (bit_at (bit_and bits idle) k) 1) [
     | inl e ↦ inl e
-    | inr ne ↦ inr (λ within is. ne ((and_bits bits idle k).1 (one, are k small (within, is))))
+    | inr ne ↦ inr (λ within is. ne ((and_bits bits idle k).1 (one, (are k small within).1 is)))
   ];
 }
 
@@ -50,6 +53,12 @@ waking_wake r word bits left bit costs l m n class place waking small one at ok 
     woken_wake r (IsListed (members_of word bits)) costs m n class place ok other err is
     (subst (λ (i : ℕ). IsListed (members_of word bits) i) (sym at) (listed_bit word bits bit small (waking.inside bit small one)))
 
+other_state : (m n : Lineup) (class place i : ℕ) → (IsIdle m place → IsQueued class place m n) → ((IsIdle m place → ⊥) → n ≡ m) → (i ≡ place → ⊥) → slice_index n.states i ≡ slice_index m.states i
+other_state m n class place i ok other ne = elim (idle_or_not m place) [
+  | inl idle ↦ ap (λ (xs : List ℕ). slice_index xs i) (ok idle).states ∙ get_or-set_other m.states place i 1 0 ne
+  | inr never ↦ ap (λ (l : Lineup). slice_index l.states i) (other never)
+]
+
 pub waking_more : (word bits left next bit : ℕ) (costs : List Cost) (l m n : Lineup) (class place : ℕ) → IsWaking word bits left costs l m → IsWoken (IsListed (members_of word bits)) costs m n → bit < 64
     → place ≡ word * 64 + bit → (IsIdle m place → IsQueued class place m n) → ((IsIdle m place → ⊥) → n ≡ m) → bit_at next bit ≡ 0
     → ((k : ℕ) → k < 64 → (k ≡ bit → ⊥) → bit_at next k ≡ bit_at left k) → IsWaking word bits next costs l n
@@ -58,6 +67,12 @@ waking_more word bits left next bit costs l m n class place waking woken small a
   inside = λ k under one. elim (cases_eq k bit) [
     | inl e ↦ absurd (let z : bit_at next k ≡ 0 = ap (bit_at next) e ∙ none in omega (arith, z, one))
     | inr ne ↦ waking.inside k under (sym (others k under ne) ∙ one)
+  ];
+  idle = λ k under one within. elim (cases_eq k bit) [
+    | inl e ↦ absurd (let z : bit_at next k ≡ 0 = ap (bit_at next) e ∙ none in omega (arith, z, one))
+    | inr ne ↦
+        other_state m n class place (word * 64 + k) ok other (λ e. ne (omega (arith, e, at)))
+        ∙ waking.idle k under (sym (others k under ne) ∙ one) (let size = woken.size in omega (arith, within, size))
   ];
   done = λ k under one. elim (cases_eq k bit) [
     | inl e ↦ inr (subst (λ (i : ℕ). i < length n.states → slice_index n.states i ≡ 0 → ⊥) (at ∙ ap (λ (j : ℕ). word * 64 + j) (sym e)) (awake_wake m n class place ok other))

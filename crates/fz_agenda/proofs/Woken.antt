@@ -71,7 +71,7 @@ woken_one may costs l m class p is who idle queued =
           (λ k ne. ([], get_or-set_other l.queues class k q [] ne ∙ sym (append-nil (queue_at l k)), tt)));
     }
 
-idle_or_not : (l : Lineup) (p : ℕ) → IsIdle l p ⊎ (IsIdle l p → ⊥)
+pub idle_or_not : (l : Lineup) (p : ℕ) → IsIdle l p ⊎ (IsIdle l p → ⊥)
 idle_or_not l p = elim (cases_lt p (length l.states)) [
   | inl within ↦ elim (cases_eq (slice_index l.states p) 0) [
     | inl idle ↦ inl (within, idle)

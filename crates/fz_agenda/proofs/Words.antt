@@ -273,17 +273,24 @@ never_idle alive queued n p b within is none =
     let two : slice_index (states_of alive queued n) p ≡ 2 = states_at alive queued n p within ∙ state_gone alive queued p dead in
     ((λ h. absurd (let f : b ≡ true = h in cc)), (λ h. (let e = h.1 in absurd (omega (arith, e, two)))))
 
--- the bit of one that is idle
-pub idle_bit : (alive queued : List ℕ) (n word k a q : ℕ) → k < 64 → word * 64 + k < n → slice_index (states_of alive queued n) (word * 64 + k) ≡ 0 → a ≡ get_or alive word 0 → q ≡ get_or queued word 0
-    → (bit_at a k ≡ 1) × (bit_at q k ≡ 1 → ⊥)
-idle_bit alive queued n word k a q small within idle at_a at_q =
+-- the bit of one that is there says whether it is idle
+pub idle_bit : (alive queued : List ℕ) (n word k a q bits : ℕ) → k < 64 → word * 64 + k < n → a ≡ get_or alive word 0 → q ≡ get_or queued word 0 → (bit_at bits k ≡ 1) ↔ ((bit_at a k ≡ 1) × (bit_at q k ≡ 1 → ⊥))
+    → (bit_at bits k ≡ 1) ↔ (slice_index (states_of alive queued n) (word * 64 + k) ≡ 0)
+idle_bit alive queued n word k a q bits small within at_a at_q are =
     let i = word * 64 + k in
-    let here = alive_at alive queued n i 0 within idle (omega arith) in
     let word_is : i / 64 ≡ word = omega (arith, small) in
     let bit_is : i % 64 ≡ k = omega (arith, small) in
-    let one : bit_at (get_or alive word 0) k ≡ 1 = subst (λ (j : ℕ). bit_at (get_or alive word 0) j ≡ 1) bit_is (subst (λ (w : ℕ). bit_at (get_or alive w 0) (i % 64) ≡ 1) word_is here.0) in
-    let none : bit_at (get_or queued word 0) k ≡ 0 = subst (λ (j : ℕ). bit_at (get_or queued word 0) j ≡ 0) bit_is (subst (λ (w : ℕ). bit_at (get_or queued w 0) (i % 64) ≡ 0) word_is here.1) in
-    (ap (λ (w : ℕ). bit_at w k) at_a ∙ one, λ e. (let z : bit_at q k ≡ 0 = ap (λ (w : ℕ). bit_at w k) at_q ∙ none in omega (arith, e, z)))
+    let living : bit_of alive i ≡ bit_at a k = ap (λ (j : ℕ). bit_at (get_or alive (i / 64) 0) j) bit_is ∙ ap (λ (w : ℕ). bit_at (get_or alive w 0) k) word_is ∙ ap (λ (w : ℕ). bit_at w k) (sym at_a) in
+    let waiting : bit_of queued i ≡ bit_at q k = ap (λ (j : ℕ). bit_at (get_or queued (i / 64) 0) j) bit_is ∙ ap (λ (w : ℕ). bit_at (get_or queued w 0) k) word_is ∙ ap (λ (w : ℕ). bit_at w k) (sym at_q) in
+    let low = bit_at-lt q k in (
+      (λ one.
+          let both = are.0 one in
+          states_at alive queued n i within ∙ state_alive alive queued i (living ∙ both.0) ∙ waiting
+          ∙ elim (cases_eq (bit_at q k) 1) [ inl e ↦ absurd (both.1 e) | inr ne ↦ omega (arith, low, ne) ]),
+      (λ idle.
+          let here = alive_at alive queued n i 0 within idle (omega arith) in
+          are.1 (sym living ∙ here.0, λ e. (let none = here.1 in omega (arith, e, none, waiting)))),
+    )
 
 pub same_count : (alive queued alive' queued' now now' : List ℕ) (n m : ℕ) → states_of alive queued n ≡ now → states_of alive' queued' m ≡ now' → length now ≡ length now' → n ≡ m
 same_count alive queued alive' queued' now now' n m is is' same = sym (states_length alive queued n) ∙ ap length is ∙ same ∙ ap length (sym is') ∙ states_length alive' queued' m

@@ -68,6 +68,26 @@ impl Agenda {
         ensures other { (IsIdle self.old place → ⊥) → self.new ≡ self.old }
         ensures err { OnErr result (self.new ≡ self.old) }
     {
+        if !self.states.is_idle(place as usize) {
+            return Ok(());
+        }
+        enqueue(
+            &mut self.queues,
+            &mut self.lowest,
+            &mut self.states,
+            place,
+            class_of(cost),
+        )
+    }
+
+    /// The same of one that is idle where it is there.
+    pub(crate) fn wake_idle(&mut self, place: u32, cost: Cost) -> Result<(), AllocError>
+        requires { place < length self.old.states → slice_index self.old.states place ≡ 0 }
+        ensures idle { OnOk result
+            (IsIdle self.old place → IsQueued (class_of cost) place self.old self.new) }
+        ensures other { (IsIdle self.old place → ⊥) → self.new ≡ self.old }
+        ensures err { OnErr result (self.new ≡ self.old) }
+    {
         enqueue(
             &mut self.queues,
             &mut self.lowest,
@@ -79,7 +99,8 @@ impl Agenda {
 
     /// Those of a word that are idle; what bits beyond the last propagator say is not known.
     pub fn idle_in(&self, word: u32) -> u64
-        ensures { (k : ℕ) → k < 64 → IsIdle self.now (word * 64 + k) → bit_at result k ≡ 1 }
+        ensures { (k : ℕ) → k < 64 → word * 64 + k < length self.now.states
+            → (bit_at result k ≡ 1) ↔ (slice_index self.now.states (word * 64 + k) ≡ 0) }
     {
         self.states.idle_in(word as usize)
     }
@@ -251,7 +272,7 @@ fn lowest_from(queues: &[Queue], lowest: usize) -> usize
     queues.len().max(lowest)
 }
 
-/// Queues a propagator that is idle.
+/// Queues a propagator that is idle where it is there.
 fn enqueue(
     queues: &mut Vec<Queue>,
     lowest: &mut usize,
@@ -260,6 +281,7 @@ fn enqueue(
     class: usize,
 ) -> Result<(), AllocError>
     requires class { class < 6 }
+    requires idle { place < length states.old → slice_index states.old place ≡ 0 }
     requires agenda { IsAgenda states.old queues.old.items lowest.old }
     ensures agenda { IsAgenda states.new queues.new.items lowest.new }
     ensures idle { OnOk result (IsIdle (lineup states.old queues.old.items) place
@@ -270,7 +292,7 @@ fn enqueue(
     ensures err { OnErr result
         (lineup states.new queues.new.items ≡ lineup states.old queues.old.items) }
 {
-    if !states.is_idle(place as usize) {
+    if place as usize >= states.len() {
         return Ok(());
     }
     queues[class].push(place)?;

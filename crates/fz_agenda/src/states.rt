@@ -64,7 +64,7 @@ impl States {
     /// Those of a word that are idle; what bits beyond the last propagator say is not known.
     pub fn idle_in(&self, word: usize) -> u64
         ensures { (k : ℕ) → k < 64 → word * 64 + k < length self.now
-            → slice_index self.now (word * 64 + k) ≡ 0 → bit_at result k ≡ 1 }
+            → (bit_at result k ≡ 1) ↔ (slice_index self.now (word * 64 + k) ≡ 0) }
     {
         without(word_at(&self.alive, word), word_at(&self.queued, word))
     }

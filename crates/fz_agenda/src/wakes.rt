@@ -264,7 +264,7 @@ fn wake_members(members: &Members, costs: &[Cost], agenda: &mut Agenda) -> Resul
     'places: while left != 0 {
         let bit = lowest_bit(left);
         let place = word * 64 + bit;
-        agenda.wake(place, cost_at(costs, place))?;
+        agenda.wake_idle(place, cost_at(costs, place))?;
         left = without_bit(left, bit);
     }
     Ok(())

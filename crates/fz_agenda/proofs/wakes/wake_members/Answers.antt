@@ -14,10 +14,10 @@ places-preserved c =
     let word = c.parts-word.result.0 in
     let bit = c.lowest_bit-bit.result in
     let class = class_of c.cost_at.result in
-    waking_more word c.parts-word.result.1 c.places.left c.without_bit-left.result bit c.args.costs.now c.args.agenda.now c.places.agenda c.wake.new.self class (word * 64 + bit) c.places.invariant
-    (waking_wake c.wake.result word c.parts-word.result.1 c.places.left bit c.args.costs.now c.args.agenda.now c.places.agenda c.wake.new.self class (word * 64 + bit) c.places.invariant c.lowest_bit-bit.ensures.place
-    c.lowest_bit-bit.ensures.bit refl c.wake.ensures.idle c.wake.ensures.other c.wake.ensures.err (ap class_of c.cost_at.ensures))
-    c.lowest_bit-bit.ensures.place refl c.in_ok-wake.ensures.idle c.wake.ensures.other c.without_bit-left.ensures.here c.without_bit-left.ensures.others
+    waking_more word c.parts-word.result.1 c.places.left c.without_bit-left.result bit c.args.costs.now c.args.agenda.now c.places.agenda c.wake_idle.new.self class (word * 64 + bit) c.places.invariant
+    (waking_wake c.wake_idle.result word c.parts-word.result.1 c.places.left bit c.args.costs.now c.args.agenda.now c.places.agenda c.wake_idle.new.self class (word * 64 + bit) c.places.invariant c.lowest_bit-bit.ensures.place
+    c.lowest_bit-bit.ensures.bit refl c.wake_idle.ensures.idle c.wake_idle.ensures.other c.wake_idle.ensures.err (ap class_of c.cost_at.ensures))
+    c.lowest_bit-bit.ensures.place refl c.in_ok-wake_idle.ensures.idle c.wake_idle.ensures.other c.without_bit-left.ensures.here c.without_bit-left.ensures.others
 
 pub returns-clause-awake : goal.returns-clause-awake
 returns-clause-awake c =
@@ -27,12 +27,15 @@ returns-clause-awake c =
 pub returns-clause-woken : goal.returns-clause-woken
 returns-clause-woken c = rw c.parts-word.ensures.members c.places.invariant.woken
 
-pub returns-in_err-wake-clause-woken : goal.returns-in_err-wake-clause-woken
-returns-in_err-wake-clause-woken c =
+pub returns-in_err-wake_idle-clause-woken : goal.returns-in_err-wake_idle-clause-woken
+returns-in_err-wake_idle-clause-woken c =
     let word = c.parts-word.result.0 in
     let bits = c.parts-word.result.1 in
     let bit = c.lowest_bit-bit.result in
     let class = class_of c.cost_at.result in
-    rw c.parts-word.ensures.members (woken_twice (IsListed (members_of word bits)) c.args.costs.now c.args.agenda.now c.places.agenda c.wake.new.self c.places.invariant.woken
-    (waking_wake c.wake.result word bits c.places.left bit c.args.costs.now c.args.agenda.now c.places.agenda c.wake.new.self class (word * 64 + bit) c.places.invariant c.lowest_bit-bit.ensures.place
-    c.lowest_bit-bit.ensures.bit refl c.wake.ensures.idle c.wake.ensures.other c.wake.ensures.err (ap class_of c.cost_at.ensures)))
+    rw c.parts-word.ensures.members (woken_twice (IsListed (members_of word bits)) c.args.costs.now c.args.agenda.now c.places.agenda c.wake_idle.new.self c.places.invariant.woken
+    (waking_wake c.wake_idle.result word bits c.places.left bit c.args.costs.now c.args.agenda.now c.places.agenda c.wake_idle.new.self class (word * 64 + bit) c.places.invariant c.lowest_bit-bit.ensures.place
+    c.lowest_bit-bit.ensures.bit refl c.wake_idle.ensures.idle c.wake_idle.ensures.other c.wake_idle.ensures.err (ap class_of c.cost_at.ensures)))
+
+pub wake_idle-requires : goal.wake_idle-requires
+wake_idle-requires c = c.places.invariant.idle c.lowest_bit-bit.result c.lowest_bit-bit.ensures.place c.lowest_bit-bit.ensures.bit
