@@ -10,6 +10,7 @@ use crate::stop::Stop;
 use fz_language::fault::SyntaxFault;
 use fz_language::sign::Sign;
 use fz_language::token_kind::TokenKind;
+use fz_spec::limits::ELEMENT_LIMIT;
 use fz_syntax::{Integer, Name};
 use fz_tokens::Tokens;
 
@@ -70,7 +71,7 @@ pub(crate) fn integer(tokens: &Tokens, next: &mut usize) -> Result<Integer, Stop
 }
 
 /// How many parts stand from this token on, with commas between them, up to the bracket that closes them: how much room a list
-/// wants. Of a list that isn't closed it is a guess.
+/// wants. Of a list that isn't closed it is a guess, and never more than a model may have elements.
 pub(crate) fn parts_from(tokens: &Tokens, from: usize) -> usize
     ensures { result ≤ length tokens.now.tokens + 1 }
 {
@@ -85,5 +86,5 @@ pub(crate) fn parts_from(tokens: &Tokens, from: usize) -> usize
             _ => {}
         }
     }
-    commas.saturating_add(1)
+    commas.saturating_add(1).min(ELEMENT_LIMIT)
 }
