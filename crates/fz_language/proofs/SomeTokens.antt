@@ -190,5 +190,8 @@ some_ending : (text : List ℕ) (ts : List Token) (ending : Ending) → LeadsTo 
 some_ending text ts End h = inl (ts, h)
 some_ending text ts (Fault fault at) h = inr (fault, at, (ts, h))
 
+pub leads_from : (text : List ℕ) (from : ℕ) → from ≤ length text → (ts : List Token) × (ending : Ending) × LeadsTo text from ts ending
+leads_from text from within = leads text from (suc (length text)) within (omega arith)
+
 pub some_tokens : SomeTokens
-some_tokens text = let l = leads text 0 (suc (length text)) (omega arith) (omega arith) in some_ending text l.0 l.1 l.2
+some_tokens text = let l = leads_from text 0 (omega arith) in some_ending text l.0 l.1 l.2

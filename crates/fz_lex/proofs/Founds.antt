@@ -9,7 +9,7 @@ use Rattle.fz_language.specs.declared.sign.Sign.TheVariants.{Colon}
 use Rattle.fz_language.specs.declared.keyword.Keyword.{Keyword}
 use Rattle.fz_language.specs.Tokens.{Lexeme, Identifier, Word, Number, Float, Text, Punct, is_blank, is_word_start, is_word_byte, IsWord, keyword_bytes, sign_bytes, IsNatural, IsPlainFloat, IsTail, IsFloat, IsNumber, IsInside, IsSpelt, IsToken, BeginsNoToken, BeginsLargeNumber, digits_value}
 use Rattle.fz_language.proofs.Bytes.{slice_cons, slice_none, slice_all_at, all_of_slice, head_of}
-use Rattle.fz_tokens.specs.declared.token.Lexeme.TheVariants as found
+use Rattle.fz_lex.specs.declared.lexeme.Lexeme.TheVariants as found
 use Rattle.fz_lex.specs.declared.run.DigitRun.{DigitRun}
 use Rattle.fz_lex.specs.declared.run.TheConstants.{OVER}
 use Rattle.fz_lex.specs.Steps.{IsRun, IsLongest, HasNone, IsNaturalAt, IsNumberStart, FitsSign, FitsNoSign, IsFoundAt, begins_sign, signed_of}

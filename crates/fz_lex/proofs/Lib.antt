@@ -4,4 +4,5 @@ pub mod NumberTokens
 pub mod Signs
 pub mod Strings
 pub mod Founds
-pub mod Blanks
+pub mod Gaps
+pub mod Aheads

@@ -1,12 +1,12 @@
 -- What the steps of the reading say.
-use Rattle.std.specs.Prelude.{◌≡◌, ◌≢◌, ℕ, ◌<◌, ◌≤◌, ◌⊎◌, ℤ, pos, ◌-ℤ◌, Bool, true, false, IsTrue, ◌||◌, ◌==◌, ◌+◌, min, List, ◌++◌, length, slice_index, slice_range}
+use Rattle.std.specs.Prelude.{◌≡◌, ◌≢◌, ℕ, ◌<◌, ◌≤◌, ◌⊎◌, ℤ, pos, ◌-ℤ◌, Bool, true, false, IsTrue, ◌||◌, ◌==◌, ◌+◌, min, List, length, slice_index, slice_range}
 use Rattle.std.specs.Char.{is_ascii_digit, is_ascii_hexdigit}
 use Rattle.fz_language.specs.declared.sign.Sign.{Sign}
 use Rattle.fz_language.specs.declared.sign.Sign.TheVariants.{Colon}
 use Rattle.fz_language.specs.declared.keyword.Keyword.{Keyword}
-use Rattle.fz_language.specs.Tokens.{is_blank, is_octal_digit, digits_value, sign_bytes, keyword_bytes, IsGap, IsToken, IsFine, IsBased, IsInside, Ending, LeadsTo}
+use Rattle.fz_language.specs.Tokens.{is_blank, is_octal_digit, digits_value, sign_bytes, keyword_bytes, IsToken, IsFine, IsBased, IsInside}
 use Rattle.fz_language.specs.Tokens as language
-use Rattle.fz_tokens.specs.Lexed.{lexeme_of, IsBounded}
+use Rattle.fz_lex.specs.Lexed.{lexeme_of, IsBounded}
 use Rattle.fz_lex.specs.declared.run.DigitRun.{DigitRun}
 use Rattle.fz_lex.specs.declared.run.TheConstants.{OVER}
 use Rattle.fz_lex.specs.declared.run.Radix.{Radix}
@@ -125,13 +125,3 @@ pub record IsFoundAt (text : List ℕ) (at : ℕ) (found : Found) : Type 0 where
   pub token : IsToken text (record { lexeme = lexeme_of text at found.lexeme; at = at }) found.stop
   pub fine : IsFine (lexeme_of text at found.lexeme)
   pub bounded : IsBounded text at found.lexeme
-
--- these tokens lead from the text's start to this place, whatever comes then
-abbrev pub Leads : List ℕ → List language.Token → ℕ → Type 0
-Leads text before at = (behind : List language.Token) (e : Ending) → LeadsTo text at behind e → LeadsTo text 0 (before ++ behind) e
-
--- they do, with blanks behind them up to this place
-pub record Led (text : List ℕ) (tokens : List language.Token) (at : ℕ) : Type 0 where
-  pub from : ℕ
-  pub leads : Leads text tokens from
-  pub gap : IsGap text from at

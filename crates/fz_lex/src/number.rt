@@ -8,7 +8,7 @@ ghost use Rattle.fz_lex.specs.Steps.{IsRun, IsLongest, HasNone, HasNoBased, IsBa
 use crate::reading::Found;
 use crate::run::{DigitRun, OVER, Radix, byte_at, digits, is_digit};
 use fz_language::fault::TokenFault;
-use fz_tokens::Lexeme;
+use crate::lexeme::Lexeme;
 
 /// The number that begins at a digit or a minus.
 pub(crate) fn number_at(text: &[u8], at: usize) -> Result<Found, TokenFault>

@@ -9,7 +9,7 @@ use crate::number::number_at;
 use crate::run::{byte_at, word_end};
 use crate::spelling::{is_word_start, keyword_of, sign_length, sign_of};
 use fz_language::fault::TokenFault;
-use fz_tokens::Lexeme;
+use crate::lexeme::Lexeme;
 
 /// A token up to `stop`.
 #[derive(Clone, Copy)]

@@ -1,34 +1,38 @@
-//! What no clause says: that calls succeed where memory is ample, and that the rules are the ones meant.
-use crate::{LexFault, Place, place_of, tokens};
+//! What no clause says: that the rules are the ones meant.
+use crate::{LexFault, Lexer, Place, place_of};
 use fz_language::fault::TokenFault;
 use fz_language::keyword::Keyword;
 use fz_language::sign::Sign;
 use fz_language::token_kind::TokenKind;
-use fz_tokens::Tokens;
-use std::alloc::{AllocError, Global};
 use std::test::Fail;
 
-/// The tokens of a text of at most a thousand bytes, or its fault.
-fn lexed(alloc: Global, text: &str) -> Result<Result<Tokens<'_>, LexFault>, AllocError> {
+/// The first thousand bytes of a text, before their first token.
+fn lexer(text: &str) -> Lexer<'_> {
     let bytes = text.as_bytes();
-    tokens(alloc, &bytes[..bytes.len().min(1_000)])
-}
-
-/// The text's fault.
-fn fault_of(alloc: Global, text: &str) -> Result<Option<LexFault>, AllocError> {
-    Ok(lexed(alloc, text)?.err())
+    Lexer::new(&bytes[..bytes.len().min(1_000)])
 }
 
 /// How many tokens a text has, or none where it has a fault.
-fn count_of(alloc: Global, text: &str) -> Result<Option<usize>, AllocError> {
-    Ok(lexed(alloc, text)?.ok().map(|lexed| lexed.len()))
+fn count_of(text: &str) -> Option<usize> {
+    let mut lexer = lexer(text);
+    let mut count = 0;
+    for passed in 0..1_000 {
+        if lexer.kind() == TokenKind::End {
+            break;
+        }
+        lexer.advance();
+        count = passed + 1;
+    }
+    match lexer.fault() {
+        None => Some(count),
+        Some(_) => None,
+    }
 }
 
 #[test]
 fn an_annotation_with_a_string_has_eight_tokens(rt: HostRuntime) -> Result<(), Fail> {
-    let lexed = tokens(rt.alloc(), b"x :: a(\"q%\",-0x1F)%c")??;
-    assert_eq!(rt; lexed.len(), 8);
-    assert!(rt; !lexed.is_empty());
+    let mut lexer = lexer("x :: a(\"q%\",-0x1F)%c");
+    assert_eq!(rt; lexer.name().map(|name| name.bytes), Some(b"x".as_slice()));
     let want = [
         (TokenKind::Identifier, 0),
         (TokenKind::Sign(Sign::DoubleColon), 2),
@@ -40,21 +44,28 @@ fn an_annotation_with_a_string_has_eight_tokens(rt: HostRuntime) -> Result<(), F
         (TokenKind::Sign(Sign::RightParenthesis), 17),
         (TokenKind::End, 20),
     ];
-    for (index, (kind, at)) in want.into_iter().enumerate() {
-        assert_eq!(rt; lexed.kind(index), kind);
-        assert_eq!(rt; lexed.place(index), at);
+    for (kind, at) in want {
+        assert_eq!(rt; lexer.kind(), kind);
+        assert_eq!(rt; lexer.place(), at);
+        if kind == TokenKind::Integer {
+            assert_eq!(rt; lexer.integer().map(|integer| integer.value), Some(-31));
+        }
+        lexer.advance();
     }
-    assert_eq!(rt; lexed.integer(6).map(|integer| integer.value), Some(-31));
-    assert_eq!(rt; lexed.name(2).map(|name| name.bytes), Some(b"a".as_slice()));
     Ok(())
 }
 
 #[test]
 fn a_word_of_the_language_is_no_identifier(rt: HostRuntime) -> Result<(), Fail> {
-    let lexed = tokens(rt.alloc(), b"var vars solve")??;
-    assert_eq!(rt; lexed.kind(0), TokenKind::Keyword(Keyword::Var));
-    assert_eq!(rt; lexed.kind(1), TokenKind::Identifier);
-    assert_eq!(rt; lexed.kind(2), TokenKind::Keyword(Keyword::Solve));
+    let mut lexer = lexer("var vars solve");
+    for kind in [
+        TokenKind::Keyword(Keyword::Var),
+        TokenKind::Identifier,
+        TokenKind::Keyword(Keyword::Solve),
+    ] {
+        assert_eq!(rt; lexer.kind(), kind);
+        lexer.advance();
+    }
     Ok(())
 }
 
@@ -77,7 +88,7 @@ fn each_token_is_the_longest(rt: HostRuntime) -> Result<(), Fail> {
         ("x%c\ny", 2),
     ];
     for (text, count) in cases {
-        assert_eq!(rt; count_of(rt.alloc(), text)?, Some(count), "at {text}");
+        assert_eq!(rt; count_of(text), Some(count), "at {text}");
     }
     Ok(())
 }
@@ -100,32 +111,23 @@ fn a_fault_stands_at_the_first_byte_of_its_token(rt: HostRuntime) -> Result<(), 
         ("2147483647 #", TokenFault::LargeNumber, 0),
     ];
     for (text, cause, at) in cases {
-        assert_eq!(rt;
-            fault_of(rt.alloc(), text)?,
-            Some(LexFault { cause, at }),
-            "at {text}"
-        );
+        assert_eq!(rt; lexer(text).fault(), Some(LexFault { cause, at }), "at {text}");
     }
     Ok(())
 }
 
 #[test]
 fn bytes_of_other_scripts_stand_in_comments_and_strings(rt: HostRuntime) -> Result<(), Fail> {
-    assert_eq!(rt; count_of(rt.alloc(), "% \u{e4}\nx \"\u{e4}\"")?, Some(2));
+    assert_eq!(rt; count_of("% \u{e4}\nx \"\u{e4}\""), Some(2));
     Ok(())
 }
 
 #[test]
 fn the_greatest_and_the_least_number_are_read(rt: HostRuntime) -> Result<(), Fail> {
-    let lexed = tokens(rt.alloc(), b"2147483646 -2147483646 0x7ffffffe")??;
-    for (index, value) in [2_147_483_646, -2_147_483_646, 2_147_483_646]
-        .into_iter()
-        .enumerate()
-    {
-        assert_eq!(rt;
-            lexed.integer(index).map(|integer| integer.value),
-            Some(value)
-        );
+    let mut lexer = lexer("2147483646 -2147483646 0x7ffffffe");
+    for value in [2_147_483_646, -2_147_483_646, 2_147_483_646] {
+        assert_eq!(rt; lexer.integer().map(|integer| integer.value), Some(value));
+        lexer.advance();
     }
     Ok(())
 }

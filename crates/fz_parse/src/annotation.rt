@@ -1,9 +1,9 @@
 //! The reading of annotations.
-ghost use Rattle.std.specs.Prelude.{◌≡◌, ◌≤◌, ◌<◌, ◌-◌, OnOk, map};
+ghost use Rattle.std.specs.Prelude.{◌≡◌, ◌≤◌, ◌<◌, ◌-◌, OnOk, map, length};
 ghost use Rattle.fz_language.specs.Grammar as grammar;
 ghost use Rattle.fz_language.specs.Grammar.{level_limit};
 ghost use Rattle.fz_syntax.specs.Trees.{annotation_of, annotations_of, argument_of, arguments_of, name_of};
-ghost use Rattle.fz_parse.specs.Steps.{rest, ParsesAt, option_of};
+ghost use Rattle.fz_parse.specs.Steps.{ParsesAt, option_of};
 
 use crate::expression::constant;
 use crate::steps::{identifier, is, take};
@@ -12,24 +12,24 @@ use fz_language::fault::SyntaxFault;
 use fz_language::limits::LEVEL_LIMIT;
 use fz_language::sign::Sign;
 use fz_language::token_kind::TokenKind;
+use fz_lex::Lexer;
 use fz_syntax::{Annotation, Argument, Basic, Name};
-use fz_tokens::Tokens;
 use std::alloc::Global;
 
 /// Takes the annotations of an item.
 pub(crate) fn annotations<'a>(
     alloc: Global,
-    tokens: &Tokens<'a>,
-    next: &mut usize,
+    lexer: &mut Lexer<'a>,
 ) -> Result<Vec<Annotation<'a>>, Stop>
     ensures taken { ParsesAt 0 grammar.Annotations (λ a. annotations_of a.items)
-        (rest tokens.now next.old) (rest tokens.now next.new) result }
-    ensures forward { OnOk result (next.old ≤ next.new) }
+        lexer.old.tokens lexer.new.tokens result }
+    ensures forward { OnOk result (length lexer.new.tokens ≤ length lexer.old.tokens) }
+    ensures same { lexer.new.source ≡ lexer.old.source }
 {
     let mut found = Vec::new(alloc);
-    'annotations: while is(tokens, *next, TokenKind::Sign(Sign::DoubleColon)) {
-        take(tokens, next, TokenKind::Sign(Sign::DoubleColon))?;
-        found.push(annotation(alloc, tokens, next, LEVEL_LIMIT)?)?;
+    'annotations: while is(lexer, TokenKind::Sign(Sign::DoubleColon)) {
+        take(lexer, TokenKind::Sign(Sign::DoubleColon))?;
+        found.push(annotation(alloc, lexer, LEVEL_LIMIT)?)?;
     }
     Ok(found)
 }
@@ -38,17 +38,17 @@ pub(crate) fn annotations<'a>(
 #[cycle(nested)]
 fn annotation<'a>(
     alloc: Global,
-    tokens: &Tokens<'a>,
-    next: &mut usize,
+    lexer: &mut Lexer<'a>,
     left: u32,
 ) -> Result<Annotation<'a>, Stop>
     requires left { left ≤ level_limit }
     ensures taken { ParsesAt (level_limit - left) grammar.Annotation annotation_of
-        (rest tokens.now next.old) (rest tokens.now next.new) result }
-    ensures forward { OnOk result (next.old < next.new) }
+        lexer.old.tokens lexer.new.tokens result }
+    ensures forward { OnOk result (length lexer.new.tokens < length lexer.old.tokens) }
+    ensures same { lexer.new.source ≡ lexer.old.source }
 {
-    let name = identifier(tokens, next)?;
-    if !is(tokens, *next, TokenKind::Sign(Sign::LeftParenthesis)) {
+    let name = identifier(lexer)?;
+    if !is(lexer, TokenKind::Sign(Sign::LeftParenthesis)) {
         return Ok(Annotation {
             name,
             arguments: None,
@@ -57,9 +57,9 @@ fn annotation<'a>(
     if left == 0 {
         return Err(Stop::Fault(SyntaxFault::TooDeep));
     }
-    take(tokens, next, TokenKind::Sign(Sign::LeftParenthesis))?;
-    let inner = arguments(alloc, tokens, next, left - 1)?;
-    take(tokens, next, TokenKind::Sign(Sign::RightParenthesis))?;
+    take(lexer, TokenKind::Sign(Sign::LeftParenthesis))?;
+    let inner = arguments(alloc, lexer, left - 1)?;
+    take(lexer, TokenKind::Sign(Sign::RightParenthesis))?;
     Ok(Annotation {
         name,
         arguments: Some(inner),
@@ -70,27 +70,27 @@ fn annotation<'a>(
 #[cycle(nested)]
 fn arguments<'a>(
     alloc: Global,
-    tokens: &Tokens<'a>,
-    next: &mut usize,
+    lexer: &mut Lexer<'a>,
     left: u32,
 ) -> Result<Vec<Argument<'a>>, Stop>
     requires left { left ≤ level_limit }
     ensures taken { ParsesAt (level_limit - left) (grammar.Listed grammar.Arguments)
         (λ a. arguments_of a.items)
-        (rest tokens.now next.old) (rest tokens.now next.new) result }
-    ensures forward { OnOk result (next.old ≤ next.new) }
+        lexer.old.tokens lexer.new.tokens result }
+    ensures forward { OnOk result (length lexer.new.tokens ≤ length lexer.old.tokens) }
+    ensures same { lexer.new.source ≡ lexer.old.source }
 {
     let mut found = Vec::new(alloc);
-    if is(tokens, *next, TokenKind::Sign(Sign::RightParenthesis)) {
+    if is(lexer, TokenKind::Sign(Sign::RightParenthesis)) {
         return Ok(found);
     }
-    if is(tokens, *next, TokenKind::Sign(Sign::RightBracket)) {
+    if is(lexer, TokenKind::Sign(Sign::RightBracket)) {
         return Ok(found);
     }
-    found.push(argument(alloc, tokens, next, left)?)?;
-    'arguments: while is(tokens, *next, TokenKind::Sign(Sign::Comma)) {
-        take(tokens, next, TokenKind::Sign(Sign::Comma))?;
-        found.push(argument(alloc, tokens, next, left)?)?;
+    found.push(argument(alloc, lexer, left)?)?;
+    'arguments: while is(lexer, TokenKind::Sign(Sign::Comma)) {
+        take(lexer, TokenKind::Sign(Sign::Comma))?;
+        found.push(argument(alloc, lexer, left)?)?;
     }
     Ok(found)
 }
@@ -99,39 +99,39 @@ fn arguments<'a>(
 #[cycle(nested)]
 fn argument<'a>(
     alloc: Global,
-    tokens: &Tokens<'a>,
-    next: &mut usize,
+    lexer: &mut Lexer<'a>,
     left: u32,
 ) -> Result<Argument<'a>, Stop>
     requires left { left ≤ level_limit }
     ensures taken { ParsesAt (level_limit - left) grammar.Argument argument_of
-        (rest tokens.now next.old) (rest tokens.now next.new) result }
-    ensures forward { OnOk result (next.old < next.new) }
+        lexer.old.tokens lexer.new.tokens result }
+    ensures forward { OnOk result (length lexer.new.tokens < length lexer.old.tokens) }
+    ensures same { lexer.new.source ≡ lexer.old.source }
 {
-    if is(tokens, *next, TokenKind::Text) {
-        let at = take(tokens, next, TokenKind::Text)?;
+    if is(lexer, TokenKind::Text) {
+        let at = take(lexer, TokenKind::Text)?;
         return Ok(Argument::Text { at });
     }
-    if is(tokens, *next, TokenKind::Sign(Sign::LeftBracket)) {
+    if is(lexer, TokenKind::Sign(Sign::LeftBracket)) {
         if left == 0 {
             return Err(Stop::Fault(SyntaxFault::TooDeep));
         }
-        let at = take(tokens, next, TokenKind::Sign(Sign::LeftBracket))?;
-        let inner = arguments(alloc, tokens, next, left - 1)?;
-        take(tokens, next, TokenKind::Sign(Sign::RightBracket))?;
+        let at = take(lexer, TokenKind::Sign(Sign::LeftBracket))?;
+        let inner = arguments(alloc, lexer, left - 1)?;
+        take(lexer, TokenKind::Sign(Sign::RightBracket))?;
         return Ok(Argument::Brackets {
             at,
             arguments: inner,
         });
     }
-    if is(tokens, *next, TokenKind::Identifier) {
+    if is(lexer, TokenKind::Identifier) {
         let Annotation {
             name,
             arguments: inner,
-        } = annotation(alloc, tokens, next, left)?;
+        } = annotation(alloc, lexer, left)?;
         return Ok(name_or_call(name, inner));
     }
-    let constant = constant(alloc, tokens, next)?;
+    let constant = constant(alloc, lexer)?;
     Ok(Argument::Simple(constant))
 }
 

@@ -2,119 +2,123 @@
 ghost use Rattle.std.specs.Prelude.{◌≡◌, ◌≤◌, ◌<◌, IfOk, OnOk, length, map};
 ghost use Rattle.fz_language.specs.Grammar as grammar;
 ghost use Rattle.fz_syntax.specs.Trees.{number_of, set_of, basic_of, list_of, expression_of};
-ghost use Rattle.fz_parse.specs.Steps.{rest, Parses, ParsesLow, option_of};
+ghost use Rattle.fz_parse.specs.Steps.{Parses, ParsesLow, option_of};
 
 use crate::steps::{identifier, integer, is, parts_from, take};
 use crate::stop::Stop;
 use fz_language::keyword::Keyword;
 use fz_language::sign::Sign;
 use fz_language::token_kind::TokenKind;
+use fz_lex::Lexer;
 use fz_syntax::{Basic, Expression, ListLiteral, Number, SetLiteral};
-use fz_tokens::Tokens;
 use std::alloc::{AllocError, Global};
 
 /// Takes a number.
-pub(crate) fn number(tokens: &Tokens, next: &mut usize) -> Result<Number, Stop>
+pub(crate) fn number(lexer: &mut Lexer) -> Result<Number, Stop>
     ensures taken { Parses grammar.OneNumber number_of
-        (rest tokens.now next.old) (rest tokens.now next.new) result }
-    ensures forward { OnOk result (next.old < next.new) }
+        lexer.old.tokens lexer.new.tokens result }
+    ensures forward { OnOk result (length lexer.new.tokens < length lexer.old.tokens) }
+    ensures same { lexer.new.source ≡ lexer.old.source }
 {
-    if is(tokens, *next, TokenKind::Float) {
-        let at = take(tokens, next, TokenKind::Float)?;
+    if is(lexer, TokenKind::Float) {
+        let at = take(lexer, TokenKind::Float)?;
         return Ok(Number::Float { at });
     }
-    let integer = integer(tokens, next)?;
+    let integer = integer(lexer)?;
     Ok(Number::Whole(integer))
 }
 
 /// Takes the members of a set literal, up to its closing brace.
-fn members(alloc: Global, tokens: &Tokens, next: &mut usize) -> Result<Vec<Number>, Stop>
+fn members(alloc: Global, lexer: &mut Lexer) -> Result<Vec<Number>, Stop>
     ensures taken { Parses (grammar.Listed grammar.Members) (λ m. map number_of m.items)
-        (rest tokens.now next.old) (rest tokens.now next.new) result }
-    ensures forward { OnOk result (next.old ≤ next.new) }
+        lexer.old.tokens lexer.new.tokens result }
+    ensures forward { OnOk result (length lexer.new.tokens ≤ length lexer.old.tokens) }
+    ensures same { lexer.new.source ≡ lexer.old.source }
 {
     let mut found = Vec::new(alloc);
-    if is(tokens, *next, TokenKind::Sign(Sign::RightBrace)) {
+    if is(lexer, TokenKind::Sign(Sign::RightBrace)) {
         return Ok(found);
     }
-    found.push(number(tokens, next)?)?;
-    'members: while is(tokens, *next, TokenKind::Sign(Sign::Comma)) {
-        take(tokens, next, TokenKind::Sign(Sign::Comma))?;
-        found.push(number(tokens, next)?)?;
+    found.push(number(lexer)?)?;
+    'members: while is(lexer, TokenKind::Sign(Sign::Comma)) {
+        take(lexer, TokenKind::Sign(Sign::Comma))?;
+        found.push(number(lexer)?)?;
     }
     Ok(found)
 }
 
 /// Takes a set literal between braces.
-pub(crate) fn braces(alloc: Global, tokens: &Tokens, next: &mut usize) -> Result<SetLiteral, Stop>
+pub(crate) fn braces(alloc: Global, lexer: &mut Lexer) -> Result<SetLiteral, Stop>
     ensures taken { Parses grammar.Braces set_of
-        (rest tokens.now next.old) (rest tokens.now next.new) result }
-    ensures forward { OnOk result (next.old < next.new) }
+        lexer.old.tokens lexer.new.tokens result }
+    ensures forward { OnOk result (length lexer.new.tokens < length lexer.old.tokens) }
+    ensures same { lexer.new.source ≡ lexer.old.source }
 {
-    let at = take(tokens, next, TokenKind::Sign(Sign::LeftBrace))?;
-    let members = members(alloc, tokens, next)?;
-    take(tokens, next, TokenKind::Sign(Sign::RightBrace))?;
+    let at = take(lexer, TokenKind::Sign(Sign::LeftBrace))?;
+    let members = members(alloc, lexer)?;
+    take(lexer, TokenKind::Sign(Sign::RightBrace))?;
     Ok(SetLiteral::Braces { at, members })
 }
 
 /// Takes a set literal.
 pub(crate) fn set_literal(
     alloc: Global,
-    tokens: &Tokens,
-    next: &mut usize,
+    lexer: &mut Lexer,
 ) -> Result<SetLiteral, Stop>
     ensures taken { Parses grammar.SetLiteral set_of
-        (rest tokens.now next.old) (rest tokens.now next.new) result }
-    ensures forward { OnOk result (next.old < next.new) }
+        lexer.old.tokens lexer.new.tokens result }
+    ensures forward { OnOk result (length lexer.new.tokens < length lexer.old.tokens) }
+    ensures same { lexer.new.source ≡ lexer.old.source }
 {
-    if is(tokens, *next, TokenKind::Sign(Sign::LeftBrace)) {
-        let set = braces(alloc, tokens, next)?;
+    if is(lexer, TokenKind::Sign(Sign::LeftBrace)) {
+        let set = braces(alloc, lexer)?;
         return Ok(set);
     }
-    let low = number(tokens, next)?;
-    take(tokens, next, TokenKind::Sign(Sign::DoubleDot))?;
-    let high = number(tokens, next)?;
+    let low = number(lexer)?;
+    take(lexer, TokenKind::Sign(Sign::DoubleDot))?;
+    let high = number(lexer)?;
     Ok(SetLiteral::Range { low, high })
 }
 
 /// Takes the upper end of a range, if one stands there.
-fn range_end(tokens: &Tokens, next: &mut usize) -> Result<Option<Number>, Stop>
+fn range_end(lexer: &mut Lexer) -> Result<Option<Number>, Stop>
     ensures taken { Parses grammar.RangeEnd (option_of number_of)
-        (rest tokens.now next.old) (rest tokens.now next.new) result }
-    ensures forward { OnOk result (next.old ≤ next.new) }
+        lexer.old.tokens lexer.new.tokens result }
+    ensures forward { OnOk result (length lexer.new.tokens ≤ length lexer.old.tokens) }
+    ensures same { lexer.new.source ≡ lexer.old.source }
 {
-    if !is(tokens, *next, TokenKind::Sign(Sign::DoubleDot)) {
+    if !is(lexer, TokenKind::Sign(Sign::DoubleDot)) {
         return Ok(None);
     }
-    take(tokens, next, TokenKind::Sign(Sign::DoubleDot))?;
-    let high = number(tokens, next)?;
+    take(lexer, TokenKind::Sign(Sign::DoubleDot))?;
+    let high = number(lexer)?;
     Ok(Some(high))
 }
 
 /// Takes an expression that is no list and no name.
 pub(crate) fn constant<'a>(
     alloc: Global,
-    tokens: &Tokens<'a>,
-    next: &mut usize,
+    lexer: &mut Lexer<'a>,
 ) -> Result<Basic<'a>, Stop>
     ensures taken { Parses grammar.Constant basic_of
-        (rest tokens.now next.old) (rest tokens.now next.new) result }
-    ensures forward { OnOk result (next.old < next.new) }
+        lexer.old.tokens lexer.new.tokens result }
+    ensures forward { OnOk result (length lexer.new.tokens < length lexer.old.tokens) }
+    ensures same { lexer.new.source ≡ lexer.old.source }
 {
-    if is(tokens, *next, TokenKind::Keyword(Keyword::True)) {
-        let at = take(tokens, next, TokenKind::Keyword(Keyword::True))?;
+    if is(lexer, TokenKind::Keyword(Keyword::True)) {
+        let at = take(lexer, TokenKind::Keyword(Keyword::True))?;
         return Ok(Basic::Truth { value: true, at });
     }
-    if is(tokens, *next, TokenKind::Keyword(Keyword::False)) {
-        let at = take(tokens, next, TokenKind::Keyword(Keyword::False))?;
+    if is(lexer, TokenKind::Keyword(Keyword::False)) {
+        let at = take(lexer, TokenKind::Keyword(Keyword::False))?;
         return Ok(Basic::Truth { value: false, at });
     }
-    if is(tokens, *next, TokenKind::Sign(Sign::LeftBrace)) {
-        let set = braces(alloc, tokens, next)?;
+    if is(lexer, TokenKind::Sign(Sign::LeftBrace)) {
+        let set = braces(alloc, lexer)?;
         return Ok(Basic::Literal(Box::new(alloc, set)?));
     }
-    let low = number(tokens, next)?;
-    let high = range_end(tokens, next)?;
+    let low = number(lexer)?;
+    let high = range_end(lexer)?;
     let basic = number_or_range(alloc, low, high)?;
     Ok(basic)
 }
@@ -140,40 +144,40 @@ fn number_or_range<'a>(
 /// Takes an expression that is no list.
 pub(crate) fn basic<'a>(
     alloc: Global,
-    tokens: &Tokens<'a>,
-    next: &mut usize,
+    lexer: &mut Lexer<'a>,
 ) -> Result<Basic<'a>, Stop>
     ensures taken { Parses grammar.Basic basic_of
-        (rest tokens.now next.old) (rest tokens.now next.new) result }
-    ensures forward { OnOk result (next.old < next.new) }
+        lexer.old.tokens lexer.new.tokens result }
+    ensures forward { OnOk result (length lexer.new.tokens < length lexer.old.tokens) }
+    ensures same { lexer.new.source ≡ lexer.old.source }
 {
-    if is(tokens, *next, TokenKind::Identifier) {
-        let name = identifier(tokens, next)?;
+    if is(lexer, TokenKind::Identifier) {
+        let name = identifier(lexer)?;
         return Ok(Basic::Named(name));
     }
-    let basic = constant(alloc, tokens, next)?;
+    let basic = constant(alloc, lexer)?;
     Ok(basic)
 }
 
 /// Takes the elements of a list, up to its closing bracket.
 fn elements<'a>(
     alloc: Global,
-    tokens: &Tokens<'a>,
-    next: &mut usize,
+    lexer: &mut Lexer<'a>,
 ) -> Result<Vec<Basic<'a>>, Stop>
     ensures taken { Parses (grammar.Listed grammar.Elements) (λ e. map basic_of e.items)
-        (rest tokens.now next.old) (rest tokens.now next.new) result }
-    ensures forward { OnOk result (next.old ≤ next.new) }
+        lexer.old.tokens lexer.new.tokens result }
+    ensures forward { OnOk result (length lexer.new.tokens ≤ length lexer.old.tokens) }
+    ensures same { lexer.new.source ≡ lexer.old.source }
 {
     let mut found = Vec::new(alloc);
-    if is(tokens, *next, TokenKind::Sign(Sign::RightBracket)) {
+    if is(lexer, TokenKind::Sign(Sign::RightBracket)) {
         return Ok(found);
     }
-    found.reserve_exact(parts_from(tokens, *next))?;
-    found.push(basic(alloc, tokens, next)?)?;
-    'elements: while is(tokens, *next, TokenKind::Sign(Sign::Comma)) {
-        take(tokens, next, TokenKind::Sign(Sign::Comma))?;
-        found.push(basic(alloc, tokens, next)?)?;
+    found.reserve_exact(parts_from(lexer))?;
+    found.push(basic(alloc, lexer)?)?;
+    'elements: while is(lexer, TokenKind::Sign(Sign::Comma)) {
+        take(lexer, TokenKind::Sign(Sign::Comma))?;
+        found.push(basic(alloc, lexer)?)?;
     }
     Ok(found)
 }
@@ -181,33 +185,33 @@ fn elements<'a>(
 /// Takes a list.
 pub(crate) fn list_literal<'a>(
     alloc: Global,
-    tokens: &Tokens<'a>,
-    next: &mut usize,
+    lexer: &mut Lexer<'a>,
 ) -> Result<ListLiteral<'a>, Stop>
     ensures taken { ParsesLow grammar.ListLiteral list_of
-        (rest tokens.now next.old) (rest tokens.now next.new) result }
-    ensures forward { OnOk result (next.old < next.new) }
+        lexer.old.tokens lexer.new.tokens result }
+    ensures forward { OnOk result (length lexer.new.tokens < length lexer.old.tokens) }
+    ensures same { lexer.new.source ≡ lexer.old.source }
 {
-    let at = take(tokens, next, TokenKind::Sign(Sign::LeftBracket))?;
-    let elements = elements(alloc, tokens, next)?;
-    take(tokens, next, TokenKind::Sign(Sign::RightBracket))?;
+    let at = take(lexer, TokenKind::Sign(Sign::LeftBracket))?;
+    let elements = elements(alloc, lexer)?;
+    take(lexer, TokenKind::Sign(Sign::RightBracket))?;
     Ok(ListLiteral { at, elements })
 }
 
 /// Takes an argument of a constraint.
 pub(crate) fn expression<'a>(
     alloc: Global,
-    tokens: &Tokens<'a>,
-    next: &mut usize,
+    lexer: &mut Lexer<'a>,
 ) -> Result<Expression<'a>, Stop>
     ensures taken { ParsesLow grammar.Expression expression_of
-        (rest tokens.now next.old) (rest tokens.now next.new) result }
-    ensures forward { OnOk result (next.old < next.new) }
+        lexer.old.tokens lexer.new.tokens result }
+    ensures forward { OnOk result (length lexer.new.tokens < length lexer.old.tokens) }
+    ensures same { lexer.new.source ≡ lexer.old.source }
 {
-    if is(tokens, *next, TokenKind::Sign(Sign::LeftBracket)) {
-        let list = list_literal(alloc, tokens, next)?;
+    if is(lexer, TokenKind::Sign(Sign::LeftBracket)) {
+        let list = list_literal(alloc, lexer)?;
         return Ok(Expression::Listed(list));
     }
-    let basic = basic(alloc, tokens, next)?;
+    let basic = basic(alloc, lexer)?;
     Ok(Expression::Scalar(basic))
 }

@@ -10,8 +10,8 @@ use crate::steps::is;
 use crate::stop::Stop;
 use fz_language::fault::SyntaxFault;
 use fz_language::token_kind::TokenKind;
+use fz_lex::Lexer;
 use fz_syntax::Program;
-use fz_tokens::Tokens;
 use std::alloc::{AllocError, Global};
 
 /// Why and where tokens spell no program: at the first token with which none begins, or at the text's end, or at a bracket
@@ -42,13 +42,13 @@ pub fn parse<'a>(
 }
 
 /// Takes a program and the text's end.
-fn whole<'a>(alloc: Global, tokens: &Tokens<'a>, next: &mut usize) -> Result<Program<'a>, Stop>
+fn whole<'a>(alloc: Global, lexer: &mut Lexer<'a>) -> Result<Program<'a>, Stop>
     requires start { next.old ≡ 0 }
     ensures taken { MatchResult result (λ p. Spells tokens.now.tokens (program_of p))
         (λ why. Blames tokens.now.tokens why (rest tokens.now next.new)) }
 {
-    let program = program(alloc, tokens, next)?;
-    if !is(tokens, *next, TokenKind::End) {
+    let program = program(alloc, lexer)?;
+    if !is(lexer, TokenKind::End) {
         return Err(Stop::Fault(SyntaxFault::Unexpected));
     }
     Ok(program)

@@ -1,10 +1,10 @@
 //! The reading of items and of a program.
-ghost use Rattle.std.specs.Prelude.{◌≡◌, ◌≤◌, ◌<◌, OnOk, map};
+ghost use Rattle.std.specs.Prelude.{◌≡◌, ◌≤◌, ◌<◌, OnOk, map, length};
 ghost use Rattle.fz_language.specs.Kinds.{number};
 ghost use Rattle.fz_language.specs.Grammar as grammar;
 ghost use Rattle.fz_grammar.specs.Reading.{head, has};
 ghost use Rattle.fz_syntax.specs.Trees.{item_of, method_of, solve_item_of, program_of};
-ghost use Rattle.fz_parse.specs.Steps.{rest, Parses, ParsesAt};
+ghost use Rattle.fz_parse.specs.Steps.{Parses, ParsesAt};
 
 use crate::annotation::annotations;
 use crate::constraint::constraint_item;
@@ -16,8 +16,8 @@ use crate::stop::Stop;
 use fz_language::keyword::Keyword;
 use fz_language::sign::Sign;
 use fz_language::token_kind::TokenKind;
+use fz_lex::Lexer;
 use fz_syntax::{Item, Method, Program, SolveItem};
-use fz_tokens::Tokens;
 use std::alloc::Global;
 
 /// Whether a type begins with a token of this kind.
@@ -47,78 +47,81 @@ fn begins_item(kind: TokenKind) -> bool
 }
 
 /// Takes an item before the solve item.
-fn item<'a>(alloc: Global, tokens: &Tokens<'a>, next: &mut usize) -> Result<Item<'a>, Stop>
+fn item<'a>(alloc: Global, lexer: &mut Lexer<'a>) -> Result<Item<'a>, Stop>
     ensures taken { ParsesAt 0 grammar.OneItem item_of
-        (rest tokens.now next.old) (rest tokens.now next.new) result }
-    ensures forward { OnOk result (next.old < next.new) }
+        lexer.old.tokens lexer.new.tokens result }
+    ensures forward { OnOk result (length lexer.new.tokens < length lexer.old.tokens) }
+    ensures same { lexer.new.source ≡ lexer.old.source }
 {
-    if is(tokens, *next, TokenKind::Keyword(Keyword::Predicate)) {
-        let item = predicate_item(alloc, tokens, next)?;
+    if is(lexer, TokenKind::Keyword(Keyword::Predicate)) {
+        let item = predicate_item(alloc, lexer)?;
         return Ok(Item::Predicate(item));
     }
-    if is(tokens, *next, TokenKind::Keyword(Keyword::Var)) {
-        let item = variable_item(alloc, tokens, next)?;
+    if is(lexer, TokenKind::Keyword(Keyword::Var)) {
+        let item = variable_item(alloc, lexer)?;
         return Ok(Item::Variable(item));
     }
-    if is(tokens, *next, TokenKind::Keyword(Keyword::Array)) {
-        let item = array_item(alloc, tokens, next)?;
+    if is(lexer, TokenKind::Keyword(Keyword::Array)) {
+        let item = array_item(alloc, lexer)?;
         return Ok(Item::Array(Box::new(alloc, item)?));
     }
-    if begins_type(tokens.kind(*next)) {
-        let item = parameter_item(alloc, tokens, next)?;
+    if begins_type(lexer.kind()) {
+        let item = parameter_item(alloc, lexer)?;
         return Ok(Item::Parameter(item));
     }
-    let item = constraint_item(alloc, tokens, next)?;
+    let item = constraint_item(alloc, lexer)?;
     Ok(Item::Constraint(item))
 }
 
 /// Takes the items before the solve item.
-fn items<'a>(alloc: Global, tokens: &Tokens<'a>, next: &mut usize) -> Result<Vec<Item<'a>>, Stop>
+fn items<'a>(alloc: Global, lexer: &mut Lexer<'a>) -> Result<Vec<Item<'a>>, Stop>
     ensures taken { ParsesAt 0 grammar.Items (λ i. map item_of i.items)
-        (rest tokens.now next.old) (rest tokens.now next.new) result }
-    ensures forward { OnOk result (next.old ≤ next.new) }
+        lexer.old.tokens lexer.new.tokens result }
+    ensures forward { OnOk result (length lexer.new.tokens ≤ length lexer.old.tokens) }
+    ensures same { lexer.new.source ≡ lexer.old.source }
 {
     let mut found = Vec::new(alloc);
-    'items: while begins_item(tokens.kind(*next)) {
-        found.push(item(alloc, tokens, next)?)?;
+    'items: while begins_item(lexer.kind()) {
+        found.push(item(alloc, lexer)?)?;
     }
     Ok(found)
 }
 
 /// Takes what the solve item asks for.
-fn method<'a>(alloc: Global, tokens: &Tokens<'a>, next: &mut usize) -> Result<Method<'a>, Stop>
+fn method<'a>(alloc: Global, lexer: &mut Lexer<'a>) -> Result<Method<'a>, Stop>
     ensures taken { Parses grammar.Method method_of
-        (rest tokens.now next.old) (rest tokens.now next.new) result }
-    ensures forward { OnOk result (next.old < next.new) }
+        lexer.old.tokens lexer.new.tokens result }
+    ensures forward { OnOk result (length lexer.new.tokens < length lexer.old.tokens) }
+    ensures same { lexer.new.source ≡ lexer.old.source }
 {
-    if is(tokens, *next, TokenKind::Keyword(Keyword::Minimize)) {
-        let at = take(tokens, next, TokenKind::Keyword(Keyword::Minimize))?;
-        let objective = basic(alloc, tokens, next)?;
+    if is(lexer, TokenKind::Keyword(Keyword::Minimize)) {
+        let at = take(lexer, TokenKind::Keyword(Keyword::Minimize))?;
+        let objective = basic(alloc, lexer)?;
         return Ok(Method::Minimize { at, objective });
     }
-    if is(tokens, *next, TokenKind::Keyword(Keyword::Maximize)) {
-        let at = take(tokens, next, TokenKind::Keyword(Keyword::Maximize))?;
-        let objective = basic(alloc, tokens, next)?;
+    if is(lexer, TokenKind::Keyword(Keyword::Maximize)) {
+        let at = take(lexer, TokenKind::Keyword(Keyword::Maximize))?;
+        let objective = basic(alloc, lexer)?;
         return Ok(Method::Maximize { at, objective });
     }
-    let at = take(tokens, next, TokenKind::Keyword(Keyword::Satisfy))?;
+    let at = take(lexer, TokenKind::Keyword(Keyword::Satisfy))?;
     Ok(Method::Satisfy { at })
 }
 
 /// Takes the solve item.
 fn solve_item<'a>(
     alloc: Global,
-    tokens: &Tokens<'a>,
-    next: &mut usize,
+    lexer: &mut Lexer<'a>,
 ) -> Result<SolveItem<'a>, Stop>
     ensures taken { ParsesAt 0 grammar.SolveItem solve_item_of
-        (rest tokens.now next.old) (rest tokens.now next.new) result }
-    ensures forward { OnOk result (next.old < next.new) }
+        lexer.old.tokens lexer.new.tokens result }
+    ensures forward { OnOk result (length lexer.new.tokens < length lexer.old.tokens) }
+    ensures same { lexer.new.source ≡ lexer.old.source }
 {
-    take(tokens, next, TokenKind::Keyword(Keyword::Solve))?;
-    let annotations = annotations(alloc, tokens, next)?;
-    let method = method(alloc, tokens, next)?;
-    take(tokens, next, TokenKind::Sign(Sign::Semicolon))?;
+    take(lexer, TokenKind::Keyword(Keyword::Solve))?;
+    let annotations = annotations(alloc, lexer)?;
+    let method = method(alloc, lexer)?;
+    take(lexer, TokenKind::Sign(Sign::Semicolon))?;
     Ok(SolveItem {
         annotations,
         method,
@@ -128,13 +131,12 @@ fn solve_item<'a>(
 /// Takes a program.
 pub(crate) fn program<'a>(
     alloc: Global,
-    tokens: &Tokens<'a>,
-    next: &mut usize,
+    lexer: &mut Lexer<'a>,
 ) -> Result<Program<'a>, Stop>
     ensures taken { ParsesAt 0 grammar.WholeProgram program_of
-        (rest tokens.now next.old) (rest tokens.now next.new) result }
+        lexer.old.tokens lexer.new.tokens result }
 {
-    let items = items(alloc, tokens, next)?;
-    let solve = solve_item(alloc, tokens, next)?;
+    let items = items(alloc, lexer)?;
+    let solve = solve_item(alloc, lexer)?;
     Ok(Program { items, solve })
 }

@@ -4,15 +4,15 @@ ghost use Rattle.fz_language.specs.declared.token_kind.TokenKind.TheVariants as 
 ghost use Rattle.fz_language.specs.Kinds.{number};
 ghost use Rattle.fz_grammar.specs.Reading.{head, has};
 ghost use Rattle.fz_language.specs.Grammar.{flatzinc};
-ghost use Rattle.fz_parse.specs.Steps.{rest, IsMark, TakesMark, TakesName, TakesInteger, MissesKind};
+ghost use Rattle.fz_parse.specs.Steps.{IsMark, TakesMark, TakesName, TakesInteger, MissesKind};
 
 use crate::stop::Stop;
 use fz_language::fault::SyntaxFault;
 use fz_language::sign::Sign;
 use fz_language::token_kind::TokenKind;
+use fz_lex::Lexer;
 use fz_spec::limits::ELEMENT_LIMIT;
 use fz_syntax::{Integer, Name};
-use fz_tokens::Tokens;
 
 /// Whether the token of this number is of this kind.
 pub(crate) fn is(tokens: &Tokens, index: usize, kind: TokenKind) -> bool
@@ -23,14 +23,15 @@ pub(crate) fn is(tokens: &Tokens, index: usize, kind: TokenKind) -> bool
 }
 
 /// Takes the next token if it is of this kind, and gives its place.
-pub(crate) fn take(tokens: &Tokens, next: &mut usize, kind: TokenKind) -> Result<u32, Stop>
+pub(crate) fn take(lexer: &mut Lexer, kind: TokenKind) -> Result<u32, Stop>
     requires mark { IsMark kind }
     ensures taken { MatchResult result
-        (λ at. TakesMark kind at (rest tokens.now next.old) (rest tokens.now next.new))
-        (MissesKind kind (rest tokens.now next.old) (rest tokens.now next.new)) }
-    ensures forward { OnOk result (next.old < next.new) }
+        (λ at. TakesMark kind at lexer.old.tokens lexer.new.tokens)
+        (MissesKind kind lexer.old.tokens lexer.new.tokens) }
+    ensures forward { OnOk result (length lexer.new.tokens < length lexer.old.tokens) }
+    ensures same { lexer.new.source ≡ lexer.old.source }
 {
-    if !is(tokens, *next, kind) {
+    if !is(lexer, kind) {
         return Err(Stop::Fault(SyntaxFault::Unexpected));
     }
     let at = tokens.place(*next);
@@ -39,11 +40,12 @@ pub(crate) fn take(tokens: &Tokens, next: &mut usize, kind: TokenKind) -> Result
 }
 
 /// Takes the next token if it is an identifier.
-pub(crate) fn identifier<'a>(tokens: &Tokens<'a>, next: &mut usize) -> Result<Name<'a>, Stop>
+pub(crate) fn identifier<'a>(lexer: &mut Lexer<'a>) -> Result<Name<'a>, Stop>
     ensures taken { MatchResult result
-        (λ n. TakesName n.bytes.now n.at (rest tokens.now next.old) (rest tokens.now next.new))
-        (MissesKind kinds.Identifier (rest tokens.now next.old) (rest tokens.now next.new)) }
-    ensures forward { OnOk result (next.old < next.new) }
+        (λ n. TakesName n.bytes.now n.at lexer.old.tokens lexer.new.tokens)
+        (MissesKind kinds.Identifier lexer.old.tokens lexer.new.tokens) }
+    ensures forward { OnOk result (length lexer.new.tokens < length lexer.old.tokens) }
+    ensures same { lexer.new.source ≡ lexer.old.source }
 {
     match tokens.name(*next) {
         Some(name) => {
@@ -55,11 +57,12 @@ pub(crate) fn identifier<'a>(tokens: &Tokens<'a>, next: &mut usize) -> Result<Na
 }
 
 /// Takes the next token if it is an integer.
-pub(crate) fn integer(tokens: &Tokens, next: &mut usize) -> Result<Integer, Stop>
+pub(crate) fn integer(lexer: &mut Lexer) -> Result<Integer, Stop>
     ensures taken { MatchResult result
-        (λ i. TakesInteger i.value i.at (rest tokens.now next.old) (rest tokens.now next.new))
-        (MissesKind kinds.Integer (rest tokens.now next.old) (rest tokens.now next.new)) }
-    ensures forward { OnOk result (next.old < next.new) }
+        (λ i. TakesInteger i.value i.at lexer.old.tokens lexer.new.tokens)
+        (MissesKind kinds.Integer lexer.old.tokens lexer.new.tokens) }
+    ensures forward { OnOk result (length lexer.new.tokens < length lexer.old.tokens) }
+    ensures same { lexer.new.source ≡ lexer.old.source }
 {
     match tokens.integer(*next) {
         Some(integer) => {

@@ -1,5 +1,5 @@
 use Rattle.std.proofs.Common.{ℕ, ◌+◌, slice_index, subst, sym}
-use Rattle.fz_tokens.specs.declared.token.Lexeme.TheVariants as found
+use Rattle.fz_lex.specs.declared.lexeme.Lexeme.TheVariants as found
 use Rattle.fz_lex.specs.Steps.{FitsSign, FitsNoSign, IsFoundAt}
 use Rattle.fz_lex.proofs.Founds.{sign_found, none_found}
 use Rattle.fz_lex.proofs.reading.sign_at.Goals as goal

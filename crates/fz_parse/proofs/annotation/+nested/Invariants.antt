@@ -1,7 +1,6 @@
 use Rattle.std.proofs.Common.{map, length, ◌+◌, ◌*◌, ◌-◌, ◌≤◌}
 use Rattle.fz_language.specs.Grammar.{Arguments, Listed}
 use Rattle.fz_syntax.specs.Trees.{argument_of}
-use Rattle.fz_parse.specs.Steps.{rest}
 use Rattle.fz_parse.proofs.Lists.{GoesOn}
 use Rattle.fz_parse.proofs.annotation.+nested.Given as goal
 
@@ -15,7 +14,7 @@ abbrev pub decreases-arguments : goal.decreases-arguments
 decreases-arguments l = 3 * l.left + 2
 
 abbrev pub invariant-arguments-arguments : goal.invariant-arguments-arguments
-invariant-arguments-arguments l = (l.fn.next ≤ l.next) × GoesOn Arguments (64 - l.left) (Listed Arguments) (rest l.tokens l.fn.next) (rest l.tokens l.next) (λ w. w) (map argument_of l.found.items)
+invariant-arguments-arguments l = (length l.lexer.tokens ≤ length l.fn.lexer.tokens) × (GoesOn Arguments (64 - l.left) (Listed Arguments) l.fn.lexer.tokens l.lexer.tokens (λ w. w) (map argument_of l.found.items)) × (l.lexer.source ≡ l.fn.lexer.source)
 
 abbrev pub decreases-arguments-arguments : goal.decreases-arguments-arguments
-decreases-arguments-arguments l = length l.tokens.tokens - l.next
+decreases-arguments-arguments l = length l.lexer.tokens
