@@ -1,10 +1,9 @@
 -- One token that is taken, or missed.
-use Rattle.std.proofs.Common.{◌≡◌, ℕ, zero, suc, ◌+◌, ◌<◌, List, [], ◌∷◌, Bool, true, false, ◌||◌, ◌==◌, drop, length, get_or, refl, sym, ap, subst, ◌∙◌, eq-eqb, eqb-true, true≢false, arith}
-use Rattle.std.proofs.lemmas.List.{drop_more}
+use Rattle.std.proofs.Common.{◌≡◌, ℕ, zero, suc, ◌+◌, ◌<◌, List, [], ◌∷◌, Bool, true, false, ◌||◌, ◌==◌, drop, length, refl, sym, ap, subst, ◌∙◌, eq-eqb, eqb-true, true≢false, arith}
 use Rattle.fz_language.specs.declared.fault.SyntaxFault.TheVariants.{Unexpected}
 use Rattle.fz_language.specs.declared.token_kind.TokenKind.{TokenKind}
 use Rattle.fz_language.specs.declared.token_kind.TokenKind.TheVariants as kind
-use Rattle.fz_language.specs.Tokens.{Token, Lexeme, Identifier, Word, Number, Float, Text, Punct, place_in}
+use Rattle.fz_language.specs.Tokens.{Token, Lexeme, Identifier, Word, Number, Float, Text, Punct}
 use Rattle.fz_language.specs.declared.sign.Sign.{Sign}
 use Rattle.fz_language.specs.declared.sign.Sign.TheVariants.{Semicolon}
 use Rattle.fz_language.specs.declared.keyword.Keyword.{Keyword}
@@ -14,15 +13,9 @@ use Rattle.fz_language.proofs.KindLaws.{same_kind}
 use Rattle.fz_language.specs.Grammar.{flatzinc, level_limit}
 use Rattle.fz_grammar.specs.Grammar.{Leaf}
 use Rattle.fz_grammar.specs.Reading.{TookIn, DoneIn, HereIn, allowed, head, has}
-use Rattle.fz_tokens.specs.Lexed.{head_kind}
+use Rattle.fz_lex.specs.Ahead.{Source, head_kind, place_of}
 use Rattle.fz_parse.specs.declared.stop.Stop.TheVariants as stop
 use Rattle.fz_parse.specs.Steps.{Read, Halts, IsMark, mark}
-
-pub inside : (ts : List Token) (i k : ℕ) → head flatzinc (drop i ts) ≡ k → 0 < k → i < length ts
-inside [] zero k e l = absurd (omega (arith, e, l))
-inside [] (suc i) k e l = absurd (omega (arith, e, l))
-inside (t ∷ ts) zero k e l = omega arith
-inside (t ∷ ts) (suc i) k e l = let m = inside ts i k e l in omega arith
 
 marks : (x : Lexeme) (at : ℕ) → IsMark (kind_of x) → record { lexeme = x; at = at } ≡ mark (kind_of x) at
 marks (Identifier name) at h = absurd h
@@ -56,14 +49,24 @@ missed k ts h l = record { is = HereIn l k [] ts h }
 pub took : (k l : ℕ) (t : Token) (old new : List Token) → old ≡ t ∷ new → number (kind_of t.lexeme) ≡ k → allowed flatzinc level_limit k l ≡ true → Read l (Leaf k ∷ []) (t, tt) old new
 took k l t old new e f a = subst (λ (ts : List Token). Read l (Leaf k ∷ []) (t, tt) ts new) (sym e) (TookIn l k [] t new new tt f a (DoneIn _ new))
 
-pub took_mark : (k : TokenKind) (text : List ℕ) (ts : List Token) (i at : ℕ) → IsMark k → head flatzinc (drop i ts) ≡ number k → i < length ts → at ≡ place_in text (drop i ts)
-    → (l : ℕ) → allowed flatzinc level_limit (number k) l ≡ true → Read l (Leaf (number k) ∷ []) (mark k at, tt) (drop i ts) (drop (i + 1) ts)
-took_mark k text ts i at h e m p l a =
-    let t = get_or ts i (record { lexeme = Float; at = 0 }) in
-    let d : drop i ts ≡ t ∷ drop (i + 1) ts = drop_more ts i (record { lexeme = Float; at = 0 }) m in
-    let f : number (kind_of t.lexeme) ≡ number k = sym (ap (head flatzinc) d) ∙ e in
-    let q : t.at ≡ at = sym (p ∙ ap (place_in text) d) in
-    subst (λ (u : Token). Read l (Leaf (number k) ∷ []) (u, tt) (drop i ts) (drop (i + 1) ts)) (mark_is k t h f ∙ ap (mark k) q) (took (number k) l t (drop i ts) (drop (i + 1) ts) d f a)
+pub took_mark : (k : TokenKind) (source : Source) (ts new : List Token) (at : ℕ) → IsMark k → head flatzinc ts ≡ number k → 0 < number k → at ≡ place_of source ts → new ≡ drop 1 ts
+    → (l : ℕ) → allowed flatzinc level_limit (number k) l ≡ true → Read l (Leaf (number k) ∷ []) (mark k at, tt) ts new
+took_mark k source [] new at h e s p n l a = absurd (omega (arith, e, s))
+took_mark k source (t ∷ ts) new at h e s p n l a =
+    let old : t ∷ ts ≡ t ∷ new = ap (λ (us : List Token). t ∷ us) (sym n) in
+    subst (λ (u : Token). Read l (Leaf (number k) ∷ []) (u, tt) (t ∷ ts) new) (mark_is k t h e ∙ ap (mark k) (sym p)) (took (number k) l t (t ∷ ts) new old e a)
+
+-- a token that was passed
+pub took_next : (k l : ℕ) (t : Token) (old new : List Token) → old ≡ t ∷ drop 1 old → new ≡ drop 1 old → number (kind_of t.lexeme) ≡ k → allowed flatzinc level_limit k l ≡ true → Read l (Leaf k ∷ []) (t, tt) old new
+took_next k l t old new e n f a = took k l t old new (e ∙ ap (λ (us : List Token). t ∷ us) (sym n)) f a
+
+-- fewer tokens are ahead behind one that was passed
+pub fewer : (ts new : List Token) → 0 < head flatzinc ts → new ≡ drop 1 ts → length new < length ts
+fewer [] new s n = absurd (omega (arith, s))
+fewer (t ∷ ts) new s n = let e : length new ≡ length ts = ap length n in omega (arith, e)
+
+pub fewer_next : (t : Token) (old new : List Token) → old ≡ t ∷ drop 1 old → new ≡ drop 1 old → length new < length old
+fewer_next t old new e n = let a : length old ≡ suc (length (drop 1 old)) = ap length e in let b : length new ≡ length (drop 1 old) = ap length n in omega (arith, a, b)
 
 sign_positive : (s : Sign) → 0 < sign_number s
 sign_positive Semicolon = omega arith
@@ -81,12 +84,6 @@ positive kind.Float h = omega arith
 positive kind.Text h = omega arith
 positive (kind.Sign s) h = sign_positive s
 positive (kind.Keyword k) h = keyword_positive k
-
-pub drop_inside : {A : Type 0} (ts : List A) (i : ℕ) (t : A) (us : List A) → drop i ts ≡ t ∷ us → i < length ts
-drop_inside [] zero t us e = cc
-drop_inside [] (suc i) t us e = cc
-drop_inside (x ∷ ts) zero t us e = omega arith
-drop_inside (x ∷ ts) (suc i) t us e = let m = drop_inside ts i t us e in omega arith
 
 heads : (ts : List Token) → head_kind ts ≡ head flatzinc ts
 heads [] = refl

@@ -1,5 +1,5 @@
 -- What the steps of the reading say: which symbols were read, or where the reading of them stops.
-use Rattle.std.specs.Prelude.{◌≡◌, ℕ, ℤ, ◌≤◌, List, [], ◌∷◌, Option, Some, None, Result, MatchResult, drop, true}
+use Rattle.std.specs.Prelude.{◌≡◌, ℕ, ℤ, ◌≤◌, List, [], ◌∷◌, Option, Some, None, Result, MatchResult, true}
 use Rattle.fz_language.specs.declared.fault.SyntaxFault.TheVariants.{Unexpected, TooDeep}
 use Rattle.fz_language.specs.declared.token_kind.TokenKind.{TokenKind}
 use Rattle.fz_language.specs.declared.token_kind.TokenKind.TheVariants as kind
@@ -8,13 +8,8 @@ use Rattle.fz_language.specs.Kinds.{number}
 use Rattle.fz_language.specs.Grammar.{Part, Tree, flatzinc, level_limit}
 use Rattle.fz_grammar.specs.Grammar.{Symbol, Leaf, Rule, Trees}
 use Rattle.fz_grammar.specs.Reading.{ReadsIn, StopsIn, IsOther, allowed}
-use Rattle.fz_tokens.specs.Lexed.{LexedText}
 use Rattle.fz_parse.specs.declared.stop.Stop.{Stop}
 use Rattle.fz_parse.specs.declared.stop.Stop.TheVariants as stop
-
--- the tokens from this number on
-abbrev pub rest : LexedText → ℕ → List Token
-rest lexed index = drop index lexed.tokens
 
 -- these symbols were read, and made these trees, while this many levels of brackets were open before
 abbrev pub Read : ℕ → (ss : List (Symbol Part)) → Trees flatzinc ss → List Token → List Token → Type 0

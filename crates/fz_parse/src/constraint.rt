@@ -6,7 +6,7 @@ ghost use Rattle.fz_parse.specs.Steps.{ParsesLow, ParsesAt};
 
 use crate::annotation::annotations;
 use crate::expression::expression;
-use crate::steps::{identifier, is, parts_from, take};
+use crate::steps::{identifier, is, parts_ahead, take};
 use crate::stop::Stop;
 use fz_language::keyword::Keyword;
 use fz_language::sign::Sign;
@@ -29,7 +29,7 @@ fn expressions<'a>(
     if is(lexer, TokenKind::Sign(Sign::RightParenthesis)) {
         return Ok(found);
     }
-    found.reserve_exact(parts_from(lexer))?;
+    found.reserve_exact(parts_ahead(lexer))?;
     found.push(expression(alloc, lexer)?)?;
     'expressions: while is(lexer, TokenKind::Sign(Sign::Comma)) {
         take(lexer, TokenKind::Sign(Sign::Comma))?;

@@ -4,7 +4,7 @@ ghost use Rattle.fz_language.specs.Grammar as grammar;
 ghost use Rattle.fz_syntax.specs.Trees.{number_of, set_of, basic_of, list_of, expression_of};
 ghost use Rattle.fz_parse.specs.Steps.{Parses, ParsesLow, option_of};
 
-use crate::steps::{identifier, integer, is, parts_from, take};
+use crate::steps::{identifier, integer, is, parts_ahead, take};
 use crate::stop::Stop;
 use fz_language::keyword::Keyword;
 use fz_language::sign::Sign;
@@ -173,7 +173,7 @@ fn elements<'a>(
     if is(lexer, TokenKind::Sign(Sign::RightBracket)) {
         return Ok(found);
     }
-    found.reserve_exact(parts_from(lexer))?;
+    found.reserve_exact(parts_ahead(lexer))?;
     found.push(basic(alloc, lexer)?)?;
     'elements: while is(lexer, TokenKind::Sign(Sign::Comma)) {
         take(lexer, TokenKind::Sign(Sign::Comma))?;

@@ -1,16 +1,17 @@
-//! From tokens to a program.
-ghost use Rattle.std.specs.Prelude.{◌≡◌, IfOk, MatchResult};
+//! From a text to a program.
+ghost use Rattle.std.specs.Prelude.{◌≡◌, ◌≤◌, IfOk, MatchResult, length};
+ghost use Rattle.fz_spec.specs.declared.limits.TheConstants.{TEXT_LIMIT};
 ghost use Rattle.fz_language.specs.Grammar.{Spells};
+ghost use Rattle.fz_language.specs.Reads.{IsProgramText};
 ghost use Rattle.fz_syntax.specs.Trees.{program_of};
-ghost use Rattle.fz_parse.specs.Parsed.{HasSyntaxFault, Blames};
-ghost use Rattle.fz_parse.specs.Steps.{rest};
+ghost use Rattle.fz_parse.specs.Parsed.{IsTextFault, Blames};
 
 use crate::program::program;
 use crate::steps::is;
 use crate::stop::Stop;
 use fz_language::fault::SyntaxFault;
 use fz_language::token_kind::TokenKind;
-use fz_lex::Lexer;
+use fz_lex::{LexFault, Lexer};
 use fz_syntax::Program;
 use std::alloc::{AllocError, Global};
 
@@ -22,30 +23,41 @@ pub struct ParseFault {
     pub at: u32,
 }
 
-/// The program that the tokens spell, or the place where the syntax is at fault. An `AllocError` says that memory ran out.
+/// Why a text is none of a program: the first fault of its tokens, or, of a text that has tokens, the fault of their syntax.
+#[derive(Clone, Copy, Debug, PartialEq, Eq)]
+pub enum TextFault {
+    Token(LexFault),
+    Syntax(ParseFault),
+}
+
+/// The program of a text, or the text's fault. The text is read once, to its end: tokens and syntax side by side. An `AllocError`
+/// says that memory ran out.
 pub fn parse<'a>(
     alloc: Global,
-    tokens: &Tokens<'a>,
-) -> Result<Result<Program<'a>, ParseFault>, AllocError>
+    text: &'a [u8],
+) -> Result<Result<Program<'a>, TextFault>, AllocError>
+    requires short { length text.now ≤ TEXT_LIMIT }
     ensures { IfOk result (λ found. MatchResult found
-        (λ p. Spells tokens.now.tokens (program_of p)) (HasSyntaxFault tokens.now)) }
+        (λ p. IsProgramText text.now (program_of p)) (IsTextFault text.now)) }
 {
-    let mut next = 0;
-    match whole(alloc, tokens, &mut next) {
+    let mut lexer = Lexer::new(text);
+    let found = whole(alloc, &mut lexer);
+    let at = lexer.place();
+    if let Some(fault) = lexer.fault() {
+        return Ok(Err(TextFault::Token(fault)));
+    }
+    match found {
         Ok(program) => Ok(Ok(program)),
         Err(Stop::Memory) => Err(AllocError),
-        Err(Stop::Fault(cause)) => Ok(Err(ParseFault {
-            cause,
-            at: tokens.place(next),
-        })),
+        Err(Stop::Fault(cause)) => Ok(Err(TextFault::Syntax(ParseFault { cause, at }))),
     }
 }
 
-/// Takes a program and the text's end.
+/// Takes a program and the end of the tokens.
 fn whole<'a>(alloc: Global, lexer: &mut Lexer<'a>) -> Result<Program<'a>, Stop>
-    requires start { next.old ≡ 0 }
-    ensures taken { MatchResult result (λ p. Spells tokens.now.tokens (program_of p))
-        (λ why. Blames tokens.now.tokens why (rest tokens.now next.new)) }
+    ensures taken { MatchResult result (λ p. Spells lexer.old.tokens (program_of p))
+        (λ why. Blames lexer.old.tokens why lexer.new.tokens) }
+    ensures same { lexer.new.source ≡ lexer.old.source }
 {
     let program = program(alloc, lexer)?;
     if !is(lexer, TokenKind::End) {

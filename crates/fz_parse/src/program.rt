@@ -135,6 +135,7 @@ pub(crate) fn program<'a>(
 ) -> Result<Program<'a>, Stop>
     ensures taken { ParsesAt 0 grammar.WholeProgram program_of
         lexer.old.tokens lexer.new.tokens result }
+    ensures same { lexer.new.source ≡ lexer.old.source }
 {
     let items = items(alloc, lexer)?;
     let solve = solve_item(alloc, lexer)?;

@@ -1,5 +1,6 @@
 //! Steps of the reading: tests and takings of one token.
-ghost use Rattle.std.specs.Prelude.{◌≡◌, ◌<◌, ◌≤◌, ◌+◌, ℕ, [], ◌∷◌, OnOk, MatchResult, length, true};
+ghost use Rattle.std.specs.Prelude.{◌≡◌, ◌<◌, ◌≤◌, ℕ, [], ◌∷◌, OnOk, MatchResult, length, true};
+ghost use Rattle.fz_spec.specs.declared.limits.TheConstants.{ELEMENT_LIMIT};
 ghost use Rattle.fz_language.specs.declared.token_kind.TokenKind.TheVariants as kinds;
 ghost use Rattle.fz_language.specs.Kinds.{number};
 ghost use Rattle.fz_grammar.specs.Reading.{head, has};
@@ -8,18 +9,16 @@ ghost use Rattle.fz_parse.specs.Steps.{IsMark, TakesMark, TakesName, TakesIntege
 
 use crate::stop::Stop;
 use fz_language::fault::SyntaxFault;
-use fz_language::sign::Sign;
 use fz_language::token_kind::TokenKind;
 use fz_lex::Lexer;
 use fz_spec::limits::ELEMENT_LIMIT;
 use fz_syntax::{Integer, Name};
 
-/// Whether the token of this number is of this kind.
-pub(crate) fn is(tokens: &Tokens, index: usize, kind: TokenKind) -> bool
-    ensures found { result ≡ has (number kind ∷ []) (head flatzinc (rest tokens.now index)) }
-    ensures size { length tokens.now.tokens ≤ usize.MAX }
+/// Whether the next token is of this kind.
+pub(crate) fn is(lexer: &Lexer, kind: TokenKind) -> bool
+    ensures found { result ≡ has (number kind ∷ []) (head flatzinc lexer.now.tokens) }
 {
-    tokens.kind(index) == kind
+    lexer.kind() == kind
 }
 
 /// Takes the next token if it is of this kind, and gives its place.
@@ -34,8 +33,8 @@ pub(crate) fn take(lexer: &mut Lexer, kind: TokenKind) -> Result<u32, Stop>
     if !is(lexer, kind) {
         return Err(Stop::Fault(SyntaxFault::Unexpected));
     }
-    let at = tokens.place(*next);
-    *next += 1;
+    let at = lexer.place();
+    lexer.advance();
     Ok(at)
 }
 
@@ -47,9 +46,9 @@ pub(crate) fn identifier<'a>(lexer: &mut Lexer<'a>) -> Result<Name<'a>, Stop>
     ensures forward { OnOk result (length lexer.new.tokens < length lexer.old.tokens) }
     ensures same { lexer.new.source ≡ lexer.old.source }
 {
-    match tokens.name(*next) {
+    match lexer.name() {
         Some(name) => {
-            *next += 1;
+            lexer.advance();
             Ok(name)
         }
         None => Err(Stop::Fault(SyntaxFault::Unexpected)),
@@ -64,28 +63,31 @@ pub(crate) fn integer(lexer: &mut Lexer) -> Result<Integer, Stop>
     ensures forward { OnOk result (length lexer.new.tokens < length lexer.old.tokens) }
     ensures same { lexer.new.source ≡ lexer.old.source }
 {
-    match tokens.integer(*next) {
+    match lexer.integer() {
         Some(integer) => {
-            *next += 1;
+            lexer.advance();
             Ok(integer)
         }
         None => Err(Stop::Fault(SyntaxFault::Unexpected)),
     }
 }
 
-/// How many parts stand from this token on, with commas between them, up to the bracket that closes them: how much room a list
-/// wants. Of a list that isn't closed it is a guess, and never more than a model may have elements.
-pub(crate) fn parts_from(tokens: &Tokens, from: usize) -> usize
-    ensures { result ≤ length tokens.now.tokens + 1 }
+/// How many bytes are looked at for the parts of a list.
+const LOOK: usize = 1024;
+
+/// How many parts stand from the next token on, with commas between them, up to the bracket that closes them, as far as a few
+/// bytes tell: how much room a list wants at first. It is a guess.
+pub(crate) fn parts_ahead(lexer: &Lexer) -> usize
+    ensures { result ≤ ELEMENT_LIMIT }
 {
     let mut commas: usize = 0;
     let mut level: usize = 0;
-    for index in from..tokens.len() {
-        match tokens.kind(index) {
-            TokenKind::Sign(Sign::Comma) if level == 0 => commas += 1,
-            TokenKind::Sign(Sign::LeftBracket | Sign::LeftBrace) => level += 1,
-            TokenKind::Sign(Sign::RightBracket | Sign::RightBrace) if level > 0 => level -= 1,
-            TokenKind::Sign(Sign::RightBracket | Sign::RightParenthesis | Sign::Semicolon) => break,
+    for byte in lexer.bytes().iter().take(LOOK) {
+        match byte {
+            b',' if level == 0 => commas = commas.saturating_add(1),
+            b'[' | b'{' => level = level.saturating_add(1),
+            b']' | b'}' if level > 0 => level -= 1,
+            b']' | b')' | b';' => break,
             _ => {}
         }
     }

@@ -89,6 +89,7 @@ arguments-arguments-init t c =
       subst (λ (v : List trees.Argument). GoesOn Arguments (64 - c.args.left) (Listed Arguments) c.args.lexer.now.tokens c.argument.new.lexer.tokens (λ w. w) v)
           (first_pushed argument_of c.push.new.self.items c.new-found.result.items c.in_ok-argument.field-0 c.new-found.ensures.items c.in_ok-push.ensures.items)
           (goes_first Arguments (later (grammar.rules (Listed Arguments)) h (closes h c.is.ensures.found c.is-2.ensures.found) (λ i. c.if-is.false i || c.if-is-2.false i)) c.in_ok-argument.ensures.taken),
+      c.in_ok-argument.ensures.same,
     )
 
 pub arguments-returns-in_err-take-clause-taken : goal.arguments-returns-in_err-take-clause-taken
@@ -110,6 +111,7 @@ arguments-arguments-preserved t c =
       subst (λ (v : List trees.Argument). GoesOn Arguments (64 - c.args.left) (Listed Arguments) c.args.lexer.now.tokens c.argument-in-arguments.new.lexer.tokens (λ w. w) v)
           (pushed argument_of c.push-in-arguments.new.self.items c.arguments.found.items c.in_ok-argument-2.field-0 c.in_ok-push-2.ensures.items)
           (goes_next Arguments c.arguments.invariant.1 c.is-in-arguments.ensures.found c.arguments-test.true (c.in_ok-take.ensures.taken l refl) c.in_ok-argument-2.ensures.taken),
+      c.in_ok-argument-2.ensures.same ∙ c.in_ok-take.ensures.same ∙ c.arguments.invariant.2,
     )
 
 pub arguments-returns-clause-taken : goal.arguments-returns-clause-taken

@@ -1,4 +1,4 @@
-use Rattle.std.proofs.Common.{map, length, ◌+◌, ◌*◌, ◌-◌, ◌≤◌}
+use Rattle.std.proofs.Common.{◌≡◌, map, length, ◌+◌, ◌*◌, ◌-◌, ◌≤◌}
 use Rattle.fz_language.specs.Grammar.{Arguments, Listed}
 use Rattle.fz_syntax.specs.Trees.{argument_of}
 use Rattle.fz_parse.proofs.Lists.{GoesOn}

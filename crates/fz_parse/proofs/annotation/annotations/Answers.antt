@@ -1,4 +1,4 @@
-use Rattle.std.proofs.Common.{List, [], ◌∷◌, map, refl, subst, append-nil, arith}
+use Rattle.std.proofs.Common.{List, [], ◌∷◌, map, refl, subst, append-nil, arith, ◌∙◌}
 use Rattle.std.proofs.lemmas.Result.{err_from_is_err_and}
 use Rattle.fz_language.specs.Trees as trees
 use Rattle.fz_language.specs.Grammar.{flatzinc, rules, Annotations}
@@ -32,6 +32,7 @@ annotations-preserved c = (
         ((annotations_next c.annotations.invariant.1 c.is.ensures.found c.annotations-test.true (c.in_ok-take.ensures.taken 0 refl) c.in_ok-annotation.ensures.taken).reads new w q);
     stops = (annotations_next c.annotations.invariant.1 c.is.ensures.found c.annotations-test.true (c.in_ok-take.ensures.taken 0 refl) c.in_ok-annotation.ensures.taken).stops;
   },
+  c.in_ok-annotation.ensures.same ∙ c.in_ok-take.ensures.same ∙ c.annotations.invariant.2,
 )
 
 pub returns-clause-taken : goal.returns-clause-taken

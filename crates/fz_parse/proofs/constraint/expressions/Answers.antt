@@ -28,6 +28,7 @@ expressions-init c = (
       subst (λ (v : List trees.Expression). GoesOn Expressions l (Listed Expressions) c.args.lexer.now.tokens c.expression.new.lexer.tokens (λ w. w) v)
       (first_pushed expression_of c.push.new.self.items c.reserve_exact.new.self.items c.in_ok-expression.field-0 (c.reserve_exact.ensures.items ∙ c.new-found.ensures.items) c.in_ok-push.ensures.items)
       (goes_first Expressions (later (rules (Listed Expressions)) (head flatzinc c.args.lexer.now.tokens) c.is.ensures.found c.if-is.false) (c.in_ok-expression.ensures.taken l low)),
+  c.in_ok-expression.ensures.same,
 )
 
 pub returns-in_err-take-clause-taken : goal.returns-in_err-take-clause-taken
@@ -47,6 +48,7 @@ expressions-preserved c = (
       subst (λ (v : List trees.Expression). GoesOn Expressions l (Listed Expressions) c.args.lexer.now.tokens c.expression-in-expressions.new.lexer.tokens (λ w. w) v)
       (pushed expression_of c.push-in-expressions.new.self.items c.expressions.found.items c.in_ok-expression-2.field-0 c.in_ok-push-2.ensures.items)
       (goes_next Expressions (c.expressions.invariant.1 l low) c.is-in-expressions.ensures.found c.expressions-test.true (c.in_ok-take.ensures.taken l refl) (c.in_ok-expression-2.ensures.taken l low)),
+  c.in_ok-expression-2.ensures.same ∙ c.in_ok-take.ensures.same ∙ c.expressions.invariant.2,
 )
 
 pub returns-clause-taken : goal.returns-clause-taken

@@ -28,6 +28,7 @@ elements-init c = (
       subst (λ (v : List trees.Basic). GoesOn Elements l (Listed Elements) c.args.lexer.now.tokens c.basic.new.lexer.tokens (λ w. w) v)
       (first_pushed basic_of c.push.new.self.items c.reserve_exact.new.self.items c.in_ok-basic.field-0 (c.reserve_exact.ensures.items ∙ c.new-found.ensures.items) c.in_ok-push.ensures.items)
       (goes_first Elements (later (rules (Listed Elements)) (head flatzinc c.args.lexer.now.tokens) c.is.ensures.found c.if-is.false) (c.in_ok-basic.ensures.taken l)),
+  c.in_ok-basic.ensures.same,
 )
 
 pub returns-in_err-take-clause-taken : goal.returns-in_err-take-clause-taken
@@ -47,6 +48,7 @@ elements-preserved c = (
       subst (λ (v : List trees.Basic). GoesOn Elements l (Listed Elements) c.args.lexer.now.tokens c.basic-in-elements.new.lexer.tokens (λ w. w) v)
       (pushed basic_of c.push-in-elements.new.self.items c.elements.found.items c.in_ok-basic-2.field-0 c.in_ok-push-2.ensures.items)
       (goes_next Elements (c.elements.invariant.1 l) c.is-in-elements.ensures.found c.elements-test.true (c.in_ok-take.ensures.taken l refl) (c.in_ok-basic-2.ensures.taken l)),
+  c.in_ok-basic-2.ensures.same ∙ c.in_ok-take.ensures.same ∙ c.elements.invariant.2,
 )
 
 pub returns-clause-taken : goal.returns-clause-taken

@@ -1,4 +1,4 @@
-use Rattle.std.proofs.Common.{List, [], ◌∷◌, map, refl, ap, sym, subst, arith}
+use Rattle.std.proofs.Common.{List, [], ◌∷◌, map, refl, ap, sym, subst, arith, ◌∙◌}
 use Rattle.std.proofs.lemmas.Result.{err_from_is_err_and}
 use Rattle.fz_language.specs.Trees as trees
 use Rattle.fz_language.specs.Grammar.{flatzinc, rules, Members, Listed}
@@ -28,6 +28,7 @@ members-init c = (
       subst (λ (v : List trees.Number). GoesOn Members l (Listed Members) c.args.lexer.now.tokens c.number.new.lexer.tokens (λ w. w) v)
       (first_pushed number_of c.push.new.self.items c.new-found.result.items c.in_ok-number.field-0 c.new-found.ensures.items c.in_ok-push.ensures.items)
       (goes_first Members (later (rules (Listed Members)) (head flatzinc c.args.lexer.now.tokens) c.is.ensures.found c.if-is.false) (c.in_ok-number.ensures.taken l)),
+  c.in_ok-number.ensures.same,
 )
 
 pub returns-in_err-take-clause-taken : goal.returns-in_err-take-clause-taken
@@ -47,6 +48,7 @@ members-preserved c = (
       subst (λ (v : List trees.Number). GoesOn Members l (Listed Members) c.args.lexer.now.tokens c.number-in-members.new.lexer.tokens (λ w. w) v)
       (pushed number_of c.push-in-members.new.self.items c.members.found.items c.in_ok-number-2.field-0 c.in_ok-push-2.ensures.items)
       (goes_next Members (c.members.invariant.1 l) c.is-in-members.ensures.found c.members-test.true (c.in_ok-take.ensures.taken l refl) (c.in_ok-number-2.ensures.taken l)),
+  c.in_ok-number-2.ensures.same ∙ c.in_ok-take.ensures.same ∙ c.members.invariant.2,
 )
 
 pub returns-clause-taken : goal.returns-clause-taken

@@ -1,4 +1,4 @@
-use Rattle.std.proofs.Common.{List, [], ◌∷◌, map, refl, subst, arith}
+use Rattle.std.proofs.Common.{List, [], ◌∷◌, map, refl, subst, arith, ◌∙◌}
 use Rattle.std.proofs.lemmas.Result.{err_from_is_err_and}
 use Rattle.fz_language.specs.Trees as trees
 use Rattle.fz_language.specs.Grammar.{Indexes, IndexSets}
@@ -21,6 +21,7 @@ indexes-init c = (
       subst (λ (v : List trees.Index). GoesOn Indexes l IndexSets c.args.lexer.now.tokens c.index.new.lexer.tokens (λ w. w) v)
       (first_pushed index_of c.push.new.self.items c.new-found.result.items c.in_ok-index.field-0 c.new-found.ensures.items c.in_ok-push.ensures.items)
       (goes_index (c.in_ok-index.ensures.taken l)),
+  c.in_ok-index.ensures.same,
 )
 
 pub returns-in_err-take-clause-taken : goal.returns-in_err-take-clause-taken
@@ -40,6 +41,7 @@ indexes-preserved c = (
       subst (λ (v : List trees.Index). GoesOn Indexes l IndexSets c.args.lexer.now.tokens c.index-in-indexes.new.lexer.tokens (λ w. w) v)
       (pushed index_of c.push-in-indexes.new.self.items c.indexes.found.items c.in_ok-index-2.field-0 c.in_ok-push-2.ensures.items)
       (goes_next Indexes (c.indexes.invariant.1 l) c.is.ensures.found c.indexes-test.true (c.in_ok-take.ensures.taken l refl) (c.in_ok-index-2.ensures.taken l)),
+  c.in_ok-index-2.ensures.same ∙ c.in_ok-take.ensures.same ∙ c.indexes.invariant.2,
 )
 
 pub returns-clause-taken : goal.returns-clause-taken

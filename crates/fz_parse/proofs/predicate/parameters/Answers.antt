@@ -1,4 +1,4 @@
-use Rattle.std.proofs.Common.{List, [], ◌∷◌, map, refl, ap, sym, subst, arith}
+use Rattle.std.proofs.Common.{List, [], ◌∷◌, map, refl, ap, sym, subst, arith, ◌∙◌}
 use Rattle.std.proofs.lemmas.Result.{err_from_is_err_and}
 use Rattle.fz_language.specs.Trees as trees
 use Rattle.fz_language.specs.Grammar.{flatzinc, rules, Parameters, Listed}
@@ -28,6 +28,7 @@ parameters-init c = (
       subst (λ (v : List trees.PredicateParameter). GoesOn Parameters l (Listed Parameters) c.args.lexer.now.tokens c.parameter.new.lexer.tokens (λ w. w) v)
       (first_pushed predicate_parameter_of c.push.new.self.items c.new-found.result.items c.in_ok-parameter.field-0 c.new-found.ensures.items c.in_ok-push.ensures.items)
       (goes_first Parameters (later (rules (Listed Parameters)) (head flatzinc c.args.lexer.now.tokens) c.is.ensures.found c.if-is.false) (c.in_ok-parameter.ensures.taken l low)),
+  c.in_ok-parameter.ensures.same,
 )
 
 pub returns-in_err-take-clause-taken : goal.returns-in_err-take-clause-taken
@@ -47,6 +48,7 @@ parameters-preserved c = (
       subst (λ (v : List trees.PredicateParameter). GoesOn Parameters l (Listed Parameters) c.args.lexer.now.tokens c.parameter-in-parameters.new.lexer.tokens (λ w. w) v)
       (pushed predicate_parameter_of c.push-in-parameters.new.self.items c.parameters.found.items c.in_ok-parameter-2.field-0 c.in_ok-push-2.ensures.items)
       (goes_next Parameters (c.parameters.invariant.1 l low) c.is-in-parameters.ensures.found c.parameters-test.true (c.in_ok-take.ensures.taken l refl) (c.in_ok-parameter-2.ensures.taken l low)),
+  c.in_ok-parameter-2.ensures.same ∙ c.in_ok-take.ensures.same ∙ c.parameters.invariant.2,
 )
 
 pub returns-clause-taken : goal.returns-clause-taken

@@ -50,20 +50,20 @@ pub returns-in_err-item-4-clause-taken : goal.returns-in_err-item-4-clause-taken
 returns-in_err-item-4-clause-taken c =
     let h = head grammar.flatzinc c.args.lexer.now.tokens in
     let p = err_from_is_err_and c.from_residual-in_err-item-4.result c.from_residual-in_err-item-4.ensures.1 in
-    rw (p.1, p.2) (halts_by {n = grammar.OneItem} (later (grammar.rules grammar.OneItem) h c.is.ensures.found c.if-is.false ∙ later (tail (grammar.rules grammar.OneItem)) h c.is-2.ensures.found c.if-is-2.false ∙ later (tail (tail (grammar.rules grammar.OneItem))) h c.is-3.ensures.found c.if-is-3.false ∙ first (tail (tail (tail (grammar.rules grammar.OneItem)))) h (kind_has (map number grammar.type_kinds) c.args.lexer.now.tokens c.begins_type.ensures c.kind.ensures.kind) c.if-begins_type.true) (here (c.in_err-item-4.ensures.taken)))
+    rw (p.1, p.2) (halts_by {n = grammar.OneItem} (later (grammar.rules grammar.OneItem) h c.is.ensures.found c.if-is.false ∙ later (tail (grammar.rules grammar.OneItem)) h c.is-2.ensures.found c.if-is-2.false ∙ later (tail (tail (grammar.rules grammar.OneItem))) h c.is-3.ensures.found c.if-is-3.false ∙ first (tail (tail (tail (grammar.rules grammar.OneItem)))) h (kind_has (map number grammar.type_kinds) c.args.lexer.now.tokens c.begins_type.ensures c.kind.ensures) c.if-begins_type.true) (here (c.in_err-item-4.ensures.taken)))
 
 pub returns-then-begins_type-clause-taken : goal.returns-then-begins_type-clause-taken
 returns-then-begins_type-clause-taken c =
     let h = head grammar.flatzinc c.args.lexer.now.tokens in
-    reads_by {n = grammar.OneItem} (later (grammar.rules grammar.OneItem) h c.is.ensures.found c.if-is.false ∙ later (tail (grammar.rules grammar.OneItem)) h c.is-2.ensures.found c.if-is-2.false ∙ later (tail (tail (grammar.rules grammar.OneItem))) h c.is-3.ensures.found c.if-is-3.false ∙ first (tail (tail (tail (grammar.rules grammar.OneItem)))) h (kind_has (map number grammar.type_kinds) c.args.lexer.now.tokens c.begins_type.ensures c.kind.ensures.kind) c.if-begins_type.true) (rule_then (c.in_ok-item-4.ensures.taken) ended)
+    reads_by {n = grammar.OneItem} (later (grammar.rules grammar.OneItem) h c.is.ensures.found c.if-is.false ∙ later (tail (grammar.rules grammar.OneItem)) h c.is-2.ensures.found c.if-is-2.false ∙ later (tail (tail (grammar.rules grammar.OneItem))) h c.is-3.ensures.found c.if-is-3.false ∙ first (tail (tail (tail (grammar.rules grammar.OneItem)))) h (kind_has (map number grammar.type_kinds) c.args.lexer.now.tokens c.begins_type.ensures c.kind.ensures) c.if-begins_type.true) (rule_then (c.in_ok-item-4.ensures.taken) ended)
 
 pub returns-in_err-item-5-clause-taken : goal.returns-in_err-item-5-clause-taken
 returns-in_err-item-5-clause-taken c =
     let h = head grammar.flatzinc c.args.lexer.now.tokens in
     let p = err_from_is_err_and c.from_residual-in_err-item-5.result c.from_residual-in_err-item-5.ensures.1 in
-    rw (p.1, p.2) (halts_by {n = grammar.OneItem} (later (grammar.rules grammar.OneItem) h c.is.ensures.found c.if-is.false ∙ later (tail (grammar.rules grammar.OneItem)) h c.is-2.ensures.found c.if-is-2.false ∙ later (tail (tail (grammar.rules grammar.OneItem))) h c.is-3.ensures.found c.if-is-3.false ∙ later (tail (tail (tail (grammar.rules grammar.OneItem)))) h (kind_has (map number grammar.type_kinds) c.args.lexer.now.tokens c.begins_type.ensures c.kind.ensures.kind) c.if-begins_type.false) (here (c.in_err-item-5.ensures.taken)))
+    rw (p.1, p.2) (halts_by {n = grammar.OneItem} (later (grammar.rules grammar.OneItem) h c.is.ensures.found c.if-is.false ∙ later (tail (grammar.rules grammar.OneItem)) h c.is-2.ensures.found c.if-is-2.false ∙ later (tail (tail (grammar.rules grammar.OneItem))) h c.is-3.ensures.found c.if-is-3.false ∙ later (tail (tail (tail (grammar.rules grammar.OneItem)))) h (kind_has (map number grammar.type_kinds) c.args.lexer.now.tokens c.begins_type.ensures c.kind.ensures) c.if-begins_type.false) (here (c.in_err-item-5.ensures.taken)))
 
 pub returns-clause-taken : goal.returns-clause-taken
 returns-clause-taken c =
     let h = head grammar.flatzinc c.args.lexer.now.tokens in
-    reads_by {n = grammar.OneItem} (later (grammar.rules grammar.OneItem) h c.is.ensures.found c.if-is.false ∙ later (tail (grammar.rules grammar.OneItem)) h c.is-2.ensures.found c.if-is-2.false ∙ later (tail (tail (grammar.rules grammar.OneItem))) h c.is-3.ensures.found c.if-is-3.false ∙ later (tail (tail (tail (grammar.rules grammar.OneItem)))) h (kind_has (map number grammar.type_kinds) c.args.lexer.now.tokens c.begins_type.ensures c.kind.ensures.kind) c.if-begins_type.false) (rule_then (c.in_ok-item-5.ensures.taken) ended)
+    reads_by {n = grammar.OneItem} (later (grammar.rules grammar.OneItem) h c.is.ensures.found c.if-is.false ∙ later (tail (grammar.rules grammar.OneItem)) h c.is-2.ensures.found c.if-is-2.false ∙ later (tail (tail (grammar.rules grammar.OneItem))) h c.is-3.ensures.found c.if-is-3.false ∙ later (tail (tail (tail (grammar.rules grammar.OneItem)))) h (kind_has (map number grammar.type_kinds) c.args.lexer.now.tokens c.begins_type.ensures c.kind.ensures) c.if-begins_type.false) (rule_then (c.in_ok-item-5.ensures.taken) ended)

@@ -1,4 +1,4 @@
-use Rattle.std.proofs.Common.{map, length, ◌++◌, ◌-◌, ◌≤◌}
+use Rattle.std.proofs.Common.{◌≡◌, map, length, ◌++◌, ◌≤◌}
 use Rattle.fz_language.specs.Grammar.{Items}
 use Rattle.fz_syntax.specs.Trees.{item_of}
 use Rattle.fz_parse.proofs.Lists.{Goes}
