@@ -2,9 +2,9 @@
 ghost use Rattle.std.specs.Prelude.{◌≡◌, map, flat_map, slice_get};
 ghost use Rattle.fz_language.specs.Numerals.{float_places, floats_of_set, floats_in};
 ghost use Rattle.fz_language.specs.Rules.{floats_of};
-ghost use Rattle.fz_syntax.specs.Trees.{number_of, set_of, basic_of, expression_of};
+ghost use Rattle.fz_syntax.specs.Trees.{number_of, set_of, basic_of, elements_of, expression_of};
 
-use fz_syntax::{Basic, Expression, Number, SetLiteral};
+use fz_syntax::{Basic, Elements, Expression, Number, SetLiteral};
 
 fn first_float_of_number(number: Number) -> Option<u32>
     ensures { result ≡ slice_get (float_places (number_of number)) 0 }
@@ -50,16 +50,25 @@ pub fn first_float(basic: &Basic<'_>) -> Option<u32>
     }
 }
 
-/// Of the elements of a list.
-pub fn first_float_of_elements(elements: &[Basic<'_>]) -> Option<u32>
-    ensures { result ≡ slice_get (flat_map floats_in (map basic_of elements.now)) 0 }
+fn first_float_of_basics(basics: &[Basic<'_>]) -> Option<u32>
+    ensures { result ≡ slice_get (flat_map floats_in (map basic_of basics.now)) 0 }
 {
-    for element in elements {
-        if let Some(at) = first_float(element) {
+    for basic in basics {
+        if let Some(at) = first_float(basic) {
             return Some(at);
         }
     }
     None
+}
+
+/// Of the elements of a list.
+pub fn first_float_of_elements(elements: &Elements<'_>) -> Option<u32>
+    ensures { result ≡ slice_get (flat_map floats_in (elements_of elements.now)) 0 }
+{
+    match elements {
+        Elements::Integers(_) => None,
+        Elements::Basics(basics) => first_float_of_basics(basics),
+    }
 }
 
 /// Of an argument of a constraint.

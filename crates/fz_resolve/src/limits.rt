@@ -10,8 +10,8 @@ ghost use Rattle.fz_resolve.specs.Rooms.{IsRoom, IsBehind};
 use crate::types::is_bound;
 use fz_spec::limits::{CONSTRAINT_LIMIT, ELEMENT_LIMIT, VARIABLE_LIMIT};
 use fz_syntax::{
-    ArrayItem, Basic, ConstraintItem, Expression, Item, Name, Number, ParameterItem, Plain,
-    SetLiteral, ValueType, VariableItem,
+    ArrayItem, Basic, ConstraintItem, Elements, Expression, Integer, Item, Name, Number,
+    ParameterItem, Plain, SetLiteral, ValueType, VariableItem,
 };
 
 /// How many more variables, constraints and elements there may be.
@@ -225,13 +225,36 @@ impl Room {
         Ok(room)
     }
 
-    fn behind_elements(self, elements: &[Basic<'_>]) -> Result<Room, u32>
+    fn behind_elements(self, elements: &Elements<'_>) -> Result<Room, u32>
         ensures { (n : Counts) → IsRoom self n → IsBehind n
-            (flat_map rules.element_additions (map trees.basic_of elements.now)) result }
+            (flat_map rules.element_additions (trees.elements_of elements.now)) result }
+    {
+        match elements {
+            Elements::Integers(integers) => self.behind_integers(integers),
+            Elements::Basics(basics) => self.behind_basics(basics),
+        }
+    }
+
+    fn behind_integers(self, integers: &[Integer]) -> Result<Room, u32>
+        ensures { (n : Counts) → IsRoom self n → IsBehind n
+            (flat_map rules.element_additions (map trees.integer_basic_of integers.now)) result }
+    {
+        match integers.get(self.elements) {
+            Some(first_over) => Err(first_over.at),
+            None => Ok(Room {
+                elements: self.elements - integers.len(),
+                ..self
+            }),
+        }
+    }
+
+    fn behind_basics(self, basics: &[Basic<'_>]) -> Result<Room, u32>
+        ensures { (n : Counts) → IsRoom self n → IsBehind n
+            (flat_map rules.element_additions (map trees.basic_of basics.now)) result }
     {
         let mut room = self;
-        for element in elements {
-            match room.behind_element(element) {
+        for basic in basics {
+            match room.behind_element(basic) {
                 Ok(next) => room = next,
                 Err(at) => return Err(at),
             }
@@ -253,14 +276,38 @@ impl Room {
         Ok(room)
     }
 
-    fn behind_array(self, is_bound: bool, elements: &[Basic<'_>]) -> Result<Room, u32>
+    fn behind_array(self, is_bound: bool, elements: &Elements<'_>) -> Result<Room, u32>
         ensures { (n : Counts) → IsRoom self n → IsBehind n
             (flat_map (rules.array_element_additions is_bound)
-            (map trees.basic_of elements.now)) result }
+            (trees.elements_of elements.now)) result }
+    {
+        if is_bound {
+            self.behind_bound_elements(elements)
+        } else {
+            self.behind_elements(elements)
+        }
+    }
+
+    /// Behind elements that each add a constraint too.
+    fn behind_bound_elements(self, elements: &Elements<'_>) -> Result<Room, u32>
+        ensures { (n : Counts) → IsRoom self n → IsBehind n
+            (flat_map (rules.array_element_additions true)
+            (trees.elements_of elements.now)) result }
+    {
+        match elements {
+            Elements::Integers(integers) => self.behind_bound_integers(integers),
+            Elements::Basics(basics) => self.behind_bound_basics(basics),
+        }
+    }
+
+    fn behind_bound_integers(self, integers: &[Integer]) -> Result<Room, u32>
+        ensures { (n : Counts) → IsRoom self n → IsBehind n
+            (flat_map (rules.array_element_additions true)
+            (map trees.integer_basic_of integers.now)) result }
     {
         let mut room = self;
-        for element in elements {
-            match room.behind_array_element(is_bound, element) {
+        for integer in integers {
+            match room.behind_bound_integer(*integer) {
                 Ok(next) => room = next,
                 Err(at) => return Err(at),
             }
@@ -268,15 +315,29 @@ impl Room {
         Ok(room)
     }
 
-    fn behind_array_element(self, is_bound: bool, element: &Basic<'_>) -> Result<Room, u32>
+    fn behind_bound_integer(self, integer: Integer) -> Result<Room, u32>
         ensures { (n : Counts) → IsRoom self n → IsBehind n
-            (rules.array_element_additions is_bound (trees.basic_of element.now)) result }
+            (rules.array_element_additions true (trees.integer_basic_of integer)) result }
     {
-        if is_bound {
-            self.behind_bound_element(element)
-        } else {
-            self.behind_element(element)
+        match self.behind_constraint(integer.at) {
+            Ok(room) => room.behind_number(integer.at),
+            Err(at) => Err(at),
         }
+    }
+
+    fn behind_bound_basics(self, basics: &[Basic<'_>]) -> Result<Room, u32>
+        ensures { (n : Counts) → IsRoom self n → IsBehind n
+            (flat_map (rules.array_element_additions true)
+            (map trees.basic_of basics.now)) result }
+    {
+        let mut room = self;
+        for basic in basics {
+            match room.behind_bound_element(basic) {
+                Ok(next) => room = next,
+                Err(at) => return Err(at),
+            }
+        }
+        Ok(room)
     }
 
     fn behind_bound_element(self, element: &Basic<'_>) -> Result<Room, u32>

@@ -2,11 +2,11 @@
 ghost use Rattle.std.specs.Prelude.{◌≡◌, OnOk, None, option_copied, option_map, map, flat_map, slice_get};
 ghost use Rattle.fz_language.specs.Entries.{nothing_declared, with_entry};
 ghost use Rattle.fz_language.specs.Rules.{unknown_in, unknown_of};
-ghost use Rattle.fz_syntax.specs.Trees.{basic_of, expression_of};
+ghost use Rattle.fz_syntax.specs.Trees.{basic_of, elements_of, expression_of};
 ghost use Rattle.fz_resolve.specs.Meant.{environment_of, meant, tail_from};
 
 use crate::entry::Entry;
-use fz_syntax::{Basic, Expression, Name};
+use fz_syntax::{Basic, Elements, Expression, Name};
 use std::alloc::{AllocError, Global};
 use std::collections::BTreeMap;
 
@@ -70,17 +70,27 @@ impl<'a> Names<'a> {
         }
     }
 
-    /// The same of the elements of a list.
-    pub fn unknown_element(&self, elements: &[Basic<'a>]) -> Option<u32>
+    fn unknown_basic(&self, basics: &[Basic<'a>]) -> Option<u32>
         ensures { result ≡ slice_get
-            (flat_map (unknown_in (environment_of self.now)) (map basic_of elements.now)) 0 }
+            (flat_map (unknown_in (environment_of self.now)) (map basic_of basics.now)) 0 }
     {
-        for element in elements {
-            if let Some(at) = self.unknown(element) {
+        for basic in basics {
+            if let Some(at) = self.unknown(basic) {
                 return Some(at);
             }
         }
         None
+    }
+
+    /// The same of the elements of a list.
+    pub fn unknown_element(&self, elements: &Elements<'a>) -> Option<u32>
+        ensures { result ≡ slice_get
+            (flat_map (unknown_in (environment_of self.now)) (elements_of elements.now)) 0 }
+    {
+        match elements {
+            Elements::Integers(_) => None,
+            Elements::Basics(basics) => self.unknown_basic(basics),
+        }
     }
 
     /// The same of an argument of a constraint.

@@ -1,14 +1,14 @@
 //! From expressions to arguments of constraints.
-ghost use Rattle.std.specs.Prelude.{◌≡◌, ℤ, IfOk, cond, map, option_map};
+ghost use Rattle.std.specs.Prelude.{◌≡◌, ℤ, IfOk, None, cond, map, option_map, slice_get, false};
 ghost use Rattle.std.specs.List.{AllByRecursion};
 ghost use Rattle.fz_language.specs.Entries as entries;
-ghost use Rattle.fz_language.specs.Entries.{term_in, each_of, with_value, number_of, truth_value};
+ghost use Rattle.fz_language.specs.Entries.{Environment, term_in, each_of, with_value, number_of, truth_value};
 ghost use Rattle.fz_language.specs.Numerals.{set_in, ranges_of, all_of, value_of};
 ghost use Rattle.fz_language.specs.Within.{NumberFits, SetFits, BasicFits, ExpressionFits};
 ghost use Rattle.fz_model.specs.Arguments.{argument_of};
 ghost use Rattle.fz_spec.specs.Constraints as meaning;
 ghost use Rattle.fz_syntax.specs.Trees as trees;
-ghost use Rattle.fz_syntax.specs.Trees.{basic_of, expression_of};
+ghost use Rattle.fz_syntax.specs.Trees.{integer_basic_of, basic_of, elements_of, expression_of};
 ghost use Rattle.fz_resolve.specs.Meant.{environment_of, meant};
 ghost use Rattle.fz_language.specs.SetLaws.{points_of};
 
@@ -17,7 +17,7 @@ use crate::names::Names;
 use fz_dom::Dom;
 use fz_model::{Argument, Kind, Term};
 use fz_spec::asked::{Asked, Element};
-use fz_syntax::{Basic, Expression, Name, Number, SetLiteral};
+use fz_syntax::{Basic, Elements, Expression, Integer, Name, Number, SetLiteral};
 use std::alloc::{AllocError, Global};
 
 /// What is asked, or the place where an expression is of a wrong type.
@@ -51,23 +51,139 @@ pub fn terms<'a>(
     alloc: Global,
     names: &Names<'a>,
     asked: Element,
-    elements: &[Basic<'a>],
+    elements: &Elements<'a>,
 ) -> Result<Checked<Vec<Term>>, AllocError>
     ensures { IfOk result (λ found. with_value (λ terms. terms.items) found
-        ≡ each_of (term_in (environment_of names.now) asked) (map basic_of elements.now)) }
+        ≡ each_of (term_in (environment_of names.now) asked) (elements_of elements.now)) }
 {
-    let mut terms = Vec::with_capacity(alloc, elements.len())?;
-    for element in elements {
-        match term(names, asked, element) {
+    match elements {
+        Elements::Integers(integers) => terms_of_integers(alloc, asked, integers),
+        Elements::Basics(basics) => terms_of_basics(alloc, names, asked, basics),
+    }
+}
+
+fn terms_of_integers(
+    alloc: Global,
+    asked: Element,
+    integers: &[Integer],
+) -> Result<Checked<Vec<Term>>, AllocError>
+    ensures { IfOk result (λ found. (env : Environment) → with_value (λ terms. terms.items) found
+        ≡ each_of (term_in env asked) (map integer_basic_of integers.now)) }
+{
+    match first_unasked(asked.kind, integers) {
+        Some(at) => Ok(Err(at)),
+        None => Ok(Ok(integer_terms(alloc, integers)?)),
+    }
+}
+
+/// The place of the first integer, where integers aren't asked.
+fn first_unasked(kind: Kind, integers: &[Integer]) -> Option<u32>
+    ensures truth { kind ≡ Kind.Bool
+        → result ≡ option_map (λ integer. integer.at) (slice_get integers.now 0) }
+    ensures integer { kind ≡ Kind.Int → result ≡ None }
+{
+    match kind {
+        Kind::Bool => integers.first().map(|integer| integer.at),
+        Kind::Int => None,
+    }
+}
+
+fn integer_terms(alloc: Global, integers: &[Integer]) -> Result<Vec<Term>, AllocError>
+    ensures { IfOk result (λ terms. terms.items
+        ≡ map (λ integer. Term.Num integer.value) integers.now) }
+{
+    let mut terms = Vec::with_capacity(alloc, integers.len())?;
+    for integer in integers {
+        terms.push(Term::Num(integer.value))?;
+    }
+    Ok(terms)
+}
+
+fn terms_of_basics<'a>(
+    alloc: Global,
+    names: &Names<'a>,
+    asked: Element,
+    basics: &[Basic<'a>],
+) -> Result<Checked<Vec<Term>>, AllocError>
+    ensures { IfOk result (λ found. with_value (λ terms. terms.items) found
+        ≡ each_of (term_in (environment_of names.now) asked) (map basic_of basics.now)) }
+{
+    let mut terms = Vec::with_capacity(alloc, basics.len())?;
+    for basic in basics {
+        match term(names, asked, basic) {
             Some(term) => terms.push(term)?,
-            None => return Ok(Err(element.at())),
+            None => return Ok(Err(basic.at())),
         }
     }
     Ok(Ok(terms))
 }
 
+/// The numbers that the elements of a list are, or the place of the first that isn't one of this kind.
+pub fn numbers_in<'a>(
+    alloc: Global,
+    names: &Names<'a>,
+    kind: Kind,
+    elements: &Elements<'a>,
+) -> Result<Checked<Vec<i32>>, AllocError>
+    ensures { IfOk result (λ found. with_value (λ numbers. numbers.items) found
+        ≡ with_value (map number_of) (each_of (term_in (environment_of names.now)
+        (record { kind = kind; may_vary = false })) (elements_of elements.now))) }
+{
+    match elements {
+        Elements::Integers(integers) => numbers_of_integers(alloc, kind, integers),
+        Elements::Basics(basics) => numbers_of_basics(alloc, names, kind, basics),
+    }
+}
+
+fn numbers_of_integers(
+    alloc: Global,
+    kind: Kind,
+    integers: &[Integer],
+) -> Result<Checked<Vec<i32>>, AllocError>
+    ensures { IfOk result (λ found. (env : Environment)
+        → with_value (λ numbers. numbers.items) found
+        ≡ with_value (map number_of) (each_of (term_in env
+        (record { kind = kind; may_vary = false })) (map integer_basic_of integers.now))) }
+{
+    match first_unasked(kind, integers) {
+        Some(at) => Ok(Err(at)),
+        None => Ok(Ok(integer_values(alloc, integers)?)),
+    }
+}
+
+fn integer_values(alloc: Global, integers: &[Integer]) -> Result<Vec<i32>, AllocError>
+    ensures { IfOk result (λ values. values.items
+        ≡ map (λ integer. integer.value) integers.now) }
+{
+    let mut values = Vec::with_capacity(alloc, integers.len())?;
+    for integer in integers {
+        values.push(integer.value)?;
+    }
+    Ok(values)
+}
+
+fn numbers_of_basics<'a>(
+    alloc: Global,
+    names: &Names<'a>,
+    kind: Kind,
+    basics: &[Basic<'a>],
+) -> Result<Checked<Vec<i32>>, AllocError>
+    ensures { IfOk result (λ found. with_value (λ numbers. numbers.items) found
+        ≡ with_value (map number_of) (each_of (term_in (environment_of names.now)
+        (record { kind = kind; may_vary = false })) (map basic_of basics.now))) }
+{
+    let asked = Element {
+        kind,
+        may_vary: false,
+    };
+    match terms_of_basics(alloc, names, asked, basics)? {
+        Ok(terms) => Ok(Ok(numbers(alloc, &terms)?)),
+        Err(at) => Ok(Err(at)),
+    }
+}
+
 /// The numbers that terms are, none of them a variable.
-pub fn numbers(alloc: Global, terms: &[Term]) -> Result<Vec<i32>, AllocError>
+fn numbers(alloc: Global, terms: &[Term]) -> Result<Vec<i32>, AllocError>
     ensures { IfOk result (λ numbers. numbers.items ≡ map number_of terms.now) }
 {
     let mut numbers = Vec::with_capacity(alloc, terms.len())?;
@@ -218,20 +334,18 @@ fn listed<'a>(
     alloc: Global,
     names: &Names<'a>,
     asked: Element,
-    elements: &[Basic<'a>],
+    elements: &Elements<'a>,
 ) -> Result<Checked<Argument>, AllocError>
     ensures { IfOk result (λ found. with_value argument_of found
         ≡ with_value (entries.list_argument asked)
-        (each_of (term_in (environment_of names.now) asked) (map basic_of elements.now))) }
+        (each_of (term_in (environment_of names.now) asked) (elements_of elements.now))) }
 {
-    let terms = match terms(alloc, names, asked, elements)? {
-        Ok(terms) => terms,
-        Err(at) => return Ok(Err(at)),
-    };
     if asked.may_vary {
-        return Ok(Ok(Argument::Terms(terms)));
+        let terms = terms(alloc, names, asked, elements)?;
+        return Ok(terms.map(|terms| Argument::Terms(terms)));
     }
-    Ok(Ok(Argument::Numbers(numbers(alloc, &terms)?)))
+    let numbers = numbers_in(alloc, names, asked.kind, elements)?;
+    Ok(numbers.map(|numbers| Argument::Numbers(numbers)))
 }
 
 /// The argument that an expression is where this is asked, or the place where it is of a wrong type: its first token, but in a

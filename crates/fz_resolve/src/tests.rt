@@ -11,8 +11,8 @@ use crate::rules::wrong_length_at;
 use fz_model::{Argument, Kind, Term};
 use fz_spec::asked::{Asked, Element};
 use fz_syntax::{
-    Annotation, Argument as Annotated, ArrayItem, Basic, Expression, Integer, ListLiteral, Name,
-    Number, Plain, SetLiteral, ValueType,
+    Annotation, Argument as Annotated, ArrayItem, Basic, Elements, Expression, Integer,
+    ListLiteral, Name, Number, Plain, SetLiteral, ValueType,
 };
 use std::alloc::{AllocError, Global};
 use std::test::Fail;
@@ -24,6 +24,11 @@ const ANY: Element = Element {
 
 const FIXED: Element = Element {
     kind: Kind::Int,
+    may_vary: false,
+};
+
+const TRUTH: Element = Element {
+    kind: Kind::Bool,
     may_vary: false,
 };
 
@@ -55,7 +60,19 @@ fn list(alloc: Global) -> Result<Expression<'static>, AllocError>
     let x = Basic::Named(name("x", 4));
     Ok(Expression::Listed(ListLiteral {
         at: 0,
-        elements: Vec::from_array(alloc, [seven, x])?,
+        elements: Elements::Basics(Vec::from_array(alloc, [seven, x])?),
+    }))
+}
+
+/// `[7, -2]`
+fn integers(alloc: Global) -> Result<Expression<'static>, AllocError>
+    ensures { IfOk result (λ e. ExpressionFits (expression_of e)) }
+{
+    let seven = Integer { value: 7, at: 1 };
+    let two_below = Integer { value: -2, at: 4 };
+    Ok(Expression::Listed(ListLiteral {
+        at: 0,
+        elements: Elements::Integers(Vec::from_array(alloc, [seven, two_below])?),
     }))
 }
 
@@ -123,6 +140,20 @@ fn expressions_are_resolved(rt: HostRuntime) -> Result<(), Fail> {
     Ok(())
 }
 
+#[test]
+fn integers_are_resolved(rt: HostRuntime) -> Result<(), Fail> {
+    let alloc = rt.alloc();
+    let names = declared(alloc)?;
+    let list = integers(alloc)?;
+    let found = resolve(alloc, &names, Asked::List(ANY), &list)?;
+    assert!(rt; is_terms(&found, &[Term::Num(7), Term::Num(-2)]));
+    let found = resolve(alloc, &names, Asked::List(FIXED), &list)?;
+    assert!(rt; is_numbers(&found, &[7, -2]));
+    let found = resolve(alloc, &names, Asked::List(TRUTH), &list)?;
+    assert_eq!(rt; found.err(), Some(1));
+    Ok(())
+}
+
 fn range(alloc: Global, low: i32, high: i32) -> Result<Annotated<'static>, AllocError> {
     let low = Number::Whole(Integer { value: low, at: 0 });
     let high = Number::Whole(Integer { value: high, at: 0 });
@@ -156,7 +187,7 @@ fn an_array_has_the_shape_that_is_written(rt: HostRuntime) -> Result<(), Fail> {
         annotations: output(alloc)?,
         list: ListLiteral {
             at: 0,
-            elements: Vec::new(alloc),
+            elements: Elements::Integers(Vec::new(alloc)),
         },
     };
     let shape = output_shape(alloc, &item.annotations)?;

@@ -10,6 +10,8 @@ use Rattle.fz_syntax.specs.declared.expression.SetLiteral.{SetLiteral}
 use Rattle.fz_syntax.specs.declared.expression.SetLiteral.TheVariants as set
 use Rattle.fz_syntax.specs.declared.expression.Basic.{Basic}
 use Rattle.fz_syntax.specs.declared.expression.Basic.TheVariants as basic
+use Rattle.fz_syntax.specs.declared.expression.Elements.{Elements}
+use Rattle.fz_syntax.specs.declared.expression.Elements.TheVariants as elements
 use Rattle.fz_syntax.specs.declared.expression.ListLiteral.{ListLiteral}
 use Rattle.fz_syntax.specs.declared.expression.Expression.{Expression}
 use Rattle.fz_syntax.specs.declared.expression.Expression.TheVariants as expression
@@ -65,8 +67,16 @@ basic_of (basic.Numeral number) = trees.Numeral (number_of number)
 basic_of (basic.Literal set) = trees.Literal (set_of set.value)
 basic_of (basic.Named name) = trees.Named (name_of name)
 
+-- an integer as an element of a list
+abbrev pub integer_basic_of : Integer → trees.Basic
+integer_basic_of i = trees.Numeral (trees.Whole (integer_of i))
+
+abbrev pub elements_of : Elements → List trees.Basic
+elements_of (elements.Integers integers) = map integer_basic_of integers.items
+elements_of (elements.Basics basics) = map basic_of basics.items
+
 abbrev pub list_of : ListLiteral → trees.ListLiteral
-list_of l = record { at = l.at; elements = map basic_of l.elements.items }
+list_of l = record { at = l.at; elements = elements_of l.elements }
 
 abbrev pub expression_of : Expression → trees.Expression
 expression_of (expression.Scalar basic) = trees.Scalar (basic_of basic)

@@ -1,7 +1,7 @@
 //! Expressions.
-ghost use Rattle.std.specs.Prelude.{◌≡◌};
+ghost use Rattle.std.specs.Prelude.{◌≡◌, length};
 ghost use Rattle.fz_language.specs.Trees as trees;
-ghost use Rattle.fz_syntax.specs.Trees.{number_of, set_of, basic_of, expression_of};
+ghost use Rattle.fz_syntax.specs.Trees.{number_of, set_of, basic_of, elements_of, expression_of};
 
 use crate::leaf::{Integer, Name};
 
@@ -67,11 +67,31 @@ impl<'a> Basic<'a> {
     }
 }
 
+/// The elements of a list. Integers alone may stand by themselves, at eight bytes each, as in the long lists of tables; any
+/// elements, also integers alone, may stand as expressions.
+#[derive(Drop)]
+pub enum Elements<'a> {
+    Integers(Vec<Integer>),
+    Basics(Vec<Basic<'a>>),
+}
+
+impl<'a> Elements<'a> {
+    /// How many there are.
+    pub fn len(&self) -> usize
+        ensures { result ≡ length (elements_of self.now) }
+    {
+        match self {
+            Elements::Integers(integers) => integers.len(),
+            Elements::Basics(basics) => basics.len(),
+        }
+    }
+}
+
 /// `[element, element, ..]`, with the place of the bracket.
 #[derive(Drop)]
 pub struct ListLiteral<'a> {
     pub at: u32,
-    pub elements: Vec<Basic<'a>>,
+    pub elements: Elements<'a>,
 }
 
 /// An argument of a constraint.

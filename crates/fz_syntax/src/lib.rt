@@ -13,7 +13,7 @@ pub mod program;
 pub mod value_type;
 
 pub use annotation::{Annotation, Argument};
-pub use expression::{Basic, Expression, ListLiteral, Number, SetLiteral};
+pub use expression::{Basic, Elements, Expression, ListLiteral, Number, SetLiteral};
 pub use item::{
     ArrayItem, ConstraintItem, Index, Item, ParameterItem, PredicateItem, PredicateParameter,
     VariableItem,

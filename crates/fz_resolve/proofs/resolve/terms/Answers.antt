@@ -1,17 +1,6 @@
-use Rattle.std.proofs.Common.{ap, ◌∙◌, sym, Ok}
-use Rattle.fz_language.specs.Entries.{term_in}
-use Rattle.fz_syntax.specs.Trees.{basic_of}
 use Rattle.fz_resolve.specs.Meant.{environment_of}
-use Rattle.fz_resolve.proofs.Each.{each_more, each_stop}
+use Rattle.fz_resolve.proofs.Integers.{whatever}
 use Rattle.fz_resolve.proofs.resolve.terms.Goals as goal
 
-pub returns-in-None : goal.returns-in-None
-returns-in-None c =
-    each_stop (term_in (environment_of c.args.names.now) c.args.asked) basic_of c.args.elements.now c.loop-element.element-index c.element-item.result c.loop-element.terms.items c.at.result c.loop-element-test.true c.element-item.is
-    c.in-None.ensures c.at.ensures c.loop-element.invariant
-
-pub loop-element-preserved : goal.loop-element-preserved
-loop-element-preserved c =
-    each_more (term_in (environment_of c.args.names.now) c.args.asked) basic_of c.args.elements.now c.loop-element.element-index c.element-item.result c.loop-element.terms.items c.in-Some.term c.loop-element-test.true c.element-item.is
-    c.in-Some.ensures c.loop-element.invariant
-    ∙ ap (λ xs. Ok xs) (sym c.in_ok-push-in-Some.ensures.items)
+pub returns-in-Integers : goal.returns-in-Integers
+returns-in-Integers c = rw c.in-Integers.is (whatever _ c.terms_of_integers.result (rw c.deref.ensures.value at c.terms_of_integers.ensures) (environment_of c.args.names.now))

@@ -1,9 +1,0 @@
-use Rattle.fz_language.specs.Rules.{unknown_in}
-use Rattle.fz_syntax.specs.Trees.{basic_of}
-use Rattle.fz_resolve.specs.Meant.{environment_of}
-use Rattle.fz_resolve.proofs.Firsts.{IsNoneSoFar}
-use Rattle.fz_resolve.proofs.names.Names.unknown_element.Given as goal
-
--- all names so far are declared
-abbrev pub invariant-loop-element : goal.invariant-loop-element
-invariant-loop-element l = IsNoneSoFar (unknown_in (environment_of l.self)) basic_of l.elements l.element-index
