@@ -5,10 +5,10 @@ ghost use Rattle.fz_language.specs.Tokens.{IsExponent, IsTail, IsBased, IsFault}
 ghost use Rattle.fz_lex.specs.declared.run.Radix.TheVariants as radices;
 ghost use Rattle.fz_lex.specs.Steps.{IsRun, IsLongest, HasNone, HasNoBased, IsBasedAt, IsNaturalAt, IsBehindSign, IsNumberStart, HasNoPoint, IsPointAt, AreDigitsAt, is_digit_of, signed_of, IsFoundAt};
 
+use crate::lexeme::Lexeme;
 use crate::reading::Found;
 use crate::run::{DigitRun, OVER, Radix, byte_at, digits, is_digit};
 use fz_language::fault::TokenFault;
-use crate::lexeme::Lexeme;
 
 /// The number that begins at a digit or a minus.
 pub(crate) fn number_at(text: &[u8], at: usize) -> Result<Found, TokenFault>

@@ -5,11 +5,11 @@ ghost use Rattle.fz_spec.specs.declared.limits.TheConstants.{TEXT_LIMIT};
 ghost use Rattle.fz_language.specs.Tokens.{is_blank, is_word_start, IsInside, IsFault};
 ghost use Rattle.fz_lex.specs.Steps.{HasNone, StepsInside, IsFoundAt};
 
+use crate::lexeme::Lexeme;
 use crate::number::number_at;
 use crate::run::{byte_at, word_end};
 use crate::spelling::{is_word_start, keyword_of, sign_length, sign_of};
 use fz_language::fault::TokenFault;
-use crate::lexeme::Lexeme;
 
 /// A token up to `stop`.
 #[derive(Clone, Copy)]

@@ -111,7 +111,11 @@ fn a_fault_stands_at_the_first_byte_of_its_token(rt: HostRuntime) -> Result<(), 
         ("2147483647 #", TokenFault::LargeNumber, 0),
     ];
     for (text, cause, at) in cases {
-        assert_eq!(rt; lexer(text).fault(), Some(LexFault { cause, at }), "at {text}");
+        assert_eq!(rt;
+            lexer(text).fault(),
+            Some(LexFault { cause, at }),
+            "at {text}"
+        );
     }
     Ok(())
 }

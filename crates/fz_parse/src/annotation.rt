@@ -36,11 +36,7 @@ pub(crate) fn annotations<'a>(
 
 /// Takes an annotation, in which brackets may open this many levels.
 #[cycle(nested)]
-fn annotation<'a>(
-    alloc: Global,
-    lexer: &mut Lexer<'a>,
-    left: u32,
-) -> Result<Annotation<'a>, Stop>
+fn annotation<'a>(alloc: Global, lexer: &mut Lexer<'a>, left: u32) -> Result<Annotation<'a>, Stop>
     requires left { left ≤ level_limit }
     ensures taken { ParsesAt (level_limit - left) grammar.Annotation annotation_of
         lexer.old.tokens lexer.new.tokens result }
@@ -68,11 +64,7 @@ fn annotation<'a>(
 
 /// Takes arguments of an annotation, up to what closes them.
 #[cycle(nested)]
-fn arguments<'a>(
-    alloc: Global,
-    lexer: &mut Lexer<'a>,
-    left: u32,
-) -> Result<Vec<Argument<'a>>, Stop>
+fn arguments<'a>(alloc: Global, lexer: &mut Lexer<'a>, left: u32) -> Result<Vec<Argument<'a>>, Stop>
     requires left { left ≤ level_limit }
     ensures taken { ParsesAt (level_limit - left) (grammar.Listed grammar.Arguments)
         (λ a. arguments_of a.items)
@@ -97,11 +89,7 @@ fn arguments<'a>(
 
 /// Takes an argument of an annotation.
 #[cycle(nested)]
-fn argument<'a>(
-    alloc: Global,
-    lexer: &mut Lexer<'a>,
-    left: u32,
-) -> Result<Argument<'a>, Stop>
+fn argument<'a>(alloc: Global, lexer: &mut Lexer<'a>, left: u32) -> Result<Argument<'a>, Stop>
     requires left { left ≤ level_limit }
     ensures taken { ParsesAt (level_limit - left) grammar.Argument argument_of
         lexer.old.tokens lexer.new.tokens result }

@@ -16,10 +16,7 @@ use fz_syntax::{ConstraintItem, Expression};
 use std::alloc::Global;
 
 /// Takes the arguments of a constraint, up to the closing parenthesis.
-fn expressions<'a>(
-    alloc: Global,
-    lexer: &mut Lexer<'a>,
-) -> Result<Vec<Expression<'a>>, Stop>
+fn expressions<'a>(alloc: Global, lexer: &mut Lexer<'a>) -> Result<Vec<Expression<'a>>, Stop>
     ensures taken { ParsesLow (grammar.Listed grammar.Expressions) (λ e. map expression_of e.items)
         lexer.old.tokens lexer.new.tokens result }
     ensures forward { OnOk result (length lexer.new.tokens ≤ length lexer.old.tokens) }

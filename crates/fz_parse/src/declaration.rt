@@ -18,10 +18,7 @@ use fz_syntax::{ArrayItem, Basic, ParameterItem, VariableItem};
 use std::alloc::Global;
 
 /// Takes the value of a variable, if one stands there.
-fn optional_value<'a>(
-    alloc: Global,
-    lexer: &mut Lexer<'a>,
-) -> Result<Option<Basic<'a>>, Stop>
+fn optional_value<'a>(alloc: Global, lexer: &mut Lexer<'a>) -> Result<Option<Basic<'a>>, Stop>
     ensures taken { Parses grammar.OptionalValue (option_of basic_of)
         lexer.old.tokens lexer.new.tokens result }
     ensures forward { OnOk result (length lexer.new.tokens ≤ length lexer.old.tokens) }
@@ -86,10 +83,7 @@ pub(crate) fn parameter_item<'a>(
 }
 
 /// Takes a declaration of an array.
-pub(crate) fn array_item<'a>(
-    alloc: Global,
-    lexer: &mut Lexer<'a>,
-) -> Result<ArrayItem<'a>, Stop>
+pub(crate) fn array_item<'a>(alloc: Global, lexer: &mut Lexer<'a>) -> Result<ArrayItem<'a>, Stop>
     ensures taken { ParsesAt 0 grammar.ArrayItem array_item_of
         lexer.old.tokens lexer.new.tokens result }
     ensures forward { OnOk result (length lexer.new.tokens < length lexer.old.tokens) }

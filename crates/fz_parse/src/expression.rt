@@ -1,16 +1,17 @@
 //! The reading of expressions.
 ghost use Rattle.std.specs.Prelude.{◌≡◌, ◌≤◌, ◌<◌, IfOk, OnOk, length, map};
 ghost use Rattle.fz_language.specs.Grammar as grammar;
-ghost use Rattle.fz_syntax.specs.Trees.{number_of, set_of, basic_of, list_of, expression_of};
+ghost use Rattle.fz_syntax.specs.Trees.{number_of, set_of, basic_of, elements_of, list_of, expression_of};
 ghost use Rattle.fz_parse.specs.Steps.{Parses, ParsesLow, option_of};
 
+use crate::list::{begun, push};
 use crate::steps::{identifier, integer, is, parts_ahead, take};
 use crate::stop::Stop;
 use fz_language::keyword::Keyword;
 use fz_language::sign::Sign;
 use fz_language::token_kind::TokenKind;
 use fz_lex::Lexer;
-use fz_syntax::{Basic, Expression, ListLiteral, Number, SetLiteral};
+use fz_syntax::{Basic, Elements, Expression, ListLiteral, Number, SetLiteral};
 use std::alloc::{AllocError, Global};
 
 /// Takes a number.
@@ -61,10 +62,7 @@ pub(crate) fn braces(alloc: Global, lexer: &mut Lexer) -> Result<SetLiteral, Sto
 }
 
 /// Takes a set literal.
-pub(crate) fn set_literal(
-    alloc: Global,
-    lexer: &mut Lexer,
-) -> Result<SetLiteral, Stop>
+pub(crate) fn set_literal(alloc: Global, lexer: &mut Lexer) -> Result<SetLiteral, Stop>
     ensures taken { Parses grammar.SetLiteral set_of
         lexer.old.tokens lexer.new.tokens result }
     ensures forward { OnOk result (length lexer.new.tokens < length lexer.old.tokens) }
@@ -96,10 +94,7 @@ fn range_end(lexer: &mut Lexer) -> Result<Option<Number>, Stop>
 }
 
 /// Takes an expression that is no list and no name.
-pub(crate) fn constant<'a>(
-    alloc: Global,
-    lexer: &mut Lexer<'a>,
-) -> Result<Basic<'a>, Stop>
+pub(crate) fn constant<'a>(alloc: Global, lexer: &mut Lexer<'a>) -> Result<Basic<'a>, Stop>
     ensures taken { Parses grammar.Constant basic_of
         lexer.old.tokens lexer.new.tokens result }
     ensures forward { OnOk result (length lexer.new.tokens < length lexer.old.tokens) }
@@ -142,10 +137,7 @@ fn number_or_range<'a>(
 }
 
 /// Takes an expression that is no list.
-pub(crate) fn basic<'a>(
-    alloc: Global,
-    lexer: &mut Lexer<'a>,
-) -> Result<Basic<'a>, Stop>
+pub(crate) fn basic<'a>(alloc: Global, lexer: &mut Lexer<'a>) -> Result<Basic<'a>, Stop>
     ensures taken { Parses grammar.Basic basic_of
         lexer.old.tokens lexer.new.tokens result }
     ensures forward { OnOk result (length lexer.new.tokens < length lexer.old.tokens) }
@@ -160,24 +152,22 @@ pub(crate) fn basic<'a>(
 }
 
 /// Takes the elements of a list, up to its closing bracket.
-fn elements<'a>(
-    alloc: Global,
-    lexer: &mut Lexer<'a>,
-) -> Result<Vec<Basic<'a>>, Stop>
-    ensures taken { Parses (grammar.Listed grammar.Elements) (λ e. map basic_of e.items)
+fn elements<'a>(alloc: Global, lexer: &mut Lexer<'a>) -> Result<Elements<'a>, Stop>
+    ensures taken { Parses (grammar.Listed grammar.Elements) elements_of
         lexer.old.tokens lexer.new.tokens result }
     ensures forward { OnOk result (length lexer.new.tokens ≤ length lexer.old.tokens) }
     ensures same { lexer.new.source ≡ lexer.old.source }
 {
-    let mut found = Vec::new(alloc);
     if is(lexer, TokenKind::Sign(Sign::RightBracket)) {
-        return Ok(found);
+        return Ok(Elements::Integers(Vec::new(alloc)));
     }
-    found.reserve_exact(parts_ahead(lexer))?;
-    found.push(basic(alloc, lexer)?)?;
+    let room = parts_ahead(lexer);
+    let first = basic(alloc, lexer)?;
+    let mut found = begun(alloc, first, room)?;
     'elements: while is(lexer, TokenKind::Sign(Sign::Comma)) {
         take(lexer, TokenKind::Sign(Sign::Comma))?;
-        found.push(basic(alloc, lexer)?)?;
+        let next = basic(alloc, lexer)?;
+        push(alloc, &mut found, next)?;
     }
     Ok(found)
 }
@@ -199,10 +189,7 @@ pub(crate) fn list_literal<'a>(
 }
 
 /// Takes an argument of a constraint.
-pub(crate) fn expression<'a>(
-    alloc: Global,
-    lexer: &mut Lexer<'a>,
-) -> Result<Expression<'a>, Stop>
+pub(crate) fn expression<'a>(alloc: Global, lexer: &mut Lexer<'a>) -> Result<Expression<'a>, Stop>
     ensures taken { ParsesLow grammar.Expression expression_of
         lexer.old.tokens lexer.new.tokens result }
     ensures forward { OnOk result (length lexer.new.tokens < length lexer.old.tokens) }

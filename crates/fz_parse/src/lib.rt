@@ -9,6 +9,7 @@ mod annotation;
 mod constraint;
 mod declaration;
 mod expression;
+mod list;
 pub mod parser;
 mod predicate;
 mod program;

@@ -80,10 +80,7 @@ pub(crate) fn variability(lexer: &mut Lexer) -> Result<bool, Stop>
 }
 
 /// Takes a parameter.
-fn parameter<'a>(
-    alloc: Global,
-    lexer: &mut Lexer<'a>,
-) -> Result<PredicateParameter<'a>, Stop>
+fn parameter<'a>(alloc: Global, lexer: &mut Lexer<'a>) -> Result<PredicateParameter<'a>, Stop>
     ensures taken { ParsesLow grammar.Parameter predicate_parameter_of
         lexer.old.tokens lexer.new.tokens result }
     ensures forward { OnOk result (length lexer.new.tokens < length lexer.old.tokens) }
@@ -103,10 +100,7 @@ fn parameter<'a>(
 }
 
 /// Takes parameters, up to the closing parenthesis.
-fn parameters<'a>(
-    alloc: Global,
-    lexer: &mut Lexer<'a>,
-) -> Result<Vec<PredicateParameter<'a>>, Stop>
+fn parameters<'a>(alloc: Global, lexer: &mut Lexer<'a>) -> Result<Vec<PredicateParameter<'a>>, Stop>
     ensures taken { ParsesLow (grammar.Listed grammar.Parameters)
         (λ p. map predicate_parameter_of p.items)
         lexer.old.tokens lexer.new.tokens result }

@@ -109,10 +109,7 @@ fn method<'a>(alloc: Global, lexer: &mut Lexer<'a>) -> Result<Method<'a>, Stop>
 }
 
 /// Takes the solve item.
-fn solve_item<'a>(
-    alloc: Global,
-    lexer: &mut Lexer<'a>,
-) -> Result<SolveItem<'a>, Stop>
+fn solve_item<'a>(alloc: Global, lexer: &mut Lexer<'a>) -> Result<SolveItem<'a>, Stop>
     ensures taken { ParsesAt 0 grammar.SolveItem solve_item_of
         lexer.old.tokens lexer.new.tokens result }
     ensures forward { OnOk result (length lexer.new.tokens < length lexer.old.tokens) }
@@ -129,10 +126,7 @@ fn solve_item<'a>(
 }
 
 /// Takes a program.
-pub(crate) fn program<'a>(
-    alloc: Global,
-    lexer: &mut Lexer<'a>,
-) -> Result<Program<'a>, Stop>
+pub(crate) fn program<'a>(alloc: Global, lexer: &mut Lexer<'a>) -> Result<Program<'a>, Stop>
     ensures taken { ParsesAt 0 grammar.WholeProgram program_of
         lexer.old.tokens lexer.new.tokens result }
     ensures same { lexer.new.source ≡ lexer.old.source }

@@ -37,10 +37,7 @@ fn plain(alloc: Global, lexer: &mut Lexer) -> Result<Plain, Stop>
 }
 
 /// Takes a type.
-pub(crate) fn value_type(
-    alloc: Global,
-    lexer: &mut Lexer,
-) -> Result<ValueType, Stop>
+pub(crate) fn value_type(alloc: Global, lexer: &mut Lexer) -> Result<ValueType, Stop>
     ensures taken { Parses grammar.ValueType type_of
         lexer.old.tokens lexer.new.tokens result }
     ensures forward { OnOk result (length lexer.new.tokens < length lexer.old.tokens) }
