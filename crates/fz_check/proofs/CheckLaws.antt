@@ -1,5 +1,5 @@
 -- From drafts to what the checker says of a program.
-use Rattle.std.proofs.Common.{arith, ◌≡◌, ℕ, length, Some, None, List, [], ◌∷◌, ◌++◌, map, refl, sym, ap, ap₂, ◌∙◌, append-nil}
+use Rattle.std.proofs.Common.{arith, ◌≡◌, ℕ, length, Some, None, List, [], ◌∷◌, ◌++◌, refl, sym, ap, ap₂, ◌∙◌, append-nil}
 use Rattle.std.specs.Prelude.{slice_get}
 use Rattle.fz_spec.specs.declared.goal.Goal.{Goal}
 use Rattle.fz_spec.specs.Instance.{Instance, SearchPart}

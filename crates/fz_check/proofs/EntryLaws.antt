@@ -2,7 +2,7 @@
 use Rattle.std.proofs.Common.{◌≡◌, ℕ, Bool, true, false, ◌<◌, zero, suc, List, [], ◌∷◌, map, length, get_or, refl, sym, ap, subst, arith}
 use Rattle.std.specs.Prelude.{Some, Result, Ok, Err, MatchResult, slice_get, ℤ}
 use Rattle.std.specs.List.{AllByRecursion}
-use Rattle.fz_language.specs.Trees.{Basic, ArrayItem, Plain, ValueType, One, SetOf}
+use Rattle.fz_language.specs.Trees.{ArrayItem, Plain, ValueType, One, SetOf}
 use Rattle.fz_language.specs.Entries.{Environment, with_value, term_in, set_of, each_of, number_of}
 use Rattle.fz_language.specs.Entries as entries
 use Rattle.fz_language.specs.Rules.{kind_of, wrong_place, wrong_element}
@@ -39,12 +39,11 @@ EnteredAs env a variable t made =
 abbrev element : Kind → Bool → Element
 element kind may_vary = record { kind = kind; may_vary = may_vary }
 
-pub terms_are : (env : Environment) (a : ArrayItem) (kind : Kind) (bs : List Basic) (r : Result Entry ℕ) → kind ≡ kind_of a.value_type → bs ≡ a.list.elements → a.variable ≡ true
-    → with_value meant r ≡ with_value (λ (ts : List Term). entries.Terms kind ts) (each_of (term_in env (element kind true)) bs) → IsArrayEntry env a r
-terms_are env a kind bs r k b v e =
-    let e1 = subst (λ (j : Kind). with_value meant r ≡ with_value (λ (ts : List Term). entries.Terms j ts) (each_of (term_in env (element j true)) bs)) k e in
-    let e2 = subst (λ (cs : List Basic). with_value meant r ≡ with_value (λ (ts : List Term). entries.Terms (kind_of a.value_type) ts) (each_of (term_in env (element (kind_of a.value_type) true)) cs)) b e1 in
-    subst (λ (x : Bool). EnteredAs env a x a.value_type r) (sym v) (from_value (λ (ts : List Term). entries.Terms (kind_of a.value_type) ts) r (each_of (term_in env (element (kind_of a.value_type) true)) a.list.elements) e2)
+pub terms_are : (env : Environment) (a : ArrayItem) (kind : Kind) (r : Result Entry ℕ) → kind ≡ kind_of a.value_type → a.variable ≡ true
+    → with_value meant r ≡ with_value (λ (ts : List Term). entries.Terms kind ts) (each_of (term_in env (element kind true)) a.list.elements) → IsArrayEntry env a r
+terms_are env a kind r k v e =
+    let f = subst (λ (j : Kind). with_value meant r ≡ with_value (λ (ts : List Term). entries.Terms j ts) (each_of (term_in env (element j true)) a.list.elements)) k e in
+    subst (λ (x : Bool). EnteredAs env a x a.value_type r) (sym v) (from_value (λ (ts : List Term). entries.Terms (kind_of a.value_type) ts) r (each_of (term_in env (element (kind_of a.value_type) true)) a.list.elements) f)
 
 numbers_of_type : (env : Environment) (a : ArrayItem) (t : ValueType) (plain : Plain) (r : Result Entry ℕ) → t ≡ One plain
     → with_value meant r ≡ with_value (λ (ts : List Term). entries.Numbers (kind_of t) (map number_of ts)) (each_of (term_in env (element (kind_of t) false)) a.list.elements) → EnteredAs env a false t r
@@ -53,16 +52,14 @@ numbers_of_type env a t plain r is e =
     subst (λ (u : ValueType). EnteredAs env a false u r) (sym is)
     (from_value (λ (ts : List Term). entries.Numbers (kind_of (One plain)) (map number_of ts)) r (each_of (term_in env (element (kind_of (One plain)) false)) a.list.elements) e1)
 
-pub numbers_are : (env : Environment) (a : ArrayItem) (kind : Kind) (bs : List Basic) (plain : Plain) (r : Result Entry ℕ) → kind ≡ kind_of a.value_type → bs ≡ a.list.elements → a.variable ≡ false → a.value_type ≡ One plain
-    → with_value meant r ≡ with_value (λ (ts : List Term). entries.Numbers kind (map number_of ts)) (each_of (term_in env (element kind false)) bs) → IsArrayEntry env a r
-numbers_are env a kind bs plain r k b v t e =
-    let e1 = subst (λ (j : Kind). with_value meant r ≡ with_value (λ (ts : List Term). entries.Numbers j (map number_of ts)) (each_of (term_in env (element j false)) bs)) k e in
-    let e2 = subst (λ (cs : List Basic). with_value meant r ≡ with_value (λ (ts : List Term). entries.Numbers (kind_of a.value_type) (map number_of ts)) (each_of (term_in env (element (kind_of a.value_type) false)) cs)) b e1 in
-    subst (λ (x : Bool). EnteredAs env a x a.value_type r) (sym v) (numbers_of_type env a a.value_type plain r t e2)
+pub numbers_are : (env : Environment) (a : ArrayItem) (kind : Kind) (plain : Plain) (r : Result Entry ℕ) → kind ≡ kind_of a.value_type → a.variable ≡ false → a.value_type ≡ One plain
+    → with_value meant r ≡ with_value (λ (ts : List Term). entries.Numbers kind (map number_of ts)) (each_of (term_in env (element kind false)) a.list.elements) → IsArrayEntry env a r
+numbers_are env a kind plain r k v t e =
+    let f = subst (λ (j : Kind). with_value meant r ≡ with_value (λ (ts : List Term). entries.Numbers j (map number_of ts)) (each_of (term_in env (element j false)) a.list.elements)) k e in
+    subst (λ (x : Bool). EnteredAs env a x a.value_type r) (sym v) (numbers_of_type env a a.value_type plain r t f)
 
-pub sets_are : (env : Environment) (a : ArrayItem) (bs : List Basic) (at : ℕ) (plain : Plain) (r : Result Entry ℕ) → bs ≡ a.list.elements → a.variable ≡ false → a.value_type ≡ SetOf at plain
-    → with_value meant r ≡ with_value (λ (ss : List (List (ℤ × ℤ))). entries.Sets) (each_of (set_of env) bs) → IsArrayEntry env a r
-sets_are env a bs at plain r b v t e =
-    let e2 = subst (λ (cs : List Basic). with_value meant r ≡ with_value (λ (ss : List (List (ℤ × ℤ))). entries.Sets) (each_of (set_of env) cs)) b e in
+pub sets_are : (env : Environment) (a : ArrayItem) (at : ℕ) (plain : Plain) (r : Result Entry ℕ) → a.variable ≡ false → a.value_type ≡ SetOf at plain
+    → with_value meant r ≡ with_value (λ (ss : List (List (ℤ × ℤ))). entries.Sets) (each_of (set_of env) a.list.elements) → IsArrayEntry env a r
+sets_are env a at plain r v t e =
     subst (λ (x : Bool). EnteredAs env a x a.value_type r) (sym v)
-    (subst (λ (u : ValueType). EnteredAs env a false u r) (sym t) (from_value (λ (ss : List (List (ℤ × ℤ))). entries.Sets) r (each_of (set_of env) a.list.elements) e2))
+    (subst (λ (u : ValueType). EnteredAs env a false u r) (sym t) (from_value (λ (ss : List (List (ℤ × ℤ))). entries.Sets) r (each_of (set_of env) a.list.elements) e))

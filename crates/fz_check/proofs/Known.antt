@@ -1,10 +1,9 @@
 -- Where all arguments are what is asked, each name among them is declared.
-use Rattle.std.proofs.Common.{arith, ◌≡◌, ℕ, suc, List, [], ◌∷◌, ◌++◌, map, length, refl, sym, ap, ap₂, ◌∙◌, cond, Bool, true, false}
+use Rattle.std.proofs.Common.{arith, ◌≡◌, ℕ, List, [], ◌∷◌, ◌++◌, length, refl, ap₂}
 use Rattle.std.specs.Prelude.{Option, Some, None, option_map, Result, Ok, Err, flat_map}
 use Rattle.fz_spec.specs.declared.asked.Asked.{Asked}
 use Rattle.fz_spec.specs.declared.asked.Asked.TheVariants as asked
 use Rattle.fz_spec.specs.declared.asked.Element.{Element}
-use Rattle.fz_spec.specs.declared.term.Term.{Term}
 use Rattle.fz_spec.specs.Constraints.{Argument}
 use Rattle.fz_spec.specs.Constraints as meaning
 use Rattle.fz_language.specs.Trees.{Basic, Truth, Numeral, Literal, Named, Expression, Scalar, Listed, basic_at}

@@ -14,12 +14,12 @@ use Rattle.fz_spec.specs.Constraints as meaning
 use Rattle.fz_spec.specs.Instance.{Output}
 use Rattle.fz_spec.specs.Instance as instance
 use Rattle.fz_spec.specs.Signatures.{Row, row_named, signature_of}
-use Rattle.fz_language.specs.declared.fault.RuleFault.TheVariants.{Unsupported, OverLimit}
+use Rattle.fz_language.specs.declared.fault.RuleFault.TheVariants.{OverLimit}
 use Rattle.fz_language.specs.Trees.{Basic, Annotation, VariableItem, ParameterItem, ArrayItem, ConstraintItem, Item, Predicate, Variable, Parameter, Array, Constraint, SolveItem, Method, Satisfy, Minimize, Maximize}
 use Rattle.fz_language.specs.Entries.{Environment, nothing_declared, term_in, resolve}
 use Rattle.fz_language.specs.Entries as entries
 use Rattle.fz_language.specs.Rules.{goal_asked, AVariable, Counts, none_yet, all_counted, additions, over, at_places, faults_of, item_faults, kind_of, term_asked, is_bound, arguments_in, type_additions, value_additions, array_element_additions, members_in}
-use Rattle.fz_language.specs.Models.{goal_term, Scope, empty_scope, behind, scope_behind, made, goal_of, type_set, variables_of, constraints_of, outputs_of, value_term, equal_to_value, call_constraints, terms_of, bound_to}
+use Rattle.fz_language.specs.Models.{goal_term, Scope, empty_scope, behind, scope_behind, made, type_set, variables_of, constraints_of, outputs_of, value_term, equal_to_value, call_constraints, terms_of, bound_to}
 use Rattle.fz_language.specs.Annotations.{output_var_of, shape_among}
 use Rattle.fz_language.specs.Reads.{faults_from}
 use Rattle.fz_language.specs.Within.{BasicFits, ItemFits, MethodFits}

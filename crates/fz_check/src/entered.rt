@@ -9,13 +9,13 @@ ghost use Rattle.fz_syntax.specs.Trees as trees;
 ghost use Rattle.fz_resolve.specs.Meant.{environment_of, meant};
 ghost use Rattle.fz_check.specs.Entered.{value_entry, set_entry, IsArrayEntry};
 
-use fz_resolve::resolve::{numbers, set, term, terms};
+use fz_resolve::resolve::{numbers_in, set, term, terms};
 use fz_resolve::types::kind_of;
 use fz_resolve::{Entry, Names, NumberList, TermList};
 use fz_spec::asked::Element;
 use fz_spec::kind::Kind;
 use fz_spec::term::Term;
-use fz_syntax::{ArrayItem, Basic, ParameterItem, ValueType};
+use fz_syntax::{ArrayItem, Basic, Elements, Integer, ParameterItem, ValueType};
 use std::alloc::{AllocError, Global};
 
 /// What the name of a parameter stands for, if its value has the type.
@@ -83,7 +83,7 @@ pub(crate) fn array_entry<'a>(
     names: &Names<'a>,
     item: &ArrayItem<'a>,
 ) -> Result<Result<Entry, u32>, AllocError>
-    requires { AllByRecursion BasicFits (map trees.basic_of item.now.list.elements.items) }
+    requires { AllByRecursion BasicFits (trees.elements_of item.now.list.elements) }
     ensures { IfOk result (IsArrayEntry (environment_of names.now) (trees.array_item_of item.now)) }
 {
     let kind = kind_of(&item.value_type);
@@ -101,12 +101,12 @@ fn term_list<'a>(
     alloc: Global,
     names: &Names<'a>,
     kind: Kind,
-    elements: &[Basic<'a>],
+    elements: &Elements<'a>,
 ) -> Result<Result<Entry, u32>, AllocError>
     ensures { IfOk result (λ entry. entries.with_value meant entry
         ≡ entries.with_value (λ terms. entries.Terms kind terms)
         (entries.each_of (entries.term_in (environment_of names.now)
-        (record { kind = kind; may_vary = true })) (map trees.basic_of elements.now))) }
+        (record { kind = kind; may_vary = true })) (trees.elements_of elements.now))) }
 {
     let asked = Element {
         kind,
@@ -129,28 +129,22 @@ fn number_list<'a>(
     alloc: Global,
     names: &Names<'a>,
     kind: Kind,
-    elements: &[Basic<'a>],
+    elements: &Elements<'a>,
 ) -> Result<Result<Entry, u32>, AllocError>
     ensures { IfOk result (λ entry. entries.with_value meant entry
         ≡ entries.with_value (λ terms. entries.Numbers kind (map entries.number_of terms))
         (entries.each_of (entries.term_in (environment_of names.now)
-        (record { kind = kind; may_vary = false })) (map trees.basic_of elements.now))) }
+        (record { kind = kind; may_vary = false })) (trees.elements_of elements.now))) }
 {
-    let asked = Element {
-        kind,
-        may_vary: false,
-    };
-    match terms(alloc, names, asked, elements)? {
-        Ok(terms) => Ok(Ok(numbers_entry(alloc, kind, &terms)?)),
+    match numbers_in(alloc, names, kind, elements)? {
+        Ok(numbers) => Ok(Ok(numbers_entry(alloc, kind, numbers)?)),
         Err(at) => Ok(Err(at)),
     }
 }
 
-fn numbers_entry(alloc: Global, kind: Kind, terms: &[Term]) -> Result<Entry, AllocError>
-    ensures { IfOk result (λ entry. meant entry
-        ≡ entries.Numbers kind (map entries.number_of terms.now)) }
+fn numbers_entry(alloc: Global, kind: Kind, numbers: Vec<i32>) -> Result<Entry, AllocError>
+    ensures { IfOk result (λ entry. meant entry ≡ entries.Numbers kind numbers.items) }
 {
-    let numbers = numbers(alloc, terms)?;
     let list = Box::new(alloc, NumberList { kind, numbers })?;
     Ok(Entry::Numbers(list))
 }
@@ -158,18 +152,47 @@ fn numbers_entry(alloc: Global, kind: Kind, terms: &[Term]) -> Result<Entry, All
 fn set_list<'a>(
     alloc: Global,
     names: &Names<'a>,
-    elements: &[Basic<'a>],
+    elements: &Elements<'a>,
 ) -> Result<Result<Entry, u32>, AllocError>
-    requires { AllByRecursion BasicFits (map trees.basic_of elements.now) }
+    requires { AllByRecursion BasicFits (trees.elements_of elements.now) }
     ensures { IfOk result (λ entry. entries.with_value meant entry
         ≡ entries.with_value (λ sets. entries.Sets)
         (entries.each_of (entries.set_of (environment_of names.now))
-        (map trees.basic_of elements.now))) }
+        (trees.elements_of elements.now))) }
 {
-    for element in elements {
-        match set(alloc, names, element)? {
+    match elements {
+        Elements::Integers(integers) => Ok(sets_of_integers(integers)),
+        Elements::Basics(basics) => sets_of_basics(alloc, names, basics),
+    }
+}
+
+/// No integer is a set.
+fn sets_of_integers(integers: &[Integer]) -> Result<Entry, u32>
+    ensures { (env : entries.Environment) → entries.with_value meant result
+        ≡ entries.with_value (λ sets. entries.Sets)
+        (entries.each_of (entries.set_of env) (map trees.integer_basic_of integers.now)) }
+{
+    match integers.first() {
+        Some(integer) => Err(integer.at),
+        None => Ok(Entry::Sets),
+    }
+}
+
+fn sets_of_basics<'a>(
+    alloc: Global,
+    names: &Names<'a>,
+    basics: &[Basic<'a>],
+) -> Result<Result<Entry, u32>, AllocError>
+    requires { AllByRecursion BasicFits (map trees.basic_of basics.now) }
+    ensures { IfOk result (λ entry. entries.with_value meant entry
+        ≡ entries.with_value (λ sets. entries.Sets)
+        (entries.each_of (entries.set_of (environment_of names.now))
+        (map trees.basic_of basics.now))) }
+{
+    for basic in basics {
+        match set(alloc, names, basic)? {
             Some(_set) => {}
-            None => return Ok(Err(element.at())),
+            None => return Ok(Err(basic.at())),
         }
     }
     Ok(Ok(Entry::Sets))

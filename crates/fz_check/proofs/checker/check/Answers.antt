@@ -1,7 +1,6 @@
 use Rattle.std.proofs.Common.{arith, map, length, subst, refl, ap, ◌∙◌, List, Option}
 use Rattle.std.specs.List.{AllByRecursion}
 use Rattle.std.specs.Vec.Iter.{into_iter_items, into_iter_len}
-use Rattle.fz_language.specs.Trees as lang
 use Rattle.fz_language.specs.Within.{ItemFits}
 use Rattle.fz_syntax.specs.Trees.{program_of, item_of}
 use Rattle.fz_syntax.specs.declared.item.Item.{Item}

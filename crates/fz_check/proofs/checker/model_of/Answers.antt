@@ -1,4 +1,4 @@
-use Rattle.std.proofs.Common.{◌≡◌, ◌∙◌, ap, sym, subst, List}
+use Rattle.std.proofs.Common.{◌∙◌, ap, sym, subst, List}
 use Rattle.fz_spec.specs.Instance.{Instance}
 use Rattle.fz_language.specs.Models as models
 use Rattle.fz_language.specs.Trees as lang

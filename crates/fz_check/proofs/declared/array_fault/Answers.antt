@@ -1,11 +1,10 @@
-use Rattle.std.proofs.Common.{◌++◌, map, cond, ◌∙◌, ap, List}
-use Rattle.std.specs.Prelude.{flat_map, slice_get}
+use Rattle.std.proofs.Common.{◌++◌, cond}
+use Rattle.std.specs.Prelude.{flat_map}
 use Rattle.fz_language.specs.declared.fault.RuleFault.TheVariants.{Unsupported, UnknownName, WrongType, WrongLengths, DeclaredTwice}
 use Rattle.fz_language.specs.Numerals.{floats_in}
 use Rattle.fz_language.specs.Rules as rules
 use Rattle.fz_language.specs.Rules.{at_places}
 use Rattle.fz_syntax.specs.Trees as trees
-use Rattle.fz_syntax.specs.declared.expression.Basic.{Basic}
 use Rattle.fz_resolve.specs.Meant.{environment_of}
 use Rattle.fz_check.proofs.declared.array_fault.Goals as goal
 
@@ -23,5 +22,5 @@ returns c =
     c.or_else-4.ensures (at_places Unsupported unsupported ++ at_places UnknownName unknown ++ at_places WrongType wrong ++ at_places WrongLengths long) (at_places DeclaredTwice twice)
     (c.or_else-3.ensures (at_places Unsupported unsupported ++ at_places UnknownName unknown ++ at_places WrongType wrong) (at_places WrongLengths long)
     (c.or_else-2.ensures (at_places Unsupported unsupported ++ at_places UnknownName unknown) (at_places WrongType wrong)
-    (c.or_else.ensures (at_places Unsupported unsupported) (at_places UnknownName unknown) (c.fault_at-unsupported.ensures unsupported c.unsupported_array.ensures) (c.fault_at-unknown.ensures unknown (c.unknown_element.ensures ∙ ap (λ (bs : List Basic). slice_get (flat_map (rules.unknown_in env) (map trees.basic_of bs)) 0) c.deref.ensures.value)))
+    (c.or_else.ensures (at_places Unsupported unsupported) (at_places UnknownName unknown) (c.fault_at-unsupported.ensures unsupported c.unsupported_array.ensures) (c.fault_at-unknown.ensures unknown c.unknown_element.ensures))
     (c.fault_at-typed.ensures wrong (c.first_place.ensures misplaced typed c.misplaced_at_array-misplaced.ensures c.requires.wrong))) (c.fault_at-long.ensures long c.wrong_length_at.ensures)) (c.fault_at-twice.ensures twice c.declared_already.ensures)
