@@ -1,17 +1,17 @@
 -- What is read of a text that is too long, and the text.
-use Rattle.std.proofs.Common.{◌≡◌, ◌∙◌, ℕ, ◌+◌, ◌<◌, ◌⊎◌, List, [], ◌∷◌, zero, suc, ap, refl, length, take, subst, inl, inr, arith, length-take, reverse, count_by, take_while}
+use Rattle.std.proofs.Common.{◌≡◌, ◌∙◌, ℕ, ◌+◌, ◌<◌, ◌⊎◌, List, [], ◌∷◌, zero, suc, ap, sym, refl, length, take, subst, inl, inr, arith, length-take, reverse, count_by, take_while}
 use Rattle.std.proofs.lemmas.Bool.{cases_lt}
 use Rattle.std.proofs.lemmas.List.{take_all}
 use Rattle.std.proofs.Math.Nat.{suc-add}
 use Rattle.fz_spec.specs.declared.code.Code.{Code}
 use Rattle.fz_language.specs.Places.{line_of, column_of, is_line_end, is_in_line}
-use Rattle.fz_language.specs.Reads.{IsShort, syntax_code, Reads, Reading, Accepted, Refused, IsRefused, IsRefusedAt}
+use Rattle.fz_language.specs.Reads.{IsShort, token_code, syntax_code, Reads, Reading, Accepted, Refused, IsRefused, IsRefusedAt}
 use Rattle.fz_spec.specs.declared.limits.TheConstants.{TEXT_LIMIT}
 use Rattle.fz_language.specs.declared.fault.SyntaxFault.{SyntaxFault}
 use Rattle.fz_language.specs.declared.fault.SyntaxFault.TheVariants.{Unexpected, TooDeep}
-use Rattle.fz_language.specs.Tokens.{Token}
+use Rattle.fz_language.specs.Tokens.{Token, HasFault}
 use Rattle.fz_language.specs.Grammar.{Breaks, IsTooDeep}
-use Rattle.fz_tokens.specs.Lexed.{LexedText, IsLexed}
+use Rattle.fz_lex.specs.declared.lexer.LexFault.{LexFault}
 use Rattle.fz_parse.specs.declared.parser.ParseFault.{ParseFault}
 use Rattle.fz_parse.specs.Parsed.{IsAtFault, HasSyntaxFault}
 use Rattle.fz_spec.specs.declared.code.Code.TheVariants.{OverLimit}
@@ -63,15 +63,18 @@ by_cause : (cause : SyntaxFault) (ts behind : List Token) (c : Code) → c ≡ s
 by_cause Unexpected ts behind c e h = inl (e, h)
 by_cause TooDeep ts behind c e h = inr (e, h)
 
-pub unspelt_is : (lexed : LexedText) (fault : ParseFault) (c : Code) (at : ℕ) → IsLexed lexed → HasSyntaxFault lexed fault → c ≡ syntax_code fault.cause → at ≡ fault.at → IsRefusedAt lexed.text c at
-unspelt_is lexed fault c at l h e p = inr (inr (inl (record {
-  short = l.short;
-  tokens = lexed.tokens;
-  lexed = l.are;
+pub unspelt_is : (text : List ℕ) (fault : ParseFault) (c : Code) (at : ℕ) → IsShort text → HasSyntaxFault text fault → c ≡ syntax_code fault.cause → at ≡ fault.at → IsRefusedAt text c at
+unspelt_is text fault c at s h e p = inr (inr (inl (record {
+  short = s;
+  tokens = h.tokens;
+  lexed = h.lexed;
   tokens_behind = h.behind;
-  fault = by_cause fault.cause lexed.tokens h.behind c e h.faulty;
+  fault = by_cause fault.cause h.tokens h.behind c e h.faulty;
   place = p ∙ h.placed;
 })))
+
+pub unlexed_is : (text : List ℕ) (fault : LexFault) (c : Code) (at : ℕ) → IsShort text → HasFault text fault.cause fault.at → c ≡ token_code fault.cause → at ≡ fault.at → IsRefusedAt text c at
+unlexed_is text fault c at s h e p = inr (inl (record { short = s; fault = fault.cause; first = subst (HasFault text fault.cause) (sym p) h; code = e }))
 
 -- ---- a text that is too long
 

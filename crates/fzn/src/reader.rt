@@ -1,24 +1,23 @@
 //! From a text to its model.
-ghost use Rattle.std.specs.Prelude.{◌≡◌, ◌<◌, ◌≤◌, IfOk, MatchResult, length};
+ghost use Rattle.std.specs.Prelude.{◌≡◌, ℕ, List, ◌<◌, ◌≤◌, IfOk, MatchResult, length};
 ghost use Rattle.fz_spec.specs.Codes.{code_number};
 ghost use Rattle.fz_spec.specs.declared.limits.TheConstants.{TEXT_LIMIT};
 ghost use Rattle.fz_language.specs.Places.{line_of, column_of};
-ghost use Rattle.fz_language.specs.Reads.{Reads, Accepted, IsProgramText};
+ghost use Rattle.fz_language.specs.Reads.{IsShort, Reads, Accepted, IsProgramText};
 ghost use Rattle.fz_language.specs.Reads as reads;
 ghost use Rattle.fz_syntax.specs.Trees.{program_of};
-ghost use Rattle.fz_tokens.specs.Lexed.{IsLexed};
+ghost use Rattle.fz_parse.specs.Parsed.{IsTextFault};
 ghost use Rattle.fzn.specs.Steps.{IsRefusal, IsCause};
 
 use fz_check::{Fault, check};
 use fz_language::fault::{RuleFault, SyntaxFault, TokenFault};
-use fz_lex::{LexFault, place_of, tokens};
+use fz_lex::{LexFault, place_of};
 use fz_model::model::Model;
-use fz_parse::{ParseFault, parse};
+use fz_parse::{ParseFault, TextFault, parse};
 use fz_print::refusal::Refusal;
 use fz_spec::code::Code;
 use fz_spec::limits::TEXT_LIMIT;
 use fz_syntax::Program;
-use fz_tokens::Tokens;
 use std::alloc::{AllocError, Global};
 
 /// Why a text is refused, and where: the count of bytes before the place.
@@ -82,26 +81,9 @@ fn read(alloc: Global, text: &[u8]) -> Result<Result<Model, Cause>, AllocError>
     ensures { IfOk result (λ reading. MatchResult reading (λ model. Reads text.now (Accepted model))
         (IsCause text.now)) }
 {
-    match tokens(alloc, text) {
-        Ok(Ok(tokens)) => read_tokens(alloc, tokens),
-        Ok(Err(fault)) => Ok(Err(unlexed(fault))),
-        Err(error) => Err(error),
-    }
-}
-
-/// The same of a text that has tokens. They are let go as soon as they are read.
-fn read_tokens(alloc: Global, tokens: Tokens<'_>) -> Result<Result<Model, Cause>, AllocError>
-    requires lexed { IsLexed tokens }
-    ensures { IfOk result (λ reading. MatchResult reading
-        (λ model. Reads tokens.entry.text (Accepted model)) (IsCause tokens.entry.text)) }
-{
-    let text = tokens.text();
-    match parse(alloc, &tokens) {
-        Ok(Ok(program)) => {
-            drop(tokens);
-            read_program(alloc, text, program)
-        }
-        Ok(Err(fault)) => Ok(Err(unspelt(fault))),
+    match parse(alloc, text) {
+        Ok(Ok(program)) => read_program(alloc, text, program),
+        Ok(Err(fault)) => Ok(Err(cause_of(fault))),
         Err(error) => Err(error),
     }
 }
@@ -120,6 +102,16 @@ fn read_program(
         Ok(Ok(model)) => Ok(Ok(model)),
         Ok(Err(fault)) => Ok(Err(wrong(fault))),
         Err(error) => Err(error),
+    }
+}
+
+/// The cause for which a text with this fault is refused.
+fn cause_of(fault: TextFault) -> Cause
+    ensures { (text : List ℕ) → IsShort text → IsTextFault text fault → IsCause text result }
+{
+    match fault {
+        TextFault::Token(fault) => unlexed(fault),
+        TextFault::Syntax(fault) => unspelt(fault),
     }
 }
 

@@ -1,15 +1,12 @@
 //! From a text to its model.
 ghost use Rattle.fz_language.specs.Within.{ProgramFits};
 ghost use Rattle.fz_syntax.specs.Trees.{program_of};
-ghost use Rattle.fz_tokens.specs.Lexed.{IsLexed};
 
 use fz_check::check;
-use fz_lex::tokens;
 use fz_model::Model;
 use fz_parse::parse;
 use fz_spec::limits::TEXT_LIMIT;
 use fz_syntax::Program;
-use fz_tokens::Tokens;
 use std::alloc::{AllocError, Global};
 
 /// The model of a text; `None` where it is refused.
@@ -17,18 +14,7 @@ pub fn model_of(alloc: Global, text: &[u8]) -> Result<Option<Model>, AllocError>
     if text.len() > TEXT_LIMIT {
         return Ok(None);
     }
-    match tokens(alloc, text) {
-        Ok(Ok(tokens)) => model_of_tokens(alloc, &tokens),
-        Ok(Err(_)) => Ok(None),
-        Err(error) => Err(error),
-    }
-}
-
-/// The same of a text that has tokens.
-fn model_of_tokens(alloc: Global, tokens: &Tokens<'_>) -> Result<Option<Model>, AllocError>
-    requires { IsLexed tokens.now }
-{
-    match parse(alloc, tokens) {
+    match parse(alloc, text) {
         Ok(Ok(program)) => model_of_program(alloc, program),
         Ok(Err(_)) => Ok(None),
         Err(error) => Err(error),
