@@ -61,17 +61,9 @@ impl<'a> Lexer<'a> {
         ensures text { result.source.text ≡ text.now }
         ensures ahead { LeadsTo text.now 0 result.tokens result.source.ending }
     {
-        Lexer::behind(text, 0)
-    }
-
-    /// The tokens from a place on are ahead.
-    fn behind(text: &'a [u8], from: usize) -> Lexer<'a>
-        requires within { from ≤ length text.now }
-        requires short { length text.now ≤ TEXT_LIMIT }
-        ensures { result ≡ ahead_of text.now from }
-    {
-        let at = skip_blanks(text, from);
-        let head = head_at(text, at);
+        let mut at = 0;
+        let mut head = Head::End;
+        settle(text, 0, &mut at, &mut head);
         Lexer { text, at, head }
     }
 
@@ -139,7 +131,7 @@ impl<'a> Lexer<'a> {
         ensures source { self.new.source ≡ self.old.source }
     {
         if let Head::Token { stop, .. } = self.head {
-            *self = Lexer::behind(self.text, stop);
+            settle(self.text, stop, &mut self.at, &mut self.head);
         }
     }
 
@@ -160,6 +152,17 @@ impl<'a> Lexer<'a> {
             _ => None,
         }
     }
+}
+
+/// Moves to the first place from one on where no blank begins.
+fn settle(text: &[u8], from: usize, at: &mut usize, head: &mut Head)
+    requires within { from ≤ length text.now }
+    requires short { length text.now ≤ TEXT_LIMIT }
+    ensures lexer { IsLexer text.now at.new head.new }
+    ensures ahead { ahead_of text.now at.new ≡ ahead_of text.now from }
+{
+    *at = skip_blanks(text, from);
+    *head = head_at(text, *at);
 }
 
 /// What stands at a place where no blank begins.

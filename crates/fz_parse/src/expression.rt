@@ -1,5 +1,5 @@
 //! The reading of expressions.
-ghost use Rattle.std.specs.Prelude.{◌≡◌, ◌≤◌, ◌<◌, IfOk, OnOk, length, map};
+ghost use Rattle.std.specs.Prelude.{◌≡◌, ◌≤◌, ◌<◌, OnOk, length, map};
 ghost use Rattle.fz_language.specs.Grammar as grammar;
 ghost use Rattle.fz_syntax.specs.Trees.{number_of, set_of, basic_of, elements_of, list_of, expression_of};
 ghost use Rattle.fz_parse.specs.Steps.{Parses, ParsesLow, option_of};
@@ -12,7 +12,7 @@ use fz_language::sign::Sign;
 use fz_language::token_kind::TokenKind;
 use fz_lex::Lexer;
 use fz_syntax::{Basic, Elements, Expression, ListLiteral, Number, SetLiteral};
-use std::alloc::{AllocError, Global};
+use std::alloc::Global;
 
 /// Takes a number.
 pub(crate) fn number(lexer: &mut Lexer) -> Result<Number, Stop>
@@ -113,21 +113,7 @@ pub(crate) fn constant<'a>(alloc: Global, lexer: &mut Lexer<'a>) -> Result<Basic
         return Ok(Basic::Literal(Box::new(alloc, set)?));
     }
     let low = number(lexer)?;
-    let high = range_end(lexer)?;
-    let basic = number_or_range(alloc, low, high)?;
-    Ok(basic)
-}
-
-/// A number, or the range that begins with it.
-fn number_or_range<'a>(
-    alloc: Global,
-    low: Number,
-    high: Option<Number>,
-) -> Result<Basic<'a>, AllocError>
-    ensures { IfOk result (λ basic. basic_of basic
-        ≡ grammar.number_or_range (number_of low) (option_of number_of high)) }
-{
-    match high {
+    match range_end(lexer)? {
         Some(high) => {
             let range = Box::new(alloc, SetLiteral::Range { low, high })?;
             Ok(Basic::Literal(range))

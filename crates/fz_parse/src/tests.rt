@@ -1,25 +1,23 @@
 //! What no clause says: that calls succeed where memory is ample, and that the grammar is the one meant.
-use crate::parse;
+use crate::{ParseFault, TextFault, parse};
 use fz_language::fault::SyntaxFault;
-use fz_lex::{LexFault, tokens};
-use fz_syntax::{Item, Method};
-use fz_tokens::Tokens;
+use fz_syntax::{Elements, Item, Method, Program};
 use std::alloc::{AllocError, Global};
 use std::test::Fail;
 
-/// The tokens of a text of at most a thousand bytes, or their fault.
-fn lexed(alloc: Global, text: &str) -> Result<Result<Tokens<'_>, LexFault>, AllocError> {
+/// The program of a text of at most a thousand bytes, or its fault.
+fn read(alloc: Global, text: &str) -> Result<Result<Program<'_>, TextFault>, AllocError> {
     let bytes = text.as_bytes();
-    tokens(alloc, &bytes[..bytes.len().min(1_000)])
+    parse(alloc, &bytes[..bytes.len().min(1_000)])
 }
 
-/// The cause and place of the fault of a text's syntax, if it has one.
-fn fault_of(alloc: Global, text: &str) -> Result<Option<(SyntaxFault, u32)>, AllocError> {
-    let Ok(lexed) = lexed(alloc, text)? else {
-        return Ok(None);
-    };
-    let fault = parse(alloc, &lexed)?.err();
-    Ok(fault.map(|fault| (fault.cause, fault.at)))
+/// The text's fault, if it has one.
+fn fault_of(alloc: Global, text: &str) -> Result<Option<TextFault>, AllocError> {
+    Ok(read(alloc, text)?.err())
+}
+
+fn syntax(cause: SyntaxFault, at: u32) -> Option<TextFault> {
+    Some(TextFault::Syntax(ParseFault { cause, at }))
 }
 
 #[test]
@@ -43,7 +41,7 @@ fn a_fault_stands_at_the_first_token_that_does_not_fit(rt: HostRuntime) -> Resul
     for (text, column) in cases {
         assert_eq!(rt;
             fault_of(rt.alloc(), text)?,
-            Some((SyntaxFault::Unexpected, column - 1)),
+            syntax(SyntaxFault::Unexpected, column - 1),
             "at {text}"
         );
     }
@@ -67,7 +65,7 @@ fn nested(alloc: Global, levels: usize) -> Result<String, AllocError> {
 #[test]
 fn brackets_nest_to_sixty_four_levels(rt: HostRuntime) -> Result<(), Fail> {
     assert_eq!(rt; fault_of(rt.alloc(), &nested(rt.alloc(), 64)?)?, None);
-    let too_deep = Some((SyntaxFault::TooDeep, 10 + 2 * 64));
+    let too_deep = syntax(SyntaxFault::TooDeep, 10 + 2 * 64);
     assert_eq!(rt; fault_of(rt.alloc(), &nested(rt.alloc(), 65)?)?, too_deep);
     Ok(())
 }
@@ -78,23 +76,24 @@ fn the_first_of_two_faults_counts(rt: HostRuntime) -> Result<(), Fail> {
     text.push_str(" x")?;
     assert_eq!(rt;
         fault_of(rt.alloc(), &text)?,
-        Some((SyntaxFault::TooDeep, 10 + 2 * 64))
+        syntax(SyntaxFault::TooDeep, 10 + 2 * 64)
     );
     let mut text = String::new(rt.alloc());
     text.push_str("x ")?;
     text.push_str(&nested(rt.alloc(), 65)?)?;
     assert_eq!(rt;
         fault_of(rt.alloc(), &text)?,
-        Some((SyntaxFault::Unexpected, 0))
+        syntax(SyntaxFault::Unexpected, 0)
     );
     Ok(())
 }
 
 #[test]
 fn a_declaration_keeps_its_parts(rt: HostRuntime) -> Result<(), Fail> {
-    let text = b"var 1..3: x :: output_var = 2; solve minimize x;";
-    let lexed = tokens(rt.alloc(), text)??;
-    let program = parse(rt.alloc(), &lexed)??;
+    let program = parse(
+        rt.alloc(),
+        b"var 1..3: x :: output_var = 2; solve minimize x;",
+    )??;
     assert_eq!(rt; program.items.len(), 1);
     for item in &program.items {
         assert!(rt; matches!(item, Item::Variable(_)));
@@ -124,7 +123,45 @@ fn the_whole_grammar_is_read(rt: HostRuntime) -> Result<(), Fail> {
     ];
     for text in cases {
         assert_eq!(rt; fault_of(rt.alloc(), text)?, None, "at {text}");
-        assert!(rt; lexed(rt.alloc(), text)?.is_ok(), "at {text}");
+    }
+    Ok(())
+}
+
+/// How many integers, and how many other elements, the lists of a text's arrays keep.
+fn kept(program: &Program<'_>) -> (usize, usize) {
+    let mut integers: usize = 0;
+    let mut basics: usize = 0;
+    for item in &program.items {
+        if let Item::Array(array) = item {
+            match &array.list.elements {
+                Elements::Integers(list) => integers = integers.saturating_add(list.len()),
+                Elements::Basics(list) => basics = basics.saturating_add(list.len()),
+            }
+        }
+    }
+    (integers, basics)
+}
+
+#[test]
+fn integers_alone_are_kept_as_such(rt: HostRuntime) -> Result<(), Fail> {
+    let cases = [
+        ("array [1..3] of int: a = [1,-2,3]; solve satisfy;", (3, 0)),
+        (
+            "array [1..3] of var int: a = [1,2,x]; solve satisfy;",
+            (0, 3),
+        ),
+        (
+            "array [1..3] of var int: a = [x,2,3]; solve satisfy;",
+            (0, 3),
+        ),
+        (
+            "array [1..2] of set of int: a = [1..2,{}]; solve satisfy;",
+            (0, 2),
+        ),
+    ];
+    for (text, want) in cases {
+        let program = read(rt.alloc(), text)??;
+        assert_eq!(rt; kept(&program), want, "at {text}");
     }
     Ok(())
 }

@@ -1,11 +1,12 @@
-use Rattle.std.proofs.Common.{refl, ◌∙◌, subst, sym, [], ◌∷◌}
+use Rattle.std.proofs.Common.{Option, refl, ◌∙◌, subst, sym, [], ◌∷◌}
 use Rattle.std.proofs.lemmas.Result.{err_from_is_err_and}
 use Rattle.fz_language.specs.Grammar as grammar
 use Rattle.fz_language.specs.Trees as trees
+use Rattle.fz_syntax.specs.declared.expression.Number.{Number}
 use Rattle.fz_syntax.specs.declared.expression.SetLiteral.{SetLiteral}
-use Rattle.fz_syntax.specs.Trees.{set_of}
+use Rattle.fz_syntax.specs.Trees.{number_of, set_of}
 use Rattle.fz_grammar.specs.Reading.{head}
-use Rattle.fz_parse.specs.Steps.{Read}
+use Rattle.fz_parse.specs.Steps.{Read, option_of}
 use Rattle.fz_grammar.specs.Grammar.{Rule}
 use Rattle.fz_parse.proofs.Follows.{reads_by, halts_by, first, later, tail, here, leaf_then, rule_then, rule_behind, ended}
 use Rattle.fz_parse.proofs.expression.constant.Goals as goal
@@ -55,7 +56,16 @@ returns-in_err-high-clause-taken c =
     let p = err_from_is_err_and c.from_residual-in_err-high.result c.from_residual-in_err-high.ensures.1 in
     rw (p.1, p.2) (λ l. halts_by {n = grammar.Constant} (later (grammar.rules grammar.Constant) h c.is.ensures.found c.if-is.false ∙ later (tail (grammar.rules grammar.Constant)) h c.is-2.ensures.found c.if-is-2.false ∙ later (tail (tail (grammar.rules grammar.Constant))) h c.is-3.ensures.found c.if-is-3.false) (rule_behind (c.in_ok-low.ensures.taken l) (here (c.in_err-high.ensures.taken l))))
 
-pub returns-clause-taken : goal.returns-clause-taken
-returns-clause-taken c =
+pub returns-in_ok-range-in-Some-clause-taken : goal.returns-in_ok-range-in-Some-clause-taken
+returns-in_ok-range-in-Some-clause-taken c =
     let h = head grammar.flatzinc c.args.lexer.now.tokens in
-    λ l. subst (λ (v : grammar.Tree grammar.Constant). Read l (Rule grammar.Constant ∷ []) (v, tt) c.args.lexer.now.tokens c.range_end.new.lexer.tokens) (sym c.in_ok-basic.ensures) (reads_by {n = grammar.Constant} (later (grammar.rules grammar.Constant) h c.is.ensures.found c.if-is.false ∙ later (tail (grammar.rules grammar.Constant)) h c.is-2.ensures.found c.if-is-2.false ∙ later (tail (tail (grammar.rules grammar.Constant))) h c.is-3.ensures.found c.if-is-3.false) (rule_then (c.in_ok-low.ensures.taken l) (rule_then (c.in_ok-high.ensures.taken l) ended)))
+    λ l.
+    let high = subst (λ (n : Option Number). Read l (Rule grammar.RangeEnd ∷ []) (option_of number_of n, tt) c.number.new.lexer.tokens c.range_end.new.lexer.tokens) c.in-Some.is (c.in_ok-high.ensures.taken l) in
+    subst (λ (s : SetLiteral). Read l (Rule grammar.Constant ∷ []) (trees.Literal (set_of s), tt) c.args.lexer.now.tokens c.range_end.new.lexer.tokens) (sym c.in_ok-range-in-Some.ensures.ok) (reads_by {n = grammar.Constant} (later (grammar.rules grammar.Constant) h c.is.ensures.found c.if-is.false ∙ later (tail (grammar.rules grammar.Constant)) h c.is-2.ensures.found c.if-is-2.false ∙ later (tail (tail (grammar.rules grammar.Constant))) h c.is-3.ensures.found c.if-is-3.false) (rule_then (c.in_ok-low.ensures.taken l) (rule_then high ended)))
+
+pub returns-in-None-clause-taken : goal.returns-in-None-clause-taken
+returns-in-None-clause-taken c =
+    let h = head grammar.flatzinc c.args.lexer.now.tokens in
+    λ l.
+    let high = subst (λ (n : Option Number). Read l (Rule grammar.RangeEnd ∷ []) (option_of number_of n, tt) c.number.new.lexer.tokens c.range_end.new.lexer.tokens) c.in-None.is (c.in_ok-high.ensures.taken l) in
+    reads_by {n = grammar.Constant} (later (grammar.rules grammar.Constant) h c.is.ensures.found c.if-is.false ∙ later (tail (grammar.rules grammar.Constant)) h c.is-2.ensures.found c.if-is-2.false ∙ later (tail (tail (grammar.rules grammar.Constant))) h c.is-3.ensures.found c.if-is-3.false) (rule_then (c.in_ok-low.ensures.taken l) (rule_then high ended))
