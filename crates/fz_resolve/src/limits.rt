@@ -235,6 +235,7 @@ impl Room {
         }
     }
 
+    /// The first over the limit is the one behind as many as there is room for.
     fn behind_integers(self, integers: &[Integer]) -> Result<Room, u32>
         ensures { (n : Counts) → IsRoom self n → IsBehind n
             (flat_map rules.element_additions (map trees.integer_basic_of integers.now)) result }

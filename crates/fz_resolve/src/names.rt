@@ -70,6 +70,7 @@ impl<'a> Names<'a> {
         }
     }
 
+    /// The same of expressions, one after another.
     fn unknown_basic(&self, basics: &[Basic<'a>]) -> Option<u32>
         ensures { result ≡ slice_get
             (flat_map (unknown_in (environment_of self.now)) (map basic_of basics.now)) 0 }
