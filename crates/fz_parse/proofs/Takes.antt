@@ -1,5 +1,5 @@
 -- One token that is taken, or missed.
-use Rattle.std.proofs.Common.{◌≡◌, ℕ, zero, suc, ◌+◌, ◌<◌, List, [], ◌∷◌, Bool, true, false, ◌||◌, ◌==◌, drop, length, refl, sym, ap, subst, ◌∙◌, eq-eqb, eqb-true, true≢false, arith}
+use Rattle.std.proofs.Common.{◌≡◌, ℕ, suc, ◌<◌, List, [], ◌∷◌, Bool, true, false, ◌||◌, ◌==◌, drop, length, refl, sym, ap, subst, ◌∙◌, eq-eqb, eqb-true, true≢false, arith}
 use Rattle.fz_language.specs.declared.fault.SyntaxFault.TheVariants.{Unexpected}
 use Rattle.fz_language.specs.declared.token_kind.TokenKind.{TokenKind}
 use Rattle.fz_language.specs.declared.token_kind.TokenKind.TheVariants as kind

@@ -1,10 +1,11 @@
 -- What the steps of the reading say: which symbols were read, or where the reading of them stops.
-use Rattle.std.specs.Prelude.{◌≡◌, ℕ, ℤ, ◌≤◌, List, [], ◌∷◌, Option, Some, None, Result, MatchResult, true}
+use Rattle.std.specs.Prelude.{◌≡◌, ◌≢◌, ℕ, ℤ, ◌≤◌, List, [], ◌∷◌, Option, Some, None, Result, MatchResult, true}
 use Rattle.fz_language.specs.declared.fault.SyntaxFault.TheVariants.{Unexpected, TooDeep}
 use Rattle.fz_language.specs.declared.token_kind.TokenKind.{TokenKind}
 use Rattle.fz_language.specs.declared.token_kind.TokenKind.TheVariants as kind
 use Rattle.fz_language.specs.Tokens.{Token, Identifier, Word, Number, Float, Text, Punct}
 use Rattle.fz_language.specs.Kinds.{number}
+use Rattle.fz_language.specs.Trees as trees
 use Rattle.fz_language.specs.Grammar.{Part, Tree, flatzinc, level_limit}
 use Rattle.fz_grammar.specs.Grammar.{Symbol, Leaf, Rule, Trees}
 use Rattle.fz_grammar.specs.Reading.{ReadsIn, StopsIn, IsOther, allowed}
@@ -61,6 +62,14 @@ TakesInteger value at old new = (l : ℕ) → Read l (Leaf (number kind.Integer)
 -- another kind stands there
 abbrev pub MissesKind : TokenKind → List Token → List Token → Stop → Type 0
 MissesKind kind old new why = (l : ℕ) → Halts l (Leaf (number kind) ∷ []) old new why
+
+-- a token of another kind stops the reading, and no lack of memory
+abbrev pub IsUnexpected : Stop → Type 0
+IsUnexpected why = why ≡ stop.Fault Unexpected
+
+-- an element that is no integer
+abbrev pub IsNoInteger : trees.Basic → Type 0
+IsNoInteger basic = (i : trees.Integer) → basic ≢ trees.Numeral (trees.Whole i)
 
 -- What a rule's function says: the rule was read, and made this tree, whatever levels are open; or its reading stops.
 abbrev pub Parses : {A : Type 0} → (n : Part) → (A → Tree n) → List Token → List Token → Result A Stop → Type 0

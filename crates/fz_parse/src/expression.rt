@@ -1,8 +1,8 @@
 //! The reading of expressions.
-ghost use Rattle.std.specs.Prelude.{◌≡◌, ◌≤◌, ◌<◌, OnOk, length, map};
+ghost use Rattle.std.specs.Prelude.{◌≡◌, ◌≤◌, ◌<◌, OnOk, IfErr, length, map};
 ghost use Rattle.fz_language.specs.Grammar as grammar;
 ghost use Rattle.fz_syntax.specs.Trees.{number_of, set_of, basic_of, elements_of, list_of, expression_of};
-ghost use Rattle.fz_parse.specs.Steps.{Parses, ParsesLow, option_of};
+ghost use Rattle.fz_parse.specs.Steps.{Parses, ParsesLow, IsUnexpected, option_of};
 
 use crate::list::{begun, push};
 use crate::steps::{identifier, integer, is, parts_ahead, take};
@@ -18,6 +18,7 @@ use std::alloc::Global;
 pub(crate) fn number(lexer: &mut Lexer) -> Result<Number, Stop>
     ensures taken { Parses grammar.OneNumber number_of
         lexer.old.tokens lexer.new.tokens result }
+    ensures cause { IfErr result IsUnexpected }
     ensures forward { OnOk result (length lexer.new.tokens < length lexer.old.tokens) }
     ensures same { lexer.new.source ≡ lexer.old.source }
 {
@@ -82,6 +83,7 @@ pub(crate) fn set_literal(alloc: Global, lexer: &mut Lexer) -> Result<SetLiteral
 fn range_end(lexer: &mut Lexer) -> Result<Option<Number>, Stop>
     ensures taken { Parses grammar.RangeEnd (option_of number_of)
         lexer.old.tokens lexer.new.tokens result }
+    ensures cause { IfErr result IsUnexpected }
     ensures forward { OnOk result (length lexer.new.tokens ≤ length lexer.old.tokens) }
     ensures same { lexer.new.source ≡ lexer.old.source }
 {

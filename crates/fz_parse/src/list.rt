@@ -1,13 +1,15 @@
 //! Lists of elements, as they grow: integers alone as long as no other element comes.
-ghost use Rattle.std.specs.Prelude.{◌≡◌, [], ◌∷◌, ◌++◌, IfOk, IfSome, OnOk, map};
+ghost use Rattle.std.specs.Prelude.{◌≡◌, [], ◌∷◌, ◌++◌, IfOk, OnOk, MatchOption, map};
 ghost use Rattle.fz_syntax.specs.Trees.{integer_basic_of, basic_of, elements_of};
+ghost use Rattle.fz_parse.specs.Steps.{IsNoInteger};
 
 use fz_syntax::{Basic, Elements, Integer, Number};
 use std::alloc::{AllocError, Global};
 
 /// The integer that an element is.
 fn integer_in(basic: &Basic<'_>) -> Option<Integer>
-    ensures { IfSome result (λ i. basic_of basic.now ≡ integer_basic_of i) }
+    ensures { MatchOption result (IsNoInteger (basic_of basic.now))
+        (λ i. basic_of basic.now ≡ integer_basic_of i) }
 {
     match basic {
         Basic::Numeral(Number::Whole(integer)) => Some(*integer),

@@ -1,8 +1,8 @@
 //! The reading of predicate items.
-ghost use Rattle.std.specs.Prelude.{◌≡◌, ◌≤◌, ◌<◌, OnOk, map, length};
+ghost use Rattle.std.specs.Prelude.{◌≡◌, ◌≤◌, ◌<◌, OnOk, IfErr, map, length};
 ghost use Rattle.fz_language.specs.Grammar as grammar;
 ghost use Rattle.fz_syntax.specs.Trees.{index_of, predicate_parameter_of, predicate_item_of};
-ghost use Rattle.fz_parse.specs.Steps.{Parses, ParsesAt, ParsesLow, option_of};
+ghost use Rattle.fz_parse.specs.Steps.{Parses, ParsesAt, ParsesLow, IsUnexpected, option_of};
 
 use crate::steps::{identifier, integer, is, take};
 use crate::stop::Stop;
@@ -18,6 +18,7 @@ use std::alloc::Global;
 fn index(lexer: &mut Lexer) -> Result<Index, Stop>
     ensures taken { Parses grammar.Index index_of
         lexer.old.tokens lexer.new.tokens result }
+    ensures cause { IfErr result IsUnexpected }
     ensures forward { OnOk result (length lexer.new.tokens < length lexer.old.tokens) }
     ensures same { lexer.new.source ≡ lexer.old.source }
 {
@@ -69,6 +70,7 @@ fn indexes(alloc: Global, lexer: &mut Lexer) -> Result<Option<Vec<Index>>, Stop>
 pub(crate) fn variability(lexer: &mut Lexer) -> Result<bool, Stop>
     ensures taken { Parses grammar.Variability (λ b. b)
         lexer.old.tokens lexer.new.tokens result }
+    ensures cause { IfErr result IsUnexpected }
     ensures forward { OnOk result (length lexer.new.tokens ≤ length lexer.old.tokens) }
     ensures same { lexer.new.source ≡ lexer.old.source }
 {

@@ -1,11 +1,11 @@
 //! Steps of the reading: tests and takings of one token.
-ghost use Rattle.std.specs.Prelude.{◌≡◌, ◌<◌, ◌≤◌, ℕ, [], ◌∷◌, OnOk, MatchResult, length, true};
+ghost use Rattle.std.specs.Prelude.{◌≡◌, ◌<◌, ◌≤◌, ℕ, [], ◌∷◌, OnOk, IfErr, MatchResult, length, true};
 ghost use Rattle.fz_spec.specs.declared.limits.TheConstants.{ELEMENT_LIMIT};
 ghost use Rattle.fz_language.specs.declared.token_kind.TokenKind.TheVariants as kinds;
 ghost use Rattle.fz_language.specs.Kinds.{number};
 ghost use Rattle.fz_grammar.specs.Reading.{head, has};
 ghost use Rattle.fz_language.specs.Grammar.{flatzinc};
-ghost use Rattle.fz_parse.specs.Steps.{IsMark, TakesMark, TakesName, TakesInteger, MissesKind};
+ghost use Rattle.fz_parse.specs.Steps.{IsMark, TakesMark, TakesName, TakesInteger, MissesKind, IsUnexpected};
 
 use crate::stop::Stop;
 use fz_language::fault::SyntaxFault;
@@ -27,6 +27,7 @@ pub(crate) fn take(lexer: &mut Lexer, kind: TokenKind) -> Result<u32, Stop>
     ensures taken { MatchResult result
         (λ at. TakesMark kind at lexer.old.tokens lexer.new.tokens)
         (MissesKind kind lexer.old.tokens lexer.new.tokens) }
+    ensures cause { IfErr result IsUnexpected }
     ensures forward { OnOk result (length lexer.new.tokens < length lexer.old.tokens) }
     ensures same { lexer.new.source ≡ lexer.old.source }
 {
@@ -43,6 +44,7 @@ pub(crate) fn identifier<'a>(lexer: &mut Lexer<'a>) -> Result<Name<'a>, Stop>
     ensures taken { MatchResult result
         (λ n. TakesName n.bytes.now n.at lexer.old.tokens lexer.new.tokens)
         (MissesKind kinds.Identifier lexer.old.tokens lexer.new.tokens) }
+    ensures cause { IfErr result IsUnexpected }
     ensures forward { OnOk result (length lexer.new.tokens < length lexer.old.tokens) }
     ensures same { lexer.new.source ≡ lexer.old.source }
 {
@@ -60,6 +62,7 @@ pub(crate) fn integer(lexer: &mut Lexer) -> Result<Integer, Stop>
     ensures taken { MatchResult result
         (λ i. TakesInteger i.value i.at lexer.old.tokens lexer.new.tokens)
         (MissesKind kinds.Integer lexer.old.tokens lexer.new.tokens) }
+    ensures cause { IfErr result IsUnexpected }
     ensures forward { OnOk result (length lexer.new.tokens < length lexer.old.tokens) }
     ensures same { lexer.new.source ≡ lexer.old.source }
 {

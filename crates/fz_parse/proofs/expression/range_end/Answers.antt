@@ -16,11 +16,21 @@ returns-in_err-take-clause-taken c =
     let p = err_from_is_err_and c.from_residual.result c.from_residual.ensures.1 in
     rw (p.1, p.2) (λ l. halts_by {n = grammar.RangeEnd} (first (grammar.rules grammar.RangeEnd) h c.is.ensures.found c.if-not-is.false) (here (c.in_err-take.ensures.taken l)))
 
+pub returns-in_err-take-clause-cause : goal.returns-in_err-take-clause-cause
+returns-in_err-take-clause-cause c =
+    let p = err_from_is_err_and c.from_residual.result c.from_residual.ensures.1 in
+    rw (p.1, p.2) c.in_err-take.ensures.cause
+
 pub returns-in_err-high-clause-taken : goal.returns-in_err-high-clause-taken
 returns-in_err-high-clause-taken c =
     let h = head grammar.flatzinc c.args.lexer.now.tokens in
     let p = err_from_is_err_and c.from_residual-in_err-high.result c.from_residual-in_err-high.ensures.1 in
     rw (p.1, p.2) (λ l. halts_by {n = grammar.RangeEnd} (first (grammar.rules grammar.RangeEnd) h c.is.ensures.found c.if-not-is.false) (leaf_behind (c.in_ok-take.ensures.taken l refl) (here (c.in_err-high.ensures.taken l))))
+
+pub returns-in_err-high-clause-cause : goal.returns-in_err-high-clause-cause
+returns-in_err-high-clause-cause c =
+    let p = err_from_is_err_and c.from_residual-in_err-high.result c.from_residual-in_err-high.ensures.1 in
+    rw (p.1, p.2) c.in_err-high.ensures.cause
 
 pub returns-clause-taken : goal.returns-clause-taken
 returns-clause-taken c =

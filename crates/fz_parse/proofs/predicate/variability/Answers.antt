@@ -16,6 +16,11 @@ returns-in_err-take-clause-taken c =
     let p = err_from_is_err_and c.from_residual.result c.from_residual.ensures.1 in
     rw (p.1, p.2) (λ l. halts_by {n = grammar.Variability} (first (grammar.rules grammar.Variability) h c.is.ensures.found c.if-not-is.false) (here (c.in_err-take.ensures.taken l)))
 
+pub returns-in_err-take-clause-cause : goal.returns-in_err-take-clause-cause
+returns-in_err-take-clause-cause c =
+    let p = err_from_is_err_and c.from_residual.result c.from_residual.ensures.1 in
+    rw (p.1, p.2) c.in_err-take.ensures.cause
+
 pub returns-clause-taken : goal.returns-clause-taken
 returns-clause-taken c =
     let h = head grammar.flatzinc c.args.lexer.now.tokens in
