@@ -32,7 +32,7 @@ pub(crate) fn byte_at(text: &[u8], at: usize) -> u8
 pub(crate) fn is_word_byte(byte: u8) -> bool
     ensures { result ≡ spec.is_word_byte byte }
 {
-    byte.is_ascii_alphanumeric() || byte == b'_'
+    byte.is_ascii_alphabetic() | byte.is_ascii_digit() | (byte == b'_')
 }
 
 /// The end of the bytes of a word that stand from a place on.

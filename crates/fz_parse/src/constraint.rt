@@ -6,7 +6,7 @@ ghost use Rattle.fz_parse.specs.Steps.{ParsesLow, ParsesAt};
 
 use crate::annotation::annotations;
 use crate::expression::expression;
-use crate::steps::{identifier, is, parts_ahead, take};
+use crate::steps::{identifier, is, take};
 use crate::stop::Stop;
 use fz_language::keyword::Keyword;
 use fz_language::sign::Sign;
@@ -14,6 +14,9 @@ use fz_language::token_kind::TokenKind;
 use fz_lex::Lexer;
 use fz_syntax::{ConstraintItem, Expression};
 use std::alloc::Global;
+
+/// How many arguments there is room for at first: few constraints have more.
+const ARGUMENTS: usize = 4;
 
 /// Takes the arguments of a constraint, up to the closing parenthesis.
 fn expressions<'a>(alloc: Global, lexer: &mut Lexer<'a>) -> Result<Vec<Expression<'a>>, Stop>
@@ -26,7 +29,7 @@ fn expressions<'a>(alloc: Global, lexer: &mut Lexer<'a>) -> Result<Vec<Expressio
     if is(lexer, TokenKind::Sign(Sign::RightParenthesis)) {
         return Ok(found);
     }
-    found.reserve_exact(parts_ahead(lexer))?;
+    found.reserve_exact(ARGUMENTS)?;
     found.push(expression(alloc, lexer)?)?;
     'expressions: while is(lexer, TokenKind::Sign(Sign::Comma)) {
         take(lexer, TokenKind::Sign(Sign::Comma))?;

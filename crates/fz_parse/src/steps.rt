@@ -75,22 +75,19 @@ pub(crate) fn integer(lexer: &mut Lexer) -> Result<Integer, Stop>
     }
 }
 
-/// How many bytes are looked at for the parts of a list.
+/// How many bytes are looked at for the elements of a list.
 const LOOK: usize = 1024;
 
-/// How many parts stand from the next token on, with commas between them, up to the bracket that closes them, as far as a few
+/// How many elements stand from the next token on, with commas between them, up to the bracket that closes them, as far as a few
 /// bytes tell: how much room a list wants at first. It is a guess.
-pub(crate) fn parts_ahead(lexer: &Lexer) -> usize
+pub(crate) fn elements_ahead(lexer: &Lexer) -> usize
     ensures { result ≤ ELEMENT_LIMIT }
 {
     let mut commas: usize = 0;
-    let mut level: usize = 0;
     for byte in lexer.bytes().iter().take(LOOK) {
         match byte {
-            b',' if level == 0 => commas = commas.saturating_add(1),
-            b'[' | b'{' => level = level.saturating_add(1),
-            b']' | b'}' if level > 0 => level -= 1,
-            b']' | b')' | b';' => break,
+            b',' => commas = commas.saturating_add(1),
+            b']' => break,
             _ => {}
         }
     }
