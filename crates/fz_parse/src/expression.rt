@@ -5,7 +5,7 @@ ghost use Rattle.fz_syntax.specs.Trees.{number_of, set_of, basic_of, elements_of
 ghost use Rattle.fz_parse.specs.Steps.{Parses, ParsesLow, IsUnexpected, option_of};
 
 use crate::list::{begun, push};
-use crate::steps::{identifier, integer, is, elements_ahead, take};
+use crate::steps::{elements_ahead, identifier, integer, is, take};
 use crate::stop::Stop;
 use fz_language::keyword::Keyword;
 use fz_language::sign::Sign;
