@@ -15,8 +15,8 @@ use fz_lex::Lexer;
 use fz_syntax::{ConstraintItem, Expression};
 use std::alloc::Global;
 
-/// How many arguments there is room for at first: few constraints have more.
-const ARGUMENTS: usize = 4;
+/// How many arguments there is room for at first: most constraints have as many.
+const ARGUMENTS: usize = 3;
 
 /// Takes the arguments of a constraint, up to the closing parenthesis.
 fn expressions<'a>(alloc: Global, lexer: &mut Lexer<'a>) -> Result<Vec<Expression<'a>>, Stop>

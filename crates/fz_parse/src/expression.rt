@@ -185,7 +185,8 @@ pub(crate) fn expression<'a>(alloc: Global, lexer: &mut Lexer<'a>) -> Result<Exp
 {
     if is(lexer, TokenKind::Sign(Sign::LeftBracket)) {
         let list = list_literal(alloc, lexer)?;
-        return Ok(Expression::Listed(list));
+        let ListLiteral { at, elements } = list;
+        return Ok(Expression::Listed { at, elements });
     }
     let basic = basic(alloc, lexer)?;
     Ok(Expression::Scalar(basic))

@@ -77,7 +77,7 @@ fn first_float_of_argument(argument: &Expression<'_>) -> Option<u32>
 {
     match argument {
         Expression::Scalar(basic) => first_float(basic),
-        Expression::Listed(list) => first_float_of_elements(&list.elements),
+        Expression::Listed { elements, .. } => first_float_of_elements(elements),
     }
 }
 

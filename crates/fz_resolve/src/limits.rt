@@ -192,7 +192,7 @@ impl Room {
     {
         match argument {
             Expression::Scalar(basic) => self.behind_members(basic),
-            Expression::Listed(list) => self.behind_elements(&list.elements),
+            Expression::Listed { elements, .. } => self.behind_elements(elements),
         }
     }
 

@@ -101,7 +101,7 @@ impl<'a> Names<'a> {
     {
         match argument {
             Expression::Scalar(basic) => self.unknown(basic),
-            Expression::Listed(list) => self.unknown_element(&list.elements),
+            Expression::Listed { elements, .. } => self.unknown_element(elements),
         }
     }
 

@@ -367,8 +367,8 @@ pub fn resolve<'a>(
         (Asked::List(element), Expression::Scalar(Basic::Named(name))) => {
             named_list(alloc, names, element, *name)?
         }
-        (Asked::List(element), Expression::Listed(list)) => {
-            return listed(alloc, names, element, &list.elements);
+        (Asked::List(element), Expression::Listed { elements, .. }) => {
+            return listed(alloc, names, element, elements);
         }
         (Asked::Set, Expression::Scalar(basic)) => {
             set(alloc, names, basic)?.map(|set| Argument::Set(set))

@@ -58,10 +58,10 @@ fn list(alloc: Global) -> Result<Expression<'static>, AllocError>
 {
     let seven = Basic::Numeral(Number::Whole(Integer { value: 7, at: 1 }));
     let x = Basic::Named(name("x", 4));
-    Ok(Expression::Listed(ListLiteral {
+    Ok(Expression::Listed {
         at: 0,
         elements: Elements::Basics(Vec::from_array(alloc, [seven, x])?),
-    }))
+    })
 }
 
 /// `[7, -2]`
@@ -70,10 +70,10 @@ fn integers(alloc: Global) -> Result<Expression<'static>, AllocError>
 {
     let seven = Integer { value: 7, at: 1 };
     let two_below = Integer { value: -2, at: 4 };
-    Ok(Expression::Listed(ListLiteral {
+    Ok(Expression::Listed {
         at: 0,
         elements: Elements::Integers(Vec::from_array(alloc, [seven, two_below])?),
-    }))
+    })
 }
 
 fn named(text: &'static str) -> Expression<'static>

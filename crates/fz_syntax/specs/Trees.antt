@@ -80,7 +80,7 @@ list_of l = record { at = l.at; elements = elements_of l.elements }
 
 abbrev pub expression_of : Expression → trees.Expression
 expression_of (expression.Scalar basic) = trees.Scalar (basic_of basic)
-expression_of (expression.Listed list) = trees.Listed (list_of list)
+expression_of (expression.Listed at elements) = trees.Listed (record { at = at; elements = elements_of elements })
 
 -- arguments one behind another
 abbrev pub joined : List trees.Argument → trees.Arguments

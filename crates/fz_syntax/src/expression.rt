@@ -94,11 +94,12 @@ pub struct ListLiteral<'a> {
     pub elements: Elements<'a>,
 }
 
-/// An argument of a constraint.
+/// An argument of a constraint: an expression that is no list, or a list with the place of its bracket. There are many of them, so
+/// the list's parts stand in the variant itself, which takes no more room than the other.
 #[derive(Drop)]
 pub enum Expression<'a> {
     Scalar(Basic<'a>),
-    Listed(ListLiteral<'a>),
+    Listed { at: u32, elements: Elements<'a> },
 }
 
 impl<'a> Expression<'a> {
@@ -108,7 +109,7 @@ impl<'a> Expression<'a> {
     {
         match self {
             Expression::Scalar(basic) => basic.at(),
-            Expression::Listed(list) => list.at,
+            Expression::Listed { at, .. } => *at,
         }
     }
 }
