@@ -84,13 +84,6 @@ impl<'a> Lexer<'a> {
         self.at as u32
     }
 
-    /// The bytes of the text from that place on.
-    pub fn bytes(&self) -> &'a [u8]
-        ensures { result.now ≡ drop (place_ahead self.now) self.now.source.text }
-    {
-        &self.text[self.at..]
-    }
-
     /// The next token, if it is an identifier.
     pub fn name(&self) -> Option<Name<'a>>
         ensures { MatchOption result (IsNotAt self.now.tokens kinds.Identifier)

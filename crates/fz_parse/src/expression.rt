@@ -5,7 +5,7 @@ ghost use Rattle.fz_syntax.specs.Trees.{number_of, set_of, basic_of, elements_of
 ghost use Rattle.fz_parse.specs.Steps.{Parses, ParsesLow, IsUnexpected, option_of};
 
 use crate::list::{begun, push};
-use crate::steps::{elements_ahead, identifier, integer, is, take};
+use crate::steps::{identifier, integer, is, take};
 use crate::stop::Stop;
 use fz_language::keyword::Keyword;
 use fz_language::sign::Sign;
@@ -149,9 +149,8 @@ fn elements<'a>(alloc: Global, lexer: &mut Lexer<'a>) -> Result<Elements<'a>, St
     if is(lexer, TokenKind::Sign(Sign::RightBracket)) {
         return Ok(Elements::Integers(Vec::new(alloc)));
     }
-    let room = elements_ahead(lexer);
     let first = basic(alloc, lexer)?;
-    let mut found = begun(alloc, first, room)?;
+    let mut found = begun(alloc, first)?;
     'elements: while is(lexer, TokenKind::Sign(Sign::Comma)) {
         take(lexer, TokenKind::Sign(Sign::Comma))?;
         let next = basic(alloc, lexer)?;

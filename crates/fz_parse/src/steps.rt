@@ -1,6 +1,5 @@
 //! Steps of the reading: tests and takings of one token.
-ghost use Rattle.std.specs.Prelude.{◌≡◌, ◌<◌, ◌≤◌, ℕ, [], ◌∷◌, OnOk, IfErr, MatchResult, length, true};
-ghost use Rattle.fz_spec.specs.declared.limits.TheConstants.{ELEMENT_LIMIT};
+ghost use Rattle.std.specs.Prelude.{◌≡◌, ◌<◌, ℕ, [], ◌∷◌, OnOk, IfErr, MatchResult, length, true};
 ghost use Rattle.fz_language.specs.declared.token_kind.TokenKind.TheVariants as kinds;
 ghost use Rattle.fz_language.specs.Kinds.{number};
 ghost use Rattle.fz_grammar.specs.Reading.{head, has};
@@ -11,7 +10,6 @@ use crate::stop::Stop;
 use fz_language::fault::SyntaxFault;
 use fz_language::token_kind::TokenKind;
 use fz_lex::Lexer;
-use fz_spec::limits::ELEMENT_LIMIT;
 use fz_syntax::{Integer, Name};
 
 /// Whether the next token is of this kind.
@@ -73,23 +71,4 @@ pub(crate) fn integer(lexer: &mut Lexer) -> Result<Integer, Stop>
         }
         None => Err(Stop::Fault(SyntaxFault::Unexpected)),
     }
-}
-
-/// How many bytes are looked at for the elements of a list.
-const LOOK: usize = 1024;
-
-/// How many elements stand from the next token on, with commas between them, up to the bracket that closes them, as far as a few
-/// bytes tell: how much room a list wants at first. It is a guess.
-pub(crate) fn elements_ahead(lexer: &Lexer) -> usize
-    ensures { result ≤ ELEMENT_LIMIT }
-{
-    let mut commas: usize = 0;
-    for byte in lexer.bytes().iter().take(LOOK) {
-        match byte {
-            b',' => commas = commas.saturating_add(1),
-            b']' => break,
-            _ => {}
-        }
-    }
-    commas.saturating_add(1).min(ELEMENT_LIMIT)
 }
