@@ -18,7 +18,7 @@ pub enum Whole {
 }
 
 /// How many bytes are asked for at once.
-const PIECE: usize = 4096;
+const PIECE: usize = 64 * 1024;
 
 /// Reads to the end of the selected text, or to `limit + 1` bytes. After want of memory, as after a fault, the bytes
 /// that were read are gone from the bytes left.
