@@ -5,7 +5,6 @@ use Rattle.fz_language.specs.declared.sign.Sign.{Sign}
 use Rattle.fz_language.specs.declared.sign.Sign.TheVariants.{Colon}
 use Rattle.fz_language.specs.declared.keyword.Keyword.{Keyword}
 use Rattle.fz_language.specs.Tokens.{is_blank, is_octal_digit, digits_value, sign_bytes, keyword_bytes, IsToken, IsFine, IsBased, IsInside}
-use Rattle.fz_language.specs.Tokens as language
 use Rattle.fz_lex.specs.Lexed.{lexeme_of, IsBounded}
 use Rattle.fz_lex.specs.declared.run.DigitRun.{DigitRun}
 use Rattle.fz_lex.specs.declared.run.TheConstants.{OVER}

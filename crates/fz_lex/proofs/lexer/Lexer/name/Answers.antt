@@ -1,4 +1,4 @@
-use Rattle.std.proofs.Common.{◌∷◌, drop, arith, ap, sym, ◌∙◌}
+use Rattle.std.proofs.Common.{◌∷◌, drop, arith, ap, ◌∙◌}
 use Rattle.fz_language.specs.declared.token_kind.TokenKind.TheVariants as kind
 use Rattle.fz_lex.specs.declared.lexeme.Lexeme.{Lexeme}
 use Rattle.fz_lex.specs.Lexed.{lexeme_of}
