@@ -9,6 +9,3 @@ pub mod account;
 
 pub use account::{Account, Cut, Learned, Parts, Unbegun};
 pub use fz_tree::mode::Mode;
-
-#[cfg(test)]
-mod tests;

@@ -4,11 +4,10 @@ use Rattle.std.specs.Prelude.{slice_index, slice_index_or, slice_set}
 use Rattle.std.specs.List.{AllByRecursion}
 use Rattle.std.proofs.lemmas.Bool.{cases_lt}
 use Rattle.std.proofs.lemmas.Option.{slice_get_within}
-use Rattle.fz_spec.specs.Constraints.{Constraint}
 use Rattle.fz_strength.specs.declared.event.Event.{Event}
 use Rattle.fz_strength.specs.declared.event.Event.TheVariants.{Any, Bound, Fixed}
 use Rattle.fz_strength.specs.Events.{Wait, level}
-use Rattle.fz_strength.specs.Lines.{waits}
+use Rattle.fz_strength.specs.Sayings.{Saying, waits_of}
 use Rattle.fz_prop.specs.Stores.{Stored, IsStore, IsListed, IsTaken, mark_at, without_first}
 use Rattle.fz_agenda.specs.Agendas.{IsSettled, AreWoken}
 use Rattle.fz_agenda.specs.Queues.{Lineup, IsWoken}
@@ -40,9 +39,9 @@ all_above w (x ∷ ws) states v n i awake listed within idle = (
   all_above w ws states v n i awake listed.1 within idle,
 )
 
-are_woken : (cs : List Constraint) (w : Waking) (states : List ℕ) (s : Stored) (v : ℕ) → IsIndexOf cs w → length states ≡ length cs → AllAwake w v (mark_at s v) states → AreWoken cs states s v
-are_woken cs w states s v index size awake = λ i c is idle.
-    all_above w (waits c) states v (mark_at s v) i awake (index i c is) (omega (arith, size, slice_get_within cs i c is)) idle
+are_woken : (sayings : List Saying) (w : Waking) (states : List ℕ) (s : Stored) (v : ℕ) → IsIndexOf sayings w → length states ≡ length sayings → AllAwake w v (mark_at s v) states → AreWoken sayings states s v
+are_woken sayings w states s v index size awake = λ i saying is idle.
+    all_above w (waits_of saying) states v (mark_at s v) i awake (index i saying is) (omega (arith, size, slice_get_within sayings i saying is)) idle
 
 -- what was drained so far, and no mark has risen
 pub record IsUnderWay (w : Waking) (s : Stored) (l : Lineup) (t : Stored) (m : Lineup) : Type 0 where
@@ -51,7 +50,7 @@ pub record IsUnderWay (w : Waking) (s : Stored) (l : Lineup) (t : Stored) (m : L
 
 pub draining_start : (w : Waking) (s : Stored) (l : Lineup) → IsStore s → IsUnderWay w s l s l
 draining_start w s l store = record {
-  draining = record { store = store; doms = refl; woken = same_woken (IsCalled w s) w.costs l; settled = λ cs index settled. settled; still = λ none. (refl, refl) };
+  draining = record { store = store; doms = refl; woken = same_woken (IsCalled w s) w.costs l; settled = λ sayings index settled. settled; still = λ none. (refl, refl) };
   marks = λ v. omega arith;
 }
 
@@ -70,7 +69,7 @@ draining_woken w s t l k m v n rest under is marked woken = record {
   store = under.draining.store;
   doms = under.draining.doms;
   woken = called w s t l k m v n under marked woken;
-  settled = λ cs index settled. settled_woken cs (WaitsFor w v n) w.costs k m t woken (under.draining.settled cs index settled);
+  settled = λ sayings index settled. settled_woken sayings (WaitsFor w v n) w.costs k m t woken (under.draining.settled sayings index settled);
   still = λ none. absurd (something s t v rest is none (under.draining.still none).0);
 }
 
@@ -93,10 +92,10 @@ draining_taken w s t u l k m v n rest under is woken marked awake taken store =
         store = store;
         doms = ap (λ (x : Stored). x.doms) at ∙ draining.doms;
         woken = called w s t l k m v n under marked woken;
-        settled = λ cs index settled.
-            let before : IsSettled cs m.states t = settled_woken cs (WaitsFor w v n) w.costs k m t woken (draining.settled cs index settled) in
-            subst (λ (x : Stored). IsSettled cs m.states x) (sym at)
-            (may_be_taken cs m.states t v taken.rest before (are_woken cs w m.states t v index before.size (subst (λ (k : ℕ). AllAwake w v k m.states) marked awake)));
+        settled = λ sayings index settled.
+            let before : IsSettled sayings m.states t = settled_woken sayings (WaitsFor w v n) w.costs k m t woken (draining.settled sayings index settled) in
+            subst (λ (x : Stored). IsSettled sayings m.states x) (sym at)
+            (may_be_taken sayings m.states t v taken.rest before (are_woken sayings w m.states t v index before.size (subst (λ (k : ℕ). AllAwake w v k m.states) marked awake)));
         still = λ none. absurd (something s t v rest is none (draining.still none).0);
       };
       marks = λ x.

@@ -5,13 +5,12 @@ use Rattle.std.specs.List.{AllByRecursion}
 use Rattle.std.proofs.lemmas.Bool.{cases_eq}
 use Rattle.std.proofs.lemmas.List.{length-set}
 use Rattle.fz_sets.proofs.Lists.{by_place}
-use Rattle.fz_spec.specs.Constraints.{Constraint}
 use Rattle.fz_strength.specs.declared.event.Event.{Event}
 use Rattle.fz_strength.specs.declared.event.Event.TheVariants.{Any, Bound, Fixed}
 use Rattle.fz_strength.specs.Events.{Wait, level, AreQuiet}
-use Rattle.fz_strength.specs.Lines.{Rests, waits}
+use Rattle.fz_strength.specs.Sayings.{Saying, line_of, waits_of}
 use Rattle.fz_strength.specs.Promises.{RestsForGood}
-use Rattle.fz_strength.proofs.Keeping.{kept_where_quiet}
+use Rattle.fz_strength.proofs.Sayings.{kept}
 use Rattle.fz_prop.specs.Stores.{Stored, Shrinks, mark_at, without_first}
 use Rattle.fz_prop.proofs.Twice.{narrower_twice}
 use Rattle.fz_agenda.specs.Agendas.{AreUnmarked, IsSettled, SettledLasts, AllRestAtRest, MayBeIdle, MayBeGone, MayBeQueued, MayBeTaken}
@@ -25,11 +24,11 @@ quiet_since [] s t shrinks un = tt
 quiet_since (w ∷ ws) s t shrinks un = (shrinks.marks_tell w.variable w.event un.0, quiet_since ws s t shrinks un.1)
 
 pub settled_lasts : SettledLasts
-settled_lasts cs states s t store shrinks settled = record {
+settled_lasts sayings states s t store shrinks settled = record {
   size = settled.size;
-  idle = λ i c is idle un. kept_where_quiet c s.doms t.doms store.domains shrinks.narrower (quiet_since (waits c) s t shrinks un)
-      (settled.idle i c is idle (unmarked_before (waits c) s t shrinks un));
-  gone = λ i c is gone es domains narrower. settled.gone i c is gone es domains (narrower_twice s.doms t.doms es shrinks.narrower narrower);
+  idle = λ i saying is idle un. kept saying s.doms t.doms store.domains shrinks.narrower (quiet_since (waits_of saying) s t shrinks un)
+      (settled.idle i saying is idle (unmarked_before (waits_of saying) s t shrinks un));
+  gone = λ i saying is gone es domains narrower. settled.gone i saying is gone es domains (narrower_twice s.doms t.doms es shrinks.narrower narrower);
 }
 
 some_level : (event : Event) → 0 < level event
@@ -42,44 +41,44 @@ all_unmarked [] s none = tt
 all_unmarked (w ∷ ws) s none = (omega (arith, none w.variable, some_level w.event), all_unmarked ws s none)
 
 pub all_rest_at_rest : AllRestAtRest
-all_rest_at_rest cs states s store none free settled i c is = elim (free i) [
-  | inl idle ↦ settled.idle i c is idle (all_unmarked (waits c) s none)
-  | inr gone ↦ settled.gone i c is gone s.doms store.domains (record { size = refl; members = λ v x m. m })
+all_rest_at_rest sayings states s store none free settled i saying is = elim (free i) [
+  | inl idle ↦ settled.idle i saying is idle (all_unmarked (waits_of saying) s none)
+  | inr gone ↦ settled.gone i saying is gone s.doms store.domains (record { size = refl; members = λ v x m. m })
 ]
 
 -- ---- what happens to a propagator
 
-one_at : (cs : List Constraint) (i : ℕ) (c d : Constraint) → slice_get cs i ≡ Some c → slice_get cs i ≡ Some d → c ≡ d
-one_at cs i c d p q = let e : Some c ≡ Some d = sym p ∙ q in cc
+one_at : (sayings : List Saying) (i : ℕ) (saying d : Saying) → slice_get sayings i ≡ Some saying → slice_get sayings i ≡ Some d → saying ≡ d
+one_at sayings i saying d p q = let e : Some saying ≡ Some d = sym p ∙ q in cc
 
 -- the state of one is set to what it may be
-set_state : (cs : List Constraint) (states : List ℕ) (s : Stored) (i k : ℕ) → IsSettled cs states s → i < length states
-    → ((c : Constraint) → slice_get cs i ≡ Some c → k ≡ 0 → Rests c s.doms) → ((c : Constraint) → slice_get cs i ≡ Some c → k ≡ 2 → RestsForGood c s.doms)
-    → IsSettled cs (slice_set states i k) s
-set_state cs states s i k settled within idle gone =
+set_state : (sayings : List Saying) (states : List ℕ) (s : Stored) (i k : ℕ) → IsSettled sayings states s → i < length states
+    → ((saying : Saying) → slice_get sayings i ≡ Some saying → k ≡ 0 → line_of saying s.doms) → ((saying : Saying) → slice_get sayings i ≡ Some saying → k ≡ 2 → RestsForGood saying s.doms)
+    → IsSettled sayings (slice_set states i k) s
+set_state sayings states s i k settled within idle gone =
     let here : slice_index (slice_set states i k) i ≡ k = get_or-set_same states i k 0 within in
     let there : (j : ℕ) → j ≢ i → slice_index (slice_set states i k) j ≡ slice_index states j = λ j ne. get_or-set_other states i j k 0 ne in
     record {
       size = length-set states i k ∙ settled.size;
-      idle = by_place (λ j. (c : Constraint) → slice_get cs j ≡ Some c → slice_index (slice_set states i k) j ≡ 0 → AreUnmarked (waits c) s → Rests c s.doms) i
-          (λ c is state un. idle c is (sym here ∙ state))
-          (λ j ne c is state un. settled.idle j c is (sym (there j ne) ∙ state) un);
-      gone = by_place (λ j. (c : Constraint) → slice_get cs j ≡ Some c → slice_index (slice_set states i k) j ≡ 2 → RestsForGood c s.doms) i
-          (λ c is state. gone c is (sym here ∙ state))
-          (λ j ne c is state. settled.gone j c is (sym (there j ne) ∙ state));
+      idle = by_place (λ j. (saying : Saying) → slice_get sayings j ≡ Some saying → slice_index (slice_set states i k) j ≡ 0 → AreUnmarked (waits_of saying) s → line_of saying s.doms) i
+          (λ saying is state un. idle saying is (sym here ∙ state))
+          (λ j ne saying is state un. settled.idle j saying is (sym (there j ne) ∙ state) un);
+      gone = by_place (λ j. (saying : Saying) → slice_get sayings j ≡ Some saying → slice_index (slice_set states i k) j ≡ 2 → RestsForGood saying s.doms) i
+          (λ saying is state. gone saying is (sym here ∙ state))
+          (λ j ne saying is state. settled.gone j saying is (sym (there j ne) ∙ state));
     }
 
 pub may_be_idle : MayBeIdle
-may_be_idle cs states s i c settled at within rests =
-    set_state cs states s i 0 settled within (λ d is zero. subst (λ (e : Constraint). Rests e s.doms) (one_at cs i c d at is) rests) (λ d is two. absurd (omega (arith, two)))
+may_be_idle sayings states s i saying settled at within rests =
+    set_state sayings states s i 0 settled within (λ d is zero. subst (λ (e : Saying). line_of e s.doms) (one_at sayings i saying d at is) rests) (λ d is two. absurd (omega (arith, two)))
 
 pub may_be_gone : MayBeGone
-may_be_gone cs states s i c settled at within rests =
-    set_state cs states s i 2 settled within (λ d is zero. absurd (omega (arith, zero))) (λ d is two. subst (λ (e : Constraint). RestsForGood e s.doms) (one_at cs i c d at is) rests)
+may_be_gone sayings states s i saying settled at within rests =
+    set_state sayings states s i 2 settled within (λ d is zero. absurd (omega (arith, zero))) (λ d is two. subst (λ (e : Saying). RestsForGood e s.doms) (one_at sayings i saying d at is) rests)
 
 pub may_be_queued : MayBeQueued
-may_be_queued cs states s i settled within =
-    set_state cs states s i 1 settled within (λ d is zero. absurd (omega (arith, zero))) (λ d is two. absurd (omega (arith, two)))
+may_be_queued sayings states s i settled within =
+    set_state sayings states s i 1 settled within (λ d is zero. absurd (omega (arith, zero))) (λ d is two. absurd (omega (arith, two)))
 
 unmarked_there : (s : Stored) (v u : ℕ) (rest : List ℕ) → u ≢ v → mark_at (without_first s v rest) u ≡ mark_at s u
 unmarked_there s v u rest ne = get_or-set_other s.marks v u 0 0 ne
@@ -96,8 +95,8 @@ still_unmarked (w ∷ ws) s v rest woken un = (
 )
 
 pub may_be_taken : MayBeTaken
-may_be_taken cs states s v rest settled woken = record {
+may_be_taken sayings states s v rest settled woken = record {
   size = settled.size;
-  idle = λ i c is idle un. settled.idle i c is idle (still_unmarked (waits c) s v rest (woken i c is idle) un);
+  idle = λ i saying is idle un. settled.idle i saying is idle (still_unmarked (waits_of saying) s v rest (woken i saying is idle) un);
   gone = settled.gone;
 }

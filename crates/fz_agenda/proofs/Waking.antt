@@ -1,18 +1,18 @@
 -- Waking word by word.
 use Rattle.std.proofs.Common.{◌≡◌, ◌⊎◌, inl, inr, ℕ, zero, suc, ◌+◌, ◌*◌, ◌/◌, ◌%◌, ◌<◌, ◌≤◌, List, [], ◌∷◌, ◌++◌, refl, sym, ◌∙◌, ap, subst, arith, length, get_or-set_other, take, Result, Ok, Err}
-use Rattle.std.specs.Prelude.{◌↔◌, slice_index, slice_index_or, slice_set, bit_and, OnOk, OnErr}
+use Rattle.std.specs.Prelude.{◌↔◌, slice_index, slice_index_or, slice_set, OnOk, OnErr}
 use Rattle.std.specs.List.{AllByRecursion, concat}
 use Rattle.std.specs.Int.{bit_at}
 use Rattle.std.proofs.lemmas.Bool.{cases_eq}
 use Rattle.std.proofs.lemmas.Nat.Bits.{bit_at-zero}
 use Rattle.fz_sets.proofs.Lists.{all_both, all_read_more}
 use Rattle.fz_strength.specs.declared.cost.Cost.{Cost}
-use Rattle.fz_dom.proofs.Words.{and_bits}
+use Rattle.fz_bits.specs.Words.{HasBit, AreOnes}
 use Rattle.fz_prop.specs.Stores.{IsListed}
 use Rattle.fz_agenda.specs.Bits.{members_of}
 use Rattle.fz_agenda.specs.Queues.{Lineup, class_of, cost_at, IsIdle, IsQueued, AreAwake, IsWoken}
 use Rattle.fz_agenda.specs.Wakes.{Waking, WaitsFor}
-use Rattle.fz_agenda.proofs.Words.{members_are}
+use Rattle.fz_agenda.proofs.Chunks.{members_are}
 use Rattle.fz_agenda.proofs.Woken.{idle_or_not, same_woken, woken_twice, woken_by_more, woken_wake, awake_wake, still_awake, all_still_awake}
 
 -- ---- the members of a word
@@ -28,15 +28,15 @@ pub record IsWaking (word bits left : ℕ) (costs : List Cost) (l m : Lineup) : 
   pub idle : (k : ℕ) → k < 64 → bit_at left k ≡ 1 → word * 64 + k < length m.states → slice_index m.states (word * 64 + k) ≡ 0
   pub done : (k : ℕ) → k < 64 → bit_at bits k ≡ 1 → (bit_at left k ≡ 1) ⊎ (word * 64 + k < length m.states → slice_index m.states (word * 64 + k) ≡ 0 → ⊥)
 
-pub waking_start : (word bits idle : ℕ) (costs : List Cost) (l : Lineup) → ((k : ℕ) → k < 64 → word * 64 + k < length l.states → (bit_at idle k ≡ 1) ↔ (slice_index l.states (word * 64 + k) ≡ 0))
-    → IsWaking word bits (bit_and bits idle) costs l l
-waking_start word bits idle costs l are = record {
+pub waking_start : (word bits idle left : ℕ) (costs : List Cost) (l : Lineup) → ((k : ℕ) → k < 64 → word * 64 + k < length l.states → (bit_at idle k ≡ 1) ↔ (slice_index l.states (word * 64 + k) ≡ 0))
+    → AreOnes left (λ k. HasBit bits k × HasBit idle k) → IsWaking word bits left costs l l
+waking_start word bits idle left costs l are ones = record {
   woken = same_woken (IsListed (members_of word bits)) costs l;
-  inside = λ k small one. ((and_bits bits idle k).0 one).0;
-  idle = λ k small one within. (are k small within).0 ((and_bits bits idle k).0 one).1;
-  done = λ k small one. elim (cases_eq (bit_at (bit_and bits idle) k) 1) [
+  inside = λ k small one. ((ones k small).0 one).0;
+  idle = λ k small one within. (are k small within).0 ((ones k small).0 one).1;
+  done = λ k small one. elim (cases_eq (bit_at left k) 1) [
     | inl e ↦ inl e
-    | inr ne ↦ inr (λ within is. ne ((and_bits bits idle k).1 (one, (are k small within).1 is)))
+    | inr ne ↦ inr (λ within is. ne ((ones k small).1 (one, (are k small within).1 is)))
   ];
 }
 
@@ -60,24 +60,19 @@ other_state m n class place i ok other ne = elim (idle_or_not m place) [
 ]
 
 pub waking_more : (word bits left next bit : ℕ) (costs : List Cost) (l m n : Lineup) (class place : ℕ) → IsWaking word bits left costs l m → IsWoken (IsListed (members_of word bits)) costs m n → bit < 64
-    → place ≡ word * 64 + bit → (IsIdle m place → IsQueued class place m n) → ((IsIdle m place → ⊥) → n ≡ m) → bit_at next bit ≡ 0
-    → ((k : ℕ) → k < 64 → (k ≡ bit → ⊥) → bit_at next k ≡ bit_at left k) → IsWaking word bits next costs l n
-waking_more word bits left next bit costs l m n class place waking woken small at ok other none others = record {
+    → place ≡ word * 64 + bit → (IsIdle m place → IsQueued class place m n) → ((IsIdle m place → ⊥) → n ≡ m) → AreOnes next (λ k. HasBit left k × (k ≡ bit → ⊥))
+    → IsWaking word bits next costs l n
+waking_more word bits left next bit costs l m n class place waking woken small at ok other ones = record {
   woken = woken_twice (IsListed (members_of word bits)) costs l m n waking.woken woken;
-  inside = λ k under one. elim (cases_eq k bit) [
-    | inl e ↦ absurd (let z : bit_at next k ≡ 0 = ap (bit_at next) e ∙ none in omega (arith, z, one))
-    | inr ne ↦ waking.inside k under (sym (others k under ne) ∙ one)
-  ];
-  idle = λ k under one within. elim (cases_eq k bit) [
-    | inl e ↦ absurd (let z : bit_at next k ≡ 0 = ap (bit_at next) e ∙ none in omega (arith, z, one))
-    | inr ne ↦
-        other_state m n class place (word * 64 + k) ok other (λ e. ne (omega (arith, e, at)))
-        ∙ waking.idle k under (sym (others k under ne) ∙ one) (let size = woken.size in omega (arith, within, size))
-  ];
+  inside = λ k under one. waking.inside k under ((ones k under).0 one).0;
+  idle = λ k under one within.
+      let old = (ones k under).0 one in
+      other_state m n class place (word * 64 + k) ok other (λ e. old.1 (omega (arith, e, at)))
+      ∙ waking.idle k under old.0 (let size = woken.size in omega (arith, within, size));
   done = λ k under one. elim (cases_eq k bit) [
     | inl e ↦ inr (subst (λ (i : ℕ). i < length n.states → slice_index n.states i ≡ 0 → ⊥) (at ∙ ap (λ (j : ℕ). word * 64 + j) (sym e)) (awake_wake m n class place ok other))
     | inr ne ↦ elim (waking.done k under one) [
-      | inl left_is ↦ inl (others k under ne ∙ left_is)
+      | inl left_is ↦ inl ((ones k under).1 (left_is, ne))
       | inr awake ↦ inr (still_awake (IsListed (members_of word bits)) costs m n (word * 64 + k) woken awake)
     ]
   ];

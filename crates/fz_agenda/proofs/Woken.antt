@@ -5,7 +5,7 @@ use Rattle.std.specs.List.{AllByRecursion}
 use Rattle.std.proofs.lemmas.Bool.{cases_eq, cases_lt}
 use Rattle.std.proofs.lemmas.List.{length-set, append-nil, append_assoc}
 use Rattle.fz_sets.proofs.Lists.{by_place, all_both}
-use Rattle.fz_spec.specs.Constraints.{Constraint}
+use Rattle.fz_strength.specs.Sayings.{Saying}
 use Rattle.fz_strength.specs.declared.cost.Cost.{Cost}
 use Rattle.fz_prop.specs.Stores.{Stored, IsListed}
 use Rattle.fz_agenda.specs.Agendas.{IsSettled}
@@ -112,9 +112,9 @@ one_awake states [] i awake listed within idle = absurd listed
 one_awake states (x ∷ places) i awake (inl e) within idle = subst (λ (k : ℕ). k < length states → slice_index states k ≡ 0 → ⊥) e awake.0 within idle
 one_awake states (x ∷ places) i awake (inr h) within idle = one_awake states places i awake.1 h within idle
 
-pub settled_woken : (cs : List Constraint) (may : ℕ → Type 0) (costs : List Cost) (l m : Lineup) (s : Stored) → IsWoken may costs l m → IsSettled cs l.states s → IsSettled cs m.states s
-settled_woken cs may costs l m s woken settled = record {
+pub settled_woken : (sayings : List Saying) (may : ℕ → Type 0) (costs : List Cost) (l m : Lineup) (s : Stored) → IsWoken may costs l m → IsSettled sayings l.states s → IsSettled sayings m.states s
+settled_woken sayings may costs l m s woken settled = record {
   size = woken.size ∙ settled.size;
-  idle = λ i c is idle un. settled.idle i c is (idle_before (may i) (slice_index l.states i) (slice_index m.states i) (woken.each i) idle) un;
-  gone = λ i c is gone. settled.gone i c is (gone_before (may i) (slice_index l.states i) (slice_index m.states i) (woken.each i) gone);
+  idle = λ i saying is idle un. settled.idle i saying is (idle_before (may i) (slice_index l.states i) (slice_index m.states i) (woken.each i) idle) un;
+  gone = λ i saying is gone. settled.gone i saying is (gone_before (may i) (slice_index l.states i) (slice_index m.states i) (woken.each i) gone);
 }

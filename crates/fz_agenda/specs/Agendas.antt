@@ -1,9 +1,8 @@
 -- What holds while the propagators of a space run: which are idle, queued or gone.
 use Rattle.std.specs.Prelude.{◌≡◌, ◌⊎◌, ℕ, ◌<◌, List, slice_get, slice_index, slice_set, Some, length}
 use Rattle.std.specs.List.{AllByRecursion}
-use Rattle.fz_spec.specs.Constraints.{Constraint}
 use Rattle.fz_strength.specs.Events.{Wait, level}
-use Rattle.fz_strength.specs.Lines.{Rests, waits}
+use Rattle.fz_strength.specs.Sayings.{Saying, line_of, waits_of}
 use Rattle.fz_strength.specs.Promises.{RestsForGood}
 use Rattle.fz_prop.specs.Stores.{Stored, IsStore, Shrinks, mark_at, without_first}
 
@@ -13,19 +12,19 @@ AreUnmarked ws s = AllByRecursion (λ (w : Wait). mark_at s w.variable < level w
 
 -- States: 0 idle, 1 queued, 2 gone. Each idle propagator's line holds unless a change that it waits for is marked; the line of one
 -- that is gone holds for good.
-pub record IsSettled (cs : List Constraint) (states : List ℕ) (s : Stored) : Type 0 where
-  pub size : length states ≡ length cs
-  pub idle : (i : ℕ) (c : Constraint) → slice_get cs i ≡ Some c → slice_index states i ≡ 0 → AreUnmarked (waits c) s → Rests c s.doms
-  pub gone : (i : ℕ) (c : Constraint) → slice_get cs i ≡ Some c → slice_index states i ≡ 2 → RestsForGood c s.doms
+pub record IsSettled (sayings : List Saying) (states : List ℕ) (s : Stored) : Type 0 where
+  pub size : length states ≡ length sayings
+  pub idle : (i : ℕ) (saying : Saying) → slice_get sayings i ≡ Some saying → slice_index states i ≡ 0 → AreUnmarked (waits_of saying) s → line_of saying s.doms
+  pub gone : (i : ℕ) (saying : Saying) → slice_get sayings i ≡ Some saying → slice_index states i ≡ 2 → RestsForGood saying s.doms
 
 -- what was settled stays so as the store gets narrower, whoever narrows it
 abbrev pub SettledLasts : Type 0
-SettledLasts = (cs : List Constraint) (states : List ℕ) (s t : Stored) → IsStore t → Shrinks s t → IsSettled cs states s → IsSettled cs states t
+SettledLasts = (sayings : List Saying) (states : List ℕ) (s t : Stored) → IsStore t → Shrinks s t → IsSettled sayings states s → IsSettled sayings states t
 
 -- where nothing is queued and nothing is marked, every line holds
 abbrev pub AllRestAtRest : Type 0
-AllRestAtRest = (cs : List Constraint) (states : List ℕ) (s : Stored) → IsStore s → ((v : ℕ) → mark_at s v ≡ 0) → ((i : ℕ) → slice_index states i ≡ 0 ⊎ slice_index states i ≡ 2)
-    → IsSettled cs states s → (i : ℕ) (c : Constraint) → slice_get cs i ≡ Some c → Rests c s.doms
+AllRestAtRest = (sayings : List Saying) (states : List ℕ) (s : Stored) → IsStore s → ((v : ℕ) → mark_at s v ≡ 0) → ((i : ℕ) → slice_index states i ≡ 0 ⊎ slice_index states i ≡ 2)
+    → IsSettled sayings states s → (i : ℕ) (saying : Saying) → slice_get sayings i ≡ Some saying → line_of saying s.doms
 
 -- narrowing twice is narrowing
 abbrev pub ShrinksTwice : Type 0
@@ -35,23 +34,23 @@ ShrinksTwice = (r s t : Stored) → Shrinks r s → Shrinks s t → Shrinks r t
 
 -- one whose line holds may be idle, and one whose line holds for good may be gone
 abbrev pub MayBeIdle : Type 0
-MayBeIdle = (cs : List Constraint) (states : List ℕ) (s : Stored) (i : ℕ) (c : Constraint) → IsSettled cs states s → slice_get cs i ≡ Some c → i < length states
-    → Rests c s.doms → IsSettled cs (slice_set states i 0) s
+MayBeIdle = (sayings : List Saying) (states : List ℕ) (s : Stored) (i : ℕ) (saying : Saying) → IsSettled sayings states s → slice_get sayings i ≡ Some saying → i < length states
+    → line_of saying s.doms → IsSettled sayings (slice_set states i 0) s
 
 abbrev pub MayBeGone : Type 0
-MayBeGone = (cs : List Constraint) (states : List ℕ) (s : Stored) (i : ℕ) (c : Constraint) → IsSettled cs states s → slice_get cs i ≡ Some c → i < length states
-    → RestsForGood c s.doms → IsSettled cs (slice_set states i 2) s
+MayBeGone = (sayings : List Saying) (states : List ℕ) (s : Stored) (i : ℕ) (saying : Saying) → IsSettled sayings states s → slice_get sayings i ≡ Some saying → i < length states
+    → RestsForGood saying s.doms → IsSettled sayings (slice_set states i 2) s
 
 -- any may be queued
 abbrev pub MayBeQueued : Type 0
-MayBeQueued = (cs : List Constraint) (states : List ℕ) (s : Stored) (i : ℕ) → IsSettled cs states s → i < length states → IsSettled cs (slice_set states i 1) s
+MayBeQueued = (sayings : List Saying) (states : List ℕ) (s : Stored) (i : ℕ) → IsSettled sayings states s → i < length states → IsSettled sayings (slice_set states i 1) s
 
 -- no idle one waits for a change of a variable that its mark shows
-abbrev pub AreWoken : List Constraint → List ℕ → Stored → ℕ → Type 0
-AreWoken cs states s v = (i : ℕ) (c : Constraint) → slice_get cs i ≡ Some c → slice_index states i ≡ 0
-    → AllByRecursion (λ (w : Wait). w.variable ≡ v → mark_at s v < level w.event) (waits c)
+abbrev pub AreWoken : List Saying → List ℕ → Stored → ℕ → Type 0
+AreWoken sayings states s v = (i : ℕ) (saying : Saying) → slice_get sayings i ≡ Some saying → slice_index states i ≡ 0
+    → AllByRecursion (λ (w : Wait). w.variable ≡ v → mark_at s v < level w.event) (waits_of saying)
 
 -- once all that wait for it are woken, a changed variable may be taken from the list
 abbrev pub MayBeTaken : Type 0
-MayBeTaken = (cs : List Constraint) (states : List ℕ) (s : Stored) (v : ℕ) (rest : List ℕ) → IsSettled cs states s → AreWoken cs states s v
-    → IsSettled cs states (without_first s v rest)
+MayBeTaken = (sayings : List Saying) (states : List ℕ) (s : Stored) (v : ℕ) (rest : List ℕ) → IsSettled sayings states s → AreWoken sayings states s v
+    → IsSettled sayings states (without_first s v rest)

@@ -2,6 +2,7 @@
 use Rattle.std.specs.Prelude.{◌≡◌, ℕ, zero, suc, ◌+◌, ◌*◌, ◌/◌, ◌%◌, List, [], ◌∷◌, map, length, slice_index, nat_eq, if◌then◌else◌}
 use Rattle.std.specs.List.{range_with_len}
 use Rattle.std.specs.Int.{bit_at}
+use Rattle.fz_bits.specs.Members.{words_for}
 
 -- the propagators of the first n bits of a word that are set
 unfoldable pub first_members : ℕ → ℕ → ℕ → List ℕ
@@ -22,17 +23,7 @@ state_at alive queued i = if nat_eq (bit_of alive i) 1 then bit_of queued i else
 unfoldable pub states_of : List ℕ → List ℕ → ℕ → List ℕ
 states_of alive queued count = map (state_at alive queued) (range_with_len 0 count)
 
--- how many words so many propagators take
-abbrev pub words_for : ℕ → ℕ
-words_for count = suc (count / 64)
-
 -- a word for each of so many
 pub record HaveWords (living waiting : List ℕ) (count : ℕ) : Type 0 where
   pub alive : length living ≡ words_for count
   pub queued : length waiting ≡ words_for count
-
--- the bit of one is set to a value, and no other changes
-pub record IsBitSet (place value : ℕ) (words after : List ℕ) : Type 0 where
-  pub size : length after ≡ length words
-  pub here : bit_of after place ≡ value
-  pub others : (i : ℕ) → (i ≡ place → ⊥) → bit_of after i ≡ bit_of words i

@@ -1,12 +1,11 @@
 -- Who waits for which change.
 use Rattle.std.specs.Prelude.{◌≡◌, ◌⊎◌, ℕ, ◌<◌, ◌≤◌, List, [], ◌∷◌, ◌++◌, length, slice_get, slice_index_or, Some}
 use Rattle.std.specs.List.{AllByRecursion}
-use Rattle.fz_spec.specs.Constraints.{Constraint}
 use Rattle.fz_strength.specs.declared.cost.Cost.{Cost}
 use Rattle.fz_strength.specs.declared.event.Event.{Event}
 use Rattle.fz_strength.specs.declared.event.Event.TheVariants.{Any, Bound, Fixed}
 use Rattle.fz_strength.specs.Events.{Wait}
-use Rattle.fz_strength.specs.Lines.{waits}
+use Rattle.fz_strength.specs.Sayings.{Saying, waits_of}
 use Rattle.fz_prop.specs.Stores.{Stored, IsStore, IsListed, mark_at}
 use Rattle.fz_agenda.specs.Agendas.{IsSettled}
 use Rattle.fz_agenda.specs.Queues.{Lineup, AreAwake, IsWoken}
@@ -30,9 +29,9 @@ waiting_at w event v = slice_index_or (lists_of event w) v []
 abbrev pub IsListedAt : Waking → ℕ → List Wait → Type 0
 IsListedAt w i ws = AllByRecursion (λ (wait : Wait). IsListed (waiting_at w wait.event wait.variable) i) ws
 
--- the propagator of each constraint is listed at each change that it waits for
-abbrev pub IsIndexOf : List Constraint → Waking → Type 0
-IsIndexOf cs w = (i : ℕ) (c : Constraint) → slice_get cs i ≡ Some c → IsListedAt w i (waits c)
+-- the propagator of each of these sayings is listed at each change that it waits for
+abbrev pub IsIndexOf : List Saying → Waking → Type 0
+IsIndexOf sayings w = (i : ℕ) (saying : Saying) → slice_get sayings i ≡ Some saying → IsListedAt w i (waits_of saying)
 
 -- lists for so many variables
 pub record HaveSize (w : Waking) (n : ℕ) : Type 0 where
@@ -74,7 +73,7 @@ pub record IsDraining (w : Waking) (s : Stored) (l : Lineup) (t : Stored) (m : L
   pub store : IsStore t
   pub doms : t.doms ≡ s.doms
   pub woken : IsWoken (IsCalled w s) w.costs l m
-  pub settled : (cs : List Constraint) → IsIndexOf cs w → IsSettled cs l.states s → IsSettled cs m.states t
+  pub settled : (sayings : List Saying) → IsIndexOf sayings w → IsSettled sayings l.states s → IsSettled sayings m.states t
   pub still : s.changed ≡ [] → (t ≡ s) × (m ≡ l)
 
 -- nothing is listed or marked

@@ -80,7 +80,7 @@ impl Agenda {
         )
     }
 
-    /// The same of one that is idle where it is there.
+    /// Queues a propagator that is idle, if it is one of those that are there.
     pub(crate) fn wake_idle(&mut self, place: u32, cost: Cost) -> Result<(), AllocError>
         requires { place < length self.old.states → slice_index self.old.states place ≡ 0 }
         ensures idle { OnOk result
@@ -98,11 +98,11 @@ impl Agenda {
     }
 
     /// Those of a word that are idle; what bits beyond the last propagator say is not known.
-    pub fn idle_in(&self, word: u32) -> u64
+    pub fn idle_in(&self, word: usize) -> u64
         ensures { (k : ℕ) → k < 64 → word * 64 + k < length self.now.states
             → (bit_at result k ≡ 1) ↔ (slice_index self.now.states (word * 64 + k) ≡ 0) }
     {
-        self.states.idle_in(word as usize)
+        self.states.idle_in(word)
     }
 
     /// The first has run and is idle.

@@ -8,7 +8,8 @@ ghost use Rattle.fz_agenda.specs.Queues.{cost_at, AreAwake, IsWoken};
 ghost use Rattle.fz_agenda.specs.Wakes.{Waking, waiting_at, with_cost, HaveSize, HasVariable, Extends, WaitsFor, AllAwake};
 
 use crate::agenda::Agenda;
-use crate::members::{Members, lowest_bit, without_bit};
+use crate::members::Members;
+use fz_bits::word::{common, lowest_bit, without_bit};
 use fz_prop::{Cost, Event};
 use std::alloc::{AllocError, Global};
 use std::marker::Model;
@@ -110,6 +111,13 @@ impl Wakes {
             fixed,
             costs: Vec::new(alloc),
         })
+    }
+
+    /// The class of each propagator's cost.
+    pub fn costs(&self) -> &[Cost]
+        ensures { result.now ≡ self.now.costs }
+    {
+        &self.costs
     }
 
     /// The class of the next propagator's cost.
@@ -259,11 +267,11 @@ fn wake_members(members: &Members, costs: &[Cost], agenda: &mut Agenda) -> Resul
     ensures woken { IsWoken (IsListed members.now) costs.now agenda.old agenda.new }
     ensures awake { OnOk result (AreAwake agenda.new.states members.now) }
 {
-    let (word, bits) = members.parts();
-    let mut left = bits & agenda.idle_in(word);
+    let chunk = members.chunk();
+    let mut left = common(chunk.bits, agenda.idle_in(chunk.word));
     'places: while left != 0 {
         let bit = lowest_bit(left);
-        let place = word * 64 + bit;
+        let place = chunk.word as u32 * 64 + bit;
         agenda.wake_idle(place, cost_at(costs, place))?;
         left = without_bit(left, bit);
     }

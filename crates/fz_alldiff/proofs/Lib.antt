@@ -4,4 +4,3 @@ pub mod Resting
 pub mod Spanning
 pub mod Freeing
 pub mod Filling
-pub mod Names

@@ -13,15 +13,14 @@ use Rattle.fz_strength.specs.Domains.{term_set, AreDomains, Within, IsNarrower}
 use Rattle.fz_strength.specs.Events.{IsOnly, IsFixedIn, AllFixed, AreSingle}
 use Rattle.fz_strength.proofs.Differences.{different}
 use Rattle.fz_sets.proofs.Lists.{all_at}
-use Rattle.fz_prop.specs.declared.answer.Answer.{Answer}
-use Rattle.fz_prop.specs.declared.answer.Answer.TheVariants.{Fix, NoFix, Subsumed, Failed}
-use Rattle.fz_prop.specs.Answers.{IsAnswerOf, IsCorrectOf, IsDecided}
+use Rattle.fz_prop.specs.Answers.{IsAnswerOf, IsCorrectOf}
+use Rattle.fz_prop.specs.Outcomes.{rested_by}
 use Rattle.fz_prop.specs.Stores.{Stored, Shrinks, IsTermOf}
 use Rattle.fz_prop.proofs.TermChanges.{term_within, only_in}
 use Rattle.fz_prop.proofs.Twice.{shrinks_twice}
 use Rattle.fz_prop.proofs.Steps.{same_shrinks}
-use Rattle.fz_alldiff.specs.Differing.{IsDifferent, AreNeverDifferent, IsFixedPlace, IsDone, IsCleared, AreCleared, IsRested}
-use Rattle.fz_alldiff.proofs.Clearing.{fixed_still, cleared_still}
+use Rattle.fz_alldiff.specs.Differing.{IsDifferent, AreNeverDifferent, IsFixedPlace, IsDone, IsCleared, AreCleared}
+use Rattle.fz_alldiff.proofs.Clearing.{cleared_still}
 
 -- what is left to do
 abbrev pub undone : Bool → ℕ
@@ -115,27 +114,17 @@ place_fixed xs ds i below fixed = elim (slice_get_cases xs i).1 [
 always : (xs : List Term) (ds : List (List (ℤ × ℤ))) → AllByRecursion (IsTermOf (length ds)) xs → AllFixed ds xs → AreApart xs ds → (a : List ℤ) → Within ds a → IsDifferent xs a
 always xs ds terms fixed apart a within = different xs ds a (single_places xs ds a within terms fixed) apart
 
--- the answer at the end
-pub rested_answer : (answer : Answer) (xs : List Term) (r s : Stored) (done : List Bool) → AllByRecursion (IsTermOf (length r.doms)) xs → IsClearing xs r s done
-    → ((i : ℕ) → IsFixedPlace xs s.doms i → IsDone done i) → IsRested done answer → IsAnswerOf answer (IsDifferent xs) (AreApart xs) r.doms s.doms
-rested_answer Fix xs r s done terms h all_done rested = all_cleared xs s.doms (λ i fixed. h.cleared i (all_done i fixed))
-rested_answer Subsumed xs r s done terms h all_done rested =
+-- the answer at the end, which is for good where all places are done
+pub rested_answer : (all_done : Bool) (xs : List Term) (r s : Stored) (done : List Bool) → AllByRecursion (IsTermOf (length r.doms)) xs → IsClearing xs r s done
+    → ((i : ℕ) → IsFixedPlace xs s.doms i → IsDone done i) → (all_done ≡ true → (i : ℕ) → i < length done → IsDone done i)
+    → IsAnswerOf (rested_by all_done) (IsDifferent xs) (AreApart xs) r.doms s.doms
+rested_answer false xs r s done terms h each all = all_cleared xs s.doms (λ i fixed. h.cleared i (each i fixed))
+rested_answer true xs r s done terms h each all =
     let here = terms_still xs r.doms s.doms h.shrinks.narrower terms in
-    let fixed = all_places xs s.doms (λ i below. (h.cleared i (rested i (omega (arith, below, h.size)))).0) in
-    let cleared : (i : ℕ) → IsFixedPlace xs s.doms i → IsCleared xs s.doms i = λ i is. h.cleared i (all_done i is) in (
+    let fixed = all_places xs s.doms (λ i below. (h.cleared i (all refl i (omega (arith, below, h.size)))).0) in
+    let cleared : (i : ℕ) → IsFixedPlace xs s.doms i → IsCleared xs s.doms i = λ i is. h.cleared i (each i is) in (
       always xs s.doms here fixed (all_cleared xs s.doms cleared),
       (λ es domains narrower. all_cleared xs es (λ i is.
           let at : i < length xs = slice_get_within xs i is.0 is.1 in
           cleared_still xs s.doms es i here domains narrower (cleared i (place_fixed xs s.doms i at fixed)))),
     )
-rested_answer NoFix xs r s done terms h all_done rested = absurd rested
-rested_answer Failed xs r s done terms h all_done rested = absurd rested
-
-pub rested_decided : (answer : Answer) (xs : List Term) (r s : Stored) (done : List Bool) → AllByRecursion (IsTermOf (length r.doms)) xs → IsClearing xs r s done
-    → ((i : ℕ) → IsFixedPlace xs s.doms i → IsDone done i) → IsRested done answer → AllFixed r.doms xs → IsDecided answer
-rested_decided Fix xs r s done terms h all_done rested fixed =
-    let i = rested.0 in
-    absurd (rested.2 (all_done i (fixed_still xs r.doms s.doms i terms h.domains h.shrinks.narrower (place_fixed xs r.doms i (omega (arith, rested.1, h.size)) fixed))))
-rested_decided Subsumed xs r s done terms h all_done rested fixed = inl refl
-rested_decided NoFix xs r s done terms h all_done rested fixed = absurd rested
-rested_decided Failed xs r s done terms h all_done rested fixed = absurd rested

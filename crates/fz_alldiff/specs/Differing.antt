@@ -1,16 +1,12 @@
 -- Terms that are all different: when an assignment makes it true, and what is done of the work on a store.
-use Rattle.std.specs.Prelude.{◌≡◌, ◌≢◌, Bool, true, false, ℕ, ◌<◌, ℤ, List, length, slice_get, slice_index_or, Some}
+use Rattle.std.specs.Prelude.{◌≡◌, ◌≢◌, Bool, true, false, ℕ, ℤ, List, slice_get, slice_index_or, Some}
 use Rattle.fz_sets.specs.Sets.{IsInSet}
-use Rattle.fz_spec.specs.declared.builtin.Builtin.{Builtin}
 use Rattle.fz_spec.specs.declared.term.Term.{Term}
 use Rattle.fz_spec.specs.Constraints.{term_values}
 use Rattle.fz_spec.specs.Truth.{AreDifferent}
-use Rattle.fz_strength.specs.Differences.{IsDifference}
 use Rattle.fz_strength.specs.Domains.{term_set, Within}
-use Rattle.fz_strength.specs.Events.{IsOnly, variables_of}
+use Rattle.fz_strength.specs.Events.{IsOnly}
 use Rattle.fz_strength.specs.Relations.{IsApart}
-use Rattle.fz_prop.specs.declared.answer.Answer.{Answer}
-use Rattle.fz_prop.specs.declared.answer.Answer.TheVariants.{Fix, Subsumed}
 
 abbrev pub IsDifferent : List Term → List ℤ → Type 0
 IsDifferent xs a = AreDifferent (term_values a xs)
@@ -42,14 +38,3 @@ AreCleared xs ds done = (i : ℕ) → IsDone done i → IsCleared xs ds i
 -- a number isn't in what is left of any place that isn't done, but for one
 abbrev pub IsOutside : List Term → List (List (ℤ × ℤ)) → List Bool → ℤ → ℕ → Type 0
 IsOutside xs ds done n i = (j : ℕ) (y : Term) → i ≢ j → (IsDone done j → ⊥) → slice_get xs j ≡ Some y → IsInSet (term_set ds y) n → ⊥
-
--- the answer says whether all places are done
-abbrev pub IsRested : List Bool → Answer → Type 0
-IsRested done Subsumed = (i : ℕ) → i < length done → IsDone done i
-IsRested done Fix = (i : ℕ) × (i < length done) × (IsDone done i → ⊥)
-IsRested done answer = ⊥
-
--- the name says that terms are all different, and their variables are listed
-pub record IsAllDifferent (name : Builtin) (xs : List Term) (variables : List ℕ) : Type 0 where
-  pub name_is : IsDifference name
-  pub listed : variables ≡ variables_of xs

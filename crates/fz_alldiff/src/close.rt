@@ -1,15 +1,14 @@
 //! Terms whose numbers lie close together: those that no fixed place has are one domain, and all other places keep to it.
-ghost use Rattle.std.specs.Prelude.{◌≡◌, ◌≢◌, ℕ, ◌<◌, ℤ, true, false, List, length, IfOk, IsNone, IfSome};
+ghost use Rattle.std.specs.Prelude.{◌≡◌, ◌≢◌, ◌<◌, ℤ, true, false, List, length, IfOk, IsNone, IfSome};
 ghost use Rattle.std.specs.List.{AllByRecursion};
 ghost use Rattle.fz_sets.specs.Sets.{IsInSet};
-ghost use Rattle.fz_dom.specs.Changes.{IsKeeping};
 ghost use Rattle.fz_dom.specs.Shape.{IsDomain};
 ghost use Rattle.fz_spec.specs.Constraints.{term_value};
 ghost use Rattle.fz_strength.specs.Differences.{AreApart};
 ghost use Rattle.fz_strength.specs.Domains.{Within};
-ghost use Rattle.fz_strength.specs.Events.{AllFixed, IsFixedIn};
+ghost use Rattle.fz_strength.specs.Events.{IsFixedIn};
 ghost use Rattle.fz_prop.specs.declared.answer.Answer.TheVariants as answers;
-ghost use Rattle.fz_prop.specs.Answers.{IsAnswerOf, IsCorrectOf, IsDecided};
+ghost use Rattle.fz_prop.specs.Answers.{IsAnswerOf, IsCorrectOf};
 ghost use Rattle.fz_prop.specs.Stores.{Shrinks, IsTermOf};
 ghost use Rattle.fz_alldiff.specs.Differing.{IsDifferent, AreNeverDifferent};
 ghost use Rattle.fz_alldiff.specs.Freeing.{AreBetween, IsSpan, AreFree, AreFixedButOne, AreOpen, IsKept, IsLast, IsTaken};
@@ -54,7 +53,6 @@ pub fn keep_close(
     ensures answer { IfOk result
         (λ r. IsAnswerOf r (IsDifferent terms.now) (AreApart terms.now)
         store.old.doms store.new.doms) }
-    ensures checking { IfOk result (λ r. AllFixed store.old.doms terms.now → IsDecided r) }
 {
     let Some(free) = free_of(alloc, store, terms, span)? else {
         return Ok(Answer::Failed);

@@ -1,10 +1,9 @@
 //! Narrowing a store so that terms are all different.
-ghost use Rattle.std.specs.Prelude.{length, IfOk};
+ghost use Rattle.std.specs.Prelude.{length};
 ghost use Rattle.std.specs.List.{AllByRecursion};
 ghost use Rattle.fz_strength.specs.Differences.{AreApart};
-ghost use Rattle.fz_strength.specs.Events.{AllFixed};
-ghost use Rattle.fz_prop.specs.Answers.{IsAnswerOf, IsCorrectOf, IsDecided};
-ghost use Rattle.fz_prop.specs.Stores.{Shrinks, IsTermOf};
+ghost use Rattle.fz_prop.specs.Answers.{Narrows};
+ghost use Rattle.fz_prop.specs.Stores.{IsTermOf};
 ghost use Rattle.fz_alldiff.specs.Differing.{IsDifferent};
 
 use crate::close::keep_close;
@@ -22,12 +21,7 @@ pub fn keep_different(
     terms: &[Term],
 ) -> Result<Answer, AllocError>
     requires { AllByRecursion (IsTermOf (length store.old.doms)) terms.now }
-    ensures shrinks { Shrinks store.old store.new }
-    ensures correct { IsCorrectOf (IsDifferent terms.now) store.old.doms store.new.doms }
-    ensures answer { IfOk result
-        (λ r. IsAnswerOf r (IsDifferent terms.now) (AreApart terms.now)
-        store.old.doms store.new.doms) }
-    ensures checking { IfOk result (λ r. AllFixed store.old.doms terms.now → IsDecided r) }
+    ensures { Narrows (IsDifferent terms.now) (AreApart terms.now) result store.old store.new }
 {
     match close_span(store, terms) {
         Some(span) => keep_close(alloc, store, terms, span),

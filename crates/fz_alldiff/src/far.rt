@@ -1,11 +1,10 @@
 //! Terms whose numbers lie far apart: the number of each fixed place leaves the others one by one.
-ghost use Rattle.std.specs.Prelude.{◌≡◌, ◌≢◌, ◌<◌, true, false, ℕ, List, length, IfOk, OnErr, IsNone, IfSome};
+ghost use Rattle.std.specs.Prelude.{◌≡◌, ◌≢◌, ◌<◌, true, false, ℕ, List, length, IfOk, OnErr, IsNone, IfSome, IsTrue};
 ghost use Rattle.std.specs.List.{AllByRecursion};
 ghost use Rattle.fz_strength.specs.Differences.{AreApart};
-ghost use Rattle.fz_strength.specs.Events.{AllFixed};
-ghost use Rattle.fz_prop.specs.Answers.{IsAnswerOf, IsCorrectOf, IsDecided};
+ghost use Rattle.fz_prop.specs.Answers.{IsAnswerOf, IsCorrectOf};
 ghost use Rattle.fz_prop.specs.Stores.{Shrinks, IsTermOf, IsTermChange};
-ghost use Rattle.fz_alldiff.specs.Differing.{IsDifferent, AreNeverDifferent, IsFixedPlace, IsOnlyAt, IsDone, IsCleared, AreCleared, IsOutside, IsRested};
+ghost use Rattle.fz_alldiff.specs.Differing.{IsDifferent, AreNeverDifferent, IsFixedPlace, IsOnlyAt, IsDone, IsCleared, AreCleared, IsOutside};
 
 use fz_prop::terms::{has, least_of, remove, value_of};
 use fz_prop::{Answer, Change, Store};
@@ -21,7 +20,6 @@ pub fn keep_each(alloc: Global, store: &mut Store, terms: &[Term]) -> Result<Ans
     ensures answer { IfOk result
         (λ r. IsAnswerOf r (IsDifferent terms.now) (AreApart terms.now)
         store.old.doms store.new.doms) }
-    ensures checking { IfOk result (λ r. AllFixed store.old.doms terms.now → IsDecided r) }
 {
     let _ = store.doms();
     let mut done = Vec::from_elem(alloc, false, terms.len())?;
@@ -32,7 +30,7 @@ pub fn keep_each(alloc: Global, store: &mut Store, terms: &[Term]) -> Result<Ans
         done[place] = true;
         let _ = store.doms();
     }
-    Ok(rested(&done))
+    Ok(Answer::rested(are_all_done(&done)))
 }
 
 /// The first place that is fixed and not done.
@@ -114,13 +112,9 @@ fn remove_from(store: &mut Store, term: Term, value: i32) -> Result<Change, Allo
     }
 }
 
-/// What a run answers that left no fixed place undone.
-fn rested(done: &[bool]) -> Answer
-    ensures { IsRested done.now result }
+/// Whether all places are done.
+fn are_all_done(done: &[bool]) -> bool
+    ensures { IsTrue result → (i : ℕ) → i < length done.now → IsDone done.now i }
 {
-    if done.iter().all(|place| *place) {
-        Answer::Subsumed
-    } else {
-        Answer::Fix
-    }
+    done.iter().all(|place| *place)
 }

@@ -8,6 +8,3 @@ mod far;
 mod span;
 
 pub use all_different::AllDifferent;
-
-#[cfg(test)]
-mod tests;

@@ -7,6 +7,7 @@ use Rattle.std.specs.Ordering.{int_eq}
 use Rattle.std.proofs.lemmas.Bool.Decides.{Decides-int_eq}
 use Rattle.std.proofs.lemmas.Int.{ints, clamps}
 use Rattle.std.proofs.Math.IntN.{*ℤ_comm}
+use Rattle.fz_sets.specs.Sets.{IsInSet}
 use Rattle.fz_dom.specs.Changes.{IsFromTo}
 use Rattle.fz_dom.proofs.Ranges.{least_member, greatest_member}
 use Rattle.fz_spec.specs.declared.term.Term.{Term}
@@ -18,8 +19,9 @@ use Rattle.fz_strength.specs.declared.operation.Bounds.{Bounds}
 use Rattle.fz_strength.specs.Domains.{term_set, AreDomains, Within}
 use Rattle.fz_strength.specs.Operations.{Equation, equation_terms, IsResult, EquationTruth, low_of, high_of, between, own_bounds, corner_bounds, result_bounds, quotient_bounds, remainder, remainder_bounds, operand_bounds, bounds_of}
 use Rattle.fz_strength.proofs.OperationLaws.{least_is, greatest_is}
+use Rattle.fz_strength.proofs.Sizes.{least_below, greatest_above}
 use Rattle.fz_prop.specs.Stores.{IsTermOf}
-use Rattle.fz_prop.proofs.Filled.{term_ranges}
+use Rattle.fz_prop.proofs.Filled.{HasRanges, term_ranges}
 use Rattle.fz_prop.proofs.TermChanges.{term_within}
 use Rattle.fz_arith.proofs.Quotients.{quotient_is, product_corners, quotient_corners}
 
@@ -28,6 +30,8 @@ use Rattle.fz_arith.proofs.Quotients.{quotient_is, product_corners, quotient_cor
 pub record IsSpanned (ds : List (List (ℤ × ℤ))) (a : List ℤ) (t : Term) : Type 0 where
   pub low : low_of ds t ≤ℤ term_value a t
   pub high : term_value a t ≤ℤ high_of ds t
+  pub member : IsInSet (term_set ds t) (term_value a t)
+  pub ranges : HasRanges (term_set ds t)
 
 spanned : (ds : List (List (ℤ × ℤ))) (a : List ℤ) (t : Term) → AreDomains ds → Within ds a → IsTermOf (length ds) t → IsSpanned ds a t
 spanned ds a t domains within is =
@@ -36,6 +40,8 @@ spanned ds a t domains within is =
     record {
       low = (least_member (term_set ds t) ranges.some ranges.ranges).1 (term_value a t) member;
       high = (greatest_member (term_set ds t) ranges.some ranges.ranges).1 (term_value a t) member;
+      member = member;
+      ranges = ranges;
     }
 
 pub all_spanned : (ds : List (List (ℤ × ℤ))) (a : List ℤ) (ts : List Term) → AreDomains ds → Within ds a → AllByRecursion (IsTermOf (length ds)) ts → AllByRecursion (IsSpanned ds a) ts
@@ -47,14 +53,6 @@ abbrev pub LiesBetween : List ℤ → Bounds → Type 0
 LiesBetween a b = IsFromTo b.low b.high (term_value a b.term)
 
 -- ---- the result
-
-abs_low : (x z l h : ℤ) → z ≡ pos (nat_abs x) → l ≤ℤ x → x ≤ℤ h → int_max (pos 0) (int_max l (neg_ℤ h)) ≤ℤ z
-abs_low (pos n) z l h is low high = omega (arith, ints, clamps, is, low, high)
-abs_low (negsuc n) z l h is low high = omega (arith, ints, clamps, is, low, high)
-
-abs_high : (x z l h : ℤ) → z ≡ pos (nat_abs x) → l ≤ℤ x → x ≤ℤ h → z ≤ℤ int_max h (neg_ℤ l)
-abs_high (pos n) z l h is low high = omega (arith, ints, clamps, is, low, high)
-abs_high (negsuc n) z l h is low high = omega (arith, ints, clamps, is, low, high)
 
 -- each number of the one list is at most the one beside it in the other
 abbrev AreBelow : (Term → ℤ) → (Term → ℤ) → List Term → Type 0
@@ -184,8 +182,8 @@ result_between Times (x ∷ y ∷ []) z ds a spanned of_z is =
 result_between Quotient (x ∷ y ∷ []) z ds a spanned of_z is = quotient_between z y x ds a of_z spanned.1.0 spanned.0 is.1
 result_between Remainder (x ∷ y ∷ []) z ds a spanned of_z is = remainder_between x y z ds a spanned.0 spanned.1.0 of_z is.1
 result_between Abs (x ∷ []) z ds a spanned of_z is = (
-  abs_low (term_value a x) (term_value a z) (low_of ds x) (high_of ds x) is spanned.0.low spanned.0.high,
-  abs_high (term_value a x) (term_value a z) (low_of ds x) (high_of ds x) is spanned.0.low spanned.0.high,
+  rw is (least_below (term_set ds x) (term_value a x) spanned.0.member),
+  rw is (greatest_above (term_set ds x) (term_value a x) spanned.0.ranges.some spanned.0.ranges.ranges spanned.0.member),
 )
 result_between Min (x ∷ xs) z ds a spanned of_z is = (
   (let p = least_is (low_of ds x) (map (low_of ds) xs) in

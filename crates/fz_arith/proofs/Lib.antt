@@ -2,4 +2,3 @@ pub mod Quotients
 pub mod Between
 pub mod Places
 pub mod Steps
-pub mod Names

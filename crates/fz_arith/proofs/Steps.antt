@@ -1,6 +1,6 @@
 -- Keeping the terms of an equation between their bounds, one after the other.
 use Rattle.std.proofs.Common.{◌≡◌, ◌≢◌, ◌<◌, ◌≤◌, ◌+◌, ℕ, suc, List, [], ◌∷◌, refl, sym, ap, subst, ◌∙◌, arith, length, inl, inr, Bool, true, false, Result, Ok, Err}
-use Rattle.std.specs.Prelude.{ℤ, pos, ◌||◌, ◌↔◌, slice_get, Some, OnErr, IfOk}
+use Rattle.std.specs.Prelude.{ℤ, pos, ◌||◌, ◌↔◌, IsTrue, slice_get, Some, OnErr, IfOk}
 use Rattle.std.specs.List.{AllByRecursion}
 use Rattle.std.proofs.lemmas.Bool.{cases_eq}
 use Rattle.std.proofs.lemmas.List.{length-map}
@@ -15,26 +15,29 @@ use Rattle.fz_dom.proofs.Kept.{limits_of}
 use Rattle.fz_spec.specs.declared.term.Term.{Term}
 use Rattle.fz_spec.specs.declared.term.Term.TheVariants.{Num, Var}
 use Rattle.fz_spec.specs.Constraints.{term_value, term_values}
+use Rattle.fz_strength.specs.declared.event.Event.{Event}
 use Rattle.fz_strength.specs.declared.event.Event.TheVariants.{Bound}
 use Rattle.fz_strength.specs.declared.operation.Operation.{Operation}
 use Rattle.fz_strength.specs.declared.operation.Operation.TheVariants.{Quotient, Remainder}
 use Rattle.fz_strength.specs.declared.operation.Bounds.{Bounds}
 use Rattle.fz_strength.specs.Domains.{dom_at, term_set, room, AreDomains, Within, IsNarrower}
-use Rattle.fz_strength.specs.Events.{IsOnly, IsFixedIn, AllFixed, AreSingle, IsQuiet}
-use Rattle.fz_strength.specs.Operations.{Equation, equation_terms, EquationTruth, bounds_of, IsBounded, IsEquationLine, IsResult, LacksZero, divisors_of}
+use Rattle.fz_strength.specs.Events.{IsOnly, AllFixed, AreSingle, IsQuiet}
+use Rattle.fz_strength.specs.Operations.{Equation, equation_terms, EquationTruth, bounds_of, operand_event, IsBounded, IsEquationLine, IsResult, LacksZero, divisors_of}
 use Rattle.fz_strength.proofs.Clauses.{all_unmap}
 use Rattle.fz_sets.proofs.Lists.{all_at}
+use Rattle.fz_strength.proofs.Terms.{AreQuietAt, quiet_self}
 use Rattle.fz_strength.proofs.OperationLaws.{bounds_terms, equation_kept, equation_alone}
 use Rattle.fz_prop.specs.declared.answer.Answer.{Answer}
 use Rattle.fz_prop.specs.declared.answer.Answer.TheVariants.{Fix, NoFix, Subsumed, Failed}
-use Rattle.fz_prop.specs.Answers.{IsAnswerOf, IsCorrectOf, IsDecided}
+use Rattle.fz_prop.specs.Answers.{IsAnswerOf, IsCorrectOf}
 use Rattle.fz_prop.specs.Stores.{Stored, Shrinks, IsChangeAt, IsTermOf, IsTermChange}
 use Rattle.fz_prop.proofs.Answering.{correct_twice}
 use Rattle.fz_prop.proofs.Filled.{term_ranges, still_only}
 use Rattle.fz_prop.proofs.Steps.{same_shrinks}
-use Rattle.fz_prop.proofs.TermChanges.{term_within, only_in, within_kept, kept_term, none_kept, fixed_stays, same_store, falls_of}
+use Rattle.fz_prop.proofs.TermChanges.{term_within, only_in, within_kept, kept_term, none_kept, same_store, falls_of}
 use Rattle.fz_prop.proofs.Twice.{shrinks_twice, room_after}
-use Rattle.fz_arith.specs.Narrowing.{IsClamped, IsBoundedAt, IsDivided, IsStep, AreSteps, IsRested}
+use Rattle.fz_prop.specs.Outcomes.{rested_by}
+use Rattle.fz_arith.specs.Narrowing.{IsClamped, IsBoundedAt, IsDivided, IsStep, AreSteps}
 use Rattle.fz_arith.proofs.Between.{LiesBetween, all_spanned, all_between}
 
 -- ---- a change by bounds of 32 bits
@@ -90,10 +93,7 @@ step_is Same e i b r s at domains are h = (
   same_store b.term (λ x. IsFromTo b.low b.high x) r s h,
   λ c at_c. let same : b ≡ c = cc (at, at_c) in subst (IsBounded r.doms) same (bounded_here b r s domains (bounds_term e r.doms i b at are) h),
 )
-step_is Changed e i b r s at domains are h = (
-  falls_of b.term (λ x. IsFromTo b.low b.high x) r s h,
-  λ fixed. let one = at_bounds (IsFixedIn r.doms) e r.doms i b at fixed in fixed_stays b.term (λ x. IsFromTo b.low b.high x) r s one.0 one.1 h,
-)
+step_is Changed e i b r s at domains are h = falls_of b.term (λ x. IsFromTo b.low b.high x) r s h
 step_is Wiped e i b r s at domains are h = λ a within holds.
     none_kept b.term (λ x. IsFromTo b.low b.high x) r s h (term_value a b.term) (term_within r.doms a b.term (bounds_term e r.doms i b at are) within)
     (between_at e r.doms i b a at domains are within holds)
@@ -130,10 +130,7 @@ divided_is Same e y r s is are h =
     let same = same_store y (λ x. x ≢ pos 0) r s h in
     let lacks : LacksZero r.doms y = λ zero. (kept_term Same y (λ x. x ≢ pos 0) r s h (λ e. cc (e)) (pos 0) (subst (λ (u : Stored). IsInSet (term_set u.doms y) (pos 0)) (sym same) zero)).1 refl in
     (same, subst (AllByRecursion (LacksZero r.doms)) (sym is) (lacks, tt))
-divided_is Changed e y r s is are h = (
-  falls_of y (λ x. x ≢ pos 0) r s h,
-  λ fixed. let one = divisor_all (IsFixedIn r.doms) e.operation e.operands y is fixed.1 in fixed_stays y (λ x. x ≢ pos 0) r s one.0 one.1 h,
-)
+divided_is Changed e y r s is are h = falls_of y (λ x. x ≢ pos 0) r s h
 divided_is Wiped e y r s is are h = λ a within holds.
     none_kept y (λ x. x ≢ pos 0) r s h (term_value a y) (term_within r.doms a y (divisor_term e (length r.doms) y is are) within)
     (divisor_not_zero e.operation e.operands (term_value a e.result) a y is holds)
@@ -169,8 +166,8 @@ none_changed false now e = refl
 steps_more : (changed now : Bool) (change : Change) (e : Equation) (r s t : Stored) (i : ℕ) → (change ≡ Wiped → ⊥) → ((now ≡ true) ↔ (change ≡ Changed)) → Shrinks r s → Shrinks s t
     → AreSteps changed e i r s → IsStep change e i s t → AreSteps (changed || now) e (i + 1) r t
 steps_more changed now Wiped e r s t i not told before after steps step = absurd (not refl)
-steps_more true now Same e r s t i not told before after steps step = (let f = room_after s t after in let g = steps.0 in omega (arith, f, g), steps.1)
-steps_more true now Changed e r s t i not told before after steps step = (let f = room_after s t after in let g = steps.0 in omega (arith, f, g), steps.1)
+steps_more true now Same e r s t i not told before after steps step = let f = room_after s t after in omega (arith, f, steps)
+steps_more true now Changed e r s t i not told before after steps step = let f = room_after s t after in omega (arith, f, steps)
 steps_more false true Same e r s t i not told before after steps step = let f = told.0 refl in absurd (cc (f))
 steps_more false false Same e r s t i not told before after steps step =
     let here : IsBoundedAt e r.doms i = subst (λ (u : Stored). IsBoundedAt e u.doms i) steps.0 step.1 in (
@@ -178,10 +175,7 @@ steps_more false false Same e r s t i not told before after steps step =
       λ j below. elim (cases_eq j i) [ inl same ↦ subst (IsBoundedAt e r.doms) (sym same) here | inr other ↦ steps.1 j (omega (arith, below, other)) ],
     )
 steps_more false false Changed e r s t i not told before after steps step = let f = told.1 refl in absurd (cc (f))
-steps_more false true Changed e r s t i not told before after steps step = (
-  (let f = room_after r s before in let g = step.0 in omega (arith, f, g)),
-  subst (λ (u : Stored). AllFixed u.doms (equation_terms e) → ⊥) steps.0 step.1,
-)
+steps_more false true Changed e r s t i not told before after steps step = let f = room_after r s before in omega (arith, f, step)
 
 pub narrowing_more : (changed now : Bool) (change : Change) (e : Equation) (r s t : Stored) (i : ℕ) → (change ≡ Wiped → ⊥) → ((now ≡ true) ↔ (change ≡ Changed)) → Shrinks s t
     → IsCorrectOf (EquationTruth e) s.doms t.doms → IsStep change e i s t → IsNarrowing e r s i changed → IsNarrowing e r t (i + 1) (changed || now)
@@ -214,42 +208,33 @@ singles ds a (t ∷ ts) within are fixed =
     (subst (IsOnly (term_set ds t)) same fixed.0.1, singles ds a ts within are.1 fixed.1)
 
 -- what is fixed stays as it is
-fixed_quiet : (ds es : List (List (ℤ × ℤ))) (ts : List Term) → AllByRecursion (IsTermOf (length ds)) ts → AllFixed ds ts → AreDomains es → IsNarrower ds es
-    → AllByRecursion (λ (t : Term). IsQuiet Bound (term_set ds t) (term_set es t)) ts
-fixed_quiet ds es [] are fixed domains narrower = tt
-fixed_quiet ds es (t ∷ ts) are fixed domains narrower =
+fixed_quiet : (event : Event) (ds es : List (List (ℤ × ℤ))) (ts : List Term) → AllByRecursion (IsTermOf (length ds)) ts → AllFixed ds ts → AreDomains es → IsNarrower ds es → AreQuietAt event ds es ts
+fixed_quiet event ds es [] are fixed domains narrower = tt
+fixed_quiet event ds es (t ∷ ts) are fixed domains narrower =
     let still = still_only ds es t fixed.0.0 are.0 fixed.0.1 domains narrower in
     let same : term_set es t ≡ term_set ds t = still ∙ sym fixed.0.1 in
-    ((ap least (sym same), ap greatest (sym same), λ x only. sym same), fixed_quiet ds es ts are.1 fixed.1 domains narrower)
+    (subst (IsQuiet event (term_set ds t)) (sym same) (quiet_self event (term_set ds t)), fixed_quiet event ds es ts are.1 fixed.1 domains narrower)
 
 subsumed : (e : Equation) (ds : List (List (ℤ × ℤ))) → AllByRecursion (IsTermOf (length ds)) (equation_terms e) → AllFixed ds (equation_terms e) → IsEquationLine e ds
     → ((a : List ℤ) → Within ds a → EquationTruth e a) × ((es : List (List (ℤ × ℤ))) → AreDomains es → IsNarrower ds es → IsEquationLine e es)
 subsumed e ds are fixed line = (
   (λ a within. equation_alone e ds a (singles ds a (equation_terms e) within are fixed) line),
-  (λ es domains narrower. equation_kept e ds es narrower (fixed_quiet ds es (equation_terms e) are fixed domains narrower) line),
+  (λ es domains narrower. equation_kept e ds es narrower (fixed_quiet Bound ds es (e.result ∷ []) (are.0, tt) (fixed.0, tt) domains narrower).0 (fixed_quiet (operand_event e.operation) ds es e.operands are.1 fixed.1 domains narrower) line),
 )
 
-pub rested_answer : (answer : Answer) (changed : Bool) (e : Equation) (r s : Stored) (n : ℕ) → length (equation_terms e) ≤ n → AllByRecursion (IsTermOf (length r.doms)) (equation_terms e)
-    → IsNarrowing e r s n changed → IsRested answer changed s.doms (equation_terms e) → IsAnswerOf answer (EquationTruth e) (IsEquationLine e) r.doms s.doms
-rested_answer NoFix true e r s n passed are h rested = h.steps.0
-rested_answer NoFix false e r s n passed are h rested = absurd (cc (rested))
-rested_answer Fix true e r s n passed are h rested = absurd (let f = rested.0 in cc (f))
-rested_answer Fix false e r s n passed are h rested =
+pub rested_answer : (fixed changed : Bool) (e : Equation) (r s : Stored) (n : ℕ) → length (equation_terms e) ≤ n → AllByRecursion (IsTermOf (length r.doms)) (equation_terms e)
+    → IsNarrowing e r s n changed → changed ≡ false → IsTrue fixed ↔ AllFixed s.doms (equation_terms e) → IsAnswerOf (rested_by fixed) (EquationTruth e) (IsEquationLine e) r.doms s.doms
+rested_answer fixed true e r s n passed are h same told = absurd (cc (same))
+rested_answer false false e r s n passed are h same told =
     subst (λ (u : Stored). IsEquationLine e u.doms) (sym h.steps.0) (line_now e r.doms n (omega (arith, passed, bounds_length e r.doms)) h.steps.1 (h.divides refl))
-rested_answer Subsumed true e r s n passed are h rested = absurd (let f = rested.0 in cc (f))
-rested_answer Subsumed false e r s n passed are h rested =
+rested_answer true false e r s n passed are h same told =
     let line = subst (λ (u : Stored). IsEquationLine e u.doms) (sym h.steps.0) (line_now e r.doms n (omega (arith, passed, bounds_length e r.doms)) h.steps.1 (h.divides refl)) in
-    subsumed e s.doms (subst (λ (u : Stored). AllByRecursion (IsTermOf (length u.doms)) (equation_terms e)) (sym h.steps.0) are) rested.1 line
-rested_answer Failed changed e r s n passed are h rested = absurd rested
+    subsumed e s.doms (subst (λ (u : Stored). AllByRecursion (IsTermOf (length u.doms)) (equation_terms e)) (sym h.steps.0) are) (told.0 refl) line
 
-pub rested_decided : (answer : Answer) (changed : Bool) (e : Equation) (r s : Stored) (n : ℕ) → IsNarrowing e r s n changed → IsRested answer changed s.doms (equation_terms e)
-    → AllFixed r.doms (equation_terms e) → IsDecided answer
-rested_decided NoFix true e r s n h rested fixed = absurd (h.steps.1 fixed)
-rested_decided NoFix false e r s n h rested fixed = absurd (cc (rested))
-rested_decided Fix true e r s n h rested fixed = absurd (h.steps.1 fixed)
-rested_decided Fix false e r s n h rested fixed = absurd (rested.1 (subst (λ (u : Stored). AllFixed u.doms (equation_terms e)) (sym h.steps.0) fixed))
-rested_decided Subsumed changed e r s n h rested fixed = inl refl
-rested_decided Failed changed e r s n h rested fixed = inr refl
+-- where something left, there is less room
+pub changed_answer : (e : Equation) (r s : Stored) (n : ℕ) (changed : Bool) → IsNarrowing e r s n changed → changed ≡ true → IsAnswerOf NoFix (EquationTruth e) (IsEquationLine e) r.doms s.doms
+changed_answer e r s n true h is = h.steps
+changed_answer e r s n false h is = absurd (cc (is))
 
 -- a term has no number between its bounds
 pub failed_now : (e : Equation) (r s t : Stored) (i : ℕ) (changed : Bool) → IsNarrowing e r s i changed → IsStep Wiped e i s t → (a : List ℤ) → Within r.doms a → EquationTruth e a → ⊥

@@ -1,3 +1,2 @@
-pub mod Parts
 pub mod Extremes
 pub mod Narrowing

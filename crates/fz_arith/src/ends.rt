@@ -1,12 +1,14 @@
 //! Bounds that the ends of terms give.
-ghost use Rattle.std.specs.Prelude.{◌≡◌, ◌≢◌, ℤ, pos, neg_ℤ, ◌+ℤ◌, ◌-ℤ◌, ◌*ℤ◌, ◌<ℤ◌, int_div, int_lt, List, [], ◌∷◌, ◌⊎◌, length, map, if◌then◌else◌};
+ghost use Rattle.std.specs.Prelude.{◌≡◌, ◌≢◌, ◌<◌, ℤ, pos, neg_ℤ, ◌+ℤ◌, ◌-ℤ◌, ◌*ℤ◌, ◌<ℤ◌, int_div, int_lt, List, [], ◌∷◌, ◌⊎◌, length, map, if◌then◌else◌};
 ghost use Rattle.std.specs.Int.{int_min, int_max};
 ghost use Rattle.std.specs.List.{AllByRecursion, fold};
-ghost use Rattle.fz_strength.specs.Operations.{low_of, high_of, between, own_bounds, remainder, corner_bounds, difference_bounds, quotient_bounds, remainder_bounds, signed_bounds, result_bounds};
+ghost use Rattle.fz_strength.specs.Domains.{term_set};
+ghost use Rattle.fz_strength.specs.Operations.{size_between, least_size, low_of, high_of, between, own_bounds, remainder, corner_bounds, difference_bounds, quotient_bounds, remainder_bounds, signed_bounds, result_bounds};
 ghost use Rattle.fz_strength.specs.declared.operation.Operation.TheVariants.{Plus, Times, Abs};
 ghost use Rattle.fz_prop.specs.Stores.{IsTermOf};
 ghost use Rattle.fz_arith.specs.Extremes.{pick};
 
+use fz_dom::Dom;
 use fz_prop::Store;
 use fz_prop::terms::{greatest_of, least_of};
 use fz_spec::term::Term;
@@ -158,7 +160,7 @@ pub fn quotient_bounds(store: &Store, x: Term, y: Term, value: Term) -> Bounds
     own_bounds(store, x)
 }
 
-/// The same where all numbers of the other factor have one sign.
+/// The bounds of a factor whose other factor has numbers of one sign alone: the hull of the quotients.
 fn quotients(store: &Store, x: Term, y: Term, value: Term) -> Bounds
     requires y { IsTermOf (length store.now.doms) y }
     requires value { IsTermOf (length store.now.doms) value }
@@ -176,6 +178,53 @@ fn quotients(store: &Store, x: Term, y: Term, value: Term) -> Bounds
     )
 }
 
+/// The least size of a number between two.
+fn size_between(low: i32, high: i32) -> i64
+    ensures { result ≡ size_between (low, high) }
+{
+    i64::from(low).max(negative(high)).max(0)
+}
+
+/// The least size of a number of a set.
+fn least_size_in(set: &Dom) -> i64
+    requires { 0 < length set.now }
+    ensures { result ≡ least_size set.now }
+{
+    let (low, high) = (set.min(), set.max());
+    if 0 <= low {
+        return i64::from(low);
+    }
+    if high <= 0 {
+        return negative(high);
+    }
+    least_size_of_ranges(set)
+}
+
+/// The least size of a number of a set, by its ranges.
+fn least_size_of_ranges(set: &Dom) -> i64
+    requires { 0 < length set.now }
+    ensures { result ≡ least_size set.now }
+{
+    let (low, high) = set.range_at(0);
+    let mut least = size_between(low, high);
+    'sizes: for index in 1..set.range_count() {
+        let (low, high) = set.range_at(index);
+        least = least.min(size_between(low, high));
+    }
+    least
+}
+
+/// The least size of a number that is left of a term.
+fn least_size_of(store: &Store, term: Term) -> i64
+    requires { IsTermOf (length store.now.doms) term }
+    ensures { result ≡ least_size (term_set store.now.doms term) }
+{
+    match term {
+        Term::Var(variable) => least_size_in(store.dom(variable)),
+        Term::Num(number) => size_between(number, number),
+    }
+}
+
 /// The bounds of an absolute value.
 pub fn size_bounds(store: &Store, x: Term, value: Term) -> Bounds
     requires { IsTermOf (length store.now.doms) x }
@@ -184,7 +233,7 @@ pub fn size_bounds(store: &Store, x: Term, value: Term) -> Bounds
     let (low, high) = (least_of(store, x), greatest_of(store, x));
     Bounds {
         term: value,
-        low: i64::from(low).max(negative(high)).max(0),
+        low: least_size_of(store, x),
         high: i64::from(high).max(negative(low)),
     }
 }

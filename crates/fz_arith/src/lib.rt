@@ -7,9 +7,5 @@ pub mod arithmetic;
 mod bounds;
 mod ends;
 mod narrow;
-mod parts;
 
 pub use arithmetic::Arithmetic;
-
-#[cfg(test)]
-mod tests;

@@ -5,9 +5,9 @@ ghost use Rattle.fz_dom.specs.Changes.{IsFromTo};
 ghost use Rattle.fz_dom.specs.declared.change.Change.TheVariants as changes;
 ghost use Rattle.fz_strength.specs.Events.{AllFixed};
 ghost use Rattle.fz_strength.specs.Operations.{equation, divisors_of, EquationTruth, IsEquationLine};
-ghost use Rattle.fz_prop.specs.Answers.{IsAnswerOf, IsCorrectOf, IsDecided};
+ghost use Rattle.fz_prop.specs.Answers.{IsAnswerOf, IsCorrectOf};
 ghost use Rattle.fz_prop.specs.Stores.{Shrinks, IsStore, IsTermOf, IsTermChange, IsChangeAt};
-ghost use Rattle.fz_arith.specs.Narrowing.{IsClamped, IsDivided, IsStep, AreSteps, IsRested};
+ghost use Rattle.fz_arith.specs.Narrowing.{IsClamped, IsDivided, IsStep};
 
 use crate::bounds::bounds_at;
 use fz_prop::terms::{are_fixed, remove, value_of};
@@ -32,8 +32,6 @@ pub fn keep_equation(
         (λ r. IsAnswerOf r (EquationTruth (equation operation operands.now value))
         (IsEquationLine (equation operation operands.now value))
         store.old.doms store.new.doms) }
-    ensures checking { IfOk result
-        (λ r. AllFixed store.old.doms (value ∷ operands.now) → IsDecided r) }
 {
     let mut changed = match exclude_zero(store, operation, operands)? {
         Change::Wiped => return Ok(Answer::Failed),
@@ -45,8 +43,11 @@ pub fn keep_equation(
             change => changed |= is_changed(change),
         }
     }
+    if changed {
+        return Ok(Answer::NoFix);
+    }
     let _ = store.doms();
-    Ok(rested(store, changed, operands, value))
+    Ok(Answer::rested(are_all_fixed(store, operands, value)))
 }
 
 fn is_changed(change: Change) -> bool
@@ -156,18 +157,11 @@ fn clamped(value: i64) -> i32
     }
 }
 
-/// What a run answers that found no term without a number.
-fn rested(store: &Store, changed: bool, operands: &[Term], value: Term) -> Answer
+/// Whether one number is left of each term of an equation.
+fn are_all_fixed(store: &Store, operands: &[Term], value: Term) -> bool
     requires value { IsTermOf (length store.now.doms) value }
     requires operands { AllByRecursion (IsTermOf (length store.now.doms)) operands.now }
-    ensures { IsRested result changed store.now.doms (value ∷ operands.now) }
+    ensures { IsTrue result ↔ AllFixed store.now.doms (value ∷ operands.now) }
 {
-    if changed {
-        return Answer::NoFix;
-    }
-    if value_of(store, value).is_some() && are_fixed(store, operands) {
-        Answer::Subsumed
-    } else {
-        Answer::Fix
-    }
+    value_of(store, value).is_some() && are_fixed(store, operands)
 }

@@ -7,9 +7,9 @@ use Rattle.fz_spec.specs.declared.builtin.Builtin.{Builtin}
 use Rattle.fz_spec.specs.declared.term.Term.{Term}
 use Rattle.fz_spec.specs.declared.term.Term.TheVariants.{Num, Var}
 use Rattle.fz_spec.specs.Constraints.{Argument, One, Numbers, Terms, Set, term_value, term_values, Holds}
-use Rattle.fz_strength.specs.declared.event.Event.TheVariants.{Fixed}
 use Rattle.fz_strength.specs.Domains.{dom_at, Within, number_at}
-use Rattle.fz_strength.specs.Events.{AllFixed, Wait, wait_for, waits_for, AreBelow}
+use Rattle.fz_strength.specs.Events.{AllFixed}
+use Rattle.fz_prop.specs.Stores.{IsTermOf}
 use Rattle.fz_strength.specs.Lines.{terms_of, terms_among}
 use Rattle.fz_sets.proofs.Lists.{all_left, all_right}
 use Rattle.fz_strength.proofs.Terms.{is_single}
@@ -21,9 +21,9 @@ Agree a b ts = AllByRecursion (λ (t : Term). term_value a t ≡ term_value b t)
 only_number : (ds : List (List (ℤ × ℤ))) (a : List ℤ) (v : ℕ) (x : ℤ) → v < length ds → dom_at ds v ≡ (x, x) ∷ [] → Within ds a → number_at a v ≡ x
 only_number ds a v x inside only within = is_single (number_at a v) x (subst (λ (d : List (ℤ × ℤ)). IsInSet d (number_at a v)) only (within.members v inside))
 
-pub fixed_agree : (ds : List (List (ℤ × ℤ))) (ts : List Term) (a b : List ℤ) → AreBelow (waits_for Fixed ts) (length ds) → AllFixed ds ts → Within ds a → Within ds b → Agree a b ts
+pub fixed_agree : (ds : List (List (ℤ × ℤ))) (ts : List Term) (a b : List ℤ) → AllByRecursion (IsTermOf (length ds)) ts → AllFixed ds ts → Within ds a → Within ds b → Agree a b ts
 fixed_agree ds [] a b below fixed in_a in_b = tt
-fixed_agree ds (Num n ∷ ts) a b below fixed in_a in_b = (refl, fixed_agree ds ts a b below fixed.1 in_a in_b)
+fixed_agree ds (Num n ∷ ts) a b below fixed in_a in_b = (refl, fixed_agree ds ts a b below.1 fixed.1 in_a in_b)
 fixed_agree ds (Var v ∷ ts) a b below fixed in_a in_b =
     let x = fixed.0.0 in (
       only_number ds a v x below.0 fixed.0.1 in_a ∙ sym (only_number ds b v x below.0 fixed.0.1 in_b),

@@ -6,6 +6,3 @@ pub mod awaiting;
 mod numbers;
 
 pub use awaiting::Awaiting;
-
-#[cfg(test)]
-mod tests;

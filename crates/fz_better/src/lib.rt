@@ -5,6 +5,3 @@
 pub mod order;
 
 pub use order::better;
-
-#[cfg(test)]
-mod tests;

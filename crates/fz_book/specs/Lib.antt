@@ -4,3 +4,4 @@ pub mod Places
 pub mod Outcomes
 pub mod Needs
 pub mod Offering
+pub mod Reports

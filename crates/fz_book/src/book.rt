@@ -204,6 +204,24 @@ impl Book {
         self.take_at(place, account)
     }
 
+    /// Takes an account of its model and of one of its open frontiers, for which it has room: as `take` does, but with no look at
+    /// the model, and it takes no memory.
+    pub fn take_open(&mut self, account: Account)
+        requires model { self.old.book.model ≡ account.model }
+        requires open { IsOpen self.old.book account.before }
+        requires found { found_needed account ≤ self.old.found_room }
+        requires given { given_needed account ≤ self.old.given_room }
+        ensures { Takes self.old.book account self.new.book }
+    {
+        let Some(place) = place_of(&self.parts, account.before()) else {
+            unreachable!()
+        };
+        match self.take_at(place, account) {
+            Taken::Taken => {}
+            Taken::Stranger(_) | Taken::Foreign(_) | Taken::NoMemory(_) => unreachable!(),
+        }
+    }
+
     /// Takes an account of the part at a place.
     fn take_at(&mut self, place: usize, account: Account) -> Taken
         requires model { self.old.book.model ≡ account.model }

@@ -6,13 +6,12 @@
 #![tactic(auto)]
 
 pub mod book;
+pub mod end;
 pub mod offered;
 mod part;
 pub mod taken;
 
 pub use book::Book;
+pub use end::{End, has_enough};
 pub use offered::Offered;
 pub use taken::Taken;
-
-#[cfg(test)]
-mod tests;

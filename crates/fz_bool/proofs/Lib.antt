@@ -2,6 +2,6 @@ pub mod Looks
 pub mod Within
 pub mod Falsing
 pub mod Clausal
-pub mod Names
+pub mod Sayings
 pub mod Odd
 pub mod Parities

@@ -1,4 +1,3 @@
 pub mod Looks
 pub mod Clausal
-pub mod Parts
 pub mod Parity

@@ -1,17 +1,14 @@
--- Parities: whether an odd number of terms are 1, when an assignment makes one true, its line, and what its propagator keeps.
-use Rattle.std.specs.Prelude.{◌≡◌, ◌≢◌, ℕ, ℤ, Bool, true, false, not, List, [], ◌∷◌, length, Option, Some, None, MatchOption, pos, if◌then◌else◌}
+-- Parities: whether an odd number of terms are 1, when an assignment makes one true, its line, and what is seen of its terms.
+use Rattle.std.specs.Prelude.{◌≡◌, ◌≢◌, ℕ, ℤ, Bool, true, false, not, List, [], ◌∷◌, length, Some, pos, if◌then◌else◌}
 use Rattle.std.specs.List.{AllByRecursion, slice_get}
-use Rattle.fz_spec.specs.declared.builtin.Builtin.{Builtin}
 use Rattle.fz_spec.specs.declared.term.Term.{Term}
-use Rattle.fz_spec.specs.Constraints.{Argument, Constraint, term_value, term_values}
+use Rattle.fz_spec.specs.Constraints.{term_value, term_values}
 use Rattle.fz_spec.specs.Truth.{is_one}
 use Rattle.fz_strength.specs.Domains.{Within}
-use Rattle.fz_strength.specs.Events.{IsFixedIn, variables_of}
+use Rattle.fz_strength.specs.Events.{IsFixedIn}
 use Rattle.fz_strength.specs.Lines.{AreOthersFixed}
-use Rattle.fz_strength.specs.Parities.{parity_of}
 use Rattle.fz_strength.specs.Promises.{IsTruth}
 use Rattle.fz_prop.specs.Stores.{IsTermOf}
-use Rattle.fz_bool.specs.declared.parity.Terms.{Terms}
 use Rattle.fz_bool.specs.declared.parity.Seen.{Seen}
 use Rattle.fz_bool.specs.declared.parity.Seen.TheVariants.{All, Last, More}
 
@@ -63,12 +60,3 @@ abbrev pub IsSeen : Seen → List (List (ℤ × ℤ)) → List Term → Type 0
 IsSeen (All odd) ds ts = (a : List ℤ) → Within ds a → OddTruth ts odd a
 IsSeen (Last t odd) ds ts = IsLastTerm ds ts t odd
 IsSeen More ds ts = AreTwoOpen ds ts
-
--- the terms are those of the parity that the constraint says, and its variables are listed
-pub record IsParity (c : Constraint) (terms : List Term) (odd : Bool) (variables : List ℕ) : Type 0 where
-  pub says : parity_of c.name c.arguments ≡ Some (record { terms = terms; odd = odd })
-  pub listed : variables ≡ variables_of terms
-
--- the terms of the parity that a constraint says, or none where it says none
-abbrev pub IsTermsOf : Option Terms → Builtin → List Argument → Type 0
-IsTermsOf o name arguments = MatchOption o (parity_of name arguments ≡ None) (λ (p : Terms). parity_of name arguments ≡ Some (record { terms = p.terms.items; odd = p.odd }))

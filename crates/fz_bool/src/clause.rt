@@ -1,98 +1,129 @@
 //! Clauses.
-ghost use Rattle.std.specs.Prelude.{◌≡◌, ◌++◌, length, IfOk, MatchOption, None};
-ghost use Rattle.fz_strength.specs.Clauses.{clause_of, IsTrueIn, IsUntrueIn};
-ghost use Rattle.fz_strength.specs.Events.{IsFixedIn, AreBelow, AreFixed, variable_of};
-ghost use Rattle.fz_strength.specs.Lines.{waits};
-ghost use Rattle.fz_strength.specs.Promises.{IsCorrect, Suits};
-ghost use Rattle.fz_prop.specs.Answers.{IsAnswer, IsAnswerOf, IsCorrectOf, IsDecided};
+ghost use Rattle.std.specs.Prelude.{◌≡◌, ◌++◌, map, true, false, IfOk, OnOk};
+ghost use Rattle.fz_strength.specs.Clauses.{clause, conjunction, disjunction, negative, positive, IsTrueIn, IsUntrueIn};
+ghost use Rattle.fz_strength.specs.Sayings.{Says};
+ghost use Rattle.fz_prop.specs.Answers.{IsAnswerOf, IsCorrectOf};
 ghost use Rattle.fz_prop.specs.Stores.{Shrinks};
 ghost use Rattle.fz_bool.specs.Looks.{IsLiteralOf, AreLiteralsOf, IsOpen};
-ghost use Rattle.fz_bool.specs.Clausal.{TruthOf, LineOf, AreFixedLiterals, literal_variables};
+ghost use Rattle.fz_bool.specs.Clausal.{TruthOf, LineOf};
 
 use crate::literals::{
     Left, State, keep_false, left_of, make_false, make_true, state_of, truth_among,
 };
-use crate::parts::parts_of;
-use fz_model::constraint::Constraint;
-use fz_model::part::Part;
-use fz_prop::variables::add_variable;
-use fz_prop::{Answer, Cost, Event, Propagator, Store};
+use fz_prop::{Answer, Propagator, Store};
+use fz_spec::term::Term;
 use fz_strength::literal::Literal;
 use std::alloc::{AllocError, Global};
 use std::marker::Model;
 
-/// A constraint that says by a literal whether one of its literals is true.
+/// A literal that says whether one of these is true; or, of all, one that is false exactly where all are.
 #[derive(Drop)]
 pub struct Clause {
-    constraint: Constraint,
+    all: bool,
     literals: Vec<Literal>,
     r: Literal,
-    variables: Vec<u32>,
 }
 
 impl Model for Clause {
-    ghost use Rattle.fz_spec.specs.Constraints as meaning;
-    ghost use Rattle.fz_bool.specs.Clausal.{IsClause};
+    ghost use Rattle.fz_strength.specs.Sayings.{Saying, Says};
 
-    ghost Value = { meaning.Constraint };
+    ghost Value = { Saying };
 
-    ghost view = { λ p. p.constraint };
-
-    ghost invariant = { λ p. IsClause p.constraint p.literals.items p.r p.variables.items };
+    ghost view = { λ p. Says p.all (record { literals = p.literals.items; result = p.r }) };
 }
 
 impl Clause {
-    /// The propagator of a constraint that says a clause; `None` where it says none.
+    /// The propagator of a term that says whether one of the first terms is 1, or one of the second 0.
     ///
     /// # Errors
     /// `AllocError` where there is no memory.
-    pub fn of(alloc: Global, constraint: &Constraint) -> Result<Option<Clause>, AllocError>
-        ensures { IfOk result (λ o. MatchOption o
-            (clause_of constraint.now.name constraint.now.arguments ≡ None)
-            (λ p. p ≡ constraint.now)) }
+    pub fn some_sign(
+        alloc: Global,
+        positives: &[Term],
+        negatives: &[Term],
+        r: Term,
+    ) -> Result<Clause, AllocError>
+        ensures { IfOk result (λ p. p ≡ Says false (clause positives.now negatives.now r)) }
     {
-        let Some(parts) = parts_of(alloc, constraint.name(), constraint.arguments())? else {
-            return Ok(None);
+        let mut literals = Vec::with_capacity(alloc, positives.len())?;
+        add_positive(&mut literals, positives)?;
+        add_negative(&mut literals, negatives)?;
+        let r = Literal {
+            term: r,
+            negated: false,
         };
-        let variables = variables_of(alloc, &parts.literals, parts.r)?;
-        let constraint = constraint.copy()?;
-        Ok(Some(Clause {
-            constraint,
-            literals: parts.literals,
-            r: parts.r,
-            variables,
-        }))
+        Ok(Clause {
+            all: false,
+            literals,
+            r,
+        })
     }
 
-    /// Narrows a store, as `propagate` does: nothing is kept between runs.
+    /// The propagator of a term that says whether one of these terms is 1.
     ///
     /// # Errors
-    /// `AllocError` where there is no memory for a domain; the store is then narrower, and no assignment is lost.
-    pub fn run(&self, store: &mut Store) -> Result<Answer, AllocError>
-        requires inside { AreBelow (waits self.now) (length store.old.doms) }
-        requires suits { Suits self.now store.old.doms }
-        ensures shrinks { Shrinks store.old store.new }
-        ensures correct { IsCorrect self.now store.old.doms store.new.doms }
-        ensures answer { IfOk result (λ r. IsAnswer r self.now store.old.doms store.new.doms) }
-        ensures checking { IfOk result
-            (λ r. AreFixed (waits self.now) store.old.doms → IsDecided r) }
+    /// `AllocError` where there is no memory.
+    pub fn some(alloc: Global, terms: &[Term], r: Term) -> Result<Clause, AllocError>
+        ensures { IfOk result (λ p. p ≡ Says false (disjunction terms.now r)) }
     {
-        let answer = keep_clause(store, &self.literals, self.r);
-        let _ = store.doms();
-        answer
+        let mut literals = Vec::with_capacity(alloc, terms.len())?;
+        add_positive(&mut literals, terms)?;
+        let r = Literal {
+            term: r,
+            negated: false,
+        };
+        Ok(Clause {
+            all: false,
+            literals,
+            r,
+        })
+    }
+
+    /// The propagator of a term that says whether all of these terms are 1: it is 0 where one of them is.
+    ///
+    /// # Errors
+    /// `AllocError` where there is no memory.
+    pub fn all(alloc: Global, terms: &[Term], r: Term) -> Result<Clause, AllocError>
+        ensures { IfOk result (λ p. p ≡ Says true (conjunction terms.now r)) }
+    {
+        let mut literals = Vec::with_capacity(alloc, terms.len())?;
+        add_negative(&mut literals, terms)?;
+        let r = Literal {
+            term: r,
+            negated: true,
+        };
+        Ok(Clause {
+            all: true,
+            literals,
+            r,
+        })
     }
 }
 
-/// The variables of literals and of one more.
-fn variables_of(alloc: Global, literals: &[Literal], r: Literal) -> Result<Vec<u32>, AllocError>
-    ensures { IfOk result (λ v. v.items ≡ literal_variables literals.now ++ variable_of r.term) }
+/// Adds for each term the literal that it is 1.
+fn add_positive(literals: &mut Vec<Literal>, terms: &[Term]) -> Result<(), AllocError>
+    ensures { OnOk result (literals.new.items ≡ literals.old.items ++ map positive terms.now) }
 {
-    let mut variables = Vec::with_capacity(alloc, literals.len())?;
-    for literal in literals {
-        add_variable(&mut variables, literal.term)?;
+    for term in terms {
+        literals.push(Literal {
+            term: *term,
+            negated: false,
+        })?;
     }
-    add_variable(&mut variables, r.term)?;
-    Ok(variables)
+    Ok(())
+}
+
+/// Adds for each term the literal that it is 0.
+fn add_negative(literals: &mut Vec<Literal>, terms: &[Term]) -> Result<(), AllocError>
+    ensures { OnOk result (literals.new.items ≡ literals.old.items ++ map negative terms.now) }
+{
+    for term in terms {
+        literals.push(Literal {
+            term: *term,
+            negated: true,
+        })?;
+    }
+    Ok(())
 }
 
 /// Narrows a store so that a literal says whether one of these literals is true.
@@ -103,8 +134,6 @@ fn keep_clause(store: &mut Store, literals: &[Literal], r: Literal) -> Result<An
     ensures correct { IsCorrectOf (TruthOf literals.now r) store.old.doms store.new.doms }
     ensures answer { IfOk result (λ a. IsAnswerOf a (TruthOf literals.now r)
         (LineOf literals.now r) store.old.doms store.new.doms) }
-    ensures checking { IfOk result (λ a. AreFixedLiterals store.old.doms literals.now
-        → IsFixedIn store.old.doms r.term → IsDecided a) }
 {
     match state_of(store, r) {
         State::True => keep_some(store, literals, r),
@@ -113,7 +142,7 @@ fn keep_clause(store: &mut Store, literals: &[Literal], r: Literal) -> Result<An
     }
 }
 
-/// The same where the result is true: the last literal that may still get true does.
+/// Narrows a store where the result is true: the last literal that may still get true does.
 fn keep_some(store: &mut Store, literals: &[Literal], r: Literal) -> Result<Answer, AllocError>
     requires literals { AreLiteralsOf store.old.doms literals.now }
     requires result { IsLiteralOf store.old.doms r }
@@ -122,8 +151,6 @@ fn keep_some(store: &mut Store, literals: &[Literal], r: Literal) -> Result<Answ
     ensures correct { IsCorrectOf (TruthOf literals.now r) store.old.doms store.new.doms }
     ensures answer { IfOk result (λ a. IsAnswerOf a (TruthOf literals.now r)
         (LineOf literals.now r) store.old.doms store.new.doms) }
-    ensures checking { IfOk result
-        (λ a. AreFixedLiterals store.old.doms literals.now → IsDecided a) }
 {
     match left_of(store, literals) {
         Left::Held => Ok(Answer::Subsumed),
@@ -136,7 +163,7 @@ fn keep_some(store: &mut Store, literals: &[Literal], r: Literal) -> Result<Answ
     }
 }
 
-/// The same where the result is false.
+/// Narrows a store where the result is false: no literal gets true.
 fn keep_none(store: &mut Store, literals: &[Literal], r: Literal) -> Result<Answer, AllocError>
     requires literals { AreLiteralsOf store.old.doms literals.now }
     requires result { IsLiteralOf store.old.doms r }
@@ -145,14 +172,13 @@ fn keep_none(store: &mut Store, literals: &[Literal], r: Literal) -> Result<Answ
     ensures correct { IsCorrectOf (TruthOf literals.now r) store.old.doms store.new.doms }
     ensures answer { IfOk result (λ a. IsAnswerOf a (TruthOf literals.now r)
         (LineOf literals.now r) store.old.doms store.new.doms) }
-    ensures decided { IfOk result (λ a. IsDecided a) }
 {
     let answer = keep_false(store, literals)?;
     let _ = store.doms();
     Ok(answer)
 }
 
-/// The same where the result is open: it is fixed where the literals decide.
+/// Fixes the result, which is open, where the literals decide.
 fn decide(store: &mut Store, literals: &[Literal], r: Literal) -> Result<Answer, AllocError>
     requires literals { AreLiteralsOf store.old.doms literals.now }
     requires result { IsLiteralOf store.old.doms r }
@@ -176,37 +202,12 @@ fn decide(store: &mut Store, literals: &[Literal], r: Literal) -> Result<Answer,
 }
 
 impl Propagator for Clause {
-    ghost constraint = { λ p. p };
+    ghost saying = { λ p. p };
 
-    fn vars(&self) -> &[u32] {
-        &self.variables
-    }
-
-    fn event(&self, place: usize) -> Event {
-        let _ = &self.variables;
-        let _ = place;
-        Event::Fixed
-    }
-
-    fn cost(&self) -> Cost {
-        Cost::of(self.constraint.name())
-    }
-
-    fn propagate(&mut self, store: &mut Store) -> Result<Answer, AllocError> {
-        self.run(store)
-    }
-
-    fn advise(&mut self, _variable: u32, _store: &Store) {}
-
-    fn copy(&self) -> Result<Clause, AllocError> {
-        let constraint = self.constraint.copy()?;
-        let literals = Vec::from_slice(*self.literals.allocator(), &self.literals)?;
-        let variables = Vec::from_slice(*self.variables.allocator(), &self.variables)?;
-        Ok(Clause {
-            constraint,
-            literals,
-            r: self.r,
-            variables,
-        })
+    #[tactic(auto, using(crate::proofs::Sayings::result_of))]
+    fn propagate(&self, store: &mut Store) -> Result<Answer, AllocError> {
+        let answer = keep_clause(store, &self.literals, self.r);
+        let _ = store.doms();
+        answer
     }
 }

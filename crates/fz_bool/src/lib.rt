@@ -6,10 +6,6 @@
 pub mod clause;
 mod literals;
 pub mod parity;
-mod parts;
 
 pub use clause::Clause;
 pub use parity::Parity;
-
-#[cfg(test)]
-mod tests;

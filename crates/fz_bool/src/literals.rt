@@ -1,7 +1,7 @@
 //! What is left of literals, and making them false.
 ghost use Rattle.std.specs.Prelude.{◌≡◌, length, IfOk, OnErr};
 ghost use Rattle.fz_strength.specs.Clauses.{true_number, false_number};
-ghost use Rattle.fz_prop.specs.Answers.{IsAnswerOf, IsCorrectOf, IsDecided};
+ghost use Rattle.fz_prop.specs.Answers.{IsAnswerOf, IsCorrectOf};
 ghost use Rattle.fz_prop.specs.Stores.{Shrinks, IsStore, IsTermOf, IsTermChange};
 ghost use Rattle.fz_bool.specs.Looks.{AreTermsOf, IsStateOf, IsLeft, IsTruthAmong};
 ghost use Rattle.fz_bool.specs.Clausal.{AreMadeFalse, AreFalseIn};
@@ -87,7 +87,6 @@ pub fn keep_false(store: &mut Store, literals: &[Literal]) -> Result<Answer, All
     ensures correct { IsCorrectOf (AreMadeFalse literals.now) store.old.doms store.new.doms }
     ensures answer { IfOk result (λ r. IsAnswerOf r (AreMadeFalse literals.now)
         (AreFalseIn literals.now) store.old.doms store.new.doms) }
-    ensures decided { IfOk result (λ r. IsDecided r) }
     ensures store { IsStore store.new }
 {
     let _ = store.doms();

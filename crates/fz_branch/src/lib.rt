@@ -11,6 +11,3 @@ mod value;
 
 pub use choose::choose_among;
 pub use plan::Plan;
-
-#[cfg(test)]
-mod tests;

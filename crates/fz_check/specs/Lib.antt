@@ -2,7 +2,5 @@ pub mod Calls
 pub mod Checked
 pub mod Drafts
 pub mod Entered
-pub mod Fits
 pub mod Parts
 pub mod Rows
-pub mod Searches

@@ -9,9 +9,9 @@ ghost use Rattle.fz_check.specs.Drafts.{IsOf};
 
 use crate::draft::Draft;
 use crate::goal::{goal, solve_fault};
-use crate::search::search;
 use fz_model::Model;
 use fz_resolve::Fault;
+use fz_solve::search::search;
 use fz_syntax::{Program, SolveItem};
 use std::alloc::{AllocError, Global};
 

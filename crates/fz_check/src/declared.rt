@@ -19,8 +19,8 @@ use fz_resolve::rules::{
     declared_already, misplaced_at_array, misplaced_at_parameter, unsupported_array,
     unsupported_parameter, unsupported_variable, wrong_length_at,
 };
-use fz_resolve::types::term_asked;
 use fz_resolve::{Entry, Fault, Names, fault_at};
+use fz_room::types::term_asked;
 use fz_spec::asked::{Asked, Element};
 use fz_syntax::{ArrayItem, Basic, ParameterItem, ValueType, VariableItem};
 

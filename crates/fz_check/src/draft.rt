@@ -23,8 +23,9 @@ use crate::faults::room_behind;
 use crate::parts::{push_array, push_bounds, push_scalar, push_value, value_of, variable_of};
 use fz_model::{Constraint, Output, Variable};
 use fz_resolve::annotations::output_shape;
-use fz_resolve::types::kind_of;
-use fz_resolve::{Entry, Fault, Names, Room};
+use fz_resolve::{Entry, Fault, Names};
+use fz_room::Room;
+use fz_room::types::kind_of;
 use fz_syntax::{ArrayItem, ConstraintItem, Item, Name, ParameterItem, ValueType, VariableItem};
 use std::alloc::{AllocError, Global};
 

@@ -10,8 +10,8 @@ ghost use Rattle.fz_resolve.specs.Meant.{environment_of, meant};
 ghost use Rattle.fz_check.specs.Entered.{value_entry, set_entry, IsArrayEntry};
 
 use fz_resolve::resolve::{numbers_in, set, term, terms};
-use fz_resolve::types::kind_of;
 use fz_resolve::{Entry, Names, NumberList, TermList};
+use fz_room::types::kind_of;
 use fz_spec::asked::Element;
 use fz_spec::kind::Kind;
 use fz_spec::term::Term;

@@ -10,12 +10,8 @@ mod draft;
 mod entered;
 mod faults;
 mod goal;
-pub mod laws;
 mod parts;
 mod rows;
-mod search;
-#[cfg(test)]
-mod tests;
 
 pub use checker::check;
 pub use fz_resolve::Fault;

@@ -10,6 +10,3 @@ pub mod words;
 
 pub use name::Name;
 pub use options::Options;
-
-#[cfg(test)]
-mod tests;

@@ -39,7 +39,7 @@ pub(crate) fn number(
     }
 }
 
-/// The same of a longer number.
+/// The number of an option whose bounds may take 64 bits: none of its own where it isn't given, and no answer where its text is no number within the bounds.
 pub(crate) fn long_number(
     matches: &ArgMatches<'_>,
     id: &str,

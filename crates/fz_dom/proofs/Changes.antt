@@ -18,7 +18,7 @@ use Rattle.fz_dom.proofs.Ranges.{least_member, greatest_member, least_below, upp
 use Rattle.fz_dom.proofs.Places.{bits_read, bits_count, ones_fall}
 use Rattle.fz_dom.proofs.Heads.{head_word, head_plain, filled, lowest_bit}
 use Rattle.fz_dom.proofs.Runs.{offset_in}
-use Rattle.fz_dom.proofs.Words.{positive}
+use Rattle.fz_bits.proofs.Words.{positive}
 
 -- ---- changes by another property
 

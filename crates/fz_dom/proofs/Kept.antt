@@ -20,7 +20,7 @@ use Rattle.fz_dom.proofs.Ranges.{same_ranges, least_member, greatest_member, wit
 use Rattle.fz_dom.proofs.Heads.{head_word, filled}
 use Rattle.fz_dom.proofs.Places.{bits_read}
 use Rattle.fz_dom.proofs.Runs.{offset_in}
-use Rattle.fz_dom.proofs.Words.{positive}
+use Rattle.fz_bits.proofs.Words.{positive}
 use Rattle.fz_dom.proofs.Lists.{same_or_less, outside}
 use Rattle.fz_sets.proofs.Sizes.{size_of_one}
 

@@ -1,7 +1,7 @@
 pub mod Ranges
 pub mod Merging
 pub mod Places
-pub mod Words
+pub mod Nearest
 pub mod Heads
 pub mod Changes
 pub mod Lists

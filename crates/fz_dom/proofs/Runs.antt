@@ -6,7 +6,7 @@ use Rattle.std.proofs.lemmas.Int.{ints}
 use Rattle.std.proofs.lemmas.Bool.Decides.{leb_tells}
 use Rattle.std.proofs.lemmas.Nat.Bits.{bit_at-zero, bit_at_cat_low, bit_at_cat_high}
 use Rattle.std.proofs.lemmas.Nat.{pow_pos}
-use Rattle.fz_dom.proofs.Words.{lowered_bits, positive}
+use Rattle.fz_bits.proofs.Words.{lowered_bits, positive}
 use Rattle.fz_sets.specs.Sets.{AreRanges, IsInSet, set_size}
 use Rattle.fz_dom.specs.Places.{bit_ranges}
 use Rattle.fz_dom.proofs.Ranges.{same_ranges, least_is_in}

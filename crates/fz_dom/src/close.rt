@@ -6,7 +6,8 @@ ghost use Rattle.fz_dom.specs.Places.{IsBit};
 
 use crate::head::HIGHEST_BASE;
 use crate::meet::LOWEST;
-use crate::word::{either, window_of};
+use crate::window::window_of;
+use fz_bits::word::either;
 
 /// A word, and the number that its first bit stands for.
 #[derive(Clone, Copy)]

@@ -15,7 +15,7 @@ use crate::meet::{base_of, moved, shared};
 use crate::range_iter::RangeIter;
 use crate::rising::{cut, has_between, keep_between, next_in, size_of, word_of};
 use crate::union::union_of;
-use crate::word::common;
+use fz_bits::word::common;
 use smallvec::SmallVec;
 use std::alloc::{AllocError, Global};
 use std::marker::Model;
@@ -531,7 +531,7 @@ impl Dom {
         self.keep_window(base, other, shift)
     }
 
-    /// The same where the other domain is at most 64 wide.
+    /// Keeps the numbers that lie a shift above those of another domain, which is at most 64 wide.
     fn keep_narrow_other(&mut self, other: &Dom, shift: i32) -> Change
         requires narrow { greatest other.now ≤ℤ (least other.now +ℤ pos 63) }
         ensures change { IsChange result (λ x. IsInSet other.now (x -ℤ shift)) self.old self.new }

@@ -5,7 +5,8 @@ ghost use Rattle.std.specs.Int.{bit_at};
 
 use crate::change::Change;
 use crate::rising::{size_of, word_of};
-use crate::word::{bits_above, common, first_run, has_bit, rebased, run_of, window_of, without};
+use crate::window::{rebased, window_of};
+use fz_bits::word::{bits_above, common, first_run, has_bit, run_of, without};
 
 /// The highest number that the lowest bit of a word may stand for, so that each of its bits stands for a number within
 /// the limits.
@@ -149,7 +150,7 @@ impl Head {
         Change::Changed
     }
 
-    /// The same numbers with a word for them.
+    /// Its numbers, with a word for them.
     fn in_bits(self) -> Head
         requires whole { IsWhole self }
         requires some { 0 < self.size }

@@ -11,11 +11,8 @@ mod meet;
 mod range_iter;
 mod rising;
 mod union;
-mod word;
+mod window;
 
 pub use change::Change;
 pub use domain::Dom;
 pub use range_iter::RangeIter;
-
-#[cfg(test)]
-mod tests;

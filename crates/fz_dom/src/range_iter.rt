@@ -4,7 +4,7 @@ ghost use Rattle.std.specs.Iterator.{YieldsFirst, item_count};
 ghost use Rattle.fz_dom.specs.Heads.{head_set, IsWhole};
 
 use crate::head::Head;
-use crate::word::{bits_above, first_run};
+use fz_bits::word::{bits_above, first_run};
 use std::marker::Model;
 
 /// The ranges of a domain from the lowest up, each a low and a high, seen as the list of those that are left.

@@ -6,7 +6,8 @@ ghost use Rattle.std.specs.Int.{bit_at};
 ghost use Rattle.fz_dom.specs.Changes.{IsFromTo};
 ghost use Rattle.fz_dom.specs.Wide.{cut_ranges, IsPart};
 
-use crate::word::{either, window_of};
+use crate::window::window_of;
+use fz_bits::word::either;
 use smallvec::SmallVec;
 use std::alloc::{AllocError, Global};
 

@@ -1,5 +1,5 @@
 -- Keeping the indices whose number is left, and the numbers at these.
-use Rattle.std.proofs.Common.{◌≡◌, ◌≢◌, ◌<◌, ℕ, List, refl, sym, subst, ◌∙◌, ap, arith, length, ◌⊎◌, inl, inr}
+use Rattle.std.proofs.Common.{◌≡◌, ◌≢◌, ◌<◌, ℕ, List, [], ◌∷◌, Bool, true, false, refl, sym, subst, ◌∙◌, ap, arith, length, ◌⊎◌, inl, inr}
 use Rattle.std.specs.Prelude.{ℤ}
 use Rattle.fz_sets.specs.Sets.{IsInSet}
 use Rattle.fz_dom.specs.Shape.{least}
@@ -11,16 +11,14 @@ use Rattle.fz_spec.specs.declared.term.Term.TheVariants.{Num, Var}
 use Rattle.fz_spec.specs.Constraints.{term_value}
 use Rattle.fz_spec.specs.Truth.{IsElement}
 use Rattle.fz_strength.specs.Domains.{dom_at, term_set, room, AreDomains, Within, IsNarrower}
-use Rattle.fz_strength.specs.Events.{IsOnly}
+use Rattle.fz_strength.specs.Events.{IsOnly, AllFixed}
 use Rattle.fz_strength.proofs.Terms.{in_single}
-use Rattle.fz_prop.specs.declared.answer.Answer.{Answer}
-use Rattle.fz_prop.specs.declared.answer.Answer.TheVariants.{Fix, NoFix, Subsumed, Failed}
-use Rattle.fz_prop.specs.Answers.{IsAnswerOf, IsCorrectOf, IsDecided}
+use Rattle.fz_prop.specs.Answers.{IsAnswerOf, IsCorrectOf}
+use Rattle.fz_prop.specs.Outcomes.{rested_by}
 use Rattle.fz_prop.specs.Stores.{Stored, Shrinks, IsTermOf, IsTermChange}
 use Rattle.fz_prop.proofs.Filled.{narrower_ranges, still_only}
-use Rattle.fz_prop.proofs.TermChanges.{term_within, narrower_term, only_in, within_kept, kept_term, none_kept, fixed_stays, falls_of, same_store}
-use Rattle.fz_rel.specs.Truths.{AreSingle}
-use Rattle.fz_element.specs.Selecting.{IsSelected, SelectionLine, IsPair, ArePairs, IsRested}
+use Rattle.fz_prop.proofs.TermChanges.{term_within, narrower_term, only_in, within_kept, kept_term, none_kept, falls_of, same_store}
+use Rattle.fz_element.specs.Selecting.{IsSelected, SelectionLine, IsPair, ArePairs}
 
 -- ---- changes of terms
 
@@ -140,22 +138,14 @@ for_good k c xs n ds es is_k is_c only line domains narrower =
           (least (term_set es k), subst (λ (u : ℤ). IsElement (least (term_set es k)) xs u) same (stands (least (term_set es k)) first), first);
     }
 
-pub rested_answer : (answer : Answer) (k c : Term) (xs : List ℤ) (ds es : List (List (ℤ × ℤ))) → IsTermOf (length es) k → IsTermOf (length es) c → SelectionLine k xs c es
-    → IsRested answer (term_set es c) → IsAnswerOf answer (IsSelected k xs c) (SelectionLine k xs c) ds es
-rested_answer Fix k c xs ds es is_k is_c line rested = line
-rested_answer Subsumed k c xs ds es is_k is_c line rested = (
-  always k c xs rested.0 es is_k is_c rested.1 line,
-  λ fs domains narrower. for_good k c xs rested.0 es fs is_k is_c rested.1 line domains narrower,
-)
-rested_answer NoFix k c xs ds es is_k is_c line rested = absurd rested
-rested_answer Failed k c xs ds es is_k is_c line rested = absurd rested
-
-pub rested_decided : (answer : Answer) (k c : Term) (ds es : List (List (ℤ × ℤ))) → IsTermOf (length ds) c → AreDomains es → IsNarrower ds es → IsRested answer (term_set es c)
-    → AreSingle k c ds → IsDecided answer
-rested_decided Fix k c ds es is_c domains narrower rested single = absurd (rested single.1.0 (still_only ds es c single.1.0 is_c single.1.1 domains narrower))
-rested_decided Subsumed k c ds es is_c domains narrower rested single = inl refl
-rested_decided NoFix k c ds es is_c domains narrower rested single = absurd rested
-rested_decided Failed k c ds es is_c domains narrower rested single = absurd rested
+pub rested_answer : (fixed : Bool) (k c : Term) (xs : List ℤ) (ds es : List (List (ℤ × ℤ))) → IsTermOf (length es) k → IsTermOf (length es) c → SelectionLine k xs c es
+    → (fixed ≡ true → AllFixed es (c ∷ [])) → IsAnswerOf (rested_by fixed) (IsSelected k xs c) (SelectionLine k xs c) ds es
+rested_answer false k c xs ds es is_k is_c line one = line
+rested_answer true k c xs ds es is_k is_c line one =
+    let only = (one refl).0 in (
+      always k c xs only.0 es is_k is_c only.1 line,
+      λ fs domains narrower. for_good k c xs only.0 es fs is_k is_c only.1 line domains narrower,
+    )
 
 -- ---- where both terms are one variable that changed
 
@@ -168,15 +158,4 @@ falls_twice first second k c P Q r s t changed h g shrinks narrows = elim change
   | inr e ↦
       let falls = falls_of c Q s t (subst (λ (f : Change). IsTermChange f c Q s t) e g) in
       elim shrinks.falls [ inl same ↦ subst (λ (u : Stored). room t.doms < room u.doms) same falls | inr more ↦ omega (arith, falls, more) ]
-]
-
-pub changed_open : (first second : Change) (k c : Term) (P Q : ℤ → Type 0) (r s t : Stored) → (first ≡ Wiped → ⊥) → (first ≡ Changed) ⊎ (second ≡ Changed)
-    → IsTermChange first k P r s → IsTermChange second c Q s t → AreSingle k c r.doms → ⊥
-changed_open Wiped second k c P Q r s t not_first changed h g single = not_first refl
-changed_open Changed second k c P Q r s t not_first changed h g single = fixed_stays k P r s single.0.0 single.0.1 h
-changed_open Same second k c P Q r s t not_first changed h g single = elim changed [
-  | inl e ↦ absurd (cc (e))
-  | inr e ↦
-      let only : IsOnly (term_set s.doms c) single.1.0 = subst (λ (u : Stored). IsOnly (term_set u.doms c) single.1.0) (sym (same_store k P r s h)) single.1.1 in
-      fixed_stays c Q s t single.1.0 only (subst (λ (f : Change). IsTermChange f c Q s t) e g)
 ]

@@ -1,3 +1,2 @@
 pub mod Pairing
 pub mod Keeping
-pub mod Names

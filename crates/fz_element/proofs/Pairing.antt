@@ -1,14 +1,11 @@
 -- The indices whose number is left, index by index.
-use Rattle.std.proofs.Common.{◌≡◌, ◌≢◌, ℕ, List, [], ◌∷◌, ◌++◌, refl, sym, subst, arith, length, ◌⊎◌, inl, inr, true, false}
+use Rattle.std.proofs.Common.{◌≡◌, ℕ, List, [], ◌∷◌, ◌++◌, sym, subst, arith, length, inl, inr}
 use Rattle.std.specs.Prelude.{ℤ, pos, ◌≤ℤ◌, ◌<ℤ◌, ◌+ℤ◌, ◌↔◌, slice_get, Some}
-use Rattle.std.specs.Int.{int_min}
-use Rattle.std.specs.Ordering.{int_eq}
-use Rattle.std.proofs.lemmas.Bool.Decides.{Decides-int_eq}
-use Rattle.std.proofs.lemmas.Int.{ints, clamps}
+use Rattle.std.proofs.lemmas.Int.{ints}
 use Rattle.std.proofs.lemmas.Option.{slice_get_within}
 use Rattle.fz_sets.specs.Sets.{IsInSet, IsWithinLimits, AreOneSet, AreWithinLimits}
 use Rattle.fz_spec.specs.Truth.{IsElement}
-use Rattle.fz_prop.proofs.Grown.{in_more, in_before, in_last, limits_more}
+use Rattle.fz_prop.proofs.Grown.{same_or_other, in_more, in_before, in_last, limits_more}
 use Rattle.fz_element.specs.Selecting.{IsPair, ArePairs}
 
 -- ---- elements
@@ -26,15 +23,6 @@ element_only k xs n m is_n is_m =
     let same : is_n.0 ≡ is_m.0 = omega (arith, ints, e, f) in
     let at_n : slice_get xs is_m.0 ≡ Some n = subst (λ (i : ℕ). slice_get xs i ≡ Some n) same is_n.2 in
     cc (at_n, is_m.2)
-
-pub below_min : (k a b m : ℤ) → k ≤ℤ a → k ≤ℤ b → m ≡ int_min a b → k ≤ℤ m
-below_min k a b m to_a to_b is = omega (arith, ints, clamps, to_a, to_b, is)
-
-pub same_or_other : (x y : ℤ) → (x ≡ y) ⊎ (x ≢ y)
-same_or_other x y = elim (int_eq x y) as (λ b. int_eq x y ≡ b → (x ≡ y) ⊎ (x ≢ y)) [
-  | true ↦ λ e. inl ((Decides-int_eq x y).0 e)
-  | false ↦ λ e. inr (λ same. let yes = (Decides-int_eq x y).1 same in absurd (cc (yes, e)))
-] refl
 
 -- ---- the loop
 

@@ -2,10 +2,7 @@
 #![tactic(auto)]
 
 pub mod element;
-pub mod pairs;
+mod pairs;
 mod select;
 
 pub use element::Element;
-
-#[cfg(test)]
-mod tests;

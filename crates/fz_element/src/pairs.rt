@@ -1,8 +1,5 @@
 //! The indices whose number is left.
-ghost use Rattle.std.specs.Prelude.{◌≡◌, ℤ, pos, ◌+ℤ◌, ◌≤ℤ◌, ◌<ℤ◌, List, length, IfOk, MatchOption};
-ghost use Rattle.std.specs.Int.{int_max, int_min};
-ghost use Rattle.fz_sets.specs.Sets.{IsInSet, GREATEST};
-ghost use Rattle.fz_dom.specs.Shape.{least, greatest};
+ghost use Rattle.std.specs.Prelude.{ℤ, length, IfOk, MatchOption};
 ghost use Rattle.fz_spec.specs.Truth.{IsElement};
 ghost use Rattle.fz_strength.specs.Domains.{term_set};
 ghost use Rattle.fz_prop.specs.Stores.{IsTermOf, FitsTerm};
@@ -10,7 +7,8 @@ ghost use Rattle.fz_element.specs.Selecting.{IsPair, ArePairs};
 
 use fz_dom::Dom;
 use fz_prop::Store;
-use fz_prop::terms::{greatest_of, has, least_of};
+use fz_prop::indices::{first_index, index_end};
+use fz_prop::terms::has;
 use fz_spec::term::Term;
 use std::alloc::{AllocError, Global};
 
@@ -30,7 +28,10 @@ pub fn pairs_of(
         (term_set store.now.doms index) (term_set store.now.doms value) r.0 r.1) }
 {
     let _ = store.doms();
-    let (first, end) = (first_of(store, index), end_of(store, index, numbers.len()));
+    let (first, end) = (
+        first_index(store, index),
+        index_end(store, index, numbers.len()),
+    );
     let room = numbers.len().min(64);
     let mut places = Vec::with_capacity(alloc, room)?;
     let mut found = Vec::with_capacity(alloc, room)?;
@@ -43,36 +44,6 @@ pub fn pairs_of(
     let indices = Dom::from_ranges(alloc, &places)?;
     let values = Dom::from_ranges(alloc, &found)?;
     Ok((indices, values))
-}
-
-/// The first index from 1 that may be left.
-pub fn first_of(store: &Store, index: Term) -> i32
-    requires { IsTermOf (length store.now.doms) index }
-    ensures first { result ≡ int_max (least (term_set store.now.doms index)) (pos 1) }
-    ensures below { (k : ℤ) → pos 1 ≤ℤ k
-        → IsInSet (term_set store.now.doms index) k → result ≤ℤ k }
-{
-    least_of(store, index).max(1)
-}
-
-/// What is above each index of a list of so many that is left.
-pub fn end_of(store: &Store, index: Term, count: usize) -> i32
-    requires index { IsTermOf (length store.now.doms) index }
-    requires fits { FitsTerm index }
-    ensures end { result
-        ≡ int_min (greatest (term_set store.now.doms index)) (pos count) +ℤ pos 1 }
-    ensures above { (k : ℤ) → k ≤ℤ pos count
-        → IsInSet (term_set store.now.doms index) k → k <ℤ result }
-{
-    let last = greatest_of(store, index).min(last_index(count));
-    above(last)
-}
-
-fn above(value: i32) -> i32
-    requires { value ≤ℤ GREATEST }
-    ensures { result ≡ value +ℤ pos 1 }
-{
-    value + 1
 }
 
 /// The number at an index, if both are left.
@@ -104,12 +75,4 @@ fn number_at(numbers: &[i32], index: i32) -> Option<i32>
         return None;
     }
     numbers.get((index - 1) as usize).copied()
-}
-
-/// The last index of a list, or the greatest `i32` where the list is longer.
-fn last_index(count: usize) -> i32
-    ensures last { result ≡ int_min (pos count) (pos 2147483647) }
-    ensures above { (k : ℤ) → k ≤ℤ pos 2147483647 → k ≤ℤ pos count → k ≤ℤ result }
-{
-    i32::try_from(count).unwrap_or(i32::MAX)
 }

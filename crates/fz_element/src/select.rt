@@ -1,15 +1,14 @@
 //! Keeping the indices whose number is left, and the numbers at these.
-ghost use Rattle.std.specs.Prelude.{◌≡◌, ◌↔◌, ◌⊎◌, ℤ, List, length, IfOk, IsTrue};
+ghost use Rattle.std.specs.Prelude.{◌≡◌, ◌↔◌, ◌⊎◌, length, IfOk, IsTrue};
 ghost use Rattle.fz_dom.specs.declared.change.Change.TheVariants as changes;
 ghost use Rattle.fz_strength.specs.Domains.{term_set};
-ghost use Rattle.fz_prop.specs.Answers.{IsAnswerOf, IsCorrectOf, IsDecided};
+ghost use Rattle.fz_prop.specs.Answers.{IsAnswerOf, IsCorrectOf, Narrows};
 ghost use Rattle.fz_prop.specs.Stores.{Shrinks, IsTermOf, FitsTerm};
-ghost use Rattle.fz_rel.specs.Truths.{AreSingle};
-ghost use Rattle.fz_element.specs.Selecting.{ArePairs, IsSelected, SelectionLine, IsRested};
+ghost use Rattle.fz_element.specs.Selecting.{ArePairs, IsSelected, SelectionLine};
 
 use crate::pairs::pairs_of;
 use fz_dom::Dom;
-use fz_prop::terms::{keep_in, value_of};
+use fz_prop::terms::{are_fixed, keep_in};
 use fz_prop::{Answer, Change, Store};
 use fz_spec::term::Term;
 use std::alloc::{AllocError, Global};
@@ -26,14 +25,8 @@ pub fn keep_element(
     requires value { IsTermOf (length store.old.doms) value }
     requires fits_index { FitsTerm index }
     requires fits_value { FitsTerm value }
-    ensures shrinks { Shrinks store.old store.new }
-    ensures correct { IsCorrectOf (IsSelected index numbers.now value)
-        store.old.doms store.new.doms }
-    ensures answer { IfOk result
-        (λ r. IsAnswerOf r (IsSelected index numbers.now value)
-        (SelectionLine index numbers.now value) store.old.doms store.new.doms) }
-    ensures checking { IfOk result
-        (λ r. AreSingle index value store.old.doms → IsDecided r) }
+    ensures { Narrows (IsSelected index numbers.now value) (SelectionLine index numbers.now value)
+        result store.old store.new }
 {
     let (indices, values) = pairs_of(alloc, store, index, numbers, value)?;
     keep_pairs(store, index, numbers, value, &indices, &values)
@@ -58,8 +51,6 @@ fn keep_pairs(
     ensures answer { IfOk result
         (λ r. IsAnswerOf r (IsSelected index numbers.now value)
         (SelectionLine index numbers.now value) store.old.doms store.new.doms) }
-    ensures checking { IfOk result
-        (λ r. AreSingle index value store.old.doms → IsDecided r) }
 {
     let _ = numbers;
     let first = keep_in(store, index, indices)?;
@@ -74,7 +65,7 @@ fn keep_pairs(
     if has_changed_both(index, value, first, second) {
         return Ok(Answer::NoFix);
     }
-    Ok(rested(store, value))
+    Ok(Answer::rested(are_fixed(store, &[value])))
 }
 
 /// Whether both terms are one variable, and it changed.
@@ -83,16 +74,4 @@ fn has_changed_both(index: Term, value: Term, first: Change, second: Change) -> 
         × ((first ≡ changes.Changed) ⊎ (second ≡ changes.Changed))) }
 {
     index == value && (first == Change::Changed || second == Change::Changed)
-}
-
-/// What a run answers after which the line holds.
-fn rested(store: &Store, value: Term) -> Answer
-    requires { IsTermOf (length store.now.doms) value }
-    ensures { IsRested result (term_set store.now.doms value) }
-{
-    if value_of(store, value).is_some() {
-        Answer::Subsumed
-    } else {
-        Answer::Fix
-    }
 }

@@ -1,4 +1,4 @@
-pub mod Lists
 pub mod Running
-pub mod Knowing
-pub mod Planning
+mod Listing
+mod Queuing
+pub mod Posting

@@ -8,91 +8,112 @@ use Rattle.fz_sets.proofs.Lists.{all_at}
 use Rattle.fz_spec.specs.declared.term.Term.{Term}
 use Rattle.fz_spec.specs.Constraints.{Constraint, IsTrueOf}
 use Rattle.fz_strength.specs.Domains.{Within, IsNarrower, room}
-use Rattle.fz_strength.specs.Events.{AreBelow}
-use Rattle.fz_strength.specs.Lines.{Rests, waits}
-use Rattle.fz_strength.specs.Promises.{IsCorrect, IsNeverTrue, IsTruth, RestsForGood, truths_of}
+use Rattle.fz_strength.specs.Promises.{IsTruth, RestsForGood}
+use Rattle.fz_strength.specs.Sayings.{Saying, line_of, said_terms, saying_of, truth_of, truths_of}
 use Rattle.fz_strength.proofs.Terms.{term_narrower}
-use Rattle.fz_prop.specs.Stores.{Stored, IsStore, Shrinks}
+use Rattle.fz_prop.specs.Answers.{IsCorrectOf}
+use Rattle.fz_prop.specs.Stores.{Stored, IsStore, Shrinks, IsTermOf}
 use Rattle.fz_prop.proofs.Twice.{narrower_twice}
 use Rattle.fz_agenda.specs.Agendas.{IsSettled}
 use Rattle.fz_agenda.specs.Queues.{Lineup, IsAtRest, counts_queued, queued}
-use Rattle.fz_agenda.specs.Wakes.{Waking, HaveSize, IsIndexOf, IsDraining, IsDrained}
+use Rattle.fz_agenda.specs.Wakes.{Waking, HaveSize, IsDraining, IsDrained}
 use Rattle.fz_agenda.proofs.Settled.{settled_lasts, all_rest_at_rest, may_be_idle, may_be_gone}
 use Rattle.fz_agenda.proofs.Places.{within_of}
-use Rattle.fz_engine.specs.Runs.{AreOf, IsRun, AreNeverTrue, AllRest, HasMoved, work}
+use Rattle.fz_engine.specs.Networks.{Networked, AreOf, IsNetwork}
+use Rattle.fz_engine.specs.Runs.{IsAlive, IsRun, AreNeverTrue, AllRest, HasMoved, work}
 
--- ---- constraints of a store
+-- ---- what is said fits a narrower store
 
 suits_lasts : (ts : List Term) (ds es : List (List (ℤ × ℤ))) → IsNarrower ds es → AllByRecursion (IsTruth ds) ts → AllByRecursion (IsTruth es) ts
 suits_lasts [] ds es narrower suits = tt
 suits_lasts (t ∷ ts) ds es narrower suits = ((λ x member. suits.0 x (term_narrower t ds es narrower x member)), suits_lasts ts ds es narrower suits.1)
 
-pub terms_last : (cs : List Constraint) (ds es : List (List (ℤ × ℤ))) → IsNarrower ds es → AreOf cs ds → AreOf cs es
-terms_last cs ds es narrower terms i c is =
-    let both = terms i c is in
-    (subst (λ (n : ℕ). AreBelow (waits c) n) (sym narrower.size) both.0, suits_lasts (truths_of c.name c.arguments) ds es narrower both.1)
+pub terms_last : (sayings : List Saying) (ds es : List (List (ℤ × ℤ))) → IsNarrower ds es → AreOf sayings ds → AreOf sayings es
+terms_last sayings ds es narrower terms i saying is =
+    let both = terms i saying is in
+    (subst (λ (n : ℕ). AllByRecursion (IsTermOf n) (said_terms saying)) (sym narrower.size) both.0, suits_lasts (truths_of saying) ds es narrower both.1)
 
-pub size_lasts : (w : Waking) (ds es : List (List (ℤ × ℤ))) → IsNarrower ds es → HaveSize w (length ds) → HaveSize w (length es)
-size_lasts w ds es narrower size = record { any = size.any ∙ sym narrower.size; bound = size.bound ∙ sym narrower.size; fixed = size.fixed ∙ sym narrower.size }
+-- a store of the network's variables
+pub sized : (n : Networked) (states : List ℕ) (s : Stored) → IsNetwork n → IsAlive n states s → HaveSize n.wakes (length s.doms)
+sized n states s network alive = subst (λ (k : ℕ). HaveSize n.wakes k) (sym alive.size) network.listing.size
 
--- ---- runs
-
-pub run_none : (cs : List Constraint) (s : Stored) (states : List ℕ) → IsStore s → IsSettled cs states s → IsRun cs s s states
-run_none cs s states store settled = record {
-  store = store;
-  narrower = record { size = refl; members = λ v x member. member };
-  correct = λ a all within. within;
+pub alive_last : (n : Networked) (states after : List ℕ) (s t : Stored) → IsNarrower s.doms t.doms → IsAlive n states s → IsSettled n.sayings after t → IsAlive n after t
+alive_last n states after s t narrower alive settled = record {
+  size = narrower.size ∙ alive.size;
+  terms = terms_last n.sayings s.doms t.doms narrower alive.terms;
   settled = settled;
 }
 
-pub run_twice : (cs : List Constraint) (r s t : Stored) (mid after : List ℕ) → IsRun cs r s mid → IsRun cs s t after → IsRun cs r t after
-run_twice cs r s t mid after p q = record {
+-- ---- runs
+
+pub run_none : (n : Networked) (s : Stored) (states : List ℕ) → IsStore s → IsAlive n states s → IsRun n s s states
+run_none n s states store alive = record {
+  store = store;
+  narrower = record { size = refl; members = λ v x member. member };
+  correct = λ a all within. within;
+  alive = alive;
+}
+
+pub run_twice : (n : Networked) (r s t : Stored) (mid after : List ℕ) → IsRun n r s mid → IsRun n s t after → IsRun n r t after
+run_twice n r s t mid after p q = record {
   store = q.store;
   narrower = narrower_twice r.doms s.doms t.doms p.narrower q.narrower;
   correct = λ a all within. q.correct a all (p.correct a all within);
-  settled = q.settled;
+  alive = q.alive;
 }
 
-pub run_drained : (cs : List Constraint) (w : Waking) (r s t : Stored) (mid after : Lineup) → IsIndexOf cs w → IsRun cs r s mid.states → IsDraining w s mid t after → IsRun cs r t after.states
-run_drained cs w r s t mid after index run draining = record {
+pub run_drained : (n : Networked) (r s t : Stored) (mid after : Lineup) → IsNetwork n → IsRun n r s mid.states → IsDraining n.wakes s mid t after → IsRun n r t after.states
+run_drained n r s t mid after network run draining = record {
   store = draining.store;
   narrower = subst (λ (ds : List (List (ℤ × ℤ))). IsNarrower r.doms ds) (sym draining.doms) run.narrower;
   correct = λ a all within. subst (λ (ds : List (List (ℤ × ℤ))). Within ds a) (sym draining.doms) (run.correct a all within);
-  settled = draining.settled cs index run.settled;
+  alive = record {
+    size = ap length draining.doms ∙ run.alive.size;
+    terms = subst (λ (ds : List (List (ℤ × ℤ))). AreOf n.sayings ds) (sym draining.doms) run.alive.terms;
+    settled = draining.settled n.sayings network.listing.index run.alive.settled;
+  };
 }
 
 -- one propagator ran
-pub ran : (cs : List Constraint) (s t : Stored) (states : List ℕ) (i : ℕ) (c : Constraint) → IsStore t → slice_get cs i ≡ Some c → Shrinks s t → IsCorrect c s.doms t.doms → IsSettled cs states s
-    → IsRun cs s t states
-ran cs s t states i c store is shrinks correct settled = record {
+pub ran : (n : Networked) (s t : Stored) (states : List ℕ) (i : ℕ) (saying : Saying) → IsNetwork n → IsStore t → slice_get n.sayings i ≡ Some saying → Shrinks s t → IsCorrectOf (truth_of saying) s.doms t.doms
+    → IsAlive n states s → IsRun n s t states
+ran n s t states i saying network store is shrinks correct alive = record {
   store = store;
   narrower = shrinks.narrower;
-  correct = λ a all within. correct a (all_at (IsTrueOf a) cs i c all is) within;
-  settled = settled_lasts cs states s t store shrinks settled;
+  correct = λ a all within. correct a (all_at (λ (x : Saying). truth_of x a) n.sayings i saying (network.said.follow a all) is) within;
+  alive = alive_last n states states s t shrinks.narrower alive (settled_lasts n.sayings states s t store shrinks alive.settled);
 }
 
-with_states : (cs : List Constraint) (s t : Stored) (states after : List ℕ) → IsRun cs s t states → IsSettled cs after t → IsRun cs s t after
-with_states cs s t states after run settled = record { store = run.store; narrower = run.narrower; correct = run.correct; settled = settled }
+with_states : (n : Networked) (s t : Stored) (states after : List ℕ) → IsRun n s t states → IsSettled n.sayings after t → IsRun n s t after
+with_states n s t states after run settled = record {
+  store = run.store;
+  narrower = run.narrower;
+  correct = run.correct;
+  alive = record { size = run.alive.size; terms = run.alive.terms; settled = settled };
+}
 
-pub ran_fix : (cs : List Constraint) (s t : Stored) (states after : List ℕ) (i : ℕ) (c : Constraint) → IsRun cs s t states → slice_get cs i ≡ Some c → i < length states → Rests c t.doms
-    → after ≡ slice_set states i 0 → IsRun cs s t after
-ran_fix cs s t states after i c run is within rests at =
-    with_states cs s t states after run (subst (λ (x : List ℕ). IsSettled cs x t) (sym at) (may_be_idle cs states t i c run.settled is within rests))
+pub ran_fix : (n : Networked) (s t : Stored) (states after : List ℕ) (i : ℕ) (saying : Saying) → IsRun n s t states → slice_get n.sayings i ≡ Some saying → i < length states → line_of saying t.doms
+    → after ≡ slice_set states i 0 → IsRun n s t after
+ran_fix n s t states after i saying run is within rests at =
+    with_states n s t states after run (subst (λ (x : List ℕ). IsSettled n.sayings x t) (sym at) (may_be_idle n.sayings states t i saying run.alive.settled is within rests))
 
-pub ran_gone : (cs : List Constraint) (s t : Stored) (states after : List ℕ) (i : ℕ) (c : Constraint) → IsRun cs s t states → slice_get cs i ≡ Some c → i < length states → RestsForGood c t.doms
-    → after ≡ slice_set states i 2 → IsRun cs s t after
-ran_gone cs s t states after i c run is within rests at =
-    with_states cs s t states after run (subst (λ (x : List ℕ). IsSettled cs x t) (sym at) (may_be_gone cs states t i c run.settled is within rests))
+pub ran_gone : (n : Networked) (s t : Stored) (states after : List ℕ) (i : ℕ) (saying : Saying) → IsRun n s t states → slice_get n.sayings i ≡ Some saying → i < length states → RestsForGood saying t.doms
+    → after ≡ slice_set states i 2 → IsRun n s t after
+ran_gone n s t states after i saying run is within rests at =
+    with_states n s t states after run (subst (λ (x : List ℕ). IsSettled n.sayings x t) (sym at) (may_be_gone n.sayings states t i saying run.alive.settled is within rests))
 
-pub never_true : (cs : List Constraint) (ds : List (List (ℤ × ℤ))) (i : ℕ) (c : Constraint) → slice_get cs i ≡ Some c → IsNeverTrue c ds → AreNeverTrue cs ds
-never_true cs ds i c is never = λ a all within. never a within (all_at (IsTrueOf a) cs i c all is)
+pub never_true : (n : Networked) (ds : List (List (ℤ × ℤ))) (i : ℕ) (saying : Saying) → IsNetwork n → slice_get n.sayings i ≡ Some saying → ((a : List ℤ) → Within ds a → truth_of saying a → ⊥)
+    → AreNeverTrue n.model.constraints ds
+never_true n ds i saying network is never = λ a all within. never a within (all_at (λ (x : Saying). truth_of x a) n.sayings i saying (network.said.follow a all) is)
 
 -- after a run no assignment is there: none was before it
-pub never_before : (cs : List Constraint) (s t : Stored) (after : List ℕ) → IsRun cs s t after → AreNeverTrue cs t.doms → AreNeverTrue cs s.doms
-never_before cs s t after run never = λ a all within. never a all (run.correct a all within)
+pub never_before : (n : Networked) (s t : Stored) (after : List ℕ) → IsRun n s t after → AreNeverTrue n.model.constraints t.doms → AreNeverTrue n.model.constraints s.doms
+never_before n s t after run never = λ a all within. never a all (run.correct a all within)
 
-pub all_rest : (cs : List Constraint) (states : List ℕ) (s : Stored) → IsStore s → IsDrained s → IsAtRest states → IsSettled cs states s → AllRest cs s.doms
-all_rest cs states s store drained rest settled = all_rest_at_rest cs states s store drained.unmarked rest settled
+pub all_rest : (n : Networked) (states : List ℕ) (s : Stored) → IsNetwork n → IsStore s → IsDrained s → IsAtRest states → IsAlive n states s → AllRest n.model.constraints s.doms
+all_rest n states s network store drained rest alive = λ i c is.
+    let there = network.said.each i c is in
+    all_rest_at_rest n.sayings states s store drained.unmarked rest alive.settled there.0 (saying_of c) there.1
 
 -- ---- the measure
 

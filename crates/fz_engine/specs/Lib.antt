@@ -1,5 +1,3 @@
-pub mod Forms
-pub mod Known
+pub mod Networks
 pub mod Runs
 pub mod Steps
-pub mod Plans

@@ -3,23 +3,24 @@ use Rattle.std.specs.Prelude.{◌≡◌, ◌⊎◌, ℕ, ◌+◌, ◌*◌, ◌<�
 use Rattle.std.specs.List.{AllByRecursion}
 use Rattle.fz_spec.specs.Constraints.{Constraint, IsTrueOf}
 use Rattle.fz_strength.specs.Domains.{Within, IsNarrower, room}
-use Rattle.fz_strength.specs.Events.{AreBelow}
-use Rattle.fz_strength.specs.Lines.{Rests, waits}
-use Rattle.fz_strength.specs.Promises.{Suits}
+use Rattle.fz_strength.specs.Sayings.{Rests}
 use Rattle.fz_prop.specs.Stores.{Stored, IsStore}
 use Rattle.fz_agenda.specs.Agendas.{IsSettled}
 use Rattle.fz_agenda.specs.Queues.{queued}
+use Rattle.fz_engine.specs.Networks.{Networked, AreOf}
 
--- each constraint's variables are among those of the store, and suit it
-abbrev pub AreOf : List Constraint → List (List (ℤ × ℤ)) → Type 0
-AreOf cs ds = (i : ℕ) (c : Constraint) → slice_get cs i ≡ Some c → AreBelow (waits c) (length ds) × Suits c ds
+-- a domain for each variable, to which what is said fits, and propagators that are settled
+pub record IsAlive (n : Networked) (states : List ℕ) (s : Stored) : Type 0 where
+  pub size : length s.doms ≡ length n.model.variables
+  pub terms : AreOf n.sayings s.doms
+  pub settled : IsSettled n.sayings states s
 
 -- The domains are at most as wide, no assignment of the constraints is lost, and the propagators are settled.
-pub record IsRun (cs : List Constraint) (s t : Stored) (after : List ℕ) : Type 0 where
+pub record IsRun (n : Networked) (s t : Stored) (after : List ℕ) : Type 0 where
   pub store : IsStore t
   pub narrower : IsNarrower s.doms t.doms
-  pub correct : (a : List ℤ) → AllByRecursion (IsTrueOf a) cs → Within s.doms a → Within t.doms a
-  pub settled : IsSettled cs after t
+  pub correct : (a : List ℤ) → AllByRecursion (IsTrueOf a) n.model.constraints → Within s.doms a → Within t.doms a
+  pub alive : IsAlive n after t
 
 -- no assignment within the domains makes all constraints true
 abbrev pub AreNeverTrue : List Constraint → List (List (ℤ × ℤ)) → Type 0

@@ -1,14 +1,13 @@
 //! Running propagators until all rest.
-ghost use Rattle.std.specs.Prelude.{◌≡◌, ◌<◌, true, false, List, length, IfOk, slice_get, slice_index, Some};
-ghost use Rattle.fz_agenda.specs.Agendas.{IsSettled};
+ghost use Rattle.std.specs.Prelude.{◌≡◌, true, false, IfOk, slice_index};
 ghost use Rattle.fz_agenda.specs.Queues.{IsFirst};
-ghost use Rattle.fz_agenda.specs.Wakes.{IsIndexOf, HaveSize, IsDrained};
-ghost use Rattle.fz_engine.specs.Runs.{AreOf, IsRun, AreNeverTrue, AllRest, HasMoved};
+ghost use Rattle.fz_agenda.specs.Wakes.{IsDrained};
+ghost use Rattle.fz_engine.specs.Runs.{IsAlive, IsRun, AreNeverTrue, AllRest, HasMoved};
 ghost use Rattle.fz_engine.specs.Steps.{IsProgress};
 
-use crate::kind::Kind;
-use fz_agenda::{Agenda, Wakes, drain};
-use fz_prop::{Answer, Store};
+use crate::network::Network;
+use fz_agenda::{Agenda, drain};
+use fz_prop::{Answer, Propagator, Store};
 use std::alloc::AllocError;
 
 /// What a step did.
@@ -26,43 +25,32 @@ pub enum Progress {
 ///
 /// # Errors
 /// `AllocError` where there is no memory; what ran is kept, and no assignment is lost.
-pub fn settle(
-    kinds: &[Kind],
-    wakes: &Wakes,
-    store: &mut Store,
-    agenda: &mut Agenda,
-) -> Result<bool, AllocError>
-    requires size { HaveSize wakes.now (length store.old.doms) }
-    requires index { IsIndexOf kinds.now wakes.now }
-    requires terms { AreOf kinds.now store.old.doms }
-    requires settled { IsSettled kinds.now agenda.old.states store.old }
-    ensures run { IsRun kinds.now store.old store.new agenda.new.states }
-    ensures rests { IfOk result (λ b. b ≡ true → AllRest kinds.now store.new.doms) }
-    ensures failed { IfOk result (λ b. b ≡ false → AreNeverTrue kinds.now store.old.doms) }
+pub fn settle(network: &Network, store: &mut Store, agenda: &mut Agenda) -> Result<bool, AllocError>
+    requires { IsAlive network.now agenda.old.states store.old }
+    ensures run { IsRun network.now store.old store.new agenda.new.states }
+    ensures rests { IfOk result
+        (λ b. b ≡ true → AllRest network.now.model.constraints store.new.doms) }
+    ensures failed { IfOk result
+        (λ b. b ≡ false → AreNeverTrue network.now.model.constraints store.old.doms) }
 {
-    drain(wakes, store, agenda)?;
-    run_all(kinds, wakes, store, agenda)
+    let _ = store.doms();
+    drain(network.wakes(), store, agenda)?;
+    run_all(network, store, agenda)
 }
 
-/// The same, where no change is listed.
-fn run_all(
-    kinds: &[Kind],
-    wakes: &Wakes,
-    store: &mut Store,
-    agenda: &mut Agenda,
-) -> Result<bool, AllocError>
-    requires size { HaveSize wakes.now (length store.old.doms) }
-    requires index { IsIndexOf kinds.now wakes.now }
-    requires terms { AreOf kinds.now store.old.doms }
-    requires settled { IsSettled kinds.now agenda.old.states store.old }
+/// Runs propagators until all rest, from a store that lists no change.
+fn run_all(network: &Network, store: &mut Store, agenda: &mut Agenda) -> Result<bool, AllocError>
+    requires alive { IsAlive network.now agenda.old.states store.old }
     requires drained { IsDrained store.old }
-    ensures run { IsRun kinds.now store.old store.new agenda.new.states }
-    ensures rests { IfOk result (λ b. b ≡ true → AllRest kinds.now store.new.doms) }
-    ensures failed { IfOk result (λ b. b ≡ false → AreNeverTrue kinds.now store.old.doms) }
+    ensures run { IsRun network.now store.old store.new agenda.new.states }
+    ensures rests { IfOk result
+        (λ b. b ≡ true → AllRest network.now.model.constraints store.new.doms) }
+    ensures failed { IfOk result
+        (λ b. b ≡ false → AreNeverTrue network.now.model.constraints store.old.doms) }
 {
     let _ = store.doms();
     'steps: loop {
-        let progress = step(kinds, wakes, store, agenda)?;
+        let progress = step(network, store, agenda)?;
         match progress {
             Progress::Rested => return Ok(true),
             Progress::Failed => return Ok(false),
@@ -72,71 +60,63 @@ fn run_all(
 }
 
 /// Runs the next propagator, and wakes those that wait for its changes.
-fn step(
-    kinds: &[Kind],
-    wakes: &Wakes,
-    store: &mut Store,
-    agenda: &mut Agenda,
-) -> Result<Progress, AllocError>
-    requires size { HaveSize wakes.now (length store.old.doms) }
-    requires index { IsIndexOf kinds.now wakes.now }
-    requires terms { AreOf kinds.now store.old.doms }
-    requires settled { IsSettled kinds.now agenda.old.states store.old }
+fn step(network: &Network, store: &mut Store, agenda: &mut Agenda) -> Result<Progress, AllocError>
+    requires alive { IsAlive network.now agenda.old.states store.old }
     requires drained { IsDrained store.old }
-    ensures run { IsRun kinds.now store.old store.new agenda.new.states }
-    ensures progress { IfOk result
-        (λ p. IsProgress p kinds.now store.old agenda.old.states store.new agenda.new.states) }
+    ensures run { IsRun network.now store.old store.new agenda.new.states }
+    ensures progress { IfOk result (λ p. IsProgress p network.now.model.constraints
+        store.old agenda.old.states store.new agenda.new.states) }
 {
     let _ = store.doms();
+    let _ = network.wakes();
     match agenda.next() {
         None => Ok(Progress::Rested),
-        Some(place) => run_next(kinds, wakes, place, store, agenda),
+        Some(place) => run_next(network, place, store, agenda),
     }
 }
 
 /// Runs a propagator that is queued, and wakes those that wait for its changes.
 fn run_next(
-    kinds: &[Kind],
-    wakes: &Wakes,
+    network: &Network,
     place: u32,
     store: &mut Store,
     agenda: &mut Agenda,
 ) -> Result<Progress, AllocError>
     requires first { IsFirst agenda.old place }
     requires queued { slice_index agenda.old.states place ≡ 1 }
-    requires size { HaveSize wakes.now (length store.old.doms) }
-    requires index { IsIndexOf kinds.now wakes.now }
-    requires terms { AreOf kinds.now store.old.doms }
-    requires settled { IsSettled kinds.now agenda.old.states store.old }
+    requires alive { IsAlive network.now agenda.old.states store.old }
     requires drained { IsDrained store.old }
-    ensures run { IsRun kinds.now store.old store.new agenda.new.states }
-    ensures progress { IfOk result
-        (λ p. IsProgress p kinds.now store.old agenda.old.states store.new agenda.new.states) }
+    ensures run { IsRun network.now store.old store.new agenda.new.states }
+    ensures progress { IfOk result (λ p. IsProgress p network.now.model.constraints
+        store.old agenda.old.states store.new agenda.new.states) }
 {
-    if !run(kinds, place, store, agenda)? {
+    if !run(network, place, store, agenda)? {
         return Ok(Progress::Failed);
     }
-    drain(wakes, store, agenda)?;
+    drain(network.wakes(), store, agenda)?;
     Ok(Progress::Going)
 }
 
 /// Runs a propagator that is queued; false where it fails.
 fn run(
-    kinds: &[Kind],
+    network: &Network,
     place: u32,
     store: &mut Store,
     agenda: &mut Agenda,
 ) -> Result<bool, AllocError>
     requires first { IsFirst agenda.old place }
     requires queued { slice_index agenda.old.states place ≡ 1 }
-    requires terms { AreOf kinds.now store.old.doms }
-    requires settled { IsSettled kinds.now agenda.old.states store.old }
-    ensures run { IsRun kinds.now store.old store.new agenda.new.states }
+    requires alive { IsAlive network.now agenda.old.states store.old }
+    ensures run { IsRun network.now store.old store.new agenda.new.states }
     ensures moved { IfOk result
         (λ b. b ≡ true → HasMoved store.old agenda.old.states store.new agenda.new.states) }
-    ensures failed { IfOk result (λ b. b ≡ false → AreNeverTrue kinds.now store.old.doms) }
+    ensures failed { IfOk result
+        (λ b. b ≡ false → AreNeverTrue network.now.model.constraints store.old.doms) }
 {
-    match kind_at(kinds, place).run(store)? {
+    let _ = network.wakes();
+    let answer = network.propagator(place).propagate(store);
+    let _ = store.doms();
+    match answer? {
         Answer::Fix => {
             agenda.rest(place);
             Ok(true)
@@ -148,12 +128,4 @@ fn run(
         }
         Answer::Failed => Ok(false),
     }
-}
-
-/// The propagator of this number.
-fn kind_at(kinds: &[Kind], place: u32) -> &Kind
-    requires { place < length kinds.now }
-    ensures { slice_get kinds.now place ≡ Some result.now }
-{
-    &kinds[place as usize]
 }

@@ -2,8 +2,6 @@
 #![tactic(auto)]
 
 pub mod engine;
-pub mod kind;
-pub mod plan;
+pub mod network;
 
-pub use kind::Kind;
-pub use plan::Plan;
+pub use network::Network;

@@ -4,6 +4,3 @@
 pub mod text;
 
 pub use text::knapsack;
-
-#[cfg(test)]
-mod tests;

@@ -11,15 +11,16 @@ pub const ITEMS_LEAST: u32 = 1;
 
 pub const ITEMS_MOST: u32 = 1000;
 
+/// What an item has.
 #[derive(Clone, Copy)]
-enum Measure {
+pub enum Measure {
     Weight,
     Value,
 }
 
 /// What a list has for each item.
 #[derive(Clone, Copy)]
-enum Part {
+pub enum Part {
     Number(Measure),
     Name,
 }

@@ -1,6 +1,5 @@
 -- What a source of files reads from.
 use Rattle.std.specs.Prelude.{ℕ, Bool, true, false, not, Option, Some, List, [], bytes_eq, codes}
-use Rattle.std.specs.Io.Buffered.{reader_remaining}
 use Rattle.fz_io.specs.declared.file.FileSource.{FileSource}
 use Rattle.fz_io.specs.declared.file.Opened.{Opened}
 use Rattle.fz_io.specs.declared.file.Opened.TheVariants.{Nothing, File, Input}
@@ -8,8 +7,8 @@ use Rattle.fz_io.specs.declared.file.Opened.TheVariants.{Nothing, File, Input}
 -- the bytes left, where the file or the input tells them; none where nothing is opened
 abbrev pub opened_left : {F I : Type 0} → (F → Option (List ℕ)) → (I → Option (List ℕ)) → Opened F I → Option (List ℕ)
 opened_left of_file of_input Nothing = Some []
-opened_left of_file of_input (File f) = reader_remaining of_file f
-opened_left of_file of_input (Input i) = reader_remaining of_input i
+opened_left of_file of_input (File f) = of_file f
+opened_left of_file of_input (Input i) = of_input i
 
 -- whether nothing is opened
 abbrev pub is_nothing : {F I : Type 0} → Opened F I → Bool

@@ -6,14 +6,10 @@ ghost use Rattle.fz_io.specs.Outside.{HasCause, one_more};
 ghost use Rattle.fz_io.specs.File.{file_left, file_opened, file_faults, file_selections, is_nothing, is_opened_for};
 
 use crate::outside::{Failed, Source};
-use std::alloc::Global;
 use std::fs::OpenOptions;
 use std::io;
-use std::io::{BufReader, ErrorKind, Read};
+use std::io::{ErrorKind, Read};
 use std::rt::Files;
-
-/// How many bytes are read at once, so that a piece is no system call.
-const BUFFER: usize = 64 * 1024;
 
 /// How often a read that a signal interrupts is tried again.
 const TRIES: u32 = 1_000_000;
@@ -22,16 +18,15 @@ const TRIES: u32 = 1_000_000;
 #[derive(Drop)]
 enum Opened<F, I> {
     Nothing,
-    File(BufReader<F>),
-    Input(BufReader<I>),
+    File(F),
+    Input(I),
 }
 
 /// The file of each name, and standard input for the name `-`. It doesn't tell its bytes. A file that can't be opened
-/// or read is a fault, and so is want of memory for the buffer of 64 KiB that each selected text has. A read that a signal
-/// interrupts is tried again.
+/// or read is a fault. Each read asks the system for as many bytes as there is room for; one that a signal interrupts is tried
+/// again.
 #[derive(Drop)]
 pub struct FileSource<R: Files + Input> {
-    alloc: Global,
     rt: R,
     opened: Opened<R::File, R::Reader>,
     selections: u64,
@@ -66,13 +61,12 @@ fn read_again<T: Read>(reader: &mut T, buf: &mut [u8]) -> io::Result<usize>
 
 impl<R: Files + Input> FileSource<R> {
     /// Nothing is selected yet.
-    pub fn new(alloc: Global, rt: R) -> FileSource<R>
+    pub fn new(rt: R) -> FileSource<R>
         ensures selections { file_selections result ≡ 0 }
         ensures faults { file_faults result ≡ 0 }
         ensures left { file_left R.File.remaining R.Reader.remaining result ≡ Some [] }
     {
         FileSource {
-            alloc,
             rt,
             opened: Opened::Nothing,
             selections: 0,
@@ -91,11 +85,9 @@ impl<R: Files + Input> FileSource<R> {
         ensures { IfOk result (λ o. IsTrue (is_opened_for o name.now)) }
     {
         if name == "-" {
-            let input = BufReader::with_capacity(self.alloc, BUFFER, self.rt.reader())?;
-            return Ok(Opened::Input(input));
+            return Ok(Opened::Input(self.rt.reader()));
         }
-        let file = for_reading().open(&self.rt, name)?;
-        Ok(Opened::File(BufReader::with_capacity(self.alloc, BUFFER, file)?))
+        Ok(Opened::File(for_reading().open(&self.rt, name)?))
     }
 
     /// Counts a fault.

@@ -15,7 +15,5 @@ pub mod output;
 pub mod outside;
 pub mod sure_sink;
 pub mod sure_source;
-#[cfg(test)]
-mod tests;
 pub mod texts;
 pub mod whole;

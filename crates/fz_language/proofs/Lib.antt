@@ -13,3 +13,4 @@ pub mod SomeTokens
 pub mod SomeReading
 pub mod TextExamples
 pub mod SetProofs
+pub mod Each

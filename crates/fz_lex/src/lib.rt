@@ -12,8 +12,6 @@ pub mod place;
 mod reading;
 mod run;
 mod spelling;
-#[cfg(test)]
-mod tests;
 
 pub use lexer::{LexFault, Lexer};
 pub use place::{Place, place_of};

@@ -46,7 +46,7 @@ pub fn place_of(text: &[u8], at: usize) -> Place
     place_within(text, at.min(text.len()))
 }
 
-/// The same of a byte of the text, or of its end.
+/// The place of a byte of the text, or of its end.
 fn place_within(text: &[u8], at: usize) -> Place
     requires within { at ≤ length text.now }
     requires near { length text.now < 2 ^ 31 }

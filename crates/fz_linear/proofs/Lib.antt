@@ -6,7 +6,6 @@ pub mod Tight
 pub mod Passing
 pub mod Bounds
 pub mod Above
-pub mod Names
 pub mod Factors
 pub mod Gaps
 pub mod Differences

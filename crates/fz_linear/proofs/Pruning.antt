@@ -1,18 +1,15 @@
--- An equation of a name that says how far one variable is above another keeps the difference that it is.
+-- An equation that says how far one variable is above another keeps the difference that it is.
 use Rattle.std.proofs.Common.{◌≡◌, ◌≢◌, ℕ, List, [], ◌∷◌, refl, sym, subst, inl, inr}
 use Rattle.std.specs.Prelude.{ℤ, negsuc, ◌≤ℤ◌, Option, Some, None, IfSome, IsNone}
-use Rattle.fz_spec.specs.declared.builtin.Builtin.{Builtin}
 use Rattle.fz_spec.specs.declared.term.Term.{Term}
-use Rattle.fz_spec.specs.Constraints.{One, Numbers, Terms}
 use Rattle.fz_strength.specs.declared.relation.Relation.{Relation}
 use Rattle.fz_strength.specs.declared.relation.Relation.TheVariants.{Equal}
-use Rattle.fz_strength.specs.Sums.{sum_relation_of, left_factors, left_terms}
+use Rattle.fz_strength.specs.Sayings.{Sum}
 use Rattle.fz_prop.specs.declared.answer.Answer.{Answer}
 use Rattle.fz_prop.specs.declared.answer.Answer.TheVariants.{Failed}
 use Rattle.fz_linear.specs.declared.difference.Difference.{Difference}
 use Rattle.fz_linear.specs.Differences.{IsDifferenceOf, IsDifferenceIn, IsNoneOfTwo, ArePartners, IsPruned}
-use Rattle.fz_linear.specs.Linears.{given, IsMoved, IsPrunedOf}
-use Rattle.fz_linear.proofs.Names.{linear_of}
+use Rattle.fz_linear.specs.Linears.{IsPrunedOf}
 
 same_pair : (x y u v : ℕ) (ks : List ℤ) (ts : List Term) → IsDifferenceOf x y ks ts → IsDifferenceOf u v ks ts → (x ≡ u) × (y ≡ v)
 same_pair x y u v ks ts a b = elim a [
@@ -30,21 +27,15 @@ at_difference (Some d) ks ts n answer es x y differs told pruned apart limit two
     (subst (λ (v : ℕ). ArePartners es d.first v n) same.1
     (subst (λ (c : ℤ). ArePartners es d.first d.second c) differs.above (pruned not)))
 
-pub pruned_of : (name : Builtin) (relation : Relation) (ks : List ℤ) (ts : List Term) (n : ℤ) (last : Term) (difference : Option Difference) (answer : Answer) (es : List (List (ℤ × ℤ)))
-    → sum_relation_of name ≡ Some relation → IsMoved last ks ts n → IfSome difference (λ d. IsDifferenceIn d ks ts n) → (IsNone difference → IsNoneOfTwo ks ts n)
-    → IsPruned relation difference answer es → IsPrunedOf (linear_of name ks ts last) answer es
-pruned_of name relation ks ts n last difference answer es is moved differs told pruned x y c apart limit two not =
-    let args : (Numbers (given last ks) ∷ Terms (given last ts) ∷ One last ∷ []) ≡ (Numbers two.factors ∷ Terms two.terms ∷ One two.last ∷ []) = two.arguments in
-    let factors : given last ks ≡ two.factors = cc args in
-    let terms : given last ts ≡ two.terms = cc args in
-    let end : last ≡ two.last = cc args in
-    let equal_is : sum_relation_of name ≡ Some Equal = two.equal in
-    let equal : relation ≡ Equal = cc (is, equal_is) in
-    let ks_are : left_factors two.factors two.last ≡ ks = (let m = moved.factors_are in cc (m, factors, end)) in
-    let ts_are : left_terms two.terms two.last ≡ ts = (let m = moved.terms_are in cc (m, terms, end)) in
-    let number : n ≡ c = (let m = moved.number_is in let e = two.number in cc (m, e, end)) in
-    let sum : IsDifferenceOf x y ks ts =
-    subst (λ (us : List ℤ). IsDifferenceOf x y us ts) ks_are (subst (λ (us : List Term). IsDifferenceOf x y (left_factors two.factors two.last) us) ts_are two.sum) in
+pub pruned_of : (relation : Relation) (ks : List ℤ) (ts : List Term) (n : ℤ) (difference : Option Difference) (answer : Answer) (es : List (List (ℤ × ℤ)))
+    → IfSome difference (λ d. IsDifferenceIn d ks ts n) → (IsNone difference → IsNoneOfTwo ks ts n) → IsPruned relation difference answer es → IsPrunedOf (Sum relation ks ts n) answer es
+pruned_of relation ks ts n difference answer es differs told pruned x y c apart limit two not =
+    let says : Sum relation ks ts n ≡ Sum Equal two.factors two.terms c = two.says in
+    let equal : relation ≡ Equal = cc says in
+    let factors : two.factors ≡ ks = cc says in
+    let terms : two.terms ≡ ts = cc says in
+    let number : n ≡ c = cc says in
+    let sum : IsDifferenceOf x y ks ts = subst (λ (us : List ℤ). IsDifferenceOf x y us ts) factors (subst (λ (us : List Term). IsDifferenceOf x y two.factors us) terms two.sum) in
     subst (λ (m : ℤ). ArePartners es x y m) number
     (at_difference difference ks ts n answer es x y differs told (subst (λ (p : Relation). IsPruned p difference answer es) equal pruned) apart
     (subst (λ (m : ℤ). negsuc 2147483646 ≤ℤ m) (sym number) limit) sum not)

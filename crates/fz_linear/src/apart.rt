@@ -1,19 +1,19 @@
 //! Sums that aren't a number.
-ghost use Rattle.std.specs.Prelude.{◌≡◌, ◌+◌, ◌^◌, ◌<◌, ◌≤◌, ◌↔◌, ◌-ℤ◌, ◌*ℤ◌, IsTrue, length, take, slice_get, Some, IfOk, unsigned_abs};
+ghost use Rattle.std.specs.Prelude.{◌≡◌, ◌≢◌, ◌+◌, ◌^◌, ◌<◌, ◌≤◌, ◌↔◌, ◌-ℤ◌, ◌*ℤ◌, IsTrue, length, take, slice_get, Some, IfOk, unsigned_abs};
 ghost use Rattle.std.specs.List.{AllByRecursion};
 ghost use Rattle.fz_spec.specs.declared.limits.TheConstants.{ELEMENT_LIMIT};
 ghost use Rattle.fz_strength.specs.declared.relation.Relation.TheVariants.{NotEqual};
 ghost use Rattle.fz_strength.specs.Domains.{term_set, AreDomains};
 ghost use Rattle.fz_strength.specs.Events.{IsFixedIn, AllFixed};
 ghost use Rattle.fz_prop.specs.declared.answer.Answer.TheVariants.{Fix};
-ghost use Rattle.fz_prop.specs.Answers.{IsCorrectOf, IsDecided};
+ghost use Rattle.fz_prop.specs.Answers.{IsCorrectOf};
 ghost use Rattle.fz_prop.specs.Stores.{Shrinks, IsTermOf, FitsTerm};
 ghost use Rattle.fz_linear.specs.Terms.{AreTermsOf};
-ghost use Rattle.fz_linear.specs.Precisions.{Allows};
+ghost use Rattle.fz_linear.specs.Precisions.{IsWeighted};
 ghost use Rattle.fz_linear.specs.Sums.{SumTruth, IsAnswerSum};
 ghost use Rattle.fz_linear.specs.Gaps.{IsUnfixed, IsExcluded, AllOthersFixed, others_sum};
 
-use crate::narrow::{Precision, ends_of};
+use crate::narrow::{Weighted, ends_of};
 use crate::sums::{Ends, product, product_ends};
 use fz_num::floor_div;
 use fz_prop::terms::{remove, value_of};
@@ -38,30 +38,21 @@ pub enum Excluded {
 }
 
 /// Narrows a store so that a sum isn't a number: where all terms but one are fixed, one number leaves that one.
-pub fn keep_apart(
-    store: &mut Store,
-    precision: Precision,
-    factors: &[i32],
-    terms: &[Term],
-    number: i32,
-) -> Result<Answer, AllocError>
-    requires same { length factors.now ≡ length terms.now }
-    requires few { length terms.now ≤ ELEMENT_LIMIT + 1 }
-    requires allowed { Allows precision factors.now }
-    requires inside { AreTermsOf (length store.old.doms) terms.now }
-    requires fits { AllByRecursion FitsTerm terms.now }
+pub fn keep_apart(store: &mut Store, sum: &Weighted<'_>, number: i32) -> Result<Answer, AllocError>
+    requires law { IsWeighted sum.now }
+    requires inside { AreTermsOf (length store.old.doms) sum.now.terms.now }
+    requires fits { AllByRecursion FitsTerm sum.now.terms.now }
     ensures shrinks { Shrinks store.old store.new }
-    ensures correct { IsCorrectOf (SumTruth NotEqual factors.now terms.now number)
+    ensures correct { IsCorrectOf (SumTruth NotEqual sum.now.factors.now sum.now.terms.now number)
         store.old.doms store.new.doms }
     ensures answer { IfOk result
-        (λ r. IsAnswerSum NotEqual factors.now terms.now number r store.old.doms store.new.doms) }
+        (λ r. IsAnswerSum NotEqual sum.now.factors.now sum.now.terms.now number r store.old.doms store.new.doms) }
     ensures still { IfOk result (λ r. r ≡ Fix → store.new ≡ store.old) }
-    ensures checking { IfOk result (λ r. AllFixed store.old.doms terms.now → IsDecided r) }
 {
-    match count_unfixed(store, terms) {
+    match count_unfixed(store, sum.terms) {
         Unfixed::Several => Ok(Answer::Fix),
-        Unfixed::One(place) => exclude(store, precision, factors, terms, number, place),
-        Unfixed::None => Ok(compare(store, precision, factors, terms, number)),
+        Unfixed::One(place) => exclude(store, sum, number, place),
+        Unfixed::None => Ok(compare(store, sum, number)),
     }
 }
 
@@ -99,23 +90,14 @@ fn count_unfixed(store: &Store, terms: &[Term]) -> Unfixed
 }
 
 /// Whether a sum of fixed terms is a number.
-fn compare(
-    store: &Store,
-    precision: Precision,
-    factors: &[i32],
-    terms: &[Term],
-    number: i32,
-) -> Answer
-    requires same { length factors.now ≡ length terms.now }
-    requires few { length terms.now ≤ ELEMENT_LIMIT + 1 }
-    requires allowed { Allows precision factors.now }
-    requires inside { AreTermsOf (length store.now.doms) terms.now }
-    requires fixed { AllFixed store.now.doms terms.now }
-    ensures answer { IsAnswerSum NotEqual factors.now terms.now number result
+fn compare(store: &Store, sum: &Weighted<'_>, number: i32) -> Answer
+    requires law { IsWeighted sum.now }
+    requires inside { AreTermsOf (length store.now.doms) sum.now.terms.now }
+    requires fixed { AllFixed store.now.doms sum.now.terms.now }
+    ensures { IsAnswerSum NotEqual sum.now.factors.now sum.now.terms.now number result
         store.now.doms store.now.doms }
-    ensures decided { IsDecided result }
 {
-    if ends_of(store, precision, factors, terms).least == i128::from(number) {
+    if ends_of(store, sum).least == i128::from(number) {
         Answer::Failed
     } else {
         Answer::Subsumed
@@ -149,25 +131,16 @@ fn divide(factor: i32, product: i128) -> Excluded
 }
 
 /// What a term with its factor must not be for the sum not to be a number, where all other terms are fixed.
-fn forbidden(
-    store: &Store,
-    precision: Precision,
-    factors: &[i32],
-    terms: &[Term],
-    number: i32,
-    place: usize,
-) -> i128
-    requires same { length factors.now ≡ length terms.now }
-    requires few { length terms.now ≤ ELEMENT_LIMIT + 1 }
-    requires allowed { Allows precision factors.now }
-    requires inside { AreTermsOf (length store.now.doms) terms.now }
-    requires place { place < length terms.now }
+fn forbidden(store: &Store, sum: &Weighted<'_>, number: i32, place: usize) -> i128
+    requires law { IsWeighted sum.now }
+    requires inside { AreTermsOf (length store.now.doms) sum.now.terms.now }
+    requires place { place < length sum.now.terms.now }
     ensures domains { AreDomains store.now.doms }
-    ensures product { result ≡ number -ℤ others_sum store.now.doms factors.now terms.now place }
+    ensures product { result ≡ number -ℤ others_sum store.now.doms sum.now.factors.now sum.now.terms.now place }
     ensures near { unsigned_abs result ≤ 2 ^ 100 }
 {
-    let Ends { least, .. } = ends_of(store, precision, factors, terms);
-    let (low, _) = product_ends(store, factors[place], terms[place]);
+    let Ends { least, .. } = ends_of(store, sum);
+    let (low, _) = product_ends(store, sum.factors[place], sum.terms[place]);
     without(number, least, low)
 }
 
@@ -183,32 +156,28 @@ fn without(number: i32, sum: i128, product: i64) -> i128
 /// Removes from the one term that isn't fixed the number that would make the sum a number.
 fn exclude(
     store: &mut Store,
-    precision: Precision,
-    factors: &[i32],
-    terms: &[Term],
+    sum: &Weighted<'_>,
     number: i32,
     place: usize,
 ) -> Result<Answer, AllocError>
-    requires same { length factors.now ≡ length terms.now }
-    requires few { length terms.now ≤ ELEMENT_LIMIT + 1 }
-    requires allowed { Allows precision factors.now }
-    requires inside { AreTermsOf (length store.old.doms) terms.now }
-    requires fits { AllByRecursion FitsTerm terms.now }
-    requires place { place < length terms.now }
-    requires others { AllOthersFixed store.old.doms terms.now place }
+    requires law { IsWeighted sum.now }
+    requires inside { AreTermsOf (length store.old.doms) sum.now.terms.now }
+    requires fits { AllByRecursion FitsTerm sum.now.terms.now }
+    requires place { place < length sum.now.terms.now }
+    requires others { AllOthersFixed store.old.doms sum.now.terms.now place }
     ensures shrinks { Shrinks store.old store.new }
-    ensures correct { IsCorrectOf (SumTruth NotEqual factors.now terms.now number)
+    ensures correct { IsCorrectOf (SumTruth NotEqual sum.now.factors.now sum.now.terms.now number)
         store.old.doms store.new.doms }
     ensures answer { IfOk result
-        (λ r. IsAnswerSum NotEqual factors.now terms.now number r store.old.doms store.new.doms) }
-    ensures decided { IfOk result (λ r. IsDecided r) }
+        (λ r. IsAnswerSum NotEqual sum.now.factors.now sum.now.terms.now number r store.old.doms store.new.doms) }
+    ensures settled { IfOk result (λ r. r ≢ Fix) }
 {
-    let product = forbidden(store, precision, factors, terms, number, place);
-    match divide(factors[place], product) {
+    let product = forbidden(store, sum, number, place);
+    match divide(sum.factors[place], product) {
         Excluded::None => Ok(Answer::Subsumed),
         Excluded::Each => Ok(Answer::Failed),
         Excluded::One(value) => {
-            let change = remove(store, terms[place], value)?;
+            let change = remove(store, sum.terms[place], value)?;
             Ok(Answer::settled(change))
         }
     }

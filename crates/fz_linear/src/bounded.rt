@@ -4,13 +4,13 @@ ghost use Rattle.fz_spec.specs.declared.limits.TheConstants.{ELEMENT_LIMIT};
 ghost use Rattle.fz_strength.specs.declared.relation.Relation.TheVariants.{AtMost, Equal};
 ghost use Rattle.fz_strength.specs.Events.{AllFixed};
 ghost use Rattle.fz_prop.specs.declared.answer.Answer.TheVariants.{Fix};
-ghost use Rattle.fz_prop.specs.Answers.{IsCorrectOf, IsDecided};
+ghost use Rattle.fz_prop.specs.Answers.{IsCorrectOf};
 ghost use Rattle.fz_prop.specs.Stores.{Shrinks};
 ghost use Rattle.fz_linear.specs.Terms.{AreTermsOf};
-ghost use Rattle.fz_linear.specs.Precisions.{Allows};
+ghost use Rattle.fz_linear.specs.Precisions.{IsWeighted};
 ghost use Rattle.fz_linear.specs.Sums.{SumTruth, SumFalse, IsAnswerSum, IsAnswerAgainst};
 
-use crate::narrow::{Precision, ends_of};
+use crate::narrow::{Weighted, ends_of};
 use crate::pass::{tighten_all, tighten_between};
 use crate::side::Side;
 use crate::sums::{Ends, are_loose, gap, is_loose};
@@ -21,28 +21,23 @@ use std::alloc::AllocError;
 /// Narrows a store so that a sum is at most a number.
 pub fn keep_at_most(
     store: &mut Store,
-    precision: Precision,
-    factors: &[i32],
-    terms: &[Term],
+    sum: &Weighted<'_>,
     number: i32,
 ) -> Result<Answer, AllocError>
-    requires same { length factors.now ≡ length terms.now }
-    requires few { length terms.now ≤ ELEMENT_LIMIT + 1 }
-    requires allowed { Allows precision factors.now }
-    requires inside { AreTermsOf (length store.old.doms) terms.now }
+    requires law { IsWeighted sum.now }
+    requires inside { AreTermsOf (length store.old.doms) sum.now.terms.now }
     ensures shrinks { Shrinks store.old store.new }
-    ensures correct { IsCorrectOf (SumTruth AtMost factors.now terms.now number)
+    ensures correct { IsCorrectOf (SumTruth AtMost sum.now.factors.now sum.now.terms.now number)
         store.old.doms store.new.doms }
     ensures answer { IfOk result
-        (λ r. IsAnswerSum AtMost factors.now terms.now number r store.old.doms store.new.doms) }
+        (λ r. IsAnswerSum AtMost sum.now.factors.now sum.now.terms.now number r store.old.doms store.new.doms) }
     ensures still { IfOk result (λ r. r ≡ Fix → store.new ≡ store.old) }
-    ensures checking { IfOk result (λ r. AllFixed store.old.doms terms.now → IsDecided r) }
 {
     let Ends {
         least,
         greatest,
         widest,
-    } = ends_of(store, precision, factors, terms);
+    } = ends_of(store, sum);
     let number = i128::from(number);
     if number < least {
         return Ok(Answer::Failed);
@@ -54,7 +49,7 @@ pub fn keep_at_most(
     if is_loose(widest, slack) {
         return Ok(Answer::Fix);
     }
-    if tighten_all(store, Side::Above, factors, terms, slack)? {
+    if tighten_all(store, Side::Above, sum.factors, sum.terms, slack)? {
         return Ok(Answer::NoFix);
     }
     Ok(Answer::Fix)
@@ -69,30 +64,21 @@ fn next(number: i32) -> i128
 }
 
 /// Narrows a store so that a sum is above a number.
-pub fn keep_above(
-    store: &mut Store,
-    precision: Precision,
-    factors: &[i32],
-    terms: &[Term],
-    number: i32,
-) -> Result<Answer, AllocError>
-    requires same { length factors.now ≡ length terms.now }
-    requires few { length terms.now ≤ ELEMENT_LIMIT + 1 }
-    requires allowed { Allows precision factors.now }
-    requires inside { AreTermsOf (length store.old.doms) terms.now }
+pub fn keep_above(store: &mut Store, sum: &Weighted<'_>, number: i32) -> Result<Answer, AllocError>
+    requires law { IsWeighted sum.now }
+    requires inside { AreTermsOf (length store.old.doms) sum.now.terms.now }
     ensures shrinks { Shrinks store.old store.new }
-    ensures correct { IsCorrectOf (SumFalse AtMost factors.now terms.now number)
+    ensures correct { IsCorrectOf (SumFalse AtMost sum.now.factors.now sum.now.terms.now number)
         store.old.doms store.new.doms }
     ensures answer { IfOk result (λ r.
-        IsAnswerAgainst AtMost factors.now terms.now number r store.old.doms store.new.doms) }
+        IsAnswerAgainst AtMost sum.now.factors.now sum.now.terms.now number r store.old.doms store.new.doms) }
     ensures still { IfOk result (λ r. r ≡ Fix → store.new ≡ store.old) }
-    ensures checking { IfOk result (λ r. AllFixed store.old.doms terms.now → IsDecided r) }
 {
     let Ends {
         least,
         greatest,
         widest,
-    } = ends_of(store, precision, factors, terms);
+    } = ends_of(store, sum);
     let bound = next(number);
     if greatest < bound {
         return Ok(Answer::Failed);
@@ -104,37 +90,28 @@ pub fn keep_above(
     if is_loose(widest, slack) {
         return Ok(Answer::Fix);
     }
-    if tighten_all(store, Side::Below, factors, terms, slack)? {
+    if tighten_all(store, Side::Below, sum.factors, sum.terms, slack)? {
         return Ok(Answer::NoFix);
     }
     Ok(Answer::Fix)
 }
 
 /// Narrows a store so that a sum is a number.
-pub fn keep_equal(
-    store: &mut Store,
-    precision: Precision,
-    factors: &[i32],
-    terms: &[Term],
-    number: i32,
-) -> Result<Answer, AllocError>
-    requires same { length factors.now ≡ length terms.now }
-    requires few { length terms.now ≤ ELEMENT_LIMIT + 1 }
-    requires allowed { Allows precision factors.now }
-    requires inside { AreTermsOf (length store.old.doms) terms.now }
+pub fn keep_equal(store: &mut Store, sum: &Weighted<'_>, number: i32) -> Result<Answer, AllocError>
+    requires law { IsWeighted sum.now }
+    requires inside { AreTermsOf (length store.old.doms) sum.now.terms.now }
     ensures shrinks { Shrinks store.old store.new }
-    ensures correct { IsCorrectOf (SumTruth Equal factors.now terms.now number)
+    ensures correct { IsCorrectOf (SumTruth Equal sum.now.factors.now sum.now.terms.now number)
         store.old.doms store.new.doms }
     ensures answer { IfOk result
-        (λ r. IsAnswerSum Equal factors.now terms.now number r store.old.doms store.new.doms) }
+        (λ r. IsAnswerSum Equal sum.now.factors.now sum.now.terms.now number r store.old.doms store.new.doms) }
     ensures still { IfOk result (λ r. r ≡ Fix → store.new ≡ store.old) }
-    ensures checking { IfOk result (λ r. AllFixed store.old.doms terms.now → IsDecided r) }
 {
     let Ends {
         least,
         greatest,
         widest,
-    } = ends_of(store, precision, factors, terms);
+    } = ends_of(store, sum);
     let number = i128::from(number);
     if number < least {
         return Ok(Answer::Failed);
@@ -150,7 +127,7 @@ pub fn keep_equal(
     if are_loose(widest, above, below) {
         return Ok(Answer::Fix);
     }
-    if tighten_between(store, factors, terms, above, below)? {
+    if tighten_between(store, sum.factors, sum.terms, above, below)? {
         return Ok(Answer::NoFix);
     }
     Ok(Answer::Fix)

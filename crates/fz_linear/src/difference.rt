@@ -5,17 +5,14 @@ ghost use Rattle.fz_spec.specs.declared.term.Term.TheVariants.{Var};
 ghost use Rattle.fz_strength.specs.declared.relation.Relation.TheVariants.{Equal, NotEqual};
 ghost use Rattle.fz_strength.specs.Domains.{dom_at, AreDomains};
 ghost use Rattle.fz_strength.specs.Events.{IsOnly, IsFixedIn};
-ghost use Rattle.fz_strength.specs.Sums.{sum_event_of};
-ghost use Rattle.fz_strength.specs.Sums as sums;
 ghost use Rattle.fz_prop.specs.declared.answer.Answer.TheVariants.{Failed};
-ghost use Rattle.fz_prop.specs.Answers.{IsCorrectOf, IsDecided};
+ghost use Rattle.fz_prop.specs.Answers.{IsCorrectOf};
 ghost use Rattle.fz_prop.specs.Stores.{Shrinks, IsStore, IsChangeAt};
 ghost use Rattle.fz_linear.specs.Differences.{IsDifferenceOf, IsNoneOfTwo, IsNoDifference, IsDifferenceIn, DifferenceTruth, IsAnswerDifference, ArePartners};
 
 use fz_prop::terms::value_of;
-use fz_prop::{Answer, Change, Event, Store};
+use fz_prop::{Answer, Change, Store};
 use fz_spec::term::Term;
-use fz_strength::relation::Relation;
 use std::alloc::AllocError;
 
 /// Two variables, and how far the first is to be above the second, and the second above the first.
@@ -25,24 +22,6 @@ pub struct Difference {
     pub second: u32,
     pub above: i32,
     pub below: i32,
-}
-
-/// Whether these are the factors of a difference: 1 and -1, in this order or the other.
-fn is_difference(factors: &[i32]) -> bool
-    ensures { result ≡ sums.is_difference factors.now }
-{
-    matches!(factors, [1, -1] | [-1, 1])
-}
-
-/// The kind of change that a sum waits for.
-pub fn event_of(relation: Relation, factors: &[i32]) -> Event
-    ensures { result ≡ sum_event_of relation factors.now }
-{
-    match relation {
-        Relation::Equal if is_difference(factors) => Event::Any,
-        Relation::NotEqual => Event::Fixed,
-        _ => Event::Bound,
-    }
 }
 
 /// The difference that a sum is, if it is one of two variables.
@@ -99,8 +78,6 @@ pub fn keep_above_by(store: &mut Store, d: Difference) -> Result<Answer, AllocEr
         IsAnswerDifference Equal d.first d.second d.above r store.old.doms store.new.doms) }
     ensures partners { IfOk result (λ r. r ≢ Failed
         → ArePartners store.new.doms d.first d.second d.above) }
-    ensures checking { IfOk result
-        (λ r. IsFixedIn store.old.doms (Var d.first) → IsDecided r) }
 {
     let (first, second) = sizes(store, d);
     if first < second {
@@ -110,7 +87,7 @@ pub fn keep_above_by(store: &mut Store, d: Difference) -> Result<Answer, AllocEr
     }
 }
 
-/// The same difference, with the second variable first.
+/// A difference said the other way round, the second variable less the first.
 fn turned(d: Difference) -> Difference
     ensures { result ≡ record {
       first = d.second;
@@ -151,9 +128,6 @@ fn keep_first(store: &mut Store, d: Difference) -> Result<Answer, AllocError>
         IsAnswerDifference Equal d.first d.second d.above r store.old.doms store.new.doms) }
     ensures partners { IfOk result (λ r. r ≢ Failed
         → ArePartners store.new.doms d.first d.second d.above) }
-    ensures checking { IfOk result (λ r.
-        IsFixedIn store.old.doms (Var d.first) ⊎ IsFixedIn store.old.doms (Var d.second)
-        → IsDecided r) }
 {
     match keep_partners(store, d.first, d.second, d.above)? {
         Change::Wiped => Ok(Answer::Failed),
@@ -161,7 +135,7 @@ fn keep_first(store: &mut Store, d: Difference) -> Result<Answer, AllocError>
     }
 }
 
-/// The same, where each number of the first has its partner in the second.
+/// Narrows the second variable, where each number of the first has its partner in it.
 fn keep_second(store: &mut Store, d: Difference) -> Result<Answer, AllocError>
     requires first { d.first < length store.old.doms }
     requires second { d.second < length store.old.doms }
@@ -176,8 +150,6 @@ fn keep_second(store: &mut Store, d: Difference) -> Result<Answer, AllocError>
         IsAnswerDifference Equal d.first d.second d.above r store.old.doms store.new.doms) }
     ensures partners { IfOk result (λ r. r ≢ Failed
         → ArePartners store.new.doms d.first d.second d.above) }
-    ensures checking { IfOk result
-        (λ r. IsFixedIn store.old.doms (Var d.first) → IsDecided r) }
     ensures old_store { IsStore store.old }
 {
     let (first, second) = sizes(store, d);
@@ -221,7 +193,6 @@ fn partnered(store: &Store, d: Difference) -> Answer
     ensures answer { IsAnswerDifference Equal d.first d.second d.above result
         store.now.doms store.now.doms }
     ensures partners { ArePartners store.now.doms d.first d.second d.above }
-    ensures checking { IsFixedIn store.now.doms (Var d.first) → IsDecided result }
     ensures store { IsStore store.now }
 {
     if store.dom(d.first).is_fixed() {
@@ -241,8 +212,6 @@ pub fn keep_apart_by(store: &mut Store, d: Difference) -> Result<Answer, AllocEr
         store.old.doms store.new.doms }
     ensures answer { IfOk result (λ r.
         IsAnswerDifference NotEqual d.first d.second d.above r store.old.doms store.new.doms) }
-    ensures checking { IfOk result
-        (λ r. IsFixedIn store.old.doms (Var d.first) → IsDecided r) }
 {
     if let Some(value) = value_of(store, Term::Var(d.first)) {
         return exclude_below(store, d, value);
@@ -264,7 +233,6 @@ fn exclude_below(store: &mut Store, d: Difference, value: i32) -> Result<Answer,
         store.old.doms store.new.doms }
     ensures answer { IfOk result (λ r.
         IsAnswerDifference NotEqual d.first d.second d.above r store.old.doms store.new.doms) }
-    ensures decided { IfOk result (λ r. IsDecided r) }
 {
     let _ = store.doms();
     let change = store.remove(d.second, partner(value, d.below))?;
@@ -281,7 +249,6 @@ fn exclude_above(store: &mut Store, d: Difference, value: i32) -> Result<Answer,
         store.old.doms store.new.doms }
     ensures answer { IfOk result (λ r.
         IsAnswerDifference NotEqual d.first d.second d.above r store.old.doms store.new.doms) }
-    ensures decided { IfOk result (λ r. IsDecided r) }
 {
     let _ = store.doms();
     let change = store.remove(d.first, partner(value, d.above))?;

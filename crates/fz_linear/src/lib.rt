@@ -14,6 +14,3 @@ mod side;
 pub mod sums;
 
 pub use linear::Linear;
-
-#[cfg(test)]
-mod tests;

@@ -1,10 +1,9 @@
 //! Sums in 64 bits, where the factors are so small that none overflows.
 ghost use Rattle.std.specs.Prelude.{◌≡◌, ◌↔◌, ℕ, ◌+◌, ◌^◌, ◌≤◌, pos, ◌+ℤ◌, length, unsigned_abs};
-ghost use Rattle.fz_spec.specs.declared.limits.TheConstants.{ELEMENT_LIMIT};
 ghost use Rattle.fz_strength.specs.Domains.{AreDomains};
 ghost use Rattle.fz_strength.specs.Sums.{least_sum, greatest_sum, AreNear};
 ghost use Rattle.fz_linear.specs.Terms.{AreTermsOf};
-ghost use Rattle.fz_linear.specs.Precisions.{AreLight, Allows};
+ghost use Rattle.fz_linear.specs.Precisions.{AreLight, IsWeighted};
 ghost use Rattle.fz_linear.specs.declared.narrow.Precision.TheVariants.{Narrow};
 
 use crate::sums::{Ends, product_ends, sum_ends, wider, width};
@@ -16,6 +15,14 @@ use fz_spec::term::Term;
 pub enum Precision {
     Narrow,
     Wide,
+}
+
+/// Terms with their factors, and in how many bits their sum is added up.
+#[derive(Clone, Copy)]
+pub struct Weighted<'a> {
+    pub factors: &'a [i32],
+    pub terms: &'a [Term],
+    pub precision: Precision,
 }
 
 /// The most that the sizes of factors add up to where sums are narrow: with numbers of 32 bits they then stay within 2^62.
@@ -73,21 +80,21 @@ fn narrow_ends(store: &Store, factors: &[i32], terms: &[Term]) -> Ends
 }
 
 /// The least and the greatest that the sum of terms is with their factors, added up in as many bits as those allow.
-pub fn ends_of(store: &Store, precision: Precision, factors: &[i32], terms: &[Term]) -> Ends
-    requires same { length factors.now ≡ length terms.now }
-    requires few { length terms.now ≤ ELEMENT_LIMIT + 1 }
-    requires allowed { Allows precision factors.now }
-    requires inside { AreTermsOf (length store.now.doms) terms.now }
-    ensures least { result.least ≡ least_sum store.now.doms factors.now terms.now }
-    ensures greatest { result.greatest ≡ greatest_sum store.now.doms factors.now terms.now }
+pub fn ends_of(store: &Store, sum: &Weighted<'_>) -> Ends
+    requires law { IsWeighted sum.now }
+    requires inside { AreTermsOf (length store.now.doms) sum.now.terms.now }
+    ensures least { result.least
+        ≡ least_sum store.now.doms sum.now.factors.now sum.now.terms.now }
+    ensures greatest { result.greatest
+        ≡ greatest_sum store.now.doms sum.now.factors.now sum.now.terms.now }
     ensures near { unsigned_abs result.least ≤ 2 ^ 90 }
     ensures near_greatest { unsigned_abs result.greatest ≤ 2 ^ 90 }
     ensures loose { (slack : ℕ) → result.widest ≤ slack
-        → AreNear store.now.doms (pos slack) factors.now terms.now }
+        → AreNear store.now.doms (pos slack) sum.now.factors.now sum.now.terms.now }
     ensures domains { AreDomains store.now.doms }
 {
-    match precision {
-        Precision::Narrow => narrow_ends(store, factors, terms),
-        Precision::Wide => sum_ends(store, factors, terms),
+    match sum.precision {
+        Precision::Narrow => narrow_ends(store, sum.factors, sum.terms),
+        Precision::Wide => sum_ends(store, sum.factors, sum.terms),
     }
 }

@@ -5,17 +5,17 @@ ghost use Rattle.fz_spec.specs.declared.limits.TheConstants.{ELEMENT_LIMIT};
 ghost use Rattle.fz_strength.specs.declared.relation.Relation.TheVariants.{Below};
 ghost use Rattle.fz_strength.specs.Events.{AllFixed};
 ghost use Rattle.fz_prop.specs.declared.answer.Answer.TheVariants.{Fix};
-ghost use Rattle.fz_prop.specs.Answers.{IsCorrectOf, IsDecided};
+ghost use Rattle.fz_prop.specs.Answers.{IsCorrectOf};
 ghost use Rattle.fz_prop.specs.Stores.{Shrinks, FitsTerm};
 ghost use Rattle.fz_linear.specs.Differences.{IsDifferenceIn, IsPruned};
 ghost use Rattle.fz_linear.specs.Terms.{AreTermsOf};
-ghost use Rattle.fz_linear.specs.Precisions.{Allows};
+ghost use Rattle.fz_linear.specs.Precisions.{IsWeighted};
 ghost use Rattle.fz_linear.specs.Sums.{SumTruth, SumFalse, IsAnswerSum, IsAnswerAgainst};
 
 use crate::apart::keep_apart;
 use crate::bounded::{keep_above, keep_at_most, keep_equal};
 use crate::difference::{Difference, keep_above_by, keep_apart_by};
-use crate::narrow::Precision;
+use crate::narrow::Weighted;
 use fz_prop::{Answer, Store};
 use fz_spec::term::Term;
 use fz_strength::relation::Relation;
@@ -27,30 +27,25 @@ use std::alloc::AllocError;
 /// `AllocError` where there is no memory for a domain; the store is then narrower, and no assignment is lost.
 pub fn relate(
     store: &mut Store,
-    precision: Precision,
+    sum: &Weighted<'_>,
     relation: Relation,
-    factors: &[i32],
-    terms: &[Term],
     number: i32,
 ) -> Result<Answer, AllocError>
     requires bounded { relation ≢ Below }
-    requires same { length factors.now ≡ length terms.now }
-    requires few { length terms.now ≤ ELEMENT_LIMIT + 1 }
-    requires allowed { Allows precision factors.now }
-    requires inside { AreTermsOf (length store.old.doms) terms.now }
-    requires fits { AllByRecursion FitsTerm terms.now }
+    requires law { IsWeighted sum.now }
+    requires inside { AreTermsOf (length store.old.doms) sum.now.terms.now }
+    requires fits { AllByRecursion FitsTerm sum.now.terms.now }
     ensures shrinks { Shrinks store.old store.new }
-    ensures correct { IsCorrectOf (SumTruth relation factors.now terms.now number)
+    ensures correct { IsCorrectOf (SumTruth relation sum.now.factors.now sum.now.terms.now number)
         store.old.doms store.new.doms }
     ensures answer { IfOk result
-        (λ r. IsAnswerSum relation factors.now terms.now number r store.old.doms store.new.doms) }
+        (λ r. IsAnswerSum relation sum.now.factors.now sum.now.terms.now number r store.old.doms store.new.doms) }
     ensures still { IfOk result (λ r. r ≡ Fix → store.new ≡ store.old) }
-    ensures checking { IfOk result (λ r. AllFixed store.old.doms terms.now → IsDecided r) }
 {
     match relation {
-        Relation::Equal => keep_equal(store, precision, factors, terms, number),
-        Relation::NotEqual => keep_apart(store, precision, factors, terms, number),
-        _ => keep_at_most(store, precision, factors, terms, number),
+        Relation::Equal => keep_equal(store, sum, number),
+        Relation::NotEqual => keep_apart(store, sum, number),
+        _ => keep_at_most(store, sum, number),
     }
 }
 
@@ -62,31 +57,26 @@ pub fn relate(
 pub fn relate_whole(
     store: &mut Store,
     difference: Option<Difference>,
-    precision: Precision,
+    sum: &Weighted<'_>,
     relation: Relation,
-    factors: &[i32],
-    terms: &[Term],
     number: i32,
 ) -> Result<Answer, AllocError>
     requires bounded { relation ≢ Below }
-    requires same { length factors.now ≡ length terms.now }
-    requires few { length terms.now ≤ ELEMENT_LIMIT + 1 }
-    requires allowed { Allows precision factors.now }
-    requires inside { AreTermsOf (length store.old.doms) terms.now }
-    requires fits { AllByRecursion FitsTerm terms.now }
-    requires differs { IfSome difference (λ d. IsDifferenceIn d factors.now terms.now number) }
+    requires law { IsWeighted sum.now }
+    requires inside { AreTermsOf (length store.old.doms) sum.now.terms.now }
+    requires fits { AllByRecursion FitsTerm sum.now.terms.now }
+    requires differs { IfSome difference (λ d. IsDifferenceIn d sum.now.factors.now sum.now.terms.now number) }
     ensures shrinks { Shrinks store.old store.new }
-    ensures correct { IsCorrectOf (SumTruth relation factors.now terms.now number)
+    ensures correct { IsCorrectOf (SumTruth relation sum.now.factors.now sum.now.terms.now number)
         store.old.doms store.new.doms }
     ensures answer { IfOk result
-        (λ r. IsAnswerSum relation factors.now terms.now number r store.old.doms store.new.doms) }
+        (λ r. IsAnswerSum relation sum.now.factors.now sum.now.terms.now number r store.old.doms store.new.doms) }
     ensures pruned { IfOk result (λ r. IsPruned relation difference r store.new.doms) }
-    ensures checking { IfOk result (λ r. AllFixed store.old.doms terms.now → IsDecided r) }
 {
     match (relation, difference) {
         (Relation::Equal, Some(difference)) => keep_above_by(store, difference),
         (Relation::NotEqual, Some(difference)) => keep_apart_by(store, difference),
-        _ => relate(store, precision, relation, factors, terms, number),
+        _ => relate(store, sum, relation, number),
     }
 }
 
@@ -96,29 +86,24 @@ pub fn relate_whole(
 /// As `relate`.
 pub fn relate_against(
     store: &mut Store,
-    precision: Precision,
+    sum: &Weighted<'_>,
     relation: Relation,
-    factors: &[i32],
-    terms: &[Term],
     number: i32,
 ) -> Result<Answer, AllocError>
     requires bounded { relation ≢ Below }
-    requires same { length factors.now ≡ length terms.now }
-    requires few { length terms.now ≤ ELEMENT_LIMIT + 1 }
-    requires allowed { Allows precision factors.now }
-    requires inside { AreTermsOf (length store.old.doms) terms.now }
-    requires fits { AllByRecursion FitsTerm terms.now }
+    requires law { IsWeighted sum.now }
+    requires inside { AreTermsOf (length store.old.doms) sum.now.terms.now }
+    requires fits { AllByRecursion FitsTerm sum.now.terms.now }
     ensures shrinks { Shrinks store.old store.new }
-    ensures correct { IsCorrectOf (SumFalse relation factors.now terms.now number)
+    ensures correct { IsCorrectOf (SumFalse relation sum.now.factors.now sum.now.terms.now number)
         store.old.doms store.new.doms }
     ensures answer { IfOk result (λ r.
-        IsAnswerAgainst relation factors.now terms.now number r store.old.doms store.new.doms) }
+        IsAnswerAgainst relation sum.now.factors.now sum.now.terms.now number r store.old.doms store.new.doms) }
     ensures still { IfOk result (λ r. r ≡ Fix → store.new ≡ store.old) }
-    ensures checking { IfOk result (λ r. AllFixed store.old.doms terms.now → IsDecided r) }
 {
     match relation {
-        Relation::Equal => keep_apart(store, precision, factors, terms, number),
-        Relation::NotEqual => keep_equal(store, precision, factors, terms, number),
-        _ => keep_above(store, precision, factors, terms, number),
+        Relation::Equal => keep_apart(store, sum, number),
+        Relation::NotEqual => keep_equal(store, sum, number),
+        _ => keep_above(store, sum, number),
     }
 }

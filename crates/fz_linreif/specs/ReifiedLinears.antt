@@ -1,11 +1,11 @@
 -- A linear constraint and a Boolean: what shows and what refutes it, and what the propagator keeps.
-use Rattle.std.specs.Prelude.{◌≡◌, ◌≤◌, ℕ, ℤ, pos, List, [], ◌∷◌, ◌++◌, length, Some, Bool, true, false}
+use Rattle.std.specs.Prelude.{◌≡◌, ◌≢◌, ◌≤◌, ℤ, pos, List, length, Bool, true, false}
 use Rattle.std.specs.List.{AllByRecursion}
-use Rattle.fz_spec.specs.declared.builtin.Builtin.{Builtin}
 use Rattle.fz_spec.specs.declared.limits.TheConstants.{ELEMENT_LIMIT}
 use Rattle.fz_spec.specs.declared.term.Term.{Term}
 use Rattle.fz_strength.specs.declared.relation.Relation.{Relation}
-use Rattle.fz_strength.specs.ReifiedSums.{reified_sum_of, IsSumShown, IsSumRefuted}
+use Rattle.fz_strength.specs.declared.relation.Relation.TheVariants.{Below}
+use Rattle.fz_strength.specs.ReifiedSums.{IsSumShown, IsSumRefuted}
 use Rattle.fz_prop.specs.declared.answer.Answer.{Answer}
 use Rattle.fz_prop.specs.Answers.{IsAnswerOf}
 use Rattle.fz_prop.specs.Stores.{FitsTerm}
@@ -13,7 +13,6 @@ use Rattle.fz_prop.specs.Truths.{Sides}
 use Rattle.fz_linear.specs.declared.narrow.Precision.{Precision}
 use Rattle.fz_linear.specs.Precisions.{Allows}
 use Rattle.fz_linear.specs.Sums.{SumTruth, SumFalse, SumLine, AgainstLine}
-use Rattle.fz_strength.specs.Events.{variables_of}
 
 abbrev pub sum_sides : Relation → List ℤ → List Term → ℤ → Sides
 sum_sides relation ks ts c = record {
@@ -40,13 +39,11 @@ SaidLine false relation ks ts c = AgainstLine relation ks ts c
 abbrev pub IsAnswerSaid : Bool → Relation → List ℤ → List Term → ℤ → Answer → List (List (ℤ × ℤ)) → List (List (ℤ × ℤ)) → Type 0
 IsAnswerSaid said relation ks ts c answer ds es = IsAnswerOf answer (SaidTruth said relation ks ts c) (SaidLine said relation ks ts c) ds es
 
--- Its relation is that of its name; it has a factor for each term, not too many, with numbers within the limits; its factors allow the
--- bits in which its sum is added up; and the variables of the terms, so many, stand in a list before that of the Boolean.
-pub record IsReifiedLinear (name : Builtin) (relation : Relation) (factors : List ℤ) (terms : List Term) (r : Term) (precision : Precision) (variables : List ℕ) (summed : ℕ) : Type 0 where
-  pub relation_is : reified_sum_of name ≡ Some relation
+-- It is no strict order; it has a factor for each term, not too many, with numbers within the limits; and its factors allow the bits
+-- in which its sum is added up.
+pub record IsReifiedLinear (relation : Relation) (factors : List ℤ) (terms : List Term) (precision : Precision) : Type 0 where
+  pub bounded : relation ≢ Below
   pub same : length factors ≡ length terms
   pub few : length terms ≤ ELEMENT_LIMIT
   pub fits : AllByRecursion FitsTerm terms
   pub allowed : Allows precision factors
-  pub summed_are : summed ≡ length (variables_of terms)
-  pub variables_are : variables ≡ variables_of terms ++ variables_of (r ∷ [])

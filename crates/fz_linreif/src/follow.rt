@@ -8,16 +8,16 @@ ghost use Rattle.fz_strength.specs.Events.{IsOnly, IsFixedIn, AllFixed};
 ghost use Rattle.fz_strength.specs.Promises.{IsTruth};
 ghost use Rattle.fz_strength.specs.ReifiedSums.{IsSumShown, IsSumRefuted};
 ghost use Rattle.fz_prop.specs.declared.answer.Answer.TheVariants.{Fix};
-ghost use Rattle.fz_prop.specs.Answers.{IsAnswerOf, IsCorrectOf, IsDecided};
+ghost use Rattle.fz_prop.specs.Answers.{IsAnswerOf, IsCorrectOf};
 ghost use Rattle.fz_prop.specs.Stores.{Shrinks, IsTermOf, FitsTerm};
 ghost use Rattle.fz_prop.specs.Truths.{TruthWith, LineWith};
-ghost use Rattle.fz_linear.specs.Precisions.{Allows};
+ghost use Rattle.fz_linear.specs.Precisions.{IsWeighted};
 ghost use Rattle.fz_linear.specs.Terms.{AreTermsOf};
 ghost use Rattle.fz_linear.specs.Sums.{SumTruth};
 ghost use Rattle.fz_linreif.specs.ReifiedLinears.{sum_sides, truth_number, SaidTruth, IsAnswerSaid};
 
 use crate::decide::{is_refuted, is_shown};
-use fz_linear::narrow::{Precision, ends_of};
+use fz_linear::narrow::{Weighted, ends_of};
 use fz_linear::relate::{relate, relate_against};
 use fz_linear::sums::Ends;
 use fz_prop::terms::{keep_only, value_of};
@@ -32,36 +32,28 @@ use std::alloc::AllocError;
 /// `AllocError` where there is no memory for a domain; the store is then narrower, and no assignment is lost.
 pub fn keep_reified(
     store: &mut Store,
-    precision: Precision,
+    sum: &Weighted<'_>,
     relation: Relation,
-    factors: &[i32],
-    terms: &[Term],
     number: i32,
     r: Term,
 ) -> Result<Answer, AllocError>
     requires bounded { relation ≢ Below }
-    requires same { length factors.now ≡ length terms.now }
-    requires few { length terms.now ≤ ELEMENT_LIMIT + 1 }
-    requires allowed { Allows precision factors.now }
-    requires inside { AreTermsOf (length store.old.doms) terms.now }
-    requires fits { AllByRecursion FitsTerm terms.now }
+    requires law { IsWeighted sum.now }
+    requires inside { AreTermsOf (length store.old.doms) sum.now.terms.now }
+    requires fits { AllByRecursion FitsTerm sum.now.terms.now }
     requires boolean { IsTermOf (length store.old.doms) r }
     requires truth { IsTruth store.old.doms r }
     ensures shrinks { Shrinks store.old store.new }
-    ensures correct { IsCorrectOf (TruthWith (SumTruth relation factors.now terms.now number) r)
+    ensures correct { IsCorrectOf (TruthWith (SumTruth relation sum.now.factors.now sum.now.terms.now number) r)
         store.old.doms store.new.doms }
     ensures answer { IfOk result (λ a. IsAnswerOf a
-        (TruthWith (SumTruth relation factors.now terms.now number) r)
-        (LineWith (sum_sides relation factors.now terms.now number) r)
+        (TruthWith (SumTruth relation sum.now.factors.now sum.now.terms.now number) r)
+        (LineWith (sum_sides relation sum.now.factors.now sum.now.terms.now number) r)
         store.old.doms store.new.doms) }
-    ensures checking { IfOk result
-        (λ a. AllFixed store.old.doms terms.now → IsFixedIn store.old.doms r → IsDecided a) }
 {
     match (relation, truth_of(store, r)) {
-        (Relation::AtMost, Some(said)) => {
-            keep_order(store, precision, factors, terms, number, r, said)
-        }
-        _ => decide(store, precision, relation, factors, terms, number, r),
+        (Relation::AtMost, Some(said)) => { keep_order(store, sum, number, r, said) }
+        _ => decide(store, sum, relation, number, r),
     }
 }
 
@@ -83,69 +75,51 @@ fn truth_of(store: &Store, r: Term) -> Option<bool>
 fn relate_as(
     store: &mut Store,
     said: bool,
-    precision: Precision,
+    sum: &Weighted<'_>,
     relation: Relation,
-    factors: &[i32],
-    terms: &[Term],
     number: i32,
 ) -> Result<Answer, AllocError>
     requires bounded { relation ≢ Below }
-    requires same { length factors.now ≡ length terms.now }
-    requires few { length terms.now ≤ ELEMENT_LIMIT + 1 }
-    requires allowed { Allows precision factors.now }
-    requires inside { AreTermsOf (length store.old.doms) terms.now }
-    requires fits { AllByRecursion FitsTerm terms.now }
+    requires law { IsWeighted sum.now }
+    requires inside { AreTermsOf (length store.old.doms) sum.now.terms.now }
+    requires fits { AllByRecursion FitsTerm sum.now.terms.now }
     ensures shrinks { Shrinks store.old store.new }
-    ensures correct { IsCorrectOf (SaidTruth said relation factors.now terms.now number)
+    ensures correct { IsCorrectOf (SaidTruth said relation sum.now.factors.now sum.now.terms.now number)
         store.old.doms store.new.doms }
     ensures answer { IfOk result (λ a.
-        IsAnswerSaid said relation factors.now terms.now number a store.old.doms store.new.doms) }
+        IsAnswerSaid said relation sum.now.factors.now sum.now.terms.now number a store.old.doms store.new.doms) }
     ensures still { IfOk result (λ a. a ≡ Fix → store.new ≡ store.old) }
-    ensures checking { IfOk result (λ a. AllFixed store.old.doms terms.now → IsDecided a) }
 {
     if said {
-        relate(store, precision, relation, factors, terms, number)
+        relate(store, sum, relation, number)
     } else {
-        relate_against(store, precision, relation, factors, terms, number)
+        relate_against(store, sum, relation, number)
     }
 }
 
 /// Narrows a store so that a sum is at most a number, or above it, as a Boolean that is fixed says.
 fn keep_order(
     store: &mut Store,
-    precision: Precision,
-    factors: &[i32],
-    terms: &[Term],
+    sum: &Weighted<'_>,
     number: i32,
     r: Term,
     said: bool,
 ) -> Result<Answer, AllocError>
-    requires same { length factors.now ≡ length terms.now }
-    requires few { length terms.now ≤ ELEMENT_LIMIT + 1 }
-    requires allowed { Allows precision factors.now }
-    requires inside { AreTermsOf (length store.old.doms) terms.now }
-    requires fits { AllByRecursion FitsTerm terms.now }
+    requires law { IsWeighted sum.now }
+    requires inside { AreTermsOf (length store.old.doms) sum.now.terms.now }
+    requires fits { AllByRecursion FitsTerm sum.now.terms.now }
     requires boolean { IsTermOf (length store.old.doms) r }
     requires fixed { IsOnly (term_set store.old.doms r) (truth_number said) }
     ensures shrinks { Shrinks store.old store.new }
-    ensures correct { IsCorrectOf (TruthWith (SumTruth AtMost factors.now terms.now number) r)
+    ensures correct { IsCorrectOf (TruthWith (SumTruth AtMost sum.now.factors.now sum.now.terms.now number) r)
         store.old.doms store.new.doms }
     ensures answer { IfOk result (λ a. IsAnswerOf a
-        (TruthWith (SumTruth AtMost factors.now terms.now number) r)
-        (LineWith (sum_sides AtMost factors.now terms.now number) r)
+        (TruthWith (SumTruth AtMost sum.now.factors.now sum.now.terms.now number) r)
+        (LineWith (sum_sides AtMost sum.now.factors.now sum.now.terms.now number) r)
         store.old.doms store.new.doms) }
-    ensures checking { IfOk result (λ a. AllFixed store.old.doms terms.now → IsDecided a) }
 {
     let _ = r;
-    let answer = relate_as(
-        store,
-        said,
-        precision,
-        Relation::AtMost,
-        factors,
-        terms,
-        number,
-    );
+    let answer = relate_as(store, said, sum, Relation::AtMost, number);
     let _ = store.doms();
     answer
 }
@@ -154,36 +128,30 @@ fn keep_order(
 /// nothing by the Boolean.
 fn decide(
     store: &mut Store,
-    precision: Precision,
+    sum: &Weighted<'_>,
     relation: Relation,
-    factors: &[i32],
-    terms: &[Term],
     number: i32,
     r: Term,
 ) -> Result<Answer, AllocError>
     requires bounded { relation ≢ Below }
-    requires same { length factors.now ≡ length terms.now }
-    requires few { length terms.now ≤ ELEMENT_LIMIT + 1 }
-    requires allowed { Allows precision factors.now }
-    requires inside { AreTermsOf (length store.old.doms) terms.now }
-    requires fits { AllByRecursion FitsTerm terms.now }
+    requires law { IsWeighted sum.now }
+    requires inside { AreTermsOf (length store.old.doms) sum.now.terms.now }
+    requires fits { AllByRecursion FitsTerm sum.now.terms.now }
     requires boolean { IsTermOf (length store.old.doms) r }
     requires truth { IsTruth store.old.doms r }
     ensures shrinks { Shrinks store.old store.new }
-    ensures correct { IsCorrectOf (TruthWith (SumTruth relation factors.now terms.now number) r)
+    ensures correct { IsCorrectOf (TruthWith (SumTruth relation sum.now.factors.now sum.now.terms.now number) r)
         store.old.doms store.new.doms }
     ensures answer { IfOk result (λ a. IsAnswerOf a
-        (TruthWith (SumTruth relation factors.now terms.now number) r)
-        (LineWith (sum_sides relation factors.now terms.now number) r)
+        (TruthWith (SumTruth relation sum.now.factors.now sum.now.terms.now number) r)
+        (LineWith (sum_sides relation sum.now.factors.now sum.now.terms.now number) r)
         store.old.doms store.new.doms) }
-    ensures checking { IfOk result
-        (λ a. AllFixed store.old.doms terms.now → IsFixedIn store.old.doms r → IsDecided a) }
 {
     let Ends {
         least,
         greatest,
         ..
-    } = ends_of(store, precision, factors, terms);
+    } = ends_of(store, sum);
     if is_shown(relation, least, greatest, number) {
         let change = keep_only(store, r, 1)?;
         return Ok(Answer::settled(change));
@@ -192,43 +160,37 @@ fn decide(
         let change = keep_only(store, r, 0)?;
         return Ok(Answer::settled(change));
     }
-    follow(store, precision, relation, factors, terms, number, r)
+    follow(store, sum, relation, number, r)
 }
 
 /// Narrows a store by what a Boolean says of a sum, where the ends of the sum decide nothing.
 fn follow(
     store: &mut Store,
-    precision: Precision,
+    sum: &Weighted<'_>,
     relation: Relation,
-    factors: &[i32],
-    terms: &[Term],
     number: i32,
     r: Term,
 ) -> Result<Answer, AllocError>
     requires bounded { relation ≢ Below }
-    requires same { length factors.now ≡ length terms.now }
-    requires few { length terms.now ≤ ELEMENT_LIMIT + 1 }
-    requires allowed { Allows precision factors.now }
-    requires inside { AreTermsOf (length store.old.doms) terms.now }
-    requires fits { AllByRecursion FitsTerm terms.now }
+    requires law { IsWeighted sum.now }
+    requires inside { AreTermsOf (length store.old.doms) sum.now.terms.now }
+    requires fits { AllByRecursion FitsTerm sum.now.terms.now }
     requires boolean { IsTermOf (length store.old.doms) r }
     requires truth { IsTruth store.old.doms r }
-    requires not_shown { IsSumShown relation store.old.doms factors.now terms.now number → ⊥ }
-    requires not_refuted { IsSumRefuted relation store.old.doms factors.now terms.now number → ⊥ }
+    requires not_shown { IsSumShown relation store.old.doms sum.now.factors.now sum.now.terms.now number → ⊥ }
+    requires not_refuted { IsSumRefuted relation store.old.doms sum.now.factors.now sum.now.terms.now number → ⊥ }
     ensures shrinks { Shrinks store.old store.new }
-    ensures correct { IsCorrectOf (TruthWith (SumTruth relation factors.now terms.now number) r)
+    ensures correct { IsCorrectOf (TruthWith (SumTruth relation sum.now.factors.now sum.now.terms.now number) r)
         store.old.doms store.new.doms }
     ensures answer { IfOk result (λ a. IsAnswerOf a
-        (TruthWith (SumTruth relation factors.now terms.now number) r)
-        (LineWith (sum_sides relation factors.now terms.now number) r)
+        (TruthWith (SumTruth relation sum.now.factors.now sum.now.terms.now number) r)
+        (LineWith (sum_sides relation sum.now.factors.now sum.now.terms.now number) r)
         store.old.doms store.new.doms) }
-    ensures checking { IfOk result
-        (λ a. AllFixed store.old.doms terms.now → IsFixedIn store.old.doms r → IsDecided a) }
 {
     let Some(said) = truth_of(store, r) else {
         return Ok(Answer::Fix);
     };
-    let answer = relate_as(store, said, precision, relation, factors, terms, number)?;
+    let answer = relate_as(store, said, sum, relation, number)?;
     let _ = store.doms();
     Ok(answer)
 }

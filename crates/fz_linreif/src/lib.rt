@@ -7,6 +7,3 @@ mod follow;
 pub mod reified;
 
 pub use reified::ReifiedLinear;
-
-#[cfg(test)]
-mod tests;

@@ -20,17 +20,17 @@ use Rattle.fz_path.specs.Paths.{Pathed, started, held_behind, with_held, can_cut
 use Rattle.fz_path.specs.Steps.{Steps, StepsTo, Falls, FallsFrom, Stays}
 use Rattle.fz_path.specs.Cuts.{held_behind_cut}
 use Rattle.fz_path.specs.Learns.{Learns}
-use Rattle.fz_machine.specs.declared.event.Event.TheVariants.{Claim, Start, Step, Report, Steal, Learn}
-use Rattle.fz_machine.specs.declared.event.Outcome.{Outcome}
-use Rattle.fz_machine.specs.Cores.{Worker, Core, CoreLaw, idle, worker_at}
-use Rattle.fz_machine.specs.Lawful.{is_lawful, is_free, can_be_cut, has_unclaimed, improving_in, improving}
-use Rattle.fz_machine.specs.Events.{ClaimsAt, StartsAt, StepsAt, ReportsAt, StealsAt, LearnsAt, StaysAt, holding, step_outcome, learned_outcome}
-use Rattle.fz_machine.specs.Slots.{IsReportable}
+use Rattle.fz_core.specs.declared.event.Event.TheVariants.{Claim, Start, Step, Report, Steal, Learn}
+use Rattle.fz_core.specs.declared.event.Outcome.{Outcome}
+use Rattle.fz_core.specs.Cores.{Worker, Core, CoreLaw, idle, worker_at}
+use Rattle.fz_core.specs.Lawful.{is_lawful, is_free, can_be_cut, has_unclaimed, improving_in, improving}
+use Rattle.fz_core.specs.Events.{ClaimsAt, StartsAt, StepsAt, ReportsAt, StealsAt, LearnsAt, StaysAt, holding, step_outcome, learned_outcome}
+use Rattle.fz_book.specs.Reports.{IsReportable}
 use Rattle.fz_machine.proofs.Lawful.{IsFree, CanCut, free, ready, busy, cuttable, some_is_there}
-use Rattle.fz_machine.proofs.Held.{held_is_claimed}
-use Rattle.fz_machine.proofs.Workers.{held_by}
-use Rattle.fz_machine.proofs.Reaching.{start_law}
-use Rattle.fz_machine.proofs.Keeping.{worker_of, get_set_other, event_keeps, refusal_keeps}
+use Rattle.fz_core.proofs.Held.{held_is_claimed}
+use Rattle.fz_core.proofs.Workers.{held_by}
+use Rattle.fz_core.proofs.Reaching.{start_law}
+use Rattle.fz_core.proofs.Keeping.{worker_of, get_set_other, event_keeps, refusal_keeps}
 
 pub on_err : {A E : Type 0} (r : Result A E) (P : Type 0) → P → OnErr r P
 on_err (Ok x) P p = tt
@@ -316,10 +316,8 @@ step_law s old i read path new hand (Err e) law view lawful is seen does falls e
 -- ---- the start
 
 -- slots are the workers that were made, and made the number of the one that would come next
-pub new_law : (m : Instance) (mode : Mode) (n made commit adaptive : ℕ) (slots : List Worker) (b : Book) → mode ≡ mode_of m.goal → 1 ≤ n → n < 2 ^ 32 → 1 ≤ commit → 1 ≤ adaptive → slots ≡ replicate made (idle m mode commit adaptive) → made ≡ n → b ≡ opening m mode
+pub new_law : (m : Instance) (mode : Mode) (n commit adaptive : ℕ) (slots : List Worker) (b : Book) → mode ≡ mode_of m.goal → 1 ≤ n → n < 2 ^ 32 → 1 ≤ commit → 1 ≤ adaptive → slots ≡ replicate n (idle m mode commit adaptive) → b ≡ opening m mode
     → CoreLaw (record { workers = slots; book = b })
-new_law m mode n made commit adaptive slots b own several numbered one two is all book =
+new_law m mode n commit adaptive slots b own several numbered one two is book =
     let core : List Worker → Book → Core = λ ws x. record { workers = ws; book = x } in
-    subst CoreLaw
-    (sym (ap (λ (ws : List Worker). core ws b) (is ∙ ap (λ k. replicate k (idle m mode commit adaptive)) all) ∙ ap (core (replicate n (idle m mode commit adaptive))) book))
-    (start_law m mode n commit adaptive own several numbered one two)
+    subst CoreLaw (sym (ap (λ (ws : List Worker). core ws b) is ∙ ap (core (replicate n (idle m mode commit adaptive))) book)) (start_law m mode n commit adaptive own several numbered one two)

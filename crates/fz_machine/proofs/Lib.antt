@@ -1,15 +1,5 @@
 pub mod Tests
 pub mod Lawful
-pub mod Frontiers
-pub mod Sums
-pub mod Held
-pub mod Steps
-pub mod Workers
-pub mod Keeping
-pub mod Reaching
-pub mod Ends
-pub mod Order
-pub mod Once
 pub mod Scores
 pub mod Remaining
 pub mod Turns

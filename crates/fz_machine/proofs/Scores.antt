@@ -19,7 +19,7 @@ use Rattle.fz_tree.specs.declared.mode.Mode.{Mode}
 use Rattle.fz_tree.specs.declared.mode.Mode.TheVariants.{All, Best}
 use Rattle.fz_tree.specs.Better.{Betters}
 use Rattle.fz_tree.specs.Book.{Book, BookLaw, SuitsRecord}
-use Rattle.fz_machine.specs.Lawful.{improving, improving_in}
+use Rattle.fz_core.specs.Lawful.{improving, improving_in}
 use Rattle.fz_machine.specs.Measure.{SCORES, score_left}
 
 -- the value of a declared integer variable is within the limits

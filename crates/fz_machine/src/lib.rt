@@ -1,16 +1,11 @@
-//! Several workers that search one tree, as one value: each event of one of them is a call, so any order of events is a list.
-//!
-//! Whatever the events, and in whatever order, each claimed part of the book is in the hand or the path of one worker. So nothing
-//! is lost and nothing is searched twice, and where no worker holds anything and nothing is unclaimed, the book is closed.
+//! Several workers that search one tree on one thread: each event of one of them is a call, and a schedule says whose turn it is.
+//! What an event makes of workers and book, and what holds whatever the events, is said in fz_core.
 #![tactic(auto)]
 
-pub mod event;
-pub mod laws;
 pub mod machine;
 pub mod run;
 pub mod schedule;
 mod slot;
-mod taking;
 
-pub use event::{Answer, Event, Outcome};
+pub use fz_core::{Answer, Event, Outcome};
 pub use machine::Machine;

@@ -1,33 +1,34 @@
 //! Machines.
-ghost use Rattle.std.specs.Prelude.{◌≡◌, ◌≤◌, ◌<◌, true, length, option_copied, option_map, is_some, IfOk, OnErr};
+ghost use Rattle.std.specs.Prelude.{◌≡◌, ◌≤◌, ◌<◌, true, length, option_copied, option_map, is_some, IfOk, IfErr, OnErr};
 ghost use Rattle.std.specs.Arc.{arc_value};
 ghost use Rattle.fz_tree.specs.Better.{mode_of};
 ghost use Rattle.fz_tree.specs.Book.{BookLaw};
-ghost use Rattle.fz_machine.specs.Cores.{CoreLaw, starting, worker_at};
-ghost use Rattle.fz_machine.specs.Lawful.{is_lawful, is_free, is_ready, is_busy, can_be_cut, has_unclaimed, improving};
-ghost use Rattle.fz_machine.specs.Events.{Happens, Refuses};
-ghost use Rattle.fz_machine.specs.Runs.{Answers};
+ghost use Rattle.fz_core.specs.Cores.{CoreLaw, starting, worker_at};
+ghost use Rattle.fz_core.specs.Lawful.{is_lawful, has_unclaimed, improving};
+ghost use Rattle.fz_core.specs.Events.{Happens, Refuses};
+ghost use Rattle.fz_core.specs.Runs.{Answers};
 
-use crate::event::{Answer, Event, Outcome, outcome_of_learned, outcome_of_step};
-use crate::slot::Slot;
+use crate::slot::{Slot, can_be_cut, idle_slots, is_busy, is_free, is_ready, is_worker};
 use fz_account::Mode;
 use fz_book::Book;
+use fz_core::event::{Answer, Event, Outcome, outcome_of_learned, outcome_of_step};
 use fz_model::Assignment;
-use fz_path::{Path, Space};
+use fz_path::Path;
 use fz_region::Frontier;
-use std::alloc::{AllocError, Global};
+use fz_search_space::SearchSpace;
+use std::alloc::{AllocError, AllocFailed, Global};
 use std::marker::Model;
 use std::sync::Arc;
 
 /// Several workers on one book. Workers have numbers from 0.
 #[derive(Drop)]
-pub struct Machine<S: Space> {
+pub struct Machine<S: SearchSpace> {
     workers: Vec<Slot<S>>,
     book: Book,
 }
 
-impl<S: Space> Model for Machine<S> {
-    ghost use Rattle.fz_machine.specs.Cores as cores;
+impl<S: SearchSpace> Model for Machine<S> {
+    ghost use Rattle.fz_core.specs.Cores as cores;
 
     ghost Value = { cores.Core };
 
@@ -37,11 +38,11 @@ impl<S: Space> Model for Machine<S> {
         (record { workers = m.workers.items; book = m.book.book }) };
 }
 
-impl<S: Space> Machine<S> {
+impl<S: SearchSpace> Machine<S> {
     /// So many idle workers, and a book of which the whole tree is open and unclaimed.
     ///
     /// # Errors
-    /// `AllocError` where there is no memory.
+    /// `AllocFailed` with the model, where there is no memory.
     pub fn new(
         alloc: Global,
         model: Arc<fz_model::Model>,
@@ -49,27 +50,32 @@ impl<S: Space> Machine<S> {
         workers: u32,
         commit_distance: u32,
         adaptive_distance: u32,
-    ) -> Result<Machine<S>, AllocError>
+    ) -> Result<Machine<S>, AllocFailed<Arc<fz_model::Model>>>
         requires accepts { S.accepts (arc_value model) }
         requires mode { mode ≡ mode_of (arc_value model).goal }
         requires workers { 1 ≤ workers }
         requires commit_distance { 1 ≤ commit_distance }
         requires adaptive_distance { 1 ≤ adaptive_distance }
-        ensures { IfOk result (λ m. m
+        ensures ok { IfOk result (λ m. m
             ≡ starting (arc_value model) mode workers commit_distance adaptive_distance) }
+        ensures err { IfErr result (λ refused. refused.value ≡ model) }
     {
-        let mut slots = Vec::new(alloc);
-        for _worker in 0..workers {
-            let shared = model.clone()?;
-            slots.push(Slot::idle(alloc, shared, mode, commit_distance, adaptive_distance)?)?;
-        }
-        match Book::begin(alloc, model, mode) {
-            Ok(book) => Ok(Machine {
-                workers: slots,
-                book,
-            }),
-            Err(_) => Err(AllocError),
-        }
+        let slots = idle_slots(
+            alloc,
+            &model,
+            mode,
+            workers,
+            commit_distance,
+            adaptive_distance,
+        );
+        let Ok(slots) = slots else {
+            return Err(AllocFailed { value: model });
+        };
+        let book = Book::begin(alloc, model, mode)?;
+        Ok(Machine {
+            workers: slots,
+            book,
+        })
     }
 
     /// Lets an event happen, and says what came of it: `Unlawful` exactly where it isn't lawful; then nothing changes.
@@ -92,64 +98,25 @@ impl<S: Space> Machine<S> {
         ensures { result ≡ is_lawful self.now event }
     {
         match event {
-            Event::Claim(worker) => self.is_free(worker) && self.has_unclaimed(),
-            Event::Start(worker) => self.is_ready(worker),
-            Event::Step(worker) => self.is_busy(worker),
-            Event::Report(worker) => self.is_busy(worker),
+            Event::Claim(worker) => is_free(&self.workers, worker) && self.has_unclaimed(),
+            Event::Start(worker) => is_ready(&self.workers, worker),
+            Event::Step(worker) => is_busy(&self.workers, worker),
+            Event::Report(worker) => is_busy(&self.workers, worker),
             Event::Steal(victim, thief) => {
-                victim != thief && (self.can_be_cut(victim) && self.is_free(thief))
+                victim != thief
+                    && (can_be_cut(&self.workers, victim) && is_free(&self.workers, thief))
             }
             Event::Learn(worker, number) => {
-                self.is_worker(worker) && (number as usize) < self.improving().len()
+                is_worker(&self.workers, worker) && (number as usize) < self.improving().len()
             }
         }
     }
 
-    /// Whether a worker has this number.
-    fn is_worker(&self, worker: u32) -> bool
-        ensures { result ≡ is_some (worker_at self.now worker) }
+    /// The workers, each by its number.
+    pub(crate) fn slots(&self) -> &[Slot<S>]
+        ensures { result.now ≡ self.now.workers }
     {
-        (worker as usize) < self.workers.len()
-    }
-
-    /// Whether a worker holds nothing and its hand is empty.
-    fn is_free(&self, worker: u32) -> bool
-        ensures { result ≡ is_free (worker_at self.now worker) }
-    {
-        match self.workers.get(worker as usize) {
-            Some(slot) => slot.path.is_idle() && slot.hand.is_none(),
-            None => false,
-        }
-    }
-
-    /// Whether a worker holds nothing and has a task.
-    pub(crate) fn is_ready(&self, worker: u32) -> bool
-        ensures { result ≡ is_ready (worker_at self.now worker) }
-    {
-        match self.workers.get(worker as usize) {
-            Some(slot) => slot.path.is_idle() && slot.hand.is_some(),
-            None => false,
-        }
-    }
-
-    /// Whether a worker holds a frontier.
-    pub(crate) fn is_busy(&self, worker: u32) -> bool
-        ensures { result ≡ is_busy (worker_at self.now worker) }
-    {
-        match self.workers.get(worker as usize) {
-            Some(slot) => !slot.path.is_idle(),
-            None => false,
-        }
-    }
-
-    /// Whether a part can be cut off what a worker holds.
-    pub(crate) fn can_be_cut(&self, worker: u32) -> bool
-        ensures { result ≡ can_be_cut (worker_at self.now worker) }
-    {
-        match self.workers.get(worker as usize) {
-            Some(slot) => slot.path.can_cut(),
-            None => false,
-        }
+        &self.workers
     }
 
     /// Whether some part is open that nobody has claimed.

@@ -1,22 +1,24 @@
 //! A whole search by one schedule.
 ghost use Rattle.std.specs.Prelude.{◌≡◌, ◌↔◌, ◌≤◌, ◌<◌, ◌-◌, [], List, length, true, IsTrue, IsSomeAnd, MatchOption, IfOk, OnOk, OnErr};
 ghost use Rattle.fz_model.specs.Kept.{IsModel};
-ghost use Rattle.fz_machine.specs.declared.event.Event.{Event};
-ghost use Rattle.fz_machine.specs.Cores.{CoreLaw, worker_at};
-ghost use Rattle.fz_machine.specs.Lawful.{improving};
-ghost use Rattle.fz_machine.specs.Runs.{Runs};
+ghost use Rattle.fz_core.specs.declared.event.Event.{Event};
+ghost use Rattle.fz_core.specs.Cores.{CoreLaw, worker_at};
+ghost use Rattle.fz_core.specs.Lawful.{improving};
+ghost use Rattle.fz_core.specs.Runs.{Runs};
 ghost use Rattle.fz_machine.specs.Schedule as schedule;
 ghost use Rattle.fz_machine.specs.Schedule.{HasNews, IsNext, NoneActs, FirstActs, IsTurn, HasGone, HasStopped};
 
-use crate::event::Event;
 use crate::machine::Machine;
 use crate::schedule::{next_number, picked};
+use crate::slot::{can_be_cut, is_busy, is_ready};
 use fz_better::better;
-use fz_path::{Path, Space};
-use fz_solo::{End, has_enough};
+use fz_book::{End, has_enough};
+use fz_core::event::Event;
+use fz_path::Path;
+use fz_search_space::SearchSpace;
 use std::alloc::AllocError;
 
-impl<S: Space> Machine<S> {
+impl<S: SearchSpace> Machine<S> {
     /// Lets the workers act, one event after the other, until nothing is open or as many are recorded as are asked for. Whose turn
     /// it is says a number that begins with the seed: of the worker that it picks and those after it, around, the first acts that
     /// has a next event.
@@ -96,13 +98,13 @@ impl<S: Space> Machine<S> {
         requires { worker < length self.now.workers }
         ensures { result ≡ schedule.event_of self.now enough worker news }
     {
-        if self.is_ready(worker) {
+        if is_ready(self.slots(), worker) {
             return Some(Event::Start(worker));
         }
         if self.is_to_report(worker, enough) {
             return Some(Event::Report(worker));
         }
-        if self.is_busy(worker) {
+        if is_busy(self.slots(), worker) {
             return Some(if news {
                 Event::Learn(worker, self.last_number())
             } else {
@@ -160,7 +162,7 @@ impl<S: Space> Machine<S> {
         ensures { result ≡ schedule.first_cut self.now }
     {
         'victims: for worker in 0..self.workers() {
-            if self.can_be_cut(worker) {
+            if can_be_cut(self.slots(), worker) {
                 return Some(worker);
             }
         }
@@ -169,7 +171,7 @@ impl<S: Space> Machine<S> {
 }
 
 /// Whether a path has something to report: nothing is left of what it holds, or some number is enough and it has found something.
-fn has_report<S: Space>(path: &Path<S>, enough: Option<u32>) -> bool
+fn has_report<S: SearchSpace>(path: &Path<S>, enough: Option<u32>) -> bool
     ensures { result ≡ schedule.has_report enough path.now.held }
 {
     path.is_spent() || (enough.is_some() && 0 < path.found_count())

@@ -1,5 +1,6 @@
 //! One worker.
-ghost use Rattle.std.specs.Prelude.{◌≡◌, ◌≤◌, true, None, Some, is_some, IfOk, IfSome, OnOk, OnErr};
+ghost use Rattle.std.specs.Prelude.{◌≡◌, ◌≤◌, replicate, true, None, Some, is_some, IfOk, IfSome, OnOk, OnErr};
+ghost use Rattle.std.specs.List.{slice_get};
 ghost use Rattle.std.specs.Arc.{arc_value};
 ghost use Rattle.fz_tree.specs.Better.{mode_of};
 ghost use Rattle.fz_tree.specs.Account as accounts;
@@ -9,51 +10,61 @@ ghost use Rattle.fz_tree.specs.Frontier as frontiers;
 ghost use Rattle.fz_tree.specs.Frontier.{part_of};
 ghost use Rattle.fz_path.specs.Paths.{started, held_behind, can_cut_held};
 ghost use Rattle.fz_path.specs.Cuts.{held_behind_cut};
-ghost use Rattle.fz_machine.specs.Cores.{idle};
-ghost use Rattle.fz_machine.specs.Events.{holding};
-ghost use Rattle.fz_machine.specs.Slots.{IsReportable};
+ghost use Rattle.fz_core.specs.Cores.{idle};
+ghost use Rattle.fz_core.specs.Events.{holding};
+ghost use Rattle.fz_core.specs.Lawful.{is_free, is_ready, is_busy, can_be_cut};
+ghost use Rattle.fz_book.specs.Reports.{IsReportable};
 
-use crate::taking::{make_room, take};
 use fz_account::Mode;
 use fz_book::Book;
-use fz_path::{Path, Space, Start};
+use fz_path::{Path, Start};
 use fz_region::Frontier;
+use fz_search_space::SearchSpace;
 use std::alloc::{AllocError, Global};
 use std::marker::Model;
 use std::sync::Arc;
 
 /// A worker: its path, and the task in its hand.
 #[derive(Drop)]
-pub struct Slot<S: Space> {
+pub struct Slot<S: SearchSpace> {
     pub path: Path<S>,
     pub hand: Option<Frontier>,
 }
 
-impl<S: Space> Model for Slot<S> {
-    ghost use Rattle.fz_machine.specs.Cores.{Worker};
+impl<S: SearchSpace> Model for Slot<S> {
+    ghost use Rattle.fz_core.specs.Cores.{Worker};
 
     ghost Value = { Worker };
 
     ghost view = { λ w. record { path = w.path; hand = w.hand } };
 }
 
-impl<S: Space> Slot<S> {
+impl<S: SearchSpace> Slot<S> {
     /// A worker that holds nothing, knows nothing and has no task.
+    ///
+    /// # Errors
+    /// `AllocError` where there is no memory.
     pub fn idle(
         alloc: Global,
-        model: Arc<fz_model::Model>,
+        model: &Arc<fz_model::Model>,
         mode: Mode,
         commit_distance: u32,
         adaptive_distance: u32,
     ) -> Result<Slot<S>, AllocError>
-        requires accepts { S.accepts (arc_value model) }
-        requires mode { mode ≡ mode_of (arc_value model).goal }
+        requires accepts { S.accepts (arc_value model.now) }
+        requires mode { mode ≡ mode_of (arc_value model.now).goal }
         requires commit_distance { 1 ≤ commit_distance }
         requires adaptive_distance { 1 ≤ adaptive_distance }
         ensures { IfOk result (λ w. w
-            ≡ idle (arc_value model) mode commit_distance adaptive_distance) }
+            ≡ idle (arc_value model.now) mode commit_distance adaptive_distance) }
     {
-        let path = Path::idle(alloc, model, mode, commit_distance, adaptive_distance)?;
+        let path = Path::idle(
+            alloc,
+            model.clone()?,
+            mode,
+            commit_distance,
+            adaptive_distance,
+        )?;
         Ok(Slot { path, hand: None })
     }
 
@@ -93,11 +104,11 @@ impl<S: Space> Slot<S> {
         ensures same { OnErr result (self.new ≡ self.old) }
         ensures book { OnErr result (book.new.book ≡ book.old.book) }
     {
-        make_room(book, &self.path)?;
+        book.make_room(self.path.found_count() + 1, 1)?;
         let Some(account) = self.path.report()? else {
             unreachable!()
         };
-        take(book, account);
+        book.take_open(account);
         Ok(())
     }
 
@@ -115,11 +126,84 @@ impl<S: Space> Slot<S> {
         ensures same { OnErr result (self.new ≡ self.old) }
         ensures book { OnErr result (book.new.book ≡ book.old.book) }
     {
-        make_room(book, &self.path)?;
+        book.make_room(self.path.found_count() + 1, 1)?;
         let Some(cut) = self.path.cut()? else {
             unreachable!()
         };
-        take(book, cut.account);
+        book.take_open(cut.account);
         Ok(cut.task)
+    }
+}
+
+/// So many idle workers.
+///
+/// # Errors
+/// `AllocError` where there is no memory.
+pub fn idle_slots<S: SearchSpace>(
+    alloc: Global,
+    model: &Arc<fz_model::Model>,
+    mode: Mode,
+    workers: u32,
+    commit_distance: u32,
+    adaptive_distance: u32,
+) -> Result<Vec<Slot<S>>, AllocError>
+    requires accepts { S.accepts (arc_value model.now) }
+    requires mode { mode ≡ mode_of (arc_value model.now).goal }
+    requires commit_distance { 1 ≤ commit_distance }
+    requires adaptive_distance { 1 ≤ adaptive_distance }
+    ensures { IfOk result (λ slots. slots.items ≡ replicate workers
+        (idle (arc_value model.now) mode commit_distance adaptive_distance)) }
+{
+    let mut slots = Vec::new(alloc);
+    for _worker in 0..workers {
+        slots.push(Slot::idle(alloc, model, mode, commit_distance, adaptive_distance)?)?;
+    }
+    Ok(slots)
+}
+
+/// Whether a worker has this number.
+pub fn is_worker<S: SearchSpace>(workers: &[Slot<S>], worker: u32) -> bool
+    ensures { result ≡ is_some (slice_get workers.now worker) }
+{
+    (worker as usize) < workers.len()
+}
+
+/// Whether the worker of this number is there, holds nothing and has an empty hand.
+pub fn is_free<S: SearchSpace>(workers: &[Slot<S>], worker: u32) -> bool
+    ensures { result ≡ is_free (slice_get workers.now worker) }
+{
+    match workers.get(worker as usize) {
+        Some(slot) => slot.path.is_idle() && slot.hand.is_none(),
+        None => false,
+    }
+}
+
+/// Whether the worker of this number is there, holds nothing and has a task.
+pub fn is_ready<S: SearchSpace>(workers: &[Slot<S>], worker: u32) -> bool
+    ensures { result ≡ is_ready (slice_get workers.now worker) }
+{
+    match workers.get(worker as usize) {
+        Some(slot) => slot.path.is_idle() && slot.hand.is_some(),
+        None => false,
+    }
+}
+
+/// Whether the worker of this number is there and holds a frontier.
+pub fn is_busy<S: SearchSpace>(workers: &[Slot<S>], worker: u32) -> bool
+    ensures { result ≡ is_busy (slice_get workers.now worker) }
+{
+    match workers.get(worker as usize) {
+        Some(slot) => !slot.path.is_idle(),
+        None => false,
+    }
+}
+
+/// Whether a part can be cut off what the worker of this number holds.
+pub fn can_be_cut<S: SearchSpace>(workers: &[Slot<S>], worker: u32) -> bool
+    ensures { result ≡ can_be_cut (slice_get workers.now worker) }
+{
+    match workers.get(worker as usize) {
+        Some(slot) => slot.path.can_cut(),
+        None => false,
     }
 }

@@ -10,8 +10,6 @@ pub mod model;
 pub mod output;
 pub mod part;
 pub mod search;
-#[cfg(test)]
-mod tests;
 pub mod text;
 pub mod variable;
 

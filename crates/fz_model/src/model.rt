@@ -1,9 +1,11 @@
 //! Models.
-ghost use Rattle.std.specs.Prelude.{◌≡◌, ◌↔◌, IfOk, IsTrue, ℤ, pos, length, ◌≢◌, ◌<◌, ◌^◌};
+ghost use Rattle.std.specs.Prelude.{◌≡◌, ◌↔◌, IfOk, IsTrue, pos, ◌≢◌, ◌<◌, ◌^◌, ◌-ℤ◌};
+ghost use Rattle.fz_sets.specs.Sets.{IsWithinLimits, LEAST, GREATEST};
+ghost use Rattle.fz_spec.specs.declared.goal.Goal.TheVariants.{Satisfy};
 ghost use Rattle.fz_spec.specs.Instance.{Instance, score, IsWhole};
 ghost use Rattle.fz_model.specs.Kept.{IsModel};
 
-use crate::assignment::Assignment;
+use crate::assignment::{Assignment, value_of};
 use crate::constraint::Constraint;
 use crate::output::Output;
 use crate::part::{Part, are_same, copies};
@@ -148,4 +150,37 @@ impl Model {
             && are_same(&self.outputs, &other.outputs)
             && are_same(&self.search, &other.search)
     }
+
+    /// The score of an assignment, which is the less the better: how far the goal's value is above the least number of the
+    /// language where it is to be minimised, or below the greatest where it is to be maximised.
+    pub fn score(&self, assignment: &Assignment) -> u64
+        requires goal { self.now.goal ≢ Satisfy }
+        requires whole { IsWhole self.now assignment.now }
+        ensures score { pos result ≡ score self.now assignment.now }
+        ensures below { result < 2 ^ 32 }
+    {
+        match self.goal {
+            Goal::Satisfy => unreachable!(),
+            Goal::Minimize(term) => above_least(value_of(term, assignment.values())),
+            Goal::Maximize(term) => below_greatest(value_of(term, assignment.values())),
+        }
+    }
+}
+
+/// How far a number is above the least one.
+fn above_least(number: i32) -> u64
+    requires { IsWithinLimits number }
+    ensures score { pos result ≡ number -ℤ LEAST }
+    ensures below { result < 2 ^ 32 }
+{
+    u64::from(number.abs_diff(-2_147_483_646))
+}
+
+/// How far a number is below the greatest one.
+fn below_greatest(number: i32) -> u64
+    requires { IsWithinLimits number }
+    ensures score { pos result ≡ GREATEST -ℤ number }
+    ensures below { result < 2 ^ 32 }
+{
+    u64::from(number.abs_diff(2_147_483_646))
 }

@@ -7,6 +7,3 @@ mod span;
 
 pub use quotient::{ceil_div, floor_div};
 pub use span::Span;
-
-#[cfg(test)]
-mod tests;

@@ -15,8 +15,6 @@ mod predicate;
 mod program;
 mod steps;
 mod stop;
-#[cfg(test)]
-mod tests;
 mod value_type;
 
 pub use parser::{ParseFault, TextFault, parse};

@@ -1,11 +1,7 @@
-pub mod Lists
-pub mod Decisions
-pub mod Nodes
 pub mod Choosing
-pub mod Trails
-pub mod Places
 pub mod Knowing
 pub mod Learning
+mod Leaving
 pub mod Paths
 pub mod Falls
 pub mod Cuts

@@ -1,7 +1,3 @@
-pub mod Spaces
-pub mod Nodes
-pub mod Places
-pub mod Trails
 pub mod Steps
 pub mod Paths
 pub mod Starts

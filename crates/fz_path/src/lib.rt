@@ -5,16 +5,12 @@
 //! above it by the taken decisions, and covers exactly these.
 #![tactic(auto)]
 
+mod beginning;
 mod expand;
-mod kept;
-mod numbers;
 pub mod path;
-pub mod space;
 pub mod start;
 pub mod step;
-mod trail;
 
 pub use path::Path;
-pub use space::{Space, Status};
 pub use start::Start;
 pub use step::Step;

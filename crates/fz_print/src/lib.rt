@@ -5,6 +5,4 @@
 pub mod block;
 pub mod ending;
 pub mod refusal;
-#[cfg(test)]
-mod tests;
 pub mod trailer;

@@ -1,13 +1,10 @@
 -- Answers of a run by one truth and line, and by another that say the same.
 use Rattle.std.proofs.Common.{◌<◌, List, inl, inr, subst, arith}
 use Rattle.std.specs.Prelude.{ℤ}
-use Rattle.fz_spec.specs.Constraints.{Constraint, IsTrueOf}
 use Rattle.fz_strength.specs.Domains.{room}
-use Rattle.fz_strength.specs.Lines.{Rests}
-use Rattle.fz_strength.specs.Promises.{IsCorrect}
 use Rattle.fz_prop.specs.declared.answer.Answer.{Answer}
 use Rattle.fz_prop.specs.declared.answer.Answer.TheVariants.{Fix, NoFix, Subsumed, Failed}
-use Rattle.fz_prop.specs.Answers.{IsAnswer, IsAnswerOf, IsCorrectOf}
+use Rattle.fz_prop.specs.Answers.{IsAnswerOf, IsCorrectOf}
 use Rattle.fz_prop.specs.Stores.{Stored, Shrinks}
 pub use Rattle.fz_prop.specs.Truths.{IsSame}
 
@@ -20,18 +17,6 @@ same_answer Failed T U R Q ds es same h = λ a within holds. h a within ((same.t
 
 pub same_correct : (T U : List ℤ → Type 0) (R Q : List (List (ℤ × ℤ)) → Type 0) (ds es : List (List (ℤ × ℤ))) → IsSame T U R Q → IsCorrectOf T ds es → IsCorrectOf U ds es
 same_correct T U R Q ds es same h = λ a holds within. h a ((same.truth a).1 holds) within
-
--- the same of a constraint
-pub answer_of : (answer : Answer) (c : Constraint) (T : List ℤ → Type 0) (R : List (List (ℤ × ℤ)) → Type 0) (ds es : List (List (ℤ × ℤ)))
-    → IsSame T (λ a. IsTrueOf a c) R (Rests c) → IsAnswerOf answer T R ds es → IsAnswer answer c ds es
-answer_of Fix c T R ds es same h = same.line es h
-answer_of NoFix c T R ds es same h = h
-answer_of Subsumed c T R ds es same h = ((λ a within. (same.truth a).0 (h.0 a within)), (λ fs domains narrower. same.line fs (h.1 fs domains narrower)))
-answer_of Failed c T R ds es same h = λ a within holds. h a within ((same.truth a).1 holds)
-
-pub correct_of : (c : Constraint) (T : List ℤ → Type 0) (R : List (List (ℤ × ℤ)) → Type 0) (ds es : List (List (ℤ × ℤ)))
-    → IsSame T (λ a. IsTrueOf a c) R (Rests c) → IsCorrectOf T ds es → IsCorrect c ds es
-correct_of c T R ds es same h = λ a holds within. h a ((same.truth a).1 holds) within
 
 -- ---- one run after the other
 

@@ -1,7 +1,7 @@
 -- A list of ranges with one number more, and the limits of what is left of terms.
-use Rattle.std.proofs.Common.{◌≡◌, List, [], ◌∷◌, ◌++◌, sym, subst, arith, length, ◌⊎◌, inl, inr}
+use Rattle.std.proofs.Common.{◌≡◌, ◌≢◌, List, [], ◌∷◌, ◌++◌, sym, subst, arith, length, ◌⊎◌, inl, inr}
 use Rattle.std.specs.Prelude.{ℤ}
-use Rattle.std.proofs.lemmas.Int.{ints}
+use Rattle.std.proofs.lemmas.Int.{ints, by_lt_z}
 use Rattle.fz_sets.specs.Sets.{IsInSet, IsWithinLimits, AreWithinLimits}
 use Rattle.fz_dom.proofs.Kept.{limits_of}
 use Rattle.fz_spec.specs.declared.term.Term.{Term}
@@ -32,3 +32,9 @@ limits_more (r ∷ rs) x all within = (all.0, all.1, limits_more rs x all.2 with
 pub term_limits : (ds : List (List (ℤ × ℤ))) (t : Term) (x : ℤ) → IsTermOf (length ds) t → AreDomains ds → FitsTerm t → IsInSet (term_set ds t) x → IsWithinLimits x
 term_limits ds (Num n) x is domains fits member = subst IsWithinLimits (sym (is_single x n member)) fits
 term_limits ds (Var v) x is domains fits member = limits_of (dom_at ds v) x (domains v is).0 member
+
+-- ---- two numbers
+
+pub same_or_other : (x y : ℤ) → (x ≡ y) ⊎ (x ≢ y)
+same_or_other x y =
+    by_lt_z x y (λ below. inr (λ same. omega (arith, ints, below, same))) (λ from. by_lt_z y x (λ above. inr (λ same. omega (arith, ints, above, same))) (λ to. inl (omega (arith, ints, from, to))))

@@ -1,5 +1,5 @@
 -- A run that keeps of one term the numbers that its constraint allows, where the other terms no longer matter.
-use Rattle.std.proofs.Common.{◌≡◌, ℕ, List, refl, sym, subst, length, inl, inr}
+use Rattle.std.proofs.Common.{◌≡◌, ℕ, List, sym, subst, length}
 use Rattle.std.specs.Prelude.{ℤ}
 use Rattle.fz_sets.specs.Sets.{IsInSet}
 use Rattle.fz_dom.specs.declared.change.Change.{Change}
@@ -9,7 +9,7 @@ use Rattle.fz_spec.specs.Constraints.{term_value}
 use Rattle.fz_strength.specs.Domains.{term_set}
 use Rattle.fz_strength.proofs.Terms.{within_before}
 use Rattle.fz_prop.specs.declared.answer.Answer.TheVariants.{Subsumed}
-use Rattle.fz_prop.specs.Answers.{IsAnswerOf, IsCorrectOf, IsDecided}
+use Rattle.fz_prop.specs.Answers.{IsAnswerOf, IsCorrectOf}
 use Rattle.fz_prop.specs.Outcomes.{settled_by}
 use Rattle.fz_prop.specs.Stores.{Stored, Shrinks, IsTermOf, IsTermChange}
 pub use Rattle.fz_prop.specs.Truths.{IsAbout}
@@ -35,8 +35,3 @@ settled_answer Same t P T R r s is h shrinks about = subsumed Same t P T R r s i
 settled_answer Changed t P T R r s is h shrinks about = subsumed Changed t P T R r s is h shrinks about (λ e. cc)
 settled_answer Wiped t P T R r s is h shrinks about = λ a within holds.
     none_kept t P r s h (term_value a t) (term_within r.doms a t is within) (about.needs a within holds)
-
-pub settled_decided : (change : Change) → IsDecided (settled_by change)
-settled_decided Same = inl refl
-settled_decided Changed = inl refl
-settled_decided Wiped = inr refl

@@ -16,7 +16,7 @@ use Rattle.fz_strength.specs.Events.{level, IsQuiet}
 use Rattle.fz_strength.proofs.Terms.{quiet_self}
 use Rattle.fz_sets.proofs.Lists.{all_both, by_place}
 use Rattle.fz_prop.specs.Cuts.{change_level}
-use Rattle.fz_prop.specs.Stores.{Stored, IsStore, Shrinks, Narrows, IsChangeAt, IsCut, IsNoted, mark_at, IsListed, with_listed, with_dom}
+use Rattle.fz_prop.specs.Stores.{Stored, IsStore, Shrinks, NarrowsAt, IsChangeAt, IsCut, IsNoted, mark_at, IsListed, with_listed, with_dom}
 use Rattle.fz_prop.proofs.Levels.{tells}
 
 -- ---- lists of changed variables
@@ -55,7 +55,7 @@ length_listed n v xs = elim (nat_eq n 0) as (λ b. length xs ≤ length (cond b 
 pub record IsStep (s : Stored) (v : ℕ) (P : ℤ → Type 0) (t : Stored) : Type 0 where
   pub store : IsStore t
   pub shrinks : Shrinks s t
-  pub narrows : Narrows v P s t
+  pub narrows : NarrowsAt v P s t
 
 pub step : (s : Stored) (v : ℕ) (P : ℤ → Type 0) (e : List (ℤ × ℤ)) (n : ℕ) → IsStore s → v < length s.doms → n ≡ change_level (least (dom_at s.doms v)) (greatest (dom_at s.doms v)) e
     → IsKeeping P (dom_at s.doms v) e → set_size e < set_size (dom_at s.doms v) → 0 < length e → IsDomain e → IsStep s v P (with_dom s v e n)

@@ -65,7 +65,7 @@ with_dom s v e n = record {
 }
 
 -- At v exactly the numbers with a property stay, and all else does; v is marked and listed.
-pub record Narrows (v : ℕ) (P : ℤ → Type 0) (s t : Stored) : Type 0 where
+pub record NarrowsAt (v : ℕ) (P : ℤ → Type 0) (s t : Stored) : Type 0 where
   pub kept : IsKeeping P (dom_at s.doms v) (dom_at t.doms v)
   pub others : (u : ℕ) → u ≢ v → dom_at t.doms u ≡ dom_at s.doms u
   pub whole : t ≡ with_dom s v (dom_at t.doms v) (change_level (least (dom_at s.doms v)) (greatest (dom_at s.doms v)) (dom_at t.doms v))
@@ -77,7 +77,7 @@ pub record Narrows (v : ℕ) (P : ℤ → Type 0) (s t : Stored) : Type 0 where
 -- the store is left as it is
 abbrev pub IsChangeAt : Change → ℕ → (ℤ → Type 0) → Stored → Stored → Type 0
 IsChangeAt Same v P s t = (t ≡ s) × ((x : ℤ) → IsInSet (dom_at s.doms v) x → P x)
-IsChangeAt Changed v P s t = Narrows v P s t
+IsChangeAt Changed v P s t = NarrowsAt v P s t
 IsChangeAt Wiped v P s t = (t ≡ s) × ((x : ℤ) → IsInSet (dom_at s.doms v) x → P x → ⊥)
 
 -- the first changed variable is taken from the list

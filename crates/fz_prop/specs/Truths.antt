@@ -1,5 +1,5 @@
--- A constraint as its truth and its line: when two say the same, when it is about one term, and with a Boolean that says whether it
--- is true.
+-- What is said as its truth and its line: when two say the same, when it is about one term, and with a Boolean that says whether
+-- it is true.
 use Rattle.std.specs.Prelude.{ℤ, ◌<◌, ◌↔◌, List, length}
 use Rattle.fz_sets.specs.Sets.{IsInSet, AreRanges}
 use Rattle.fz_spec.specs.declared.term.Term.{Term}

@@ -2,6 +2,7 @@
 ghost use Rattle.std.specs.Prelude.{◌≡◌, ◌≢◌, ◌↔◌, ℤ, ◌≤ℤ◌, List, length, IfOk, OnErr, IsTrue, MatchOption};
 ghost use Rattle.std.specs.List.{AllByRecursion};
 ghost use Rattle.fz_sets.specs.Sets.{IsInSet, IsWithinLimits};
+ghost use Rattle.fz_dom.specs.Changes.{IsFromTo};
 ghost use Rattle.fz_dom.specs.Shape.{least, greatest};
 ghost use Rattle.fz_strength.specs.Domains.{term_set};
 ghost use Rattle.fz_strength.specs.Events.{IsOnly, AllFixed};
@@ -112,6 +113,21 @@ pub fn keep_to(store: &mut Store, term: Term, value: i32) -> Result<Change, Allo
     match term {
         Term::Var(variable) => store.keep_to(variable, value),
         Term::Num(number) if number <= value => Ok(Change::Same),
+        Term::Num(_) => Ok(Change::Wiped),
+    }
+}
+
+/// Keeps the numbers of a term from a low to a high, both among them.
+pub fn keep_range(store: &mut Store, term: Term, low: i32, high: i32) -> Result<Change, AllocError>
+    requires { IsTermOf (length store.old.doms) term }
+    ensures shrinks { Shrinks store.old store.new }
+    ensures err { OnErr result (store.new ≡ store.old) }
+    ensures change { IfOk result
+        (λ r. IsTermChange r term (λ x. IsFromTo low high x) store.old store.new) }
+{
+    match term {
+        Term::Var(variable) => store.keep_range(variable, low, high),
+        Term::Num(number) if low <= number && number <= high => Ok(Change::Same),
         Term::Num(_) => Ok(Change::Wiped),
     }
 }

@@ -7,8 +7,6 @@ pub mod choice;
 pub mod edge;
 pub mod frontier;
 mod places;
-#[cfg(test)]
-mod tests;
 
 pub use choice::Choice;
 pub use edge::Edge;

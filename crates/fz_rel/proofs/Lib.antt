@@ -3,8 +3,6 @@ pub mod Orders
 pub mod Equality
 pub mod Opposites
 pub mod Shown
-pub mod Names
-pub mod ReifiedNames
 pub mod Sets
 pub mod Outside
 pub mod ReifiedSets

@@ -1,5 +1,5 @@
 -- A term in a set, and a Boolean that says whether it is.
-use Rattle.std.proofs.Common.{◌≡◌, ℕ, ◌<◌, List, [], ◌∷◌, ap, map, length, arith}
+use Rattle.std.proofs.Common.{◌≡◌, ◌<◌, List, ap, length, arith}
 use Rattle.std.specs.Prelude.{ℤ, pos}
 use Rattle.fz_sets.specs.Sets.{IsInSet, IsWithinLimits, set_size}
 use Rattle.fz_dom.specs.Shape.{IsDomain, least}
@@ -7,34 +7,23 @@ use Rattle.fz_dom.specs.Changes.{IsChange}
 use Rattle.fz_dom.proofs.Ranges.{least_member, same_ranges, within_limits}
 use Rattle.fz_dom.specs.declared.change.Change.{Change}
 use Rattle.fz_dom.specs.declared.change.Change.TheVariants.{Same, Changed, Wiped}
-use Rattle.fz_spec.specs.declared.builtin.Builtin.TheVariants.{SetInReif}
 use Rattle.fz_spec.specs.declared.term.Term.{Term}
 use Rattle.fz_spec.specs.declared.term.Term.TheVariants.{Num, Var}
-use Rattle.fz_spec.specs.Constraints.{One, Set, Constraint, term_value}
-use Rattle.fz_strength.specs.declared.event.Event.TheVariants.{Any}
+use Rattle.fz_spec.specs.Constraints.{term_value}
 use Rattle.fz_strength.specs.Domains.{term_set, dom_at, AreDomains, Within, IsNarrower, number_at}
-use Rattle.fz_strength.specs.Events.{IsOnly, IsFixedIn, Wait, wait_for, AreBelow, AreFixed}
-use Rattle.fz_strength.specs.Lines.{LiesIn, LiesOutside, waits}
+use Rattle.fz_strength.specs.Events.{IsOnly}
+use Rattle.fz_strength.specs.Lines.{LiesIn, LiesOutside}
 use Rattle.fz_strength.specs.Promises.{IsTruth}
-use Rattle.fz_strength.proofs.Waits.{term_fixed, variable_waited}
-use Rattle.fz_sets.proofs.Lists.{all_left, all_right}
 use Rattle.fz_prop.specs.declared.answer.Answer.{Answer}
 use Rattle.fz_prop.specs.declared.answer.Answer.TheVariants.{Fix, NoFix, Subsumed, Failed}
-use Rattle.fz_prop.specs.Answers.{IsAnswer, IsAnswerOf, IsCorrectOf}
+use Rattle.fz_prop.specs.Answers.{IsAnswerOf, IsCorrectOf}
 use Rattle.fz_prop.specs.Stores.{IsTermOf, FitsTerm}
-use Rattle.fz_prop.proofs.Answering.{answer_of}
 use Rattle.fz_prop.proofs.Filled.{narrower_ranges}
 use Rattle.fz_prop.specs.Truths.{AreSides, IsAbout, TruthWith}
 use Rattle.fz_prop.proofs.Reifying.{one_answer, zero_answer, zero_correct, shown_about, refuted_about}
 use Rattle.fz_prop.proofs.TermChanges.{term_within, narrower_term}
-use Rattle.fz_prop.proofs.Waits.{term_below}
-use Rattle.fz_rel.specs.Comparisons.{variables_of}
 use Rattle.fz_rel.specs.Members.{IsMember, MemberLine, IsOverlap}
 use Rattle.fz_rel.specs.Reified.{member_sides, ReifiedMemberLine, AreOthers}
-
--- the constraint of a term, a set and a Boolean
-abbrev pub reified_member : Term → List (ℤ × ℤ) → Term → Constraint
-reified_member x set r = record { name = SetInReif; arguments = One x ∷ Set set ∷ One r ∷ [] }
 
 not_both : (ds es : List (List (ℤ × ℤ))) (x : Term) (set : List (ℤ × ℤ)) → IsTermOf (length ds) x → AreDomains es → IsNarrower ds es → LiesIn (term_set es x) set → LiesOutside (term_set es x) set → ⊥
 not_both ds es x set is domains narrower inside outside =
@@ -106,26 +95,3 @@ overlap_is Changed d e set domain_d domain_e h =
           omega (arith, h.1, ap set_size same)),
       (λ outside. outside (least e) kept.0 kept.1),
     )
-
--- ---- its name
-
-pub member_named : (answer : Answer) (x : Term) (set : List (ℤ × ℤ)) (r : Term) (ds es : List (List (ℤ × ℤ)))
-    → IsAnswerOf answer (TruthWith (IsMember x set) r) (ReifiedMemberLine x set r) ds es → IsAnswer answer (reified_member x set r) ds es
-member_named answer x set r ds es h =
-    answer_of answer (reified_member x set r) (TruthWith (IsMember x set) r) (ReifiedMemberLine x set r) ds es (record { truth = λ a. ((λ k. k), (λ k. k)); line = λ fs k. k }) h
-
-pub member_terms : (x : Term) (set : List (ℤ × ℤ)) (r : Term) (n : ℕ) → AreBelow (waits (reified_member x set r)) n → IsTermOf n x × IsTermOf n r
-member_terms x set r n below =
-    let is_below : Wait → Type 0 = λ (w : Wait). w.variable < n in (
-      term_below Any x n (all_left is_below (wait_for Any x) (wait_for Any r) below),
-      term_below Any r n (all_right is_below (wait_for Any x) (wait_for Any r) below),
-    )
-
-pub member_fixed : (x : Term) (set : List (ℤ × ℤ)) (r : Term) (ds : List (List (ℤ × ℤ))) → AreFixed (waits (reified_member x set r)) ds → IsFixedIn ds r
-member_fixed x set r ds fixed =
-    let is_fixed : Wait → Type 0 = λ (w : Wait). (u : ℤ) × IsOnly (dom_at ds w.variable) u in
-    term_fixed Any r ds (all_right is_fixed (wait_for Any x) (wait_for Any r) fixed)
-
-pub member_variables : (x : Term) (set : List (ℤ × ℤ)) (r : Term) → map (λ (w : Wait). w.variable) (waits (reified_member x set r)) ≡ variables_of x r
-member_variables (Num m) set r = variable_waited Any r
-member_variables (Var v) set r = ap (λ (vs : List ℕ). v ∷ vs) (variable_waited Any r)

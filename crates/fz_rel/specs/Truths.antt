@@ -5,7 +5,6 @@ use Rattle.fz_spec.specs.Constraints.{term_value}
 use Rattle.fz_strength.specs.declared.relation.Relation.{Relation}
 use Rattle.fz_strength.specs.declared.relation.Relation.TheVariants.{AtMost, Below}
 use Rattle.fz_strength.specs.Domains.{term_set}
-use Rattle.fz_strength.specs.Events.{IsOnly}
 use Rattle.fz_strength.specs.Relations.{Relates, RestsAs, RestsAgainst}
 use Rattle.fz_prop.specs.declared.answer.Answer.{Answer}
 use Rattle.fz_prop.specs.Answers.{IsAnswerOf}
@@ -26,10 +25,6 @@ AgainstOf relation x y ds = RestsAgainst relation (term_set ds x) (term_set ds y
 -- the answer of a run of a relation's propagator
 abbrev pub IsAnswerAs : Relation → Term → Term → Answer → List (List (ℤ × ℤ)) → List (List (ℤ × ℤ)) → Type 0
 IsAnswerAs relation x y answer ds es = IsAnswerOf answer (TruthOf relation x y) (LineOf relation x y) ds es
-
--- one number is left of each of the two
-abbrev pub AreSingle : Term → Term → List (List (ℤ × ℤ)) → Type 0
-AreSingle x y ds = ((u : ℤ) × IsOnly (term_set ds x) u) × ((w : ℤ) × IsOnly (term_set ds y) w)
 
 -- ---- orders
 

@@ -5,9 +5,9 @@ ghost use Rattle.fz_spec.specs.Constraints.{term_value};
 ghost use Rattle.fz_strength.specs.Domains.{term_set};
 ghost use Rattle.fz_strength.specs.Events.{IsOnly};
 ghost use Rattle.fz_strength.specs.declared.relation.Relation.TheVariants.{NotEqual};
-ghost use Rattle.fz_prop.specs.Answers.{IsCorrectOf, IsDecided};
+ghost use Rattle.fz_prop.specs.Answers.{IsCorrectOf};
 ghost use Rattle.fz_prop.specs.Stores.{Shrinks, IsTermOf};
-ghost use Rattle.fz_rel.specs.Truths.{TruthOf, IsAnswerAs, AreSingle};
+ghost use Rattle.fz_rel.specs.Truths.{TruthOf, IsAnswerAs};
 
 use fz_prop::terms::{remove, value_of};
 use fz_prop::{Answer, Store};
@@ -21,7 +21,6 @@ pub fn keep_apart(store: &mut Store, x: Term, y: Term) -> Result<Answer, AllocEr
     ensures shrinks { Shrinks store.old store.new }
     ensures correct { IsCorrectOf (TruthOf NotEqual x y) store.old.doms store.new.doms }
     ensures answer { IfOk result (λ r. IsAnswerAs NotEqual x y r store.old.doms store.new.doms) }
-    ensures checking { IfOk result (λ r. AreSingle x y store.old.doms → IsDecided r) }
 {
     if let Some(value) = value_of(store, x) {
         return exclude(store, x, y, value);
@@ -41,7 +40,6 @@ fn exclude(store: &mut Store, fixed: Term, other: Term, value: i32) -> Result<An
     ensures correct { IsCorrectOf (TruthOf NotEqual fixed other) store.old.doms store.new.doms }
     ensures answer { IfOk result
         (λ r. IsAnswerAs NotEqual fixed other r store.old.doms store.new.doms) }
-    ensures decided { IfOk result (λ r. IsDecided r) }
 {
     let change = remove(store, other, value)?;
     Ok(Answer::settled(change))

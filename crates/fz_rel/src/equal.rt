@@ -5,9 +5,9 @@ ghost use Rattle.fz_spec.specs.declared.term.Term.TheVariants.{Var};
 ghost use Rattle.fz_strength.specs.Domains.{dom_at, term_set};
 ghost use Rattle.fz_strength.specs.Events.{IsOnly, IsFixedIn};
 ghost use Rattle.fz_strength.specs.declared.relation.Relation.TheVariants.{Equal};
-ghost use Rattle.fz_prop.specs.Answers.{IsCorrectOf, IsDecided};
+ghost use Rattle.fz_prop.specs.Answers.{IsCorrectOf};
 ghost use Rattle.fz_prop.specs.Stores.{Shrinks, IsStore, IsTermOf, IsChangeAt};
-ghost use Rattle.fz_rel.specs.Truths.{TruthOf, IsAnswerAs, AreSingle};
+ghost use Rattle.fz_rel.specs.Truths.{TruthOf, IsAnswerAs};
 
 use fz_prop::terms::keep_only;
 use fz_prop::{Answer, Change, Store};
@@ -21,7 +21,6 @@ pub fn keep_equal(store: &mut Store, x: Term, y: Term) -> Result<Answer, AllocEr
     ensures shrinks { Shrinks store.old store.new }
     ensures correct { IsCorrectOf (TruthOf Equal x y) store.old.doms store.new.doms }
     ensures answer { IfOk result (λ r. IsAnswerAs Equal x y r store.old.doms store.new.doms) }
-    ensures checking { IfOk result (λ r. AreSingle x y store.old.doms → IsDecided r) }
 {
     match (x, y) {
         (Term::Var(v), Term::Var(w)) => keep_same(store, v, w),
@@ -30,7 +29,7 @@ pub fn keep_equal(store: &mut Store, x: Term, y: Term) -> Result<Answer, AllocEr
     }
 }
 
-/// The same of a term that is fixed and another.
+/// Narrows a store so that a term is equal to one that is fixed.
 fn keep_number(
     store: &mut Store,
     fixed: Term,
@@ -44,13 +43,12 @@ fn keep_number(
     ensures correct { IsCorrectOf (TruthOf Equal fixed other) store.old.doms store.new.doms }
     ensures answer { IfOk result
         (λ r. IsAnswerAs Equal fixed other r store.old.doms store.new.doms) }
-    ensures decided { IfOk result (λ r. IsDecided r) }
 {
     let change = keep_only(store, other, value)?;
     Ok(Answer::settled(change))
 }
 
-/// The same of two variables.
+/// Narrows a store so that two variables are equal.
 fn keep_same(store: &mut Store, x: u32, y: u32) -> Result<Answer, AllocError>
     requires x { x < length store.old.doms }
     requires y { y < length store.old.doms }
@@ -58,8 +56,6 @@ fn keep_same(store: &mut Store, x: u32, y: u32) -> Result<Answer, AllocError>
     ensures correct { IsCorrectOf (TruthOf Equal (Var x) (Var y)) store.old.doms store.new.doms }
     ensures answer { IfOk result
         (λ r. IsAnswerAs Equal (Var x) (Var y) r store.old.doms store.new.doms) }
-    ensures checking { IfOk result
-        (λ r. AreSingle (Var x) (Var y) store.old.doms → IsDecided r) }
 {
     match keep_among(store, x, y)? {
         Change::Wiped => Ok(Answer::Failed),
@@ -67,7 +63,7 @@ fn keep_same(store: &mut Store, x: u32, y: u32) -> Result<Answer, AllocError>
     }
 }
 
-/// The same where all numbers of the first are in the second.
+/// Narrows a store so that two variables are equal, where all numbers of the first are in the second.
 fn keep_rest(store: &mut Store, x: u32, y: u32) -> Result<Answer, AllocError>
     requires x { x < length store.old.doms }
     requires y { y < length store.old.doms }
@@ -77,8 +73,6 @@ fn keep_rest(store: &mut Store, x: u32, y: u32) -> Result<Answer, AllocError>
     ensures correct { IsCorrectOf (TruthOf Equal (Var x) (Var y)) store.old.doms store.new.doms }
     ensures answer { IfOk result
         (λ r. IsAnswerAs Equal (Var x) (Var y) r store.old.doms store.new.doms) }
-    ensures checking { IfOk result
-        (λ r. IsFixedIn store.old.doms (Var x) → IsDecided r) }
     ensures old_store { IsStore store.old }
 {
     match keep_among(store, y, x)? {
@@ -110,7 +104,6 @@ fn same_now(store: &Store, x: u32, y: u32) -> Answer
     requires back { (z : ℤ)
         → IsInSet (dom_at store.now.doms y) z → IsInSet (dom_at store.now.doms x) z }
     ensures answer { IsAnswerAs Equal (Var x) (Var y) result store.now.doms store.now.doms }
-    ensures checking { IsFixedIn store.now.doms (Var x) → IsDecided result }
     ensures store { IsStore store.now }
 {
     let _ = y;

@@ -16,6 +16,3 @@ pub use comparison::Comparison;
 pub use member::Membership;
 pub use reified::ReifiedComparison;
 pub use reified_member::ReifiedMembership;
-
-#[cfg(test)]
-mod tests;

@@ -3,9 +3,9 @@ ghost use Rattle.std.specs.Prelude.{◌≡◌, ℤ, pos, ◌+ℤ◌, ◌-ℤ◌,
 ghost use Rattle.fz_sets.specs.Sets.{IsInSet, IsWithinLimits};
 ghost use Rattle.fz_dom.specs.Shape.{least, greatest};
 ghost use Rattle.fz_strength.specs.Domains.{term_set};
-ghost use Rattle.fz_prop.specs.Answers.{IsCorrectOf, IsDecided};
+ghost use Rattle.fz_prop.specs.Answers.{IsCorrectOf};
 ghost use Rattle.fz_prop.specs.Stores.{Shrinks, IsTermOf, FitsTerm, IsStore};
-ghost use Rattle.fz_rel.specs.Truths.{TruthOf, IsAnswerAs, AreSingle, order_of, gap_of, IsOrdered};
+ghost use Rattle.fz_rel.specs.Truths.{TruthOf, IsAnswerAs, order_of, gap_of, IsOrdered};
 
 use fz_prop::terms::{greatest_of, keep_from, keep_to, least_of};
 use fz_prop::{Answer, Change, Store};
@@ -22,7 +22,6 @@ pub fn keep_order(store: &mut Store, strict: bool, x: Term, y: Term) -> Result<A
     ensures correct { IsCorrectOf (TruthOf (order_of strict) x y) store.old.doms store.new.doms }
     ensures answer { IfOk result
         (λ r. IsAnswerAs (order_of strict) x y r store.old.doms store.new.doms) }
-    ensures checking { IfOk result (λ r. AreSingle x y store.old.doms → IsDecided r) }
 {
     let highest = highest_before(store, strict, y);
     match keep_to(store, x, highest)? {
@@ -32,7 +31,7 @@ pub fn keep_order(store: &mut Store, strict: bool, x: Term, y: Term) -> Result<A
     }
 }
 
-/// The same, where the first term's numbers are in order with the greatest of the second.
+/// Narrows by the order of two terms, where the first one's numbers are in order with the greatest of the second.
 fn keep_behind(store: &mut Store, strict: bool, x: Term, y: Term) -> Result<Answer, AllocError>
     requires x { IsTermOf (length store.old.doms) x }
     requires y { IsTermOf (length store.old.doms) y }
@@ -44,7 +43,6 @@ fn keep_behind(store: &mut Store, strict: bool, x: Term, y: Term) -> Result<Answ
     ensures correct { IsCorrectOf (TruthOf (order_of strict) x y) store.old.doms store.new.doms }
     ensures answer { IfOk result
         (λ r. IsAnswerAs (order_of strict) x y r store.old.doms store.new.doms) }
-    ensures checking { IfOk result (λ r. AreSingle x y store.old.doms → IsDecided r) }
 {
     let lowest = lowest_behind(store, strict, x);
     match keep_from(store, y, lowest)? {
@@ -63,8 +61,7 @@ fn ordered(store: &Store, strict: bool, x: Term, y: Term) -> Answer
         (greatest (term_set store.now.doms x)) (greatest (term_set store.now.doms y)) }
     requires lows { IsOrdered strict
         (least (term_set store.now.doms x)) (least (term_set store.now.doms y)) }
-    ensures answer { IsAnswerAs (order_of strict) x y result store.now.doms store.now.doms }
-    ensures checking { AreSingle x y store.now.doms → IsDecided result }
+    ensures { IsAnswerAs (order_of strict) x y result store.now.doms store.now.doms }
 {
     if behind(greatest_of(store, x), strict) <= least_of(store, y) {
         Answer::Subsumed

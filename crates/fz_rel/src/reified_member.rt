@@ -1,24 +1,20 @@
 //! Terms in a set, and a Boolean that says whether they are.
-ghost use Rattle.std.specs.Prelude.{◌≡◌, ◌≤◌, ℕ, ℤ, pos, List, [], ◌∷◌, length, map, take, IfOk};
-ghost use Rattle.fz_spec.specs.declared.builtin.Builtin.TheVariants.{SetInReif};
-ghost use Rattle.fz_spec.specs.Constraints.{One, Set};
+ghost use Rattle.std.specs.Prelude.{◌≡◌, ℤ, pos, List, length, IfOk};
 ghost use Rattle.fz_strength.specs.Domains.{term_set};
-ghost use Rattle.fz_strength.specs.Events.{IsOnly, IsFixedIn, AreBelow, AreFixed};
-ghost use Rattle.fz_strength.specs.Lines.{waits};
-ghost use Rattle.fz_strength.specs.Promises.{IsCorrect, IsTruth, Suits};
-ghost use Rattle.fz_prop.specs.Answers.{IsAnswer, IsAnswerOf, IsCorrectOf, IsDecided};
+ghost use Rattle.fz_strength.specs.Events.{IsOnly, IsFixedIn};
+ghost use Rattle.fz_strength.specs.Promises.{IsTruth};
+ghost use Rattle.fz_strength.specs.Sayings.{MemberIf};
+ghost use Rattle.fz_prop.specs.Answers.{IsAnswerOf, IsCorrectOf};
 ghost use Rattle.fz_prop.specs.Stores.{Shrinks, IsStore, IsTermOf, FitsTerm};
 ghost use Rattle.fz_prop.specs.Truths.{TruthWith};
-ghost use Rattle.fz_rel.specs.Comparisons.{variables_of};
 ghost use Rattle.fz_rel.specs.Members.{IsMember, IsOverlap};
-ghost use Rattle.fz_rel.specs.Reified.{ReifiedMemberLine, AreOthers, IsReifiedMembership};
+ghost use Rattle.fz_rel.specs.Reified.{ReifiedMemberLine, AreOthers};
 
-use crate::comparison::variables_of;
 use crate::member::keep_member;
 use crate::others::others_of;
 use fz_dom::{Change, Dom};
 use fz_prop::terms::{keep_only, value_of};
-use fz_prop::{Answer, Cost, Event, Propagator, Store};
+use fz_prop::{Answer, Propagator, Store};
 use fz_spec::term::Term;
 use std::alloc::{AllocError, Global};
 use std::marker::Model;
@@ -31,25 +27,18 @@ pub struct ReifiedMembership {
     /// The numbers within the limits that aren't in the set.
     others: Dom,
     r: Term,
-    /// Its variables, the first so many of these.
-    variables: [u32; 2],
-    count: usize,
 }
 
 impl Model for ReifiedMembership {
-    ghost use Rattle.std.specs.Prelude.{[], ◌∷◌};
-    ghost use Rattle.fz_spec.specs.declared.builtin.Builtin.TheVariants.{SetInReif};
-    ghost use Rattle.fz_spec.specs.Constraints.{Constraint, One, Set};
-    ghost use Rattle.fz_rel.specs.Reified.{IsReifiedMembership};
+    ghost use Rattle.fz_strength.specs.Sayings.{Saying, MemberIf};
+    ghost use Rattle.fz_prop.specs.Stores.{FitsTerm};
+    ghost use Rattle.fz_rel.specs.Reified.{AreOthers};
 
-    ghost Value = { Constraint };
+    ghost Value = { Saying };
 
-    ghost view = { λ p. record {
-      name = SetInReif;
-      arguments = One p.x ∷ Set p.set ∷ One p.r ∷ [];
-    } };
+    ghost view = { λ p. MemberIf p.x p.set p.r };
 
-    ghost invariant = { λ p. IsReifiedMembership p.x p.set p.others p.r p.variables p.count };
+    ghost invariant = { λ p. AreOthers p.set p.others × FitsTerm p.x };
 }
 
 impl ReifiedMembership {
@@ -59,39 +48,10 @@ impl ReifiedMembership {
     /// `AllocError` where there is no memory for the numbers outside the set.
     pub fn new(alloc: Global, x: Term, set: Dom, r: Term) -> Result<ReifiedMembership, AllocError>
         requires { FitsTerm x }
-        ensures { IfOk result
-            (λ p. p ≡ record { name = SetInReif; arguments = One x ∷ Set set ∷ One r ∷ [] }) }
+        ensures { IfOk result (λ p. p ≡ MemberIf x set r) }
     {
         let others = others_of(alloc, &set)?;
-        let (variables, count) = variables_of(x, r);
-        Ok(ReifiedMembership {
-            x,
-            set,
-            others,
-            r,
-            variables,
-            count,
-        })
-    }
-
-    /// Narrows a store, as `propagate` does: nothing is kept between runs.
-    ///
-    /// # Errors
-    /// `AllocError` where there is no memory for a domain; the store is then left as it was.
-    pub fn run(&self, store: &mut Store) -> Result<Answer, AllocError>
-        requires inside { AreBelow (waits self.now) (length store.old.doms) }
-        requires suits { Suits self.now store.old.doms }
-        ensures shrinks { Shrinks store.old store.new }
-        ensures correct { IsCorrect self.now store.old.doms store.new.doms }
-        ensures answer { IfOk result (λ r. IsAnswer r self.now store.old.doms store.new.doms) }
-        ensures checking { IfOk result
-            (λ r. AreFixed (waits self.now) store.old.doms → IsDecided r) }
-    {
-        match value_of(store, self.r) {
-            Some(1) => keep_inside(store, self.x, &self.set, self.r),
-            Some(_) => keep_outside(store, self.x, &self.others, self.r),
-            None => decide(store, self.x, &self.set, self.r),
-        }
+        Ok(ReifiedMembership { x, set, others, r })
     }
 }
 
@@ -105,7 +65,6 @@ fn keep_inside(store: &mut Store, x: Term, set: &Dom, r: Term) -> Result<Answer,
         store.old.doms store.new.doms }
     ensures answer { IfOk result (λ a. IsAnswerOf a (TruthWith (IsMember x set.now) r)
         (ReifiedMemberLine x set.now r) store.old.doms store.new.doms) }
-    ensures decided { IfOk result (λ a. IsDecided a) }
 {
     let _ = r;
     let answer = keep_member(store, x, set)?;
@@ -113,7 +72,7 @@ fn keep_inside(store: &mut Store, x: Term, set: &Dom, r: Term) -> Result<Answer,
     Ok(answer)
 }
 
-/// The same where the Boolean is 0, by the numbers outside the set.
+/// Narrows a store by a term, the numbers outside a set, and a Boolean that is 0.
 fn keep_outside(store: &mut Store, x: Term, others: &Dom, r: Term) -> Result<Answer, AllocError>
     requires x { IsTermOf (length store.old.doms) x }
     requires r { IsTermOf (length store.old.doms) r }
@@ -125,7 +84,6 @@ fn keep_outside(store: &mut Store, x: Term, others: &Dom, r: Term) -> Result<Ans
     ensures answer { IfOk result (λ a. (set : List (ℤ × ℤ)) → AreOthers set others.now
         → IsAnswerOf a (TruthWith (IsMember x set) r) (ReifiedMemberLine x set r)
         store.old.doms store.new.doms) }
-    ensures decided { IfOk result (λ a. IsDecided a) }
 {
     let _ = r;
     let _ = store.doms();
@@ -134,7 +92,7 @@ fn keep_outside(store: &mut Store, x: Term, others: &Dom, r: Term) -> Result<Ans
     Ok(answer)
 }
 
-/// The same where both are left of the Boolean: it is fixed where what is left of the term decides.
+/// Where both are left of a Boolean, fixes it if what is left of the term decides.
 fn decide(store: &mut Store, x: Term, set: &Dom, r: Term) -> Result<Answer, AllocError>
     requires x { IsTermOf (length store.old.doms) x }
     requires r { IsTermOf (length store.old.doms) r }
@@ -173,7 +131,7 @@ fn overlap(store: &Store, x: Term, set: &Dom) -> Result<Change, AllocError>
     }
 }
 
-/// The same of a domain.
+/// What would become of a domain if its numbers in a set were to stay.
 fn overlap_of(dom: &Dom, set: &Dom) -> Result<Change, AllocError>
     ensures { IfOk result (λ r. IsOverlap r dom.now set.now) }
 {
@@ -182,39 +140,13 @@ fn overlap_of(dom: &Dom, set: &Dom) -> Result<Change, AllocError>
 }
 
 impl Propagator for ReifiedMembership {
-    ghost constraint = { λ p. p };
+    ghost saying = { λ p. p };
 
-    fn vars(&self) -> &[u32] {
-        &self.variables[..self.count]
-    }
-
-    fn event(&self, place: usize) -> Event {
-        let _ = place;
-        let _ = &self.count;
-        Event::Any
-    }
-
-    fn cost(&self) -> Cost {
-        let _ = &self.count;
-        Cost::Binary
-    }
-
-    fn propagate(&mut self, store: &mut Store) -> Result<Answer, AllocError> {
-        self.run(store)
-    }
-
-    fn advise(&mut self, _variable: u32, _store: &Store) {}
-
-    fn copy(&self) -> Result<ReifiedMembership, AllocError> {
-        let set = self.set.copy()?;
-        let others = self.others.copy()?;
-        Ok(ReifiedMembership {
-            x: self.x,
-            set,
-            others,
-            r: self.r,
-            variables: self.variables,
-            count: self.count,
-        })
+    fn propagate(&self, store: &mut Store) -> Result<Answer, AllocError> {
+        match value_of(store, self.r) {
+            Some(1) => keep_inside(store, self.x, &self.set, self.r),
+            Some(_) => keep_outside(store, self.x, &self.others, self.r),
+            None => decide(store, self.x, &self.set, self.r),
+        }
     }
 }

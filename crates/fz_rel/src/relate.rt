@@ -1,8 +1,8 @@
 //! A relation of two terms, and the relation that is true exactly where it is false.
 ghost use Rattle.std.specs.Prelude.{List, length, IfOk};
-ghost use Rattle.fz_prop.specs.Answers.{IsAnswerOf, IsCorrectOf, IsDecided};
+ghost use Rattle.fz_prop.specs.Answers.{IsAnswerOf, IsCorrectOf};
 ghost use Rattle.fz_prop.specs.Stores.{Shrinks, IsTermOf, FitsTerm};
-ghost use Rattle.fz_rel.specs.Truths.{TruthOf, FalseOf, AgainstOf, IsAnswerAs, AreSingle};
+ghost use Rattle.fz_rel.specs.Truths.{TruthOf, FalseOf, AgainstOf, IsAnswerAs};
 
 use crate::apart::keep_apart;
 use crate::equal::keep_equal;
@@ -21,7 +21,6 @@ pub fn relate(store: &mut Store, relation: Relation, x: Term, y: Term) -> Result
     ensures shrinks { Shrinks store.old store.new }
     ensures correct { IsCorrectOf (TruthOf relation x y) store.old.doms store.new.doms }
     ensures answer { IfOk result (λ r. IsAnswerAs relation x y r store.old.doms store.new.doms) }
-    ensures checking { IfOk result (λ r. AreSingle x y store.old.doms → IsDecided r) }
 {
     match relation {
         Relation::Equal => keep_equal(store, x, y),
@@ -47,7 +46,6 @@ pub fn relate_against(
     ensures answer { IfOk result
         (λ r. IsAnswerOf r (FalseOf relation x y) (AgainstOf relation x y)
         store.old.doms store.new.doms) }
-    ensures checking { IfOk result (λ r. AreSingle x y store.old.doms → IsDecided r) }
 {
     match relation {
         Relation::Equal => keep_apart(store, x, y),

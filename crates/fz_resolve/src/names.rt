@@ -70,7 +70,7 @@ impl<'a> Names<'a> {
         }
     }
 
-    /// The same of expressions, one after another.
+    /// The place of the first name that isn't declared among expressions.
     fn unknown_basic(&self, basics: &[Basic<'a>]) -> Option<u32>
         ensures { result ≡ slice_get
             (flat_map (unknown_in (environment_of self.now)) (map basic_of basics.now)) 0 }
@@ -83,7 +83,7 @@ impl<'a> Names<'a> {
         None
     }
 
-    /// The same of the elements of a list.
+    /// The place of the first name that isn't declared among the elements of a list.
     pub fn unknown_element(&self, elements: &Elements<'a>) -> Option<u32>
         ensures { result ≡ slice_get
             (flat_map (unknown_in (environment_of self.now)) (elements_of elements.now)) 0 }
@@ -94,7 +94,7 @@ impl<'a> Names<'a> {
         }
     }
 
-    /// The same of an argument of a constraint.
+    /// The place of the first name that isn't declared in an argument of a constraint.
     fn unknown_of(&self, argument: &Expression<'a>) -> Option<u32>
         ensures { result
             ≡ slice_get (unknown_of (environment_of self.now) (expression_of argument.now)) 0 }
@@ -105,7 +105,7 @@ impl<'a> Names<'a> {
         }
     }
 
-    /// The same of the arguments of a constraint.
+    /// The place of the first name that isn't declared in the arguments of a constraint.
     pub fn unknown_argument(&self, arguments: &[Expression<'a>]) -> Option<u32>
         ensures { result ≡ slice_get
             (flat_map (unknown_of (environment_of self.now)) (map expression_of arguments.now)) 0 }

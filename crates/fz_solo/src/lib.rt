@@ -3,4 +3,4 @@
 
 pub mod solo;
 
-pub use solo::{End, finish, has_enough};
+pub use solo::finish;

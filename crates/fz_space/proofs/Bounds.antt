@@ -8,8 +8,10 @@ use Rattle.fz_tree.proofs.Orders.{declared_length}
 use Rattle.fz_strength.specs.Domains.{Within}
 use Rattle.fz_sets.proofs.Lists.{all_left, all_both}
 use Rattle.fz_prop.specs.Stores.{Stored}
-use Rattle.fz_path.specs.Spaces.{AllBetter, Covers}
-use Rattle.fz_space.specs.Alive.{spaced, IsAlive, IsBound}
+use Rattle.fz_engine.specs.Networks.{Networked}
+use Rattle.fz_engine.specs.Runs.{IsAlive}
+use Rattle.fz_search_space.specs.Spaces.{AllBetter, Covers}
+use Rattle.fz_space.specs.Alive.{spaced, IsBound}
 
 pub covers_bound : (m : Instance) (known : List ℤ) (d : Decision) (ds : List Decision) (s t : Stored) (failed after : Bool) → IsBound m known (Some d)
     → (Covers (Some known) ds (spaced m s failed) → Covers (Some known) (ds ++ d ∷ []) (spaced m t after)) → Covers (Some known) ds (spaced m s failed) → Covers (Some known) ds (spaced m t after)
@@ -24,12 +26,6 @@ covers_bound m known d ds s t failed after bound takes covers =
           (both.0, all_left (λ (x : Decision). IsTrue (meets a x)) ds (d ∷ []) both.1);
     }
 
-pub all_better : (m : Instance) (known : List ℤ) (d : Decision) (states : List ℕ) (t : Stored) (after : Bool) → IsBound m known (Some d) → (after ≡ false → IsAlive m states t)
-    → (after ≡ false → (a : List ℤ) → Within t.doms a → IsTrue (meets a d)) → AllBetter known (spaced m t after)
-all_better m known d states t after bound alive met live a within = (bound a (within.size ∙ (alive live).size)).1 (met live a within)
-
--- as the code says it: n is the model as it is read
-pub alive_told : (m n : Instance) (states : List ℕ) (s t : Stored) (failed after : Bool) → n ≡ m → ((left : List ℕ) → (failed ≡ false → IsAlive n left s) → after ≡ false → IsAlive n left t) → (failed ≡ false → IsAlive m states s)
-    → after ≡ false → IsAlive m states t
-alive_told m n states s t failed after same keeps alive live =
-    subst (λ (x : Instance). IsAlive x states t) same (keeps states (λ before. subst (λ (x : Instance). IsAlive x states s) (sym same) (alive before)) live)
+pub all_better : (n : Networked) (known : List ℤ) (d : Decision) (states : List ℕ) (t : Stored) (after : Bool) → IsBound n.model known (Some d) → (after ≡ false → IsAlive n states t)
+    → (after ≡ false → (a : List ℤ) → Within t.doms a → IsTrue (meets a d)) → AllBetter known (spaced n.model t after)
+all_better n known d states t after bound alive met live a within = (bound a (within.size ∙ (alive live).size)).1 (met live a within)

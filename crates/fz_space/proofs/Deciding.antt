@@ -20,10 +20,12 @@ use Rattle.fz_sets.proofs.Numbers.{test_of_le, test_of_above}
 use Rattle.fz_prop.specs.Stores.{Stored, IsStore, Shrinks, IsChangeAt}
 use Rattle.fz_prop.proofs.TermChanges.{within_kept}
 use Rattle.fz_agenda.proofs.Settled.{settled_lasts}
-use Rattle.fz_path.specs.Spaces.{Covers}
-use Rattle.fz_path.proofs.Lists.{some_at}
-use Rattle.fz_space.specs.Alive.{spaced, IsAlive, Compares, IsDecided}
-use Rattle.fz_engine.proofs.Running.{terms_last}
+use Rattle.fz_search_space.specs.Spaces.{Covers}
+use Rattle.fz_search_space.proofs.Places.{some_at}
+use Rattle.fz_space.specs.Alive.{spaced, Compares, IsDecided}
+use Rattle.fz_engine.specs.Networks.{Networked}
+use Rattle.fz_engine.specs.Runs.{IsAlive}
+use Rattle.fz_engine.proofs.Running.{alive_last}
 
 -- ---- comparisons
 
@@ -139,12 +141,8 @@ pub covers_taken : (m : Instance) (s t : Stored) (failed : Bool) (known : Option
     → Covers known (ds ++ d ∷ []) (spaced m t (not left))
 covers_taken m s t failed known ds d left is decided covers = covers_left m s t known ds d left decided (subst (λ (b : Bool). Covers known ds (spaced m s b)) is covers)
 
-pub alive_lasts : (m : Instance) (states : List ℕ) (s t : Stored) → IsStore t → Shrinks s t → IsAlive m states s → IsAlive m states t
-alive_lasts m states s t store shrinks alive = record {
-  size = shrinks.narrower.size ∙ alive.size;
-  terms = terms_last m.constraints s.doms t.doms shrinks.narrower alive.terms;
-  settled = settled_lasts m.constraints states s t store shrinks alive.settled;
-}
+pub alive_lasts : (n : Networked) (states : List ℕ) (s t : Stored) → IsStore t → Shrinks s t → IsAlive n states s → IsAlive n states t
+alive_lasts n states s t store shrinks alive = alive_last n states states s t shrinks.narrower alive (settled_lasts n.sayings states s t store shrinks alive.settled)
 
 -- as the code says it: what is left meets the decision
 pub met_left : (d : Decision) (left : Bool) (ds es : List (List (ℤ × ℤ))) → IsDecided left d ds es → not left ≡ false → (a : List ℤ) → Within es a → IsTrue (meets a d)

@@ -8,11 +8,12 @@ use Rattle.fz_dom.proofs.Lists.{same_or_less}
 use Rattle.fz_branch.specs.Values.{is_open}
 use Rattle.fz_branch.specs.Picks.{AreClosed}
 use Rattle.fz_strength.specs.Domains.{AreDomains, IsNarrower, dom_at}
-use Rattle.fz_spec.specs.Instance.{Instance}
+use Rattle.fz_engine.specs.Networks.{Networked}
+use Rattle.fz_engine.specs.Runs.{IsAlive}
 use Rattle.fz_tree.specs.declared.decision.Decision.{Decision}
-use Rattle.fz_path.specs.Spaces.{Spaced}
+use Rattle.fz_search_space.specs.Spaces.{Spaced}
 use Rattle.fz_prop.specs.Stores.{Stored}
-use Rattle.fz_space.specs.Alive.{spaced, IsAlive, FrontFixed}
+use Rattle.fz_space.specs.Alive.{spaced, FrontFixed}
 use Rattle.fz_space.proofs.Living.{single_more}
 
 pub none_fixed : (ds : List (List (ℤ × ℤ))) → FrontFixed 0 ds
@@ -59,14 +60,14 @@ at_some [] i d e at is = cc
 at_some (x ∷ xs) zero d e at is = let same : x ≡ d = cc in is ∙ same
 at_some (x ∷ xs) (suc i) d e at is = at_some xs i d e at is
 
-lacking_by : (b : Bool) (m : Instance) (states : List ℕ) (s : Stored) (failed after : Bool) (d : Decision) → failed ≡ b → (failed ≡ false → IsAlive m states s) → (failed ≡ true → after ≡ true)
-    → (length s.doms ≤ d.variable → after ≡ true) → length m.variables ≤ d.variable → after ≡ true
-lacking_by true m states s failed after d is alive stays lacking beyond = stays is
-lacking_by false m states s failed after d is alive stays lacking beyond = let size = (alive is).size in lacking (omega (arith, size, beyond))
+lacking_by : (b : Bool) (n : Networked) (states : List ℕ) (s : Stored) (failed after : Bool) (d : Decision) → failed ≡ b → (failed ≡ false → IsAlive n states s) → (failed ≡ true → after ≡ true)
+    → (length s.doms ≤ d.variable → after ≡ true) → length n.model.variables ≤ d.variable → after ≡ true
+lacking_by true n states s failed after d is alive stays lacking beyond = stays is
+lacking_by false n states s failed after d is alive stays lacking beyond = let size = (alive is).size in lacking (omega (arith, size, beyond))
 
 -- a decision on a variable that the model lacks fails
-pub lacking_now : (m : Instance) (states : List ℕ) (s : Stored) (failed after : Bool) (now : Spaced) (e d : Decision) → spaced m s failed ≡ now → e ≡ d → (failed ≡ false → IsAlive m states s) → (failed ≡ true → after ≡ true)
+pub lacking_now : (n : Networked) (states : List ℕ) (s : Stored) (failed after : Bool) (now : Spaced) (e d : Decision) → spaced n.model s failed ≡ now → e ≡ d → (failed ≡ false → IsAlive n states s) → (failed ≡ true → after ≡ true)
     → (length s.doms ≤ e.variable → after ≡ true) → length now.model.variables ≤ d.variable → after ≡ true
-lacking_now m states s failed after now e d view is alive stays lacking beyond =
-    let of_model : length m.variables ≤ d.variable = subst (λ (t : Spaced). length t.model.variables ≤ d.variable) (sym view) beyond in
-    lacking_by failed m states s failed after e refl alive stays lacking (subst (λ (x : Decision). length m.variables ≤ x.variable) (sym is) of_model)
+lacking_now n states s failed after now e d view is alive stays lacking beyond =
+    let of_model : length n.model.variables ≤ d.variable = subst (λ (t : Spaced). length t.model.variables ≤ d.variable) (sym view) beyond in
+    lacking_by failed n states s failed after e refl alive stays lacking (subst (λ (x : Decision). length n.model.variables ≤ x.variable) (sym is) of_model)

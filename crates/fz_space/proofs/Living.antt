@@ -6,20 +6,22 @@ use Rattle.fz_sets.specs.Sets.{IsInSet, set_size, single}
 use Rattle.fz_sets.proofs.Lists.{all_of, below_or_same}
 use Rattle.fz_sets.proofs.Sizes.{some_size}
 use Rattle.fz_spec.specs.Instance.{Instance, Variable, AreDeclared}
-use Rattle.fz_spec.specs.Constraints.{Constraint, IsTrueOf}
+use Rattle.fz_spec.specs.Constraints.{IsTrueOf}
 use Rattle.fz_tree.specs.declared.decision.Decision.{Decision}
 use Rattle.fz_strength.specs.Domains.{Within, Alone, AreDomains, dom_at, number_at}
 use Rattle.fz_strength.proofs.Terms.{within_before, is_single}
-use Rattle.fz_strength.proofs.Truths.{true_where_alone}
+use Rattle.fz_strength.proofs.Sayings.{true_where_alone}
+use Rattle.fz_strength.specs.Sayings.{saying_of}
+use Rattle.fz_prop.proofs.Waits.{below}
 use Rattle.fz_prop.specs.Stores.{Stored, HasEmpty, declared_sets}
 use Rattle.fz_agenda.specs.Agendas.{IsSettled}
-use Rattle.fz_path.specs.Spaces.{Covers, MeetsAll, IsUndecided, IsStatus}
-use Rattle.fz_path.specs.declared.space.Status.{Status}
-use Rattle.fz_path.specs.declared.space.Status.TheVariants as status
-use Rattle.fz_engine.specs.Runs.{AreOf, IsRun, AreNeverTrue, AllRest}
-use Rattle.fz_space.specs.Alive.{spaced, IsAlive, IsLeft}
-use Rattle.fz_engine.proofs.Knowing.{declared_length}
-use Rattle.fz_engine.proofs.Running.{terms_last}
+use Rattle.fz_search_space.specs.Spaces.{Covers, MeetsAll, IsUndecided, IsStatus}
+use Rattle.fz_search_space.specs.declared.space.Status.{Status}
+use Rattle.fz_search_space.specs.declared.space.Status.TheVariants as status
+use Rattle.fz_engine.specs.Networks.{Networked, AreOf, IsNetwork}
+use Rattle.fz_engine.specs.Runs.{IsAlive, IsRun, AreNeverTrue, AllRest}
+use Rattle.fz_space.specs.Alive.{spaced, IsLeft}
+use Rattle.fz_engine.proofs.Posting.{declared_length}
 
 -- ---- the root
 
@@ -62,28 +64,17 @@ covers_empty m s empty = record {
   only = λ a alive within. true_is_false (AreDeclared m.variables a × MeetsAll [] a) alive;
 }
 
-pub alive_root : (m : Instance) (states : List ℕ) (s : Stored) → s.doms ≡ declared_sets m.variables → AreOf m.constraints (declared_sets m.variables) → IsSettled m.constraints states s → IsAlive m states s
-alive_root m states s is terms settled = record {
-  size = ap length is ∙ declared_length m.variables;
-  terms = subst (λ (ds : List (List (ℤ × ℤ))). AreOf m.constraints ds) (sym is) terms;
+pub alive_root : (n : Networked) (states : List ℕ) (s : Stored) → IsNetwork n → s.doms ≡ declared_sets n.model.variables → IsSettled n.sayings states s → IsAlive n states s
+alive_root n states s network is settled = record {
+  size = ap length is ∙ declared_length n.model.variables;
+  terms = subst (λ (ds : List (List (ℤ × ℤ))). AreOf n.sayings ds) (sym is) network.terms;
   settled = settled;
 }
 
 -- ---- at rest
 
-pub alive_run : (m : Instance) (states after : List ℕ) (s t : Stored) → IsAlive m states s → IsRun m.constraints s t after → IsAlive m after t
-alive_run m states after s t alive run = record {
-  size = run.narrower.size ∙ alive.size;
-  terms = terms_last m.constraints s.doms t.doms run.narrower alive.terms;
-  settled = run.settled;
-}
-
--- the same, of the list of propagators
-pub alive_settled : (m : Instance) (cs : List Constraint) (states after : List ℕ) (s t : Stored) → cs ≡ m.constraints → IsAlive m states s → IsRun cs s t after → IsAlive m after t
-alive_settled m cs states after s t is alive run = alive_run m states after s t alive (subst (λ (l : List Constraint). IsRun l s t after) is run)
-
-pub covers_run : (m : Instance) (s t : Stored) (after : List ℕ) (known : Option (List ℤ)) (ds : List Decision) → IsRun m.constraints s t after → Covers known ds (spaced m s false) → Covers known ds (spaced m t false)
-covers_run m s t after known ds run covers = record {
+pub covers_run : (n : Networked) (s t : Stored) (after : List ℕ) (known : Option (List ℤ)) (ds : List Decision) → IsRun n s t after → Covers known ds (spaced n.model s false) → Covers known ds (spaced n.model t false)
+covers_run n s t after known ds run covers = record {
   all = λ a satisfies better met. (refl, run.correct a satisfies.constraints (covers.all a satisfies better met).1);
   only = λ a alive within. covers.only a refl (within_before s.doms t.doms a run.narrower within);
 }
@@ -118,20 +109,21 @@ alone_of ds a all within = record {
   alone = λ v h. alone_in (dom_at ds v) (number_at a v) (all v h).0 (all v h).1 (within.members v h);
 }
 
-pub solved : (m : Instance) (after : List ℕ) (t : Stored) → IsAlive m after t → AllRest m.constraints t.doms → AllSingle t.doms → IsStatus status.Solved (spaced m t false)
-solved m after t alive rests all = (
+pub solved : (n : Networked) (after : List ℕ) (t : Stored) → IsNetwork n → IsAlive n after t → AllRest n.model.constraints t.doms → AllSingle t.doms → IsStatus status.Solved (spaced n.model t false)
+solved n after t network alive rests all = (
   refl,
   λ a within.
       let alone : Alone t.doms a = alone_of t.doms a all within in (
         alone,
-        all_of (IsTrueOf a) m.constraints (λ i c is. true_where_alone c t.doms a (alive.terms i c is).0 alone (rests i c is)),
+        all_of (IsTrueOf a) n.model.constraints
+            (λ i c is. (let there = network.said.each i c is in true_where_alone c t.doms a (below (length t.doms) (saying_of c) (alive.terms there.0 (saying_of c) there.1).0) alone (rests i c is))),
       ),
 )
 
-pub left_is : (m : Instance) (after : List ℕ) (t : Stored) (r : Status) → IsAlive m after t → AllRest m.constraints t.doms → IsLeft r t.doms → IsStatus r (spaced m t false)
-left_is m after t status.Failed alive rests left = absurd left
-left_is m after t status.Solved alive rests left = solved m after t alive rests left
-left_is m after t status.Branch alive rests left = (refl, left)
+pub left_is : (n : Networked) (after : List ℕ) (t : Stored) (r : Status) → IsNetwork n → IsAlive n after t → AllRest n.model.constraints t.doms → IsLeft r t.doms → IsStatus r (spaced n.model t false)
+left_is n after t status.Failed network alive rests left = absurd left
+left_is n after t status.Solved network alive rests left = solved n after t network alive rests left
+left_is n after t status.Branch network alive rests left = (refl, left)
 
 -- domains of which those before a place have one number each
 pub single_more : (ds : List (List (ℤ × ℤ))) (n : ℕ) (d : List (ℤ × ℤ)) (x : ℤ) → d ≡ dom_at ds n → d ≡ (x, x) ∷ [] → ((v : ℕ) → v < n → (y : ℤ) × (dom_at ds v ≡ (y, y) ∷ [])) → (v : ℕ) → v < n + 1

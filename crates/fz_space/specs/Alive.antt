@@ -7,21 +7,14 @@ use Rattle.fz_tree.specs.declared.decision.Decision.{Decision}
 use Rattle.fz_tree.specs.Choice.{meets}
 use Rattle.fz_strength.specs.Domains.{Within, dom_at}
 use Rattle.fz_prop.specs.Stores.{Stored}
-use Rattle.fz_agenda.specs.Agendas.{IsSettled}
-use Rattle.fz_path.specs.Spaces.{Spaced, IsUndecided}
-use Rattle.fz_path.specs.declared.space.Status.{Status}
-use Rattle.fz_path.specs.declared.space.Status.TheVariants as status
+use Rattle.fz_search_space.specs.Spaces.{Spaced, IsUndecided}
+use Rattle.fz_search_space.specs.declared.space.Status.{Status}
+use Rattle.fz_search_space.specs.declared.space.Status.TheVariants as status
 use Rattle.fz_spec.specs.Constraints.{Constraint}
-use Rattle.fz_engine.specs.Runs.{AreOf, AllRest}
+use Rattle.fz_engine.specs.Runs.{AllRest}
 
 abbrev pub spaced : Instance → Stored → Bool → Spaced
 spaced m s failed = record { model = m; doms = s.doms; failed = failed }
-
--- a space that hasn't failed: a domain for each variable, constraints over these, and propagators that are settled
-pub record IsAlive (m : Instance) (states : List ℕ) (s : Stored) : Type 0 where
-  pub size : length s.doms ≡ length m.variables
-  pub terms : AreOf m.constraints s.doms
-  pub settled : IsSettled m.constraints states s
 
 -- of so many variables at the front one number is left each
 pub record FrontFixed (n : ℕ) (ds : List (List (ℤ × ℤ))) : Type 0 where

@@ -4,10 +4,12 @@ ghost use Rattle.fz_sets.specs.Sets.{IsWithinLimits};
 ghost use Rattle.fz_spec.specs.Constraints.{term_value};
 ghost use Rattle.fz_spec.specs.Instance.{IsWhole};
 ghost use Rattle.fz_tree.specs.declared.decision.Decision as tree;
-ghost use Rattle.fz_path.specs.Spaces.{AllBetter, Covers};
-ghost use Rattle.fz_space.specs.Alive.{spaced, IsAlive, FrontFixed, IsBound};
+ghost use Rattle.fz_engine.specs.Runs.{IsAlive};
+ghost use Rattle.fz_search_space.specs.Spaces.{AllBetter, Covers, IsNarrower};
+ghost use Rattle.fz_space.specs.Alive.{spaced, FrontFixed, IsBound};
 
 use crate::commit::take;
+use fz_engine::Network;
 use fz_model::{Assignment, Goal, Model, Term, value_of};
 use fz_prop::Store;
 use fz_tree::decision::{Comparison, Decision};
@@ -18,27 +20,30 @@ use std::alloc::AllocError;
 /// # Errors
 /// `AllocError` where there is no memory; all is left as it was.
 pub fn keep_better(
-    model: &Model,
+    network: &Network,
     store: &mut Store,
     failed: &mut bool,
     known: &Assignment,
 ) -> Result<(), AllocError>
-    requires { IsWhole model.now known.now }
-    ensures alive { (states : List ℕ) → (failed.old ≡ false → IsAlive model.now states store.old)
-        → failed.new ≡ false → IsAlive model.now states store.new }
+    requires { IsWhole network.now.model known.now }
+    ensures alive { (states : List ℕ) → (failed.old ≡ false → IsAlive network.now states store.old)
+        → failed.new ≡ false → IsAlive network.now states store.new }
     ensures front { (n : ℕ) → (failed.old ≡ false → FrontFixed n store.old.doms)
         → failed.new ≡ false → FrontFixed n store.new.doms }
     ensures covers { OnOk result ((ds : List tree.Decision)
-        → Covers (Some known.now) ds (spaced model.now store.old failed.old)
-        → Covers (Some known.now) ds (spaced model.now store.new failed.new)) }
+        → Covers (Some known.now) ds (spaced network.now.model store.old failed.old)
+        → Covers (Some known.now) ds (spaced network.now.model store.new failed.new)) }
     ensures better { OnOk result ((states : List ℕ)
-        → (failed.old ≡ false → IsAlive model.now states store.old)
-        → AllBetter known.now (spaced model.now store.new failed.new)) }
+        → (failed.old ≡ false → IsAlive network.now states store.old)
+        → AllBetter known.now (spaced network.now.model store.new failed.new)) }
+    ensures narrower { OnOk result (IsNarrower
+        (spaced network.now.model store.new failed.new)
+        (spaced network.now.model store.old failed.old)) }
     ensures stays { failed.old ≡ true → failed.new ≡ true }
     ensures store_on_err { OnErr result (store.new ≡ store.old) }
     ensures failed_on_err { OnErr result (failed.new ≡ failed.old) }
 {
-    match bound_of(model, known) {
+    match bound_of(network.model(), known) {
         Some(decision) => take(store, failed, decision),
         None => {
             *failed = true;

@@ -6,8 +6,10 @@ ghost use Rattle.fz_tree.specs.Choice.{meets};
 ghost use Rattle.fz_sets.specs.Sets.{IsInSet, IsWithinLimits};
 ghost use Rattle.fz_strength.specs.Domains.{Within, dom_at};
 ghost use Rattle.fz_prop.specs.Stores.{IsStore, Shrinks, IsChangeAt};
-ghost use Rattle.fz_path.specs.Spaces.{Covers};
-ghost use Rattle.fz_space.specs.Alive.{spaced, IsAlive, FrontFixed, Compares, IsDecided};
+ghost use Rattle.fz_engine.specs.Networks.{Networked};
+ghost use Rattle.fz_engine.specs.Runs.{IsAlive};
+ghost use Rattle.fz_search_space.specs.Spaces.{Covers};
+ghost use Rattle.fz_space.specs.Alive.{spaced, FrontFixed, Compares, IsDecided};
 
 use fz_prop::{Change, Store};
 use fz_tree::decision::{Comparison, Decision};
@@ -19,9 +21,9 @@ use std::alloc::AllocError;
 /// # Errors
 /// `AllocError` where there is no memory; all is left as it was.
 pub fn take(store: &mut Store, failed: &mut bool, decision: Decision) -> Result<(), AllocError>
-    ensures alive { (m : Instance) (states : List ℕ)
-        → (failed.old ≡ false → IsAlive m states store.old)
-        → failed.new ≡ false → IsAlive m states store.new }
+    ensures alive { (n : Networked) (states : List ℕ)
+        → (failed.old ≡ false → IsAlive n states store.old)
+        → failed.new ≡ false → IsAlive n states store.new }
     ensures front { (n : ℕ) → (failed.old ≡ false → FrontFixed n store.old.doms)
         → failed.new ≡ false → FrontFixed n store.new.doms }
     ensures covers { OnOk result ((m : Instance) (known : Option (List ℤ)) (ds : List tree.Decision)
@@ -29,6 +31,8 @@ pub fn take(store: &mut Store, failed: &mut bool, decision: Decision) -> Result<
         → Covers known (ds ++ decision ∷ []) (spaced m store.new failed.new)) }
     ensures met { OnOk result (failed.new ≡ false
         → (a : List ℤ) → Within store.new.doms a → IsTrue (meets a decision)) }
+    ensures narrower { OnOk result (failed.new ≡ false → (a : List ℤ)
+        → Within store.new.doms a → (failed.old ≡ false) × Within store.old.doms a) }
     ensures stays { failed.old ≡ true → failed.new ≡ true }
     ensures lacking { OnOk result (length store.old.doms ≤ decision.variable → failed.new ≡ true) }
     ensures store_on_err { OnErr result (store.new ≡ store.old) }
@@ -57,7 +61,7 @@ fn decide(store: &mut Store, decision: Decision) -> Result<bool, AllocError>
     }
 }
 
-/// The same of a decision on a variable that is there.
+/// Keeps the assignments that meet a decision on a variable that is there; false where there is none.
 fn decide_there(store: &mut Store, decision: Decision) -> Result<bool, AllocError>
     requires { decision.variable < length store.old.doms }
     ensures store { IsStore store.new }

@@ -1,17 +1,18 @@
 //! What is known of a space at rest.
-ghost use Rattle.std.specs.Prelude.{◌≡◌, ◌<◌, ℤ, List, Option, length, true, false, IfOk};
+ghost use Rattle.std.specs.Prelude.{◌≡◌, ◌<◌, ℤ, List, Option, length, true, false, IfOk, OnOk};
 ghost use Rattle.fz_sets.specs.Sets.{set_size};
 ghost use Rattle.fz_strength.specs.Domains.{AreDomains, dom_at};
 ghost use Rattle.fz_tree.specs.declared.decision.Decision.{Decision};
-ghost use Rattle.fz_path.specs.Spaces.{Covers, IsStatus};
-ghost use Rattle.fz_space.specs.Alive.{spaced, IsAlive, FrontFixed, IsLeft, HaveLines};
+ghost use Rattle.fz_engine.specs.Runs.{IsAlive};
+ghost use Rattle.fz_search_space.specs.Spaces.{Covers, IsNarrower, IsStatus};
+ghost use Rattle.fz_space.specs.Alive.{spaced, FrontFixed, IsLeft, HaveLines};
 
 use fz_agenda::Agenda;
 use fz_dom::Dom;
-use fz_engine::Plan;
+use fz_engine::Network;
 use fz_engine::engine::settle;
-use fz_path::Status;
 use fz_prop::Store;
+use fz_search_space::Status;
 use std::alloc::AllocError;
 
 /// Brings the parts of a space to rest, and says what is known then. What has failed stays so.
@@ -19,27 +20,31 @@ use std::alloc::AllocError;
 /// # Errors
 /// `AllocError` where there is no memory; the space covers what it covered.
 pub fn rest(
-    plan: &Plan,
+    network: &Network,
     store: &mut Store,
     agenda: &mut Agenda,
     failed: &mut bool,
     front: &mut usize,
 ) -> Result<Status, AllocError>
-    requires alive { failed.old ≡ false → IsAlive plan.now.model agenda.old.states store.old }
+    requires alive { failed.old ≡ false → IsAlive network.now agenda.old.states store.old }
     requires front { failed.old ≡ false → FrontFixed front.old store.old.doms }
-    ensures alive { failed.new ≡ false → IsAlive plan.now.model agenda.new.states store.new }
+    ensures alive { failed.new ≡ false → IsAlive network.now agenda.new.states store.new }
     ensures front { failed.new ≡ false → FrontFixed front.new store.new.doms }
     ensures covers { (known : Option (List ℤ)) (ds : List Decision)
-        → Covers known ds (spaced plan.now.model store.old failed.old)
-        → Covers known ds (spaced plan.now.model store.new failed.new) }
-    ensures answer { IfOk result (λ r. IsStatus r (spaced plan.now.model store.new failed.new)) }
-    ensures lines { IfOk result (λ r. HaveLines r plan.now.model.constraints store.new.doms) }
+        → Covers known ds (spaced network.now.model store.old failed.old)
+        → Covers known ds (spaced network.now.model store.new failed.new) }
+    ensures narrower { OnOk result (IsNarrower
+        (spaced network.now.model store.new failed.new)
+        (spaced network.now.model store.old failed.old)) }
+    ensures answer { IfOk result (λ r. IsStatus r (spaced network.now.model store.new failed.new)) }
+    ensures lines { IfOk result (λ r. HaveLines r network.now.model.constraints store.new.doms) }
     ensures stays { failed.old ≡ true → failed.new ≡ true }
 {
     if *failed {
         return Ok(Status::Failed);
     }
-    let rests = settle(plan.kinds(), plan.wakes(), store, agenda)?;
+    let _ = network.model();
+    let rests = settle(network, store, agenda)?;
     if !rests {
         *failed = true;
         return Ok(Status::Failed);

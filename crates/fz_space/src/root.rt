@@ -1,12 +1,12 @@
 //! The parts of the space of a root.
 ghost use Rattle.std.specs.Prelude.{◌≡◌, None, [], false, IfOk};
 ghost use Rattle.fz_prop.specs.Stores.{HasEmpty, declared_sets, fresh};
-ghost use Rattle.fz_path.specs.Spaces.{Covers};
-ghost use Rattle.fz_space.specs.Alive.{spaced, IsAlive};
+ghost use Rattle.fz_engine.specs.Runs.{IsAlive};
+ghost use Rattle.fz_search_space.specs.Spaces.{Covers};
+ghost use Rattle.fz_space.specs.Alive.{spaced};
 
 use fz_agenda::Agenda;
-use fz_engine::Plan;
-use fz_engine::plan::agenda_of;
+use fz_engine::Network;
 use fz_prop::Store;
 use std::alloc::{AllocError, Global};
 
@@ -23,25 +23,25 @@ pub struct Parts {
 ///
 /// # Errors
 /// `AllocError` where there is no memory.
-pub fn parts_of(alloc: Global, plan: &Plan) -> Result<Parts, AllocError>
+pub fn parts_of(alloc: Global, network: &Network) -> Result<Parts, AllocError>
     ensures alive { IfOk result
-        (λ p. p.failed ≡ false → IsAlive plan.now.model p.agenda.states p.store) }
-    ensures covers { IfOk result (λ p. Covers None [] (spaced plan.now.model p.store p.failed)) }
+        (λ p. p.failed ≡ false → IsAlive network.now p.agenda.states p.store) }
+    ensures covers { IfOk result (λ p. Covers None [] (spaced network.now.model p.store p.failed)) }
 {
-    match Store::new(alloc, plan.model())? {
-        None => failed_parts(alloc, plan),
-        Some(store) => live_parts(alloc, plan, store),
+    match Store::new(alloc, network.model())? {
+        None => failed_parts(alloc, network),
+        Some(store) => live_parts(alloc, network, store),
     }
 }
 
 /// The parts of a space that has failed.
-fn failed_parts(alloc: Global, plan: &Plan) -> Result<Parts, AllocError>
-    requires { HasEmpty (declared_sets plan.now.model.variables) }
+fn failed_parts(alloc: Global, network: &Network) -> Result<Parts, AllocError>
+    requires { HasEmpty (declared_sets network.now.model.variables) }
     ensures alive { IfOk result
-        (λ p. p.failed ≡ false → IsAlive plan.now.model p.agenda.states p.store) }
-    ensures covers { IfOk result (λ p. Covers None [] (spaced plan.now.model p.store p.failed)) }
+        (λ p. p.failed ≡ false → IsAlive network.now p.agenda.states p.store) }
+    ensures covers { IfOk result (λ p. Covers None [] (spaced network.now.model p.store p.failed)) }
 {
-    let _ = plan.kinds();
+    let _ = network.model();
     let agenda = Agenda::new(alloc, 0)?;
     Ok(Parts {
         store: Store::empty(alloc),
@@ -51,14 +51,14 @@ fn failed_parts(alloc: Global, plan: &Plan) -> Result<Parts, AllocError>
 }
 
 /// The parts of a space with these domains.
-fn live_parts(alloc: Global, plan: &Plan, store: Store) -> Result<Parts, AllocError>
-    requires { store ≡ fresh (declared_sets plan.now.model.variables) }
+fn live_parts(alloc: Global, network: &Network, store: Store) -> Result<Parts, AllocError>
+    requires { store ≡ fresh (declared_sets network.now.model.variables) }
     ensures alive { IfOk result
-        (λ p. p.failed ≡ false → IsAlive plan.now.model p.agenda.states p.store) }
-    ensures covers { IfOk result (λ p. Covers None [] (spaced plan.now.model p.store p.failed)) }
+        (λ p. p.failed ≡ false → IsAlive network.now p.agenda.states p.store) }
+    ensures covers { IfOk result (λ p. Covers None [] (spaced network.now.model p.store p.failed)) }
 {
-    let _ = plan.model();
-    let agenda = agenda_of(alloc, plan.kinds())?;
+    let _ = network.model();
+    let agenda = network.agenda(alloc)?;
     Ok(Parts {
         store,
         agenda,

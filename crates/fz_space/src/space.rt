@@ -1,10 +1,10 @@
 //! Spaces.
-ghost use Rattle.std.specs.Prelude.{◌≡◌, ◌<◌, ◌≤◌, ◌++◌, ◌∷◌, [], ℤ, List, Option, Some, length, true, IfOk, OnOk, OnErr};
+ghost use Rattle.std.specs.Prelude.{◌≡◌, ◌<◌, ◌≤◌, ◌++◌, ◌∷◌, [], ℤ, List, Option, None, Some, length, true, IfOk, OnOk, OnErr};
 ghost use Rattle.std.specs.List.{slice_get};
 ghost use Rattle.std.specs.Arc.{arc_value};
 ghost use Rattle.fz_spec.specs.Instance.{IsWhole};
 ghost use Rattle.fz_tree.specs.declared.decision.Decision.{Decision};
-ghost use Rattle.fz_path.specs.Spaces.{Spaced, AllBetter, Covers, IsStatus};
+ghost use Rattle.fz_search_space.specs.Spaces.{Spaced, AllBetter, Covers, IsNarrower, IsStatus};
 ghost use Rattle.fz_space.specs.Alive.{HaveLines};
 
 use crate::bound::keep_better;
@@ -13,19 +13,19 @@ use crate::rest::rest;
 use crate::root::{Parts, parts_of};
 use fz_agenda::Agenda;
 use fz_dom::Dom;
-use fz_engine::Plan;
+use fz_engine::Network;
 use fz_model::Assignment;
-use fz_path::Status;
 use fz_prop::Store;
 use fz_region::Choice;
-use std::alloc::{AllocError, Global};
+use fz_search_space::Status;
+use std::alloc::{AllocError, AllocFailed, Global};
 use std::marker::Model;
 use std::sync::Arc;
 
 /// The domains that a model's constraints leave below some decisions. What never changes is shared with all copies.
 #[derive(Drop)]
 pub struct Space {
-    plan: Arc<Plan>,
+    network: Arc<Network>,
     store: Store,
     agenda: Agenda,
     failed: bool,
@@ -36,15 +36,16 @@ pub struct Space {
 impl Model for Space {
     ghost use Rattle.std.specs.Prelude.{◌≡◌, false};
     ghost use Rattle.std.specs.Arc.{arc_value};
-    ghost use Rattle.fz_path.specs.Spaces.{Spaced};
-    ghost use Rattle.fz_space.specs.Alive.{spaced, IsAlive, FrontFixed};
+    ghost use Rattle.fz_engine.specs.Runs.{IsAlive};
+    ghost use Rattle.fz_search_space.specs.Spaces.{Spaced};
+    ghost use Rattle.fz_space.specs.Alive.{spaced, FrontFixed};
 
     ghost Value = { Spaced };
 
-    ghost view = { λ s. spaced (arc_value s.plan).model s.store s.failed };
+    ghost view = { λ s. spaced (arc_value s.network).model s.store s.failed };
 
     ghost invariant = { λ s. s.failed ≡ false
-        → IsAlive (arc_value s.plan).model s.agenda.states s.store
+        → IsAlive (arc_value s.network) s.agenda.states s.store
         × FrontFixed s.front s.store.doms };
 }
 
@@ -57,25 +58,19 @@ impl Space {
     }
 }
 
-impl fz_path::Space for Space {
+impl fz_search_space::SearchSpace for Space {
     ghost accepts = { λ m. Unit {0} };
 
     ghost spaced = { λ s. s };
 
-    fn root(alloc: Global, model: Arc<fz_model::Model>) -> Result<Space, AllocError> {
-        let plan = plan_of(alloc, model)?;
-        let Parts {
-            store,
-            agenda,
-            failed,
-        } = parts_of(alloc, &plan)?;
-        Ok(Space {
-            plan,
-            store,
-            agenda,
-            failed,
-            front: 0,
-        })
+    fn root(
+        alloc: Global,
+        model: Arc<fz_model::Model>,
+    ) -> Result<Space, AllocFailed<Arc<fz_model::Model>>> {
+        match space_of(alloc, &model) {
+            Ok(space) => Ok(space),
+            Err(_) => Err(AllocFailed { value: model }),
+        }
     }
 
     /// What has failed stays so; a decision on a variable that the model lacks makes the space failed.
@@ -88,6 +83,7 @@ impl fz_path::Space for Space {
         ensures covers { OnOk result ((known : Option (List ℤ)) (ds : List Decision) (d : Decision)
             → slice_get choice.now alternative ≡ Some d
             → Covers known ds self.old → Covers known (ds ++ d ∷ []) self.new) }
+        ensures narrower { OnOk result (IsNarrower self.new self.old) }
         ensures stays { self.old.failed ≡ true → self.new.failed ≡ true }
         ensures lacking { OnOk result ((d : Decision) → slice_get choice.now alternative ≡ Some d
             → length self.old.model.variables ≤ d.variable → self.new.failed ≡ true) }
@@ -110,10 +106,11 @@ impl fz_path::Space for Space {
         ensures covers { OnOk result ((ds : List Decision)
             → Covers (Some known.now) ds self.old → Covers (Some known.now) ds self.new) }
         ensures better { OnOk result (AllBetter known.now self.new) }
+        ensures narrower { OnOk result (IsNarrower self.new self.old) }
         ensures stays { self.old.failed ≡ true → self.new.failed ≡ true }
         ensures err { OnErr result (self.new ≡ self.old) }
     {
-        keep_better(self.plan.model(), &mut self.store, &mut self.failed, known)
+        keep_better(&self.network, &mut self.store, &mut self.failed, known)
     }
 
     /// At a branch the line of each constraint holds. What has failed stays so.
@@ -127,10 +124,11 @@ impl fz_path::Space for Space {
         ensures answer { IfOk result (λ status. IsStatus status self.new) }
         ensures lines { IfOk result
             (λ status. HaveLines status self.new.model.constraints self.new.doms) }
+        ensures narrower { OnOk result (IsNarrower self.new self.old) }
         ensures stays { self.old.failed ≡ true → self.new.failed ≡ true }
     {
         rest(
-            &self.plan,
+            &self.network,
             &mut self.store,
             &mut self.agenda,
             &mut self.failed,
@@ -147,11 +145,11 @@ impl fz_path::Space for Space {
     }
 
     fn copy(&self) -> Result<Space, AllocError> {
-        let plan = self.plan.clone()?;
+        let network = self.network.clone()?;
         let store = self.store.copy()?;
         let agenda = self.agenda.copy()?;
         Ok(Space {
-            plan,
+            network,
             store,
             agenda,
             failed: self.failed,
@@ -161,7 +159,7 @@ impl fz_path::Space for Space {
 
     fn copy_from(&mut self, other: &Space) -> Result<(), AllocError> {
         self.failed = true;
-        self.plan = other.plan.clone()?;
+        self.network = other.network.clone()?;
         write_store(&mut self.store, &other.store)?;
         write_agenda(&mut self.agenda, &other.agenda)?;
         self.front = other.front;
@@ -170,13 +168,33 @@ impl fz_path::Space for Space {
     }
 }
 
-/// The plan of a model, to be shared.
-fn plan_of(alloc: Global, model: Arc<fz_model::Model>) -> Result<Arc<Plan>, AllocError>
+/// The space of a model's root.
+fn space_of(alloc: Global, model: &Arc<fz_model::Model>) -> Result<Space, AllocError>
+    ensures model { IfOk result (λ s. s.model ≡ arc_value model.now) }
+    ensures covers { IfOk result (λ s. Covers None [] s) }
+{
+    let network = network_of(alloc, model.clone()?)?;
+    let Parts {
+        store,
+        agenda,
+        failed,
+    } = parts_of(alloc, &network)?;
+    Ok(Space {
+        network,
+        store,
+        agenda,
+        failed,
+        front: 0,
+    })
+}
+
+/// The network of a model, to be shared.
+fn network_of(alloc: Global, model: Arc<fz_model::Model>) -> Result<Arc<Network>, AllocError>
     ensures { IfOk result (λ p. (arc_value p).model ≡ arc_value model) }
 {
-    let plan = Plan::new(alloc, model)?;
-    match Arc::new(alloc, plan) {
-        Ok(plan) => Ok(plan),
+    let network = Network::new(alloc, model)?;
+    match Arc::new(alloc, network) {
+        Ok(network) => Ok(network),
         Err(_) => Err(AllocError),
     }
 }

@@ -15,5 +15,3 @@ pub mod limits;
 pub mod row;
 pub mod search;
 pub mod term;
-#[cfg(test)]
-mod tests;

@@ -1,6 +1,5 @@
 pub mod Terms
 pub mod Cumulatives
-pub mod Waits
 pub mod Differences
 pub mod SumLaws
 pub mod ReifiedSumLaws
@@ -11,4 +10,6 @@ pub mod OperationLaws
 pub mod Truths
 pub mod Clauses
 pub mod Keeping
-pub mod General
+pub mod Says
+pub mod Sayings
+pub mod Sizes

@@ -1,28 +1,25 @@
 -- The line of an equation: it lasts while the ends of its terms stay, and says the truth where one number is left of each.
-use Rattle.std.proofs.Common.{◌≡◌, ◌≢◌, ◌<◌, List, [], ◌∷◌, true, false, refl, sym, ap, subst, arith, length, map, inl, inr}
-use Rattle.std.specs.Prelude.{ℤ, pos, negsuc, nat_abs, neg_ℤ, ◌+ℤ◌, ◌*ℤ◌, ◌≤ℤ◌, ◌<ℤ◌, int_div, int_lt, if◌then◌else◌, Option, Some, None, ◌↔◌, ◌⊎◌, ◌&&◌}
+use Rattle.std.proofs.Common.{◌≡◌, ◌≢◌, List, [], ◌∷◌, true, false, refl, sym, ap, subst, arith, map, inl, inr}
+use Rattle.std.specs.Prelude.{ℤ, pos, negsuc, nat_abs, neg_ℤ, ◌+ℤ◌, ◌*ℤ◌, ◌≤ℤ◌, int_div, int_lt, if◌then◌else◌, ◌↔◌, ◌⊎◌, ◌&&◌}
 use Rattle.std.specs.Int.{int_min, int_max}
 use Rattle.std.specs.List.{AllByRecursion, fold}
 use Rattle.std.specs.Ordering.{int_eq}
 use Rattle.std.proofs.lemmas.Bool.Decides.{Decides-int_eq}
-use Rattle.fz_sets.specs.Sets.{IsInSet, single}
+use Rattle.fz_sets.specs.Sets.{IsInSet}
 use Rattle.std.proofs.lemmas.Int.{ints, clamps, by_lt_z}
 use Rattle.fz_dom.specs.Shape.{least, greatest}
-use Rattle.fz_spec.specs.declared.builtin.Builtin.{Builtin}
-use Rattle.fz_spec.specs.declared.builtin.Builtin.TheVariants.{ArrayBoolAnd, ArrayBoolOr, ArrayIntMaximum, ArrayIntMinimum, BoolAnd, BoolClause, BoolClauseReif, BoolOr, IntAbs, IntDiv, IntMax, IntMin, IntMod, IntPlus, IntTimes}
 use Rattle.fz_spec.specs.declared.term.Term.{Term}
-use Rattle.fz_spec.specs.Constraints.{Argument, One, Terms, term_value, term_values, Holds}
-use Rattle.fz_spec.specs.Truth.{SomeByRecursion, IsLeastOf, IsGreatestOf}
+use Rattle.fz_spec.specs.Constraints.{term_value, term_values}
+use Rattle.fz_spec.specs.Truth.{IsLeastOf, IsGreatestOf}
 use Rattle.fz_strength.specs.declared.event.Event.TheVariants.{Bound}
 use Rattle.fz_strength.specs.declared.operation.Operation.{Operation}
 use Rattle.fz_strength.specs.declared.operation.Operation.TheVariants.{Plus, Times, Quotient, Remainder, Abs, Min, Max}
 use Rattle.fz_strength.specs.declared.operation.Bounds.{Bounds}
-use Rattle.fz_strength.specs.Clauses.{Clause, clause_of}
-use Rattle.fz_strength.specs.Domains.{term_set, Alone, IsNarrower}
-use Rattle.fz_strength.specs.Events.{IsQuiet, IsOnly, Wait, waits_for, AreQuiet, AreBelow, AreSingle}
-use Rattle.fz_strength.specs.Operations.{Equation, equation, equation_of, equation_terms, IsResult, EquationTruth, low_of, high_of, between, no_bounds, own_bounds, corner_bounds, quotient_bounds, remainder, remainder_bounds, divisors_of, LacksZero, result_bounds, operand_bounds, bounds_of, IsBounded, IsEquationLine, RestsOfEquation, waits_of_equation}
+use Rattle.fz_strength.specs.Domains.{term_set, IsNarrower}
+use Rattle.fz_strength.specs.Events.{IsQuiet, IsOnly, AreSingle}
+use Rattle.fz_strength.specs.Operations.{Equation, equation_terms, IsResult, EquationTruth, low_of, high_of, between, no_bounds, own_bounds, corner_bounds, quotient_bounds, remainder, remainder_bounds, divisors_of, LacksZero, result_bounds, operand_bounds, bounds_of, IsBounded, IsEquationLine, operand_event}
 use Rattle.fz_strength.proofs.Clauses.{all_with, all_unmap}
-use Rattle.fz_strength.proofs.Terms.{AreQuietAt, terms_quiet, terms_alone, term_narrower, in_single}
+use Rattle.fz_strength.proofs.Terms.{AreQuietAt, term_narrower, in_single, quiet_self}
 
 -- ---- it lasts
 
@@ -34,13 +31,24 @@ highs_same : (ds es : List (List (ℤ × ℤ))) (ts : List Term) → AreQuietAt 
 highs_same ds es [] quiet = refl
 highs_same ds es (t ∷ ts) quiet = rw (quiet.0.1, highs_same ds es ts quiet.1) refl
 
-result_same : (operation : Operation) (xs : List Term) (z : Term) (ds es : List (List (ℤ × ℤ))) → IsQuiet Bound (term_set ds z) (term_set es z) → AreQuietAt Bound ds es xs
+any_is_bound : (d e : List (ℤ × ℤ)) → d ≡ e → IsQuiet Bound d e
+any_is_bound d e same = rw same (quiet_self Bound e)
+
+bound_quiet : (operation : Operation) (ds es : List (List (ℤ × ℤ))) (t : Term) → IsQuiet (operand_event operation) (term_set ds t) (term_set es t) → IsQuiet Bound (term_set ds t) (term_set es t)
+bound_quiet Abs ds es t quiet = any_is_bound (term_set ds t) (term_set es t) quiet
+bound_quiet operation ds es t quiet = quiet
+
+bounds_quiet : (operation : Operation) (ds es : List (List (ℤ × ℤ))) (ts : List Term) → AreQuietAt (operand_event operation) ds es ts → AreQuietAt Bound ds es ts
+bounds_quiet operation ds es [] quiet = tt
+bounds_quiet operation ds es (t ∷ ts) quiet = (bound_quiet operation ds es t quiet.0, bounds_quiet operation ds es ts quiet.1)
+
+result_same : (operation : Operation) (xs : List Term) (z : Term) (ds es : List (List (ℤ × ℤ))) → IsQuiet Bound (term_set ds z) (term_set es z) → AreQuietAt (operand_event operation) ds es xs
     → result_bounds operation xs z ds ≡ result_bounds operation xs z es
 result_same Plus (x ∷ y ∷ []) z ds es at quiet = rw (quiet.0.0, quiet.0.1, quiet.1.0.0, quiet.1.0.1) refl
 result_same Times (x ∷ y ∷ []) z ds es at quiet = rw (quiet.0.0, quiet.0.1, quiet.1.0.0, quiet.1.0.1) refl
 result_same Quotient (x ∷ y ∷ []) z ds es at quiet = rw (quiet.0.0, quiet.0.1, quiet.1.0.0, quiet.1.0.1, at.0, at.1) refl
 result_same Remainder (x ∷ y ∷ []) z ds es at quiet = rw (quiet.0.0, quiet.0.1, quiet.1.0.0, quiet.1.0.1, at.0, at.1) refl
-result_same Abs (x ∷ []) z ds es at quiet = rw (quiet.0.0, quiet.0.1) refl
+result_same Abs (x ∷ []) z ds es at quiet = rw quiet.0 refl
 result_same Min (x ∷ xs) z ds es at quiet = rw (quiet.0.0, quiet.0.1, lows_same ds es xs quiet.1, highs_same ds es xs quiet.1) refl
 result_same Max (x ∷ xs) z ds es at quiet = rw (quiet.0.0, quiet.0.1, lows_same ds es xs quiet.1, highs_same ds es xs quiet.1) refl
 result_same operation xs z ds es at quiet = refl
@@ -112,19 +120,16 @@ zero_lacking : (ds es : List (List (ℤ × ℤ))) (ts : List Term) → IsNarrowe
 zero_lacking ds es [] narrower all = tt
 zero_lacking ds es (t ∷ ts) narrower all = ((λ is. all.0 (term_narrower t ds es narrower (pos 0) is)), zero_lacking ds es ts narrower all.1)
 
-pub equation_kept : (e : Equation) (ds es : List (List (ℤ × ℤ))) → IsNarrower ds es → AreQuietAt Bound ds es (equation_terms e) → IsEquationLine e ds → IsEquationLine e es
-equation_kept e ds es narrower quiet line =
+pub equation_kept : (e : Equation) (ds es : List (List (ℤ × ℤ))) → IsNarrower ds es → IsQuiet Bound (term_set ds e.result) (term_set es e.result) → AreQuietAt (operand_event e.operation) ds es e.operands
+    → IsEquationLine e ds → IsEquationLine e es
+equation_kept e ds es narrower of_result of_operands line =
+    let quiet : AreQuietAt Bound ds es (equation_terms e) = (of_result, bounds_quiet e.operation ds es e.operands of_operands) in
     let calm : Term → Type 0 = λ (t : Term). IsQuiet Bound (term_set ds t) (term_set es t) in
     let at_each = all_unmap calm (λ (b : Bounds). b.term) (bounds_of e ds) (subst (AllByRecursion calm) (sym (bounds_terms e ds)) quiet) in
     let still = all_with (λ (b : Bounds). calm b.term) (IsBounded ds) (IsBounded es) (bounds_of e ds) (bounded_still ds es) at_each line.bounded in
     let same : bounds_of e ds ≡ bounds_of e es =
-    rw (result_same e.operation e.operands e.result ds es quiet.0 quiet.1, operands_same e.operation e.operands e.result ds es quiet.0 quiet.1) refl in
+    rw (result_same e.operation e.operands e.result ds es of_result of_operands, operands_same e.operation e.operands e.result ds es quiet.0 quiet.1) refl in
     record { bounded = subst (AllByRecursion (IsBounded es)) same still; divides = zero_lacking ds es (divisors_of e.operation e.operands) narrower line.divides }
-
-pub kept_equation : (G H : Type 0) (W : List Wait) (o : Option Equation) (ds es : List (List (ℤ × ℤ))) → IsNarrower ds es → (AreQuiet W ds es → G → H) → AreQuiet (waits_of_equation W o) ds es
-    → RestsOfEquation G o ds → RestsOfEquation H o es
-kept_equation G H W None ds es narrower general quiet h = general quiet h
-kept_equation G H W (Some e) ds es narrower general quiet h = equation_kept e ds es narrower (terms_quiet Bound (equation_terms e) ds es quiet) h
 
 -- ---- the least and the greatest of numbers
 
@@ -232,7 +237,7 @@ result_alone Quotient (x ∷ y ∷ []) z ds a alone only apart h =
 result_alone Remainder (x ∷ y ∷ []) z ds a alone only apart h =
     (not_zero_alone ds a y alone.1.0 apart.0, remainder_alone (term_value a x) (term_value a y) (term_value a z) ds x y z alone.0 alone.1.0 only h)
 result_alone Abs (x ∷ []) z ds a alone only apart h =
-    let b = rw (ap least only, ap greatest only, ap least alone.0, ap greatest alone.0) at h in
+    let b = rw (ap least only, ap greatest only, alone.0) at h in
     abs_is (term_value a x) (term_value a z) b.0 b.1
 result_alone Min (x ∷ xs) z ds a alone only apart h =
     let b = rw (ap least only, ap greatest only, ap least alone.0, ap greatest alone.0, lows_alone ds a xs alone.1, highs_alone ds a xs alone.1) at h in
@@ -250,7 +255,7 @@ equation_alone e ds a alone line = result_alone e.operation e.operands e.result 
 
 -- ---- by its names
 
-min_truth : (x y z : ℤ) → IsLeastOf z (x ∷ y ∷ []) ↔ (z ≡ int_min x y)
+pub min_truth : (x y z : ℤ) → IsLeastOf z (x ∷ y ∷ []) ↔ (z ≡ int_min x y)
 min_truth x y z = (
   (λ h. let first = h.1.0 in let second = h.1.1.0 in elim h.0 [
     | inl at ↦ omega (arith, ints, clamps, at, first, second)
@@ -262,7 +267,7 @@ min_truth x y z = (
   )),
 )
 
-max_truth : (x y z : ℤ) → IsGreatestOf z (x ∷ y ∷ []) ↔ (z ≡ int_max x y)
+pub max_truth : (x y z : ℤ) → IsGreatestOf z (x ∷ y ∷ []) ↔ (z ≡ int_max x y)
 max_truth x y z = (
   (λ h. let first = h.1.0 in let second = h.1.1.0 in elim h.0 [
     | inl at ↦ omega (arith, ints, clamps, at, first, second)
@@ -273,42 +278,3 @@ max_truth x y z = (
     (omega (arith, ints, clamps, is), (omega (arith, ints, clamps, is), tt)),
   )),
 )
-
-pub equation_truth : (name : Builtin) (arguments : List Argument) (e : Equation) (a : List ℤ) → equation_of name arguments ≡ Some e → EquationTruth e a ↔ Holds name arguments a
-equation_truth IntPlus (One x ∷ One y ∷ One z ∷ []) e a is =
-    let same : equation Plus (x ∷ y ∷ []) z ≡ e = cc in subst (λ (f : Equation). EquationTruth f a ↔ Holds IntPlus (One x ∷ One y ∷ One z ∷ []) a) same ((λ h. h), (λ h. h))
-equation_truth IntTimes (One x ∷ One y ∷ One z ∷ []) e a is =
-    let same : equation Times (x ∷ y ∷ []) z ≡ e = cc in subst (λ (f : Equation). EquationTruth f a ↔ Holds IntTimes (One x ∷ One y ∷ One z ∷ []) a) same ((λ h. h), (λ h. h))
-equation_truth IntDiv (One x ∷ One y ∷ One z ∷ []) e a is =
-    let same : equation Quotient (x ∷ y ∷ []) z ≡ e = cc in subst (λ (f : Equation). EquationTruth f a ↔ Holds IntDiv (One x ∷ One y ∷ One z ∷ []) a) same ((λ h. h), (λ h. h))
-equation_truth IntMod (One x ∷ One y ∷ One z ∷ []) e a is =
-    let same : equation Remainder (x ∷ y ∷ []) z ≡ e = cc in subst (λ (f : Equation). EquationTruth f a ↔ Holds IntMod (One x ∷ One y ∷ One z ∷ []) a) same ((λ h. h), (λ h. h))
-equation_truth IntAbs (One x ∷ One z ∷ []) e a is =
-    let same : equation Abs (x ∷ []) z ≡ e = cc in subst (λ (f : Equation). EquationTruth f a ↔ Holds IntAbs (One x ∷ One z ∷ []) a) same ((λ h. h), (λ h. h))
-equation_truth IntMin (One x ∷ One y ∷ One z ∷ []) e a is =
-    let same : equation Min (x ∷ y ∷ []) z ≡ e = cc in
-    subst (λ (f : Equation). EquationTruth f a ↔ Holds IntMin (One x ∷ One y ∷ One z ∷ []) a) same (min_truth (term_value a x) (term_value a y) (term_value a z))
-equation_truth IntMax (One x ∷ One y ∷ One z ∷ []) e a is =
-    let same : equation Max (x ∷ y ∷ []) z ≡ e = cc in
-    subst (λ (f : Equation). EquationTruth f a ↔ Holds IntMax (One x ∷ One y ∷ One z ∷ []) a) same (max_truth (term_value a x) (term_value a y) (term_value a z))
-equation_truth ArrayIntMinimum (One z ∷ Terms xs ∷ []) e a is =
-    let same : equation Min xs z ≡ e = cc in subst (λ (f : Equation). EquationTruth f a ↔ Holds ArrayIntMinimum (One z ∷ Terms xs ∷ []) a) same ((λ h. h), (λ h. h))
-equation_truth ArrayIntMaximum (One z ∷ Terms xs ∷ []) e a is =
-    let same : equation Max xs z ≡ e = cc in subst (λ (f : Equation). EquationTruth f a ↔ Holds ArrayIntMaximum (One z ∷ Terms xs ∷ []) a) same ((λ h. h), (λ h. h))
-equation_truth name arguments e a is = absurd (cc (is))
-
-pub true_equation : (name : Builtin) (arguments : List Argument) (G : Type 0) (W : List Wait) (o : Option Equation) (ds : List (List (ℤ × ℤ))) (a : List ℤ) → equation_of name arguments ≡ o
-    → (AreBelow W (length ds) → G → Holds name arguments a) → AreBelow (waits_of_equation W o) (length ds) → Alone ds a → RestsOfEquation G o ds → Holds name arguments a
-true_equation name arguments G W None ds a is general below alone h = general below h
-true_equation name arguments G W (Some e) ds a is general below alone h =
-    (equation_truth name arguments e a is).0 (equation_alone e ds a (terms_alone Bound (equation_terms e) ds a below alone) h)
-
--- a constraint that says a clause says no equation
-pub clause_alone : (name : Builtin) (arguments : List Argument) (c : Clause) → clause_of name arguments ≡ Some c → equation_of name arguments ≡ None
-clause_alone BoolClause arguments c is = refl
-clause_alone BoolClauseReif arguments c is = refl
-clause_alone ArrayBoolOr arguments c is = refl
-clause_alone ArrayBoolAnd arguments c is = refl
-clause_alone BoolOr arguments c is = refl
-clause_alone BoolAnd arguments c is = refl
-clause_alone name arguments c is = absurd (cc (is))

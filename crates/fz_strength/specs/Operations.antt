@@ -1,22 +1,21 @@
 -- A term that is what an operation makes of other terms, and the bounds that the ends of all of them give to each
 -- (Apt, Zoeteweij: "An Analysis of Arithmetic Constraints on Integer Intervals").
-use Rattle.std.specs.Prelude.{◌≡◌, ◌≢◌, ℤ, pos, nat_abs, neg_ℤ, ◌+ℤ◌, ◌-ℤ◌, ◌*ℤ◌, ◌≤ℤ◌, int_div, int_lt, List, [], ◌∷◌, map, Option, Some, None, if◌then◌else◌, ◌&&◌}
+use Rattle.std.specs.Prelude.{◌≡◌, ◌≢◌, ℤ, pos, nat_abs, neg_ℤ, ◌+ℤ◌, ◌-ℤ◌, ◌*ℤ◌, ◌≤ℤ◌, int_div, int_lt, List, [], ◌∷◌, ◌++◌, map, if◌then◌else◌, ◌&&◌}
 use Rattle.std.specs.Int.{int_min, int_max}
 use Rattle.std.specs.List.{AllByRecursion, fold}
 use Rattle.std.specs.Ordering.{int_eq}
 use Rattle.fz_sets.specs.Sets.{IsInSet}
 use Rattle.fz_dom.specs.Shape.{least, greatest}
-use Rattle.fz_spec.specs.declared.builtin.Builtin.{Builtin}
-use Rattle.fz_spec.specs.declared.builtin.Builtin.TheVariants.{ArrayIntMaximum, ArrayIntMinimum, IntAbs, IntDiv, IntMax, IntMin, IntMod, IntPlus, IntTimes}
 use Rattle.fz_spec.specs.declared.term.Term.{Term}
-use Rattle.fz_spec.specs.Constraints.{Argument, One, Terms, term_value, term_values}
+use Rattle.fz_spec.specs.Constraints.{term_value, term_values}
 use Rattle.fz_spec.specs.Truth.{IsLeastOf, IsGreatestOf}
-use Rattle.fz_strength.specs.declared.event.Event.TheVariants.{Bound}
 use Rattle.fz_strength.specs.declared.operation.Operation.{Operation}
 use Rattle.fz_strength.specs.declared.operation.Operation.TheVariants.{Plus, Times, Quotient, Remainder, Abs, Min, Max}
 use Rattle.fz_strength.specs.declared.operation.Bounds.{Bounds}
+use Rattle.fz_strength.specs.declared.event.Event.{Event}
+use Rattle.fz_strength.specs.declared.event.Event.TheVariants.{Any, Bound}
 use Rattle.fz_strength.specs.Domains.{term_set}
-use Rattle.fz_strength.specs.Events.{Wait, waits_for}
+use Rattle.fz_strength.specs.Events.{Wait, wait_for, waits_for}
 
 -- ---- equations
 
@@ -29,35 +28,21 @@ pub record Equation : Type 0 where
 abbrev pub equation : Operation → List Term → Term → Equation
 equation operation xs z = record { operation = operation; operands = xs; result = z }
 
--- of one term, of two, and of a list, where the arguments are these and the result
-abbrev pub of_one : Operation → List Argument → Option Equation
-of_one operation (One x ∷ One z ∷ []) = Some (equation operation (x ∷ []) z)
-of_one operation arguments = None
-
-abbrev pub of_two : Operation → List Argument → Option Equation
-of_two operation (One x ∷ One y ∷ One z ∷ []) = Some (equation operation (x ∷ y ∷ []) z)
-of_two operation arguments = None
-
-abbrev pub of_list : Operation → List Argument → Option Equation
-of_list operation (One z ∷ Terms xs ∷ []) = Some (equation operation xs z)
-of_list operation arguments = None
-
--- the equation that a constraint says
-abbrev pub equation_of : Builtin → List Argument → Option Equation
-equation_of IntPlus arguments = of_two Plus arguments
-equation_of IntTimes arguments = of_two Times arguments
-equation_of IntDiv arguments = of_two Quotient arguments
-equation_of IntMod arguments = of_two Remainder arguments
-equation_of IntAbs arguments = of_one Abs arguments
-equation_of IntMin arguments = of_two Min arguments
-equation_of IntMax arguments = of_two Max arguments
-equation_of ArrayIntMinimum arguments = of_list Min arguments
-equation_of ArrayIntMaximum arguments = of_list Max arguments
-equation_of name arguments = None
-
 -- its terms, the result first
 abbrev pub equation_terms : Equation → List Term
 equation_terms e = e.result ∷ e.operands
+
+-- the changes of its operands that may break its line: a size may lie within
+abbrev pub operand_event : Operation → Event
+operand_event Abs = Any
+operand_event operation = Bound
+
+abbrev pub equation_waits : Equation → List Wait
+equation_waits e = wait_for Bound e.result ++ waits_for (operand_event e.operation) e.operands
+
+-- the size of a number
+abbrev pub size_of : ℤ → ℤ
+size_of x = pos (nat_abs x)
 
 -- what a truncated quotient leaves
 abbrev pub remainder : ℤ → ℤ → ℤ
@@ -69,7 +54,7 @@ IsResult Plus (x ∷ y ∷ []) z = (x +ℤ y) ≡ z
 IsResult Times (x ∷ y ∷ []) z = (x *ℤ y) ≡ z
 IsResult Quotient (x ∷ y ∷ []) z = (y ≢ pos 0) × (int_div x y ≡ z)
 IsResult Remainder (x ∷ y ∷ []) z = (y ≢ pos 0) × (remainder x y ≡ z)
-IsResult Abs (x ∷ []) z = z ≡ pos (nat_abs x)
+IsResult Abs (x ∷ []) z = z ≡ size_of x
 IsResult Min xs z = IsLeastOf z xs
 IsResult Max xs z = IsGreatestOf z xs
 IsResult operation xs z = ⊥
@@ -119,14 +104,25 @@ remainder_bounds x y z ds =
     if int_eq (low_of ds x) (high_of ds x) && int_eq (low_of ds y) (high_of ds y)
     then between z (remainder (low_of ds x) (low_of ds y)) (remainder (low_of ds x) (low_of ds y)) else own_bounds z ds
 
+-- the least size of a number between two, and of one in a set
+abbrev pub size_between : (ℤ × ℤ) → ℤ
+size_between r = int_max (pos 0) (int_max r.0 (neg_ℤ r.1))
+
+abbrev pub least_size : List (ℤ × ℤ) → ℤ
+least_size [] = pos 0
+least_size (r ∷ rs) = fold int_min (size_between r) (map size_between rs)
+
+-- the greatest is that of an end
+abbrev pub greatest_size : List (ℤ × ℤ) → ℤ
+greatest_size d = int_max (greatest d) (neg_ℤ (least d))
+
 -- of the result
 abbrev pub result_bounds : Operation → List Term → Term → List (List (ℤ × ℤ)) → Bounds
 result_bounds Plus (x ∷ y ∷ []) z ds = between z (low_of ds x +ℤ low_of ds y) (high_of ds x +ℤ high_of ds y)
 result_bounds Times (x ∷ y ∷ []) z ds = corner_bounds (λ u w. u *ℤ w) x y z ds
 result_bounds Quotient (x ∷ y ∷ []) z ds = quotient_bounds z y x ds
 result_bounds Remainder (x ∷ y ∷ []) z ds = remainder_bounds x y z ds
-result_bounds Abs (x ∷ []) z ds =
-    between z (int_max (pos 0) (int_max (low_of ds x) (neg_ℤ (high_of ds x)))) (int_max (high_of ds x) (neg_ℤ (low_of ds x)))
+result_bounds Abs (x ∷ []) z ds = between z (least_size (term_set ds x)) (greatest_size (term_set ds x))
 result_bounds Min (x ∷ xs) z ds = between z (fold int_min (low_of ds x) (map (low_of ds) xs)) (fold int_min (high_of ds x) (map (high_of ds) xs))
 result_bounds Max (x ∷ xs) z ds = between z (fold int_max (low_of ds x) (map (low_of ds) xs)) (fold int_max (high_of ds x) (map (high_of ds) xs))
 result_bounds operation xs z ds = no_bounds z
@@ -176,12 +172,3 @@ LacksZero ds t = IsInSet (term_set ds t) (pos 0) → ⊥
 pub record IsEquationLine (e : Equation) (ds : List (List (ℤ × ℤ))) : Type 0 where
   pub bounded : AllByRecursion (IsBounded ds) (bounds_of e ds)
   pub divides : AllByRecursion (LacksZero ds) (divisors_of e.operation e.operands)
-
--- G is the line of a constraint that says no equation, and W what is waited for there
-abbrev pub RestsOfEquation : Type 0 → Option Equation → List (List (ℤ × ℤ)) → Type 0
-RestsOfEquation G None ds = G
-RestsOfEquation G (Some e) ds = IsEquationLine e ds
-
-abbrev pub waits_of_equation : List Wait → Option Equation → List Wait
-waits_of_equation W None = W
-waits_of_equation W (Some e) = waits_for Bound (equation_terms e)

@@ -6,7 +6,7 @@ use Rattle.std.proofs.lemmas.Bool.{cases_eq}
 use Rattle.std.proofs.lemmas.Int.{ints}
 use Rattle.std.proofs.lemmas.Option.{slice_get_within, slice_get-get_or}
 use Rattle.fz_table.specs.declared.supports.Support.{Support}
-use Rattle.fz_table.specs.RowSets.{IsOneOf}
+use Rattle.fz_bits.specs.Members.{IsOneOf}
 use Rattle.fz_table.specs.Supports.{IsIn, AreInOrder, IsRising, HasNumber, IsPlaced, IsAdded}
 use Rattle.fz_table.proofs.Slices.{get_last, get_before, get_more, get_append_left}
 

@@ -5,7 +5,7 @@ use Rattle.std.proofs.lemmas.Bool.{cases_eq}
 use Rattle.std.proofs.lemmas.Option.{slice_get_within}
 use Rattle.fz_sets.specs.Sets.{IsInSet, IsInRange}
 use Rattle.fz_table.specs.declared.supports.Support.{Support}
-use Rattle.fz_table.specs.RowSets.{HasRow}
+use Rattle.fz_bits.specs.Members.{HasMember}
 use Rattle.fz_table.specs.Supports.{IsIn, StandsIn, IsLeftIn}
 
 -- ---- the ranges of all numbers
@@ -41,11 +41,11 @@ spans_all supports spans k end h = λ n. (
 
 -- rows that are found, and those that the ranges that are left have, are all that are to be found
 pub record AreJoining (column : List Support) (dom rest : List (ℤ × ℤ)) (old rows : List ℕ) : Type 0 where
-  pub joining : (i : ℕ) → (HasRow rows i ⊎ IsLeftIn column rest i) ↔ (HasRow old i ⊎ IsLeftIn column dom i)
+  pub joining : (i : ℕ) → (HasMember rows i ⊎ IsLeftIn column rest i) ↔ (HasMember old i ⊎ IsLeftIn column dom i)
   pub size : length rows ≡ length old
 
 pub joining_more : (column : List Support) (dom ranges rest : List (ℤ × ℤ)) (r : ℤ × ℤ) (old rows new : List ℕ) → ranges ≡ r ∷ rest
-    → ((i : ℕ) → HasRow new i ↔ (HasRow rows i ⊎ IsLeftIn column (r ∷ []) i)) → length new ≡ length rows → AreJoining column dom ranges old rows → AreJoining column dom rest old new
+    → ((i : ℕ) → HasMember new i ↔ (HasMember rows i ⊎ IsLeftIn column (r ∷ []) i)) → length new ≡ length rows → AreJoining column dom ranges old rows → AreJoining column dom rest old new
 joining_more column dom ranges rest r old rows new is more same h = record {
   joining = λ i.
       let before = rw is at h.joining i in (
@@ -65,7 +65,7 @@ joining_more column dom ranges rest r old rows new is more same h = record {
 }
 
 pub joining_all : (column : List Support) (dom ranges : List (ℤ × ℤ)) (old rows : List ℕ) → ranges ≡ [] → AreJoining column dom ranges old rows
-    → (i : ℕ) → HasRow rows i ↔ (HasRow old i ⊎ IsLeftIn column dom i)
+    → (i : ℕ) → HasMember rows i ↔ (HasMember old i ⊎ IsLeftIn column dom i)
 joining_all column dom ranges old rows none h = λ i.
     let all = rw none at h.joining i in
     ((λ has. all.0 (inl has)), (λ g. elim (all.1 g) [ inl has ↦ has | inr w ↦ absurd w.2 ]))

@@ -25,7 +25,7 @@ use Rattle.fz_prop.proofs.Steps.{same_shrinks}
 use Rattle.fz_prop.proofs.TermChanges.{term_within, narrower_term, only_in, within_kept, none_kept}
 use Rattle.fz_prop.proofs.Twice.{shrinks_twice, room_after}
 use Rattle.fz_table.specs.Spans.{IsFilled}
-use Rattle.fz_table.specs.RowSets.{HasRow}
+use Rattle.fz_bits.specs.Members.{HasMember}
 use Rattle.fz_table.specs.Rows.{IsRowAt, AreLeft, Stands}
 use Rattle.fz_table.proofs.Growing.{limits_by_numbers}
 use Rattle.fz_table.proofs.LeftRows.{value_stands, stands_supported}
@@ -56,7 +56,7 @@ keeping_none xs table s = record {
   supported = λ e j t n below. absurd (omega (arith, below));
 }
 
-only_supported : (xs : List Term) (table : List ℤ) (ds : List (List (ℤ × ℤ))) (rows : List ℕ) (k : ℕ) (t : Term) (m : ℤ) → slice_get xs k ≡ Some t → IsOnly (term_set ds t) m → ((i : ℕ) × HasRow rows i)
+only_supported : (xs : List Term) (table : List ℤ) (ds : List (List (ℤ × ℤ))) (rows : List ℕ) (k : ℕ) (t : Term) (m : ℤ) → slice_get xs k ≡ Some t → IsOnly (term_set ds t) m → ((i : ℕ) × HasMember rows i)
     → AreLeft xs table ds rows → IsSupported xs table ds k m
 only_supported xs table ds rows k t m at only some are =
     let start = some.0 * length xs in
@@ -66,7 +66,7 @@ only_supported xs table ds rows k t m at only some are =
     (row, left, here.1 ∙ ap (λ (x : ℤ). Some x) (only_in (term_set ds t) m here.0 only (left.within.each k t here.0 at here.1)))
 
 -- the only number that is left of a term stands in each row that is left
-pub keeping_only : (xs : List Term) (table : List ℤ) (r s : Stored) (has_changed : Bool) (k : ℕ) (t : Term) (rows : List ℕ) → slice_get xs k ≡ Some t → IsFixedIn s.doms t → ((i : ℕ) × HasRow rows i)
+pub keeping_only : (xs : List Term) (table : List ℤ) (r s : Stored) (has_changed : Bool) (k : ℕ) (t : Term) (rows : List ℕ) → slice_get xs k ≡ Some t → IsFixedIn s.doms t → ((i : ℕ) × HasMember rows i)
     → AreLeft xs table r.doms rows → IsKeeping xs table r s has_changed k → IsKeeping xs table r s has_changed (k + 1)
 keeping_only xs table r s has_changed k t rows at fixed some are h = record {
   shrinks = h.shrinks;
@@ -134,10 +134,10 @@ keeping_fails xs table r s t has_changed k v rows P terms at are stands change h
 
 -- ---- the line
 
-some_left : (xs : List Term) (table : List ℤ) (ds : List (List (ℤ × ℤ))) (rows : List ℕ) → ((i : ℕ) × HasRow rows i) → AreLeft xs table ds rows → (row : List ℤ) × IsLeftRow xs table ds row
+some_left : (xs : List Term) (table : List ℤ) (ds : List (List (ℤ × ℤ))) (rows : List ℕ) → ((i : ℕ) × HasMember rows i) → AreLeft xs table ds rows → (row : List ℤ) × IsLeftRow xs table ds row
 some_left xs table ds rows some are = (slice_range table (some.0 * length xs) (some.0 * length xs + length xs), (are some.0).0 some.1)
 
-pub keeping_all : (xs : List Term) (table : List ℤ) (r s : Stored) (k : ℕ) (rows : List ℕ) → length xs ≤ k → ((i : ℕ) × HasRow rows i) → AreLeft xs table r.doms rows
+pub keeping_all : (xs : List Term) (table : List ℤ) (r s : Stored) (k : ℕ) (rows : List ℕ) → length xs ≤ k → ((i : ℕ) × HasMember rows i) → AreLeft xs table r.doms rows
     → IsKeeping xs table r s false k → AreSupported xs table s.doms
 keeping_all xs table r s k rows end some are h =
     subst (λ (u : Stored). AreSupported xs table u.doms) (sym (h.same refl)) (record {
@@ -183,7 +183,7 @@ fixed_line xs table ds es row terms fixed domains narrower left =
       supported = λ j t n at is. (row, now, fixed_at xs row ds j t n left.within at (all_at (IsFixedIn ds) xs j t fixed at) (narrower_term ds es t narrower n is));
     }
 
-pub fixed_answer : (xs : List Term) (table : List ℤ) (ds : List (List (ℤ × ℤ))) (rows : List ℕ) → AllByRecursion (IsTermOf (length ds)) xs → AllFixed ds xs → ((i : ℕ) × HasRow rows i)
+pub fixed_answer : (xs : List Term) (table : List ℤ) (ds : List (List (ℤ × ℤ))) (rows : List ℕ) → AllByRecursion (IsTermOf (length ds)) xs → AllFixed ds xs → ((i : ℕ) × HasMember rows i)
     → AreLeft xs table ds rows → IsAnswerOf Subsumed (IsRowAt xs table) (AreSupported xs table) ds ds
 fixed_answer xs table ds rows terms fixed some are =
     let left = some_left xs table ds rows some are in (

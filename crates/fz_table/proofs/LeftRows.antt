@@ -15,7 +15,7 @@ use Rattle.fz_strength.specs.Tables.{LieWithin, IsLeftRow, IsSupported}
 use Rattle.fz_prop.specs.Stores.{IsTermOf}
 use Rattle.fz_prop.proofs.TermChanges.{term_within}
 use Rattle.fz_table.specs.declared.supports.Support.{Support}
-use Rattle.fz_table.specs.RowSets.{HasRow, words_for}
+use Rattle.fz_bits.specs.Members.{HasMember, words_for}
 use Rattle.fz_table.specs.Supports.{HasNumber, AreSized, IsColumnOf, AreColumnsOf, IsNumberAt, IsLeftIn, StandsIn}
 use Rattle.fz_table.specs.Rows.{IsRowAt, IsLeftAt, AreLeft, Stands}
 use Rattle.fz_table.proofs.Slices.{part_get, part_inside, part_length}
@@ -52,13 +52,13 @@ row_left xs table ds i some within =
 
 -- Each of these rows has, at each place before k, a number that is left, and each row that has only such numbers is one of them.
 pub record AreLeftBelow (xs : List Term) (table : List ℤ) (ds : List (List (ℤ × ℤ))) (rows : List ℕ) (k : ℕ) : Type 0 where
-  pub below : (i : ℕ) → HasRow rows i → i < length table / length xs
-  pub each : (i j : ℕ) (t : Term) → HasRow rows i → j < k → slice_get xs j ≡ Some t → (n : ℤ) × IsNumberAt table (length xs) j i n × IsInSet (term_set ds t) n
+  pub below : (i : ℕ) → HasMember rows i → i < length table / length xs
+  pub each : (i j : ℕ) (t : Term) → HasMember rows i → j < k → slice_get xs j ≡ Some t → (n : ℤ) × IsNumberAt table (length xs) j i n × IsInSet (term_set ds t) n
   pub all : (i : ℕ) → i < length table / length xs
-      → ((j : ℕ) (t : Term) (n : ℤ) → j < k → slice_get xs j ≡ Some t → slice_get table (i * length xs + j) ≡ Some n → IsInSet (term_set ds t) n) → HasRow rows i
+      → ((j : ℕ) (t : Term) (n : ℤ) → j < k → slice_get xs j ≡ Some t → slice_get table (i * length xs + j) ≡ Some n → IsInSet (term_set ds t) n) → HasMember rows i
   pub long : length rows ≡ words_for (length table / length xs)
 
-pub left_none : (xs : List Term) (table : List ℤ) (ds : List (List (ℤ × ℤ))) (rows : List ℕ) → ((i : ℕ) → HasRow rows i ↔ (i < length table / length xs))
+pub left_none : (xs : List Term) (table : List ℤ) (ds : List (List (ℤ × ℤ))) (rows : List ℕ) → ((i : ℕ) → HasMember rows i ↔ (i < length table / length xs))
     → length rows ≡ words_for (length table / length xs) → AreLeftBelow xs table ds rows 0
 left_none xs table ds rows every long = record {
   below = λ i has. (every i).0 has;
@@ -77,7 +77,7 @@ row_number table width k i column inside below is =
     (n, there, (is.rows n i).1 (below, there))
 
 pub left_each : (xs : List Term) (table : List ℤ) (ds : List (List (ℤ × ℤ))) (rows : List ℕ) (k : ℕ) (column : List Support) → k < length xs → IsColumnOf table (length xs) k column
-    → AreLeftBelow xs table ds rows k → (i : ℕ) → HasRow rows i → (n : ℤ) × HasNumber column n i
+    → AreLeftBelow xs table ds rows k → (i : ℕ) → HasMember rows i → (n : ℤ) × HasNumber column n i
 left_each xs table ds rows k column inside is h = λ i has. let w = row_number table (length xs) k i column inside (h.below i has) is in (w.0, w.2)
 
 pub left_sized : (xs : List Term) (table : List ℤ) (ds : List (List (ℤ × ℤ))) (rows : List ℕ) (k : ℕ) (column : List Support) → IsColumnOf table (length xs) k column
@@ -85,7 +85,7 @@ pub left_sized : (xs : List Term) (table : List ℤ) (ds : List (List (ℤ × �
 left_sized xs table ds rows k column is h = λ s in_column. subst (λ (size : ℕ). s.rows.word < size) (sym h.long) (is.sized s in_column)
 
 pub left_more : (xs : List Term) (table : List ℤ) (ds : List (List (ℤ × ℤ))) (rows new : List ℕ) (k : ℕ) (t : Term) (column : List Support) → slice_get xs k ≡ Some t
-    → IsColumnOf table (length xs) k column → ((i : ℕ) → HasRow new i ↔ (HasRow rows i × IsLeftIn column (term_set ds t) i)) → length new ≡ length rows
+    → IsColumnOf table (length xs) k column → ((i : ℕ) → HasMember new i ↔ (HasMember rows i × IsLeftIn column (term_set ds t) i)) → length new ≡ length rows
     → AreLeftBelow xs table ds rows k → AreLeftBelow xs table ds new (k + 1)
 left_more xs table ds rows new k t column at is keeps same h = record {
   below = λ i has. h.below i ((keeps i).0 has).0;
@@ -144,7 +144,7 @@ values_within xs ds a terms within = record {
 
 pub value_row : (xs : List Term) (table : List ℤ) (ds : List (List (ℤ × ℤ))) (rows : List ℕ) (a : List ℤ) → AllByRecursion (IsTermOf (length ds)) xs
     → AreLeft xs table ds rows → IsRowAt xs table a → Within ds a
-    → (i : ℕ) × HasRow rows i × (slice_range table (i * length xs) (i * length xs + length xs) ≡ term_values a xs)
+    → (i : ℕ) × HasMember rows i × (slice_range table (i * length xs) (i * length xs + length xs) ≡ term_values a xs)
 value_row xs table ds rows a terms are holds within =
     let size : length (term_values a xs) ≡ length xs = length-map xs (term_value a) in
     let i = holds.1.0 in
@@ -165,7 +165,7 @@ value_stands xs table ds rows a j t terms are at_t holds within =
 
 -- no assignment makes it true where no row is left
 pub none_left : (xs : List Term) (table : List ℤ) (ds : List (List (ℤ × ℤ))) (rows : List ℕ) (a : List ℤ) → AllByRecursion (IsTermOf (length ds)) xs
-    → AreLeft xs table ds rows → ((i : ℕ) → HasRow rows i → ⊥) → Within ds a → IsRowAt xs table a → ⊥
+    → AreLeft xs table ds rows → ((i : ℕ) → HasMember rows i → ⊥) → Within ds a → IsRowAt xs table a → ⊥
 none_left xs table ds rows a terms are none within holds = let v = value_row xs table ds rows a terms are holds within in none v.0 v.1
 
 pub none_empty : (xs : List Term) (table : List ℤ) (a : List ℤ) → length xs ≡ 0 → IsRowAt xs table a → ⊥

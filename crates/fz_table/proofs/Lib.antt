@@ -1,4 +1,3 @@
-pub mod RowSets
 pub mod Growing
 pub mod Slices
 pub mod Filling
@@ -7,4 +6,3 @@ pub mod Walking
 pub mod Finding
 pub mod LeftRows
 pub mod Keeping
-pub mod Names

@@ -8,7 +8,7 @@ use Rattle.std.proofs.lemmas.Option.{slice_get_within, get_or_from_slice_get}
 use Rattle.fz_sets.specs.Sets.{IsInSet, IsInRange, AreRanges}
 use Rattle.fz_dom.proofs.Ranges.{AreRanges-tail, lower_bound, above_gap}
 use Rattle.fz_table.specs.declared.supports.Support.{Support}
-use Rattle.fz_table.specs.RowSets.{HasRow, IsOneOf}
+use Rattle.fz_bits.specs.Members.{HasMember, IsOneOf}
 use Rattle.fz_table.specs.Supports.{AreInOrder, StandsIn, IsLeftIn, AreEnds, IsFirst, IsEnd, HasOneBetween, StandsBetween}
 use Rattle.fz_table.proofs.Slices.{get_more, get_append_left}
 
@@ -211,7 +211,7 @@ end_last column place value end last h = record {
 
 -- the rows of the supports from a place up to this one
 abbrev pub AreJoinedTo : List Support → ℕ → List ℕ → List ℕ → ℕ → Type 0
-AreJoinedTo column place old rows end = (i : ℕ) → HasRow rows i ↔ (HasRow old i ⊎ HasOneBetween column place end i)
+AreJoinedTo column place old rows end = (i : ℕ) → HasMember rows i ↔ (HasMember old i ⊎ HasOneBetween column place end i)
 
 pub joined_start : (column : List Support) (place : ℕ) (old : List ℕ) → AreJoinedTo column place old old place
 joined_start column place old = λ i. (
@@ -220,7 +220,7 @@ joined_start column place old = λ i. (
 )
 
 pub joined_next : (column : List Support) (place : ℕ) (old rows new : List ℕ) (end : ℕ) (x : Support) → place ≤ end → slice_get column end ≡ Some x
-    → ((i : ℕ) → HasRow new i ↔ (HasRow rows i ⊎ IsOneOf x.rows i)) → AreJoinedTo column place old rows end → AreJoinedTo column place old new (end + 1)
+    → ((i : ℕ) → HasMember new i ↔ (HasMember rows i ⊎ IsOneOf x.rows i)) → AreJoinedTo column place old rows end → AreJoinedTo column place old new (end + 1)
 joined_next column place old rows new end x from at more h = λ i. (
   (λ has. elim ((more i).0 has) [
     | inl before ↦ elim ((h i).0 before) [ inl had ↦ inl had | inr w ↦ let under = w.3 in inr (w.0, w.1, w.2, omega (arith, under), w.4, w.5) ]
@@ -252,7 +252,7 @@ added_start column rows place old = λ n. (
 
 -- a support that has none of the rows is passed
 pub added_passed : (column : List Support) (rows : List ℕ) (place : ℕ) (old numbers : List (ℤ × ℤ)) (end : ℕ) (x : Support) → slice_get column end ≡ Some x
-    → (((i : ℕ) × HasRow rows i × IsOneOf x.rows i) → ⊥) → AreAddedTo column rows place old numbers end → AreAddedTo column rows place old numbers (end + 1)
+    → (((i : ℕ) × HasMember rows i × IsOneOf x.rows i) → ⊥) → AreAddedTo column rows place old numbers end → AreAddedTo column rows place old numbers (end + 1)
 added_passed column rows place old numbers end x at none h = λ n. (
   (λ has. elim ((h n).0 has) [ inl had ↦ inl had | inr w ↦ let under = w.3 in inr (w.0, w.1, w.2, omega (arith, under), w.4, w.5, w.6, w.7, w.8) ]),
   (λ g. elim g [
@@ -269,7 +269,7 @@ added_passed column rows place old numbers end x at none h = λ n. (
 
 -- the number of one that has some is added, and the others of that number are passed
 pub added_number : (column : List Support) (rows : List ℕ) (place : ℕ) (old numbers more : List (ℤ × ℤ)) (end new : ℕ) (x : Support) → place ≤ end → end < new → slice_get column end ≡ Some x
-    → ((i : ℕ) × HasRow rows i × IsOneOf x.rows i) → ((n : ℤ) → IsInSet more n ↔ (IsInSet numbers n ⊎ (n ≡ x.number)))
+    → ((i : ℕ) × HasMember rows i × IsOneOf x.rows i) → ((n : ℤ) → IsInSet more n ↔ (IsInSet numbers n ⊎ (n ≡ x.number)))
     → ((j : ℕ) (t : Support) → slice_get column j ≡ Some t → end ≤ j → j < new → t.number ≡ x.number)
     → AreAddedTo column rows place old numbers end → AreAddedTo column rows place old more new
 added_number column rows place old numbers more end new x from further at some is same h = λ n. (
@@ -374,8 +374,8 @@ range_joined column place first end ranges tail r is from to h i = (
 )
 
 -- rows that are put into a set are those of the range
-pub joined_range : (column : List Support) (old new : List ℕ) (r : ℤ × ℤ) (first end : ℕ) → ((i : ℕ) → HasRow new i ↔ (HasRow old i ⊎ HasOneBetween column first end i))
-    → ((i : ℕ) → HasOneBetween column first end i ↔ IsLeftIn column (r ∷ []) i) → (i : ℕ) → HasRow new i ↔ (HasRow old i ⊎ IsLeftIn column (r ∷ []) i)
+pub joined_range : (column : List Support) (old new : List ℕ) (r : ℤ × ℤ) (first end : ℕ) → ((i : ℕ) → HasMember new i ↔ (HasMember old i ⊎ HasOneBetween column first end i))
+    → ((i : ℕ) → HasOneBetween column first end i ↔ IsLeftIn column (r ∷ []) i) → (i : ℕ) → HasMember new i ↔ (HasMember old i ⊎ IsLeftIn column (r ∷ []) i)
 joined_range column old new r first end more same i = (
   (λ has. elim ((more i).0 has) [ inl had ↦ inl had | inr w ↦ inr ((same i).0 w) ]),
   (λ g. elim g [ inl had ↦ (more i).1 (inl had) | inr w ↦ (more i).1 (inr ((same i).1 w)) ]),

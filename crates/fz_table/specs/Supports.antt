@@ -2,7 +2,7 @@
 use Rattle.std.specs.Prelude.{◌≡◌, ◌↔◌, ◌⊎◌, ℕ, ◌<◌, ◌≤◌, ◌+◌, ◌*◌, ◌/◌, ℤ, ◌≤ℤ◌, ◌<ℤ◌, List, length, slice_get, Some}
 use Rattle.fz_sets.specs.Sets.{IsInSet}
 use Rattle.fz_table.specs.declared.supports.Support.{Support}
-use Rattle.fz_table.specs.RowSets.{HasRow, IsOneOf, words_for}
+use Rattle.fz_bits.specs.Members.{HasMember, IsOneOf, words_for}
 
 -- a support is in a column
 abbrev pub IsIn : Support → List Support → Type 0
@@ -18,7 +18,7 @@ AreSized column size = (s : Support) → IsIn s column → s.rows.word < size
 
 -- a row of the set has a number in a column
 abbrev pub StandsIn : List Support → List ℕ → ℤ → Type 0
-StandsIn column rows n = (i : ℕ) × HasNumber column n i × HasRow rows i
+StandsIn column rows n = (i : ℕ) × HasNumber column n i × HasMember rows i
 
 -- a row has a number in a column that is left
 abbrev pub IsLeftIn : List Support → List (ℤ × ℤ) → ℕ → Type 0
@@ -90,7 +90,7 @@ HasOneBetween column p q i = (k : ℕ) × (s : Support) × (p ≤ k) × (k < q) 
 
 -- a row of the set has a number in a support from a place up to another
 abbrev pub StandsBetween : List Support → List ℕ → ℕ → ℕ → ℤ → Type 0
-StandsBetween column rows p q n = (k : ℕ) × (s : Support) × (p ≤ k) × (k < q) × (slice_get column k ≡ Some s) × (s.number ≡ n) × (i : ℕ) × HasRow rows i × IsOneOf s.rows i
+StandsBetween column rows p q n = (k : ℕ) × (s : Support) × (p ≤ k) × (k < q) × (slice_get column k ≡ Some s) × (s.number ≡ n) × (i : ℕ) × HasMember rows i × IsOneOf s.rows i
 
 -- what a column keeps: its numbers don't fall, where each of them ends, and its numbers are in its ranges
 pub record IsKept (column : List Support) (ends : List ℕ) (spans : List (ℤ × ℤ)) : Type 0 where

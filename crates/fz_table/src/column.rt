@@ -1,15 +1,15 @@
 //! Columns of a table: the rows whose number is left, and the numbers of some rows.
-ghost use Rattle.std.specs.Prelude.{◌≡◌, ◌↔◌, ◌⊎◌, ℕ, ℤ, [], ◌∷◌, length, IfOk, OnOk};
+ghost use Rattle.std.specs.Prelude.{◌≡◌, ◌↔◌, ◌⊎◌, ℕ, ℤ, length, IfOk};
 ghost use Rattle.fz_sets.specs.Sets.{IsInSet, single};
 ghost use Rattle.fz_strength.specs.Domains.{term_set};
 ghost use Rattle.fz_prop.specs.Stores.{IsTermOf};
-ghost use Rattle.fz_table.specs.RowSets.{HasRow};
+ghost use Rattle.fz_bits.specs.Members.{HasMember};
 ghost use Rattle.fz_table.specs.Supports.{IsIn, AreInOrder, HasNumber, AreSized, StandsIn, IsLeftIn};
 
-use crate::row_set::RowSet;
 use crate::spans::Spans;
 use crate::supports::Support;
 use crate::walk::{add_numbers, ends_of, first_from, join_to};
+use fz_bits::BitSet;
 use fz_dom::Dom;
 use fz_prop::Store;
 use fz_spec::term::Term;
@@ -58,13 +58,13 @@ impl Column {
     }
 
     /// Keeps the rows of a set whose number is left of a term. What the other set has is lost.
-    pub fn keep_left(&self, store: &Store, term: Term, rows: &mut RowSet, found: &mut RowSet)
+    pub fn keep_left(&self, store: &Store, term: Term, rows: &mut BitSet, found: &mut BitSet)
         requires term { IsTermOf (length store.now.doms) term }
         requires sized { AreSized self.now (length rows.old) }
         requires found { length found.old ≡ length rows.old }
-        requires each { (i : ℕ) → HasRow rows.old i → (n : ℤ) × HasNumber self.now n i }
-        ensures rows { (i : ℕ) → HasRow rows.new i
-            ↔ (HasRow rows.old i × IsLeftIn self.now (term_set store.now.doms term) i) }
+        requires each { (i : ℕ) → HasMember rows.old i → (n : ℤ) × HasNumber self.now n i }
+        ensures rows { (i : ℕ) → HasMember rows.new i
+            ↔ (HasMember rows.old i × IsLeftIn self.now (term_set store.now.doms term) i) }
         ensures size { length rows.new ≡ length rows.old }
         ensures found { length found.new ≡ length found.old }
     {
@@ -76,10 +76,10 @@ impl Column {
     }
 
     /// Finds the rows whose number is left of a term.
-    fn find(&self, store: &Store, term: Term, found: &mut RowSet)
+    fn find(&self, store: &Store, term: Term, found: &mut BitSet)
         requires term { IsTermOf (length store.now.doms) term }
         requires sized { AreSized self.now (length found.old) }
-        ensures found { (i : ℕ) → HasRow found.new i
+        ensures found { (i : ℕ) → HasMember found.new i
             ↔ IsLeftIn self.now (term_set store.now.doms term) i }
         ensures size { length found.new ≡ length found.old }
     {
@@ -91,10 +91,10 @@ impl Column {
     }
 
     /// Puts the rows that have a number of a domain into a set.
-    fn join_in(&self, dom: &Dom, rows: &mut RowSet)
+    fn join_in(&self, dom: &Dom, rows: &mut BitSet)
         requires { AreSized self.now (length rows.old) }
-        ensures rows { (i : ℕ) → HasRow rows.new i
-            ↔ (HasRow rows.old i ⊎ IsLeftIn self.now dom.now i) }
+        ensures rows { (i : ℕ) → HasMember rows.new i
+            ↔ (HasMember rows.old i ⊎ IsLeftIn self.now dom.now i) }
         ensures size { length rows.new ≡ length rows.old }
     {
         let mut place = 0;
@@ -105,10 +105,10 @@ impl Column {
     }
 
     /// Puts the rows that have a number into a set.
-    fn join_one(&self, number: i32, rows: &mut RowSet)
+    fn join_one(&self, number: i32, rows: &mut BitSet)
         requires { AreSized self.now (length rows.old) }
-        ensures rows { (i : ℕ) → HasRow rows.new i
-            ↔ (HasRow rows.old i ⊎ IsLeftIn self.now (single number) i) }
+        ensures rows { (i : ℕ) → HasMember rows.new i
+            ↔ (HasMember rows.old i ⊎ IsLeftIn self.now (single number) i) }
         ensures size { length rows.new ≡ length rows.old }
     {
         let first = first_from(&self.supports, &self.ends, 0, number);
@@ -119,7 +119,7 @@ impl Column {
     ///
     /// # Errors
     /// `AllocError` where there is no memory.
-    pub fn numbers_in(&self, alloc: Global, dom: &Dom, rows: &RowSet) -> Result<Spans, AllocError>
+    pub fn numbers_in(&self, alloc: Global, dom: &Dom, rows: &BitSet) -> Result<Spans, AllocError>
         requires { AreSized self.now (length rows.now) }
         ensures { IfOk result (λ s. (n : ℤ) → IsInSet s n
             ↔ (IsInSet dom.now n × StandsIn self.now rows.now n)) }

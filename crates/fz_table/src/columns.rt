@@ -1,5 +1,5 @@
 //! The columns of a table.
-ghost use Rattle.std.specs.Prelude.{◌≡◌, ◌<◌, ◌/◌, ◌↔◌, ℕ, ℤ, length, IfOk};
+ghost use Rattle.std.specs.Prelude.{◌<◌, ◌/◌, ◌↔◌, ℕ, ℤ, IfOk};
 ghost use Rattle.fz_table.specs.Supports.{IsRising, IsPlaced, IsNumberAt, IsColumnOf, AreColumnsOf};
 
 use crate::column::Column;

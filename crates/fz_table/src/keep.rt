@@ -1,17 +1,16 @@
 //! Keeping each term to the numbers that stand at its place of the rows that are left.
 ghost use Rattle.std.specs.Prelude.{◌≡◌, ◌<◌, ◌/◌, ℕ, length, IfOk, OnErr};
 ghost use Rattle.std.specs.List.{AllByRecursion};
-ghost use Rattle.fz_strength.specs.Events.{AllFixed};
 ghost use Rattle.fz_strength.specs.Tables.{AreSupported};
-ghost use Rattle.fz_prop.specs.Answers.{IsAnswerOf, IsCorrectOf, IsDecided};
+ghost use Rattle.fz_prop.specs.Answers.{IsAnswerOf, IsCorrectOf};
 ghost use Rattle.fz_prop.specs.Stores.{Shrinks, IsTermOf, IsChangeAt};
-ghost use Rattle.fz_table.specs.RowSets.{HasRow, words_for};
+ghost use Rattle.fz_bits.specs.Members.{HasMember, words_for};
 ghost use Rattle.fz_table.specs.Supports.{AreSized, StandsIn, AreColumnsOf};
 ghost use Rattle.fz_table.specs.Rows.{IsRowAt, AreLeft};
 
 use crate::column::Column;
-use crate::row_set::RowSet;
 use crate::rows::rows_left;
+use fz_bits::BitSet;
 use fz_dom::Dom;
 use fz_prop::terms::are_fixed;
 use fz_prop::{Answer, Change, Store};
@@ -34,7 +33,6 @@ pub fn keep_rows(
     ensures answer { IfOk result
         (λ r. IsAnswerOf r (IsRowAt terms.now table.now) (AreSupported terms.now table.now)
         store.old.doms store.new.doms) }
-    ensures checking { IfOk result (λ r. AllFixed store.old.doms terms.now → IsDecided r) }
 {
     if terms.is_empty() {
         return Ok(Answer::Failed);
@@ -56,13 +54,13 @@ fn keep_columns(
     terms: &[Term],
     table: &[i32],
     columns: &[Column],
-    rows: &RowSet,
+    rows: &BitSet,
 ) -> Result<Answer, AllocError>
     requires terms { AllByRecursion (IsTermOf (length store.old.doms)) terms.now }
     requires columns { AreColumnsOf table.now (length terms.now) columns.now }
     requires rows { AreLeft terms.now table.now store.old.doms rows.now }
     requires size { length rows.now ≡ words_for (length table.now / length terms.now) }
-    requires some { (i : ℕ) × HasRow rows.now i }
+    requires some { (i : ℕ) × HasMember rows.now i }
     ensures shrinks { Shrinks store.old store.new }
     ensures correct { IsCorrectOf (IsRowAt terms.now table.now) store.old.doms store.new.doms }
     ensures answer { IfOk result
@@ -98,7 +96,7 @@ fn keep_column(
     store: &mut Store,
     variable: u32,
     column: &Column,
-    rows: &RowSet,
+    rows: &BitSet,
 ) -> Result<Change, AllocError>
     requires variable { variable < length store.old.doms }
     requires sized { AreSized column.now (length rows.now) }

@@ -4,7 +4,6 @@
 mod column;
 mod columns;
 mod keep;
-mod row_set;
 mod rows;
 mod spans;
 mod supports;
@@ -12,6 +11,3 @@ pub mod table;
 mod walk;
 
 pub use table::Table;
-
-#[cfg(test)]
-mod tests;

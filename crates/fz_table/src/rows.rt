@@ -2,12 +2,12 @@
 ghost use Rattle.std.specs.Prelude.{◌≡◌, ◌/◌, ◌<◌, length, IfOk};
 ghost use Rattle.std.specs.List.{AllByRecursion};
 ghost use Rattle.fz_prop.specs.Stores.{IsTermOf};
-ghost use Rattle.fz_table.specs.RowSets.{words_for};
+ghost use Rattle.fz_bits.specs.Members.{words_for};
 ghost use Rattle.fz_table.specs.Supports.{AreColumnsOf};
 ghost use Rattle.fz_table.specs.Rows.{AreLeft};
 
 use crate::column::Column;
-use crate::row_set::RowSet;
+use fz_bits::BitSet;
 use fz_prop::Store;
 use fz_spec::term::Term;
 use std::alloc::{AllocError, Global};
@@ -22,7 +22,7 @@ pub fn rows_left(
     terms: &[Term],
     table: &[i32],
     columns: &[Column],
-) -> Result<RowSet, AllocError>
+) -> Result<BitSet, AllocError>
     requires terms { AllByRecursion (IsTermOf (length store.now.doms)) terms.now }
     requires some { 0 < length terms.now }
     requires columns { AreColumnsOf table.now (length terms.now) columns.now }
@@ -31,8 +31,8 @@ pub fn rows_left(
         (λ s. length s ≡ words_for (length table.now / length terms.now)) }
 {
     let count = table.len() / terms.len();
-    let mut left = RowSet::all(alloc, count)?;
-    let mut found = RowSet::none(alloc, count)?;
+    let mut left = BitSet::all(alloc, count)?;
+    let mut found = BitSet::none(alloc, count)?;
     for (place, column) in columns.iter().enumerate() {
         column.keep_left(store, terms[place], &mut left, &mut found);
     }

@@ -1,17 +1,17 @@
 //! Numbers with the rows that have them in a column of a table.
 ghost use Rattle.std.specs.Prelude.{◌≡◌, ◌≤◌, ◌≤ℤ◌, ◌<ℤ◌, ◌/◌, ◌↔◌, ◌⊎◌, ℕ, ℤ, length, IfOk, OnOk, IsTrue};
 ghost use Rattle.std.specs.List.{AllWithin};
-ghost use Rattle.fz_table.specs.RowSets.{IsOneOf};
+ghost use Rattle.fz_bits.specs.Members.{IsOneOf};
 ghost use Rattle.fz_table.specs.Supports.{IsIn, AreInOrder, IsRising, HasNumber, IsPlaced, IsAdded};
 
-use crate::row_set::Rows;
+use fz_bits::Chunk;
 use std::alloc::{AllocError, Global};
 
 /// A number and some rows that have it.
 #[derive(Clone, Copy, Drop)]
 pub struct Support {
     pub number: i32,
-    pub rows: Rows,
+    pub rows: Chunk,
 }
 
 impl Support {
@@ -23,7 +23,7 @@ impl Support {
     {
         Support {
             number,
-            rows: Rows::one(row),
+            rows: Chunk::one(row),
         }
     }
 

@@ -1,12 +1,12 @@
 //! Going over the supports of a column, from a place on and up to a number.
 ghost use Rattle.std.specs.Prelude.{◌≡◌, ◌≤◌, ◌↔◌, ◌⊎◌, ℕ, ℤ, length, IfOk};
 ghost use Rattle.fz_sets.specs.Sets.{IsInSet};
-ghost use Rattle.fz_table.specs.RowSets.{HasRow};
+ghost use Rattle.fz_bits.specs.Members.{HasMember};
 ghost use Rattle.fz_table.specs.Supports.{AreInOrder, AreSized, AreEnds, IsFirst, IsEnd, HasOneBetween, StandsBetween};
 
-use crate::row_set::RowSet;
 use crate::spans::Spans;
 use crate::supports::{Support, count_below, count_to};
+use fz_bits::BitSet;
 use std::alloc::{AllocError, Global};
 
 /// How many numbers are looked at one after the other before one is found by halves.
@@ -52,13 +52,13 @@ pub fn first_from(supports: &[Support], ends: &[usize], place: usize, value: i32
 }
 
 /// Puts the rows of the supports from a place up to a number into a set, and gives the place behind them.
-pub fn join_to(supports: &[Support], place: usize, high: i32, rows: &mut RowSet) -> usize
+pub fn join_to(supports: &[Support], place: usize, high: i32, rows: &mut BitSet) -> usize
     requires order { AreInOrder supports.now }
     requires sized { AreSized supports.now (length rows.old) }
     requires place { place ≤ length supports.now }
     ensures end { IsEnd supports.now place high result }
-    ensures rows { (i : ℕ) → HasRow rows.new i
-        ↔ (HasRow rows.old i ⊎ HasOneBetween supports.now place result i) }
+    ensures rows { (i : ℕ) → HasMember rows.new i
+        ↔ (HasMember rows.old i ⊎ HasOneBetween supports.now place result i) }
     ensures size { length rows.new ≡ length rows.old }
 {
     for end in place..supports.len() {
@@ -79,7 +79,7 @@ pub fn add_numbers(
     ends: &[usize],
     place: usize,
     high: i32,
-    rows: &RowSet,
+    rows: &BitSet,
     numbers: &mut Spans,
 ) -> Result<usize, AllocError>
     requires order { AreInOrder supports.now }

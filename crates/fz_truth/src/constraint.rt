@@ -33,7 +33,7 @@ pub fn is_true(constraint: &Constraint, values: &[i32]) -> bool
     }
 }
 
-/// The same of a term and further arguments.
+/// Whether the numbers make a constraint true, of a term and further arguments.
 fn is_true_of_term(name: Builtin, first: Term, rest: &[Argument], values: &[i32]) -> bool
     ensures { IsTrue result ↔ Holds name (meaning.One first ∷ map argument_of rest.now) values.now }
 {
@@ -54,7 +54,7 @@ fn is_true_of_term(name: Builtin, first: Term, rest: &[Argument], values: &[i32]
     }
 }
 
-/// The same of a term, a list of terms and further arguments.
+/// Whether the numbers make a constraint true, of a term, a list of terms and further arguments.
 fn is_true_of_term_and_terms(
     name: Builtin,
     first: Term,
@@ -75,7 +75,7 @@ fn is_true_of_term_and_terms(
     }
 }
 
-/// The same of a term, a list of numbers and further arguments.
+/// Whether the numbers make a constraint true, of a term, a list of numbers and further arguments.
 fn is_true_of_term_and_numbers(
     name: Builtin,
     first: Term,
@@ -95,7 +95,7 @@ fn is_true_of_term_and_numbers(
     }
 }
 
-/// The same of two terms and further arguments.
+/// Whether the numbers make a constraint true, of two terms and further arguments.
 fn is_true_of_two_terms(
     name: Builtin,
     first: Term,
@@ -131,7 +131,7 @@ fn is_true_of_three_terms(
     is_true_of_three(name, a, b, c)
 }
 
-/// The same of a term, a set and further arguments.
+/// Whether the numbers make a constraint true, of a term, a set and further arguments.
 fn is_true_of_term_and_set(
     name: Builtin,
     first: Term,
@@ -168,7 +168,7 @@ fn is_true_of_set(name: Builtin, x: i32, set: &Dom) -> bool
     }
 }
 
-/// The same of a list of numbers and further arguments.
+/// Whether the numbers make a constraint true, of a list of numbers and further arguments.
 fn is_true_of_numbers(name: Builtin, first: &[i32], rest: &[Argument], values: &[i32]) -> bool
     ensures { IsTrue result
         ↔ Holds name (meaning.Numbers first.now ∷ map argument_of rest.now) values.now }
@@ -181,7 +181,7 @@ fn is_true_of_numbers(name: Builtin, first: &[i32], rest: &[Argument], values: &
     }
 }
 
-/// The same of a list of numbers, a list of terms and further arguments.
+/// Whether the numbers make a constraint true, of a list of numbers, a list of terms and further arguments.
 fn is_true_of_numbers_and_terms(
     name: Builtin,
     coefficients: &[i32],
@@ -201,7 +201,7 @@ fn is_true_of_numbers_and_terms(
     }
 }
 
-/// The same of coefficients, terms, a bound and further arguments.
+/// Whether the numbers make a constraint true, of coefficients, terms, a bound and further arguments.
 fn is_true_of_linear(
     name: Builtin,
     coefficients: &[i32],
@@ -224,7 +224,7 @@ fn is_true_of_linear(
     }
 }
 
-/// The same of a list of terms and further arguments.
+/// Whether the numbers make a constraint true, of a list of terms and further arguments.
 fn is_true_of_terms(name: Builtin, first: &[Term], rest: &[Argument], values: &[i32]) -> bool
     ensures { IsTrue result
         ↔ Holds name (meaning.Terms first.now ∷ map argument_of rest.now) values.now }
@@ -242,7 +242,7 @@ fn is_true_of_terms(name: Builtin, first: &[Term], rest: &[Argument], values: &[
     }
 }
 
-/// The same of a list of terms, a term and further arguments.
+/// Whether the numbers make a constraint true, of a list of terms, a term and further arguments.
 fn is_true_of_list_and_term(
     name: Builtin,
     first: &[Term],
@@ -259,7 +259,7 @@ fn is_true_of_list_and_term(
     }
 }
 
-/// The same of a list of terms, a list of numbers and further arguments.
+/// Whether the numbers make a constraint true, of a list of terms, a list of numbers and further arguments.
 fn is_true_of_list_and_numbers(
     name: Builtin,
     first: &[Term],
@@ -277,7 +277,7 @@ fn is_true_of_list_and_numbers(
     }
 }
 
-/// The same of two lists of terms and further arguments.
+/// Whether the numbers make a constraint true, of two lists of terms and further arguments.
 fn is_true_of_two_lists(
     name: Builtin,
     first: &[Term],
@@ -301,7 +301,7 @@ fn is_true_of_two_lists(
     }
 }
 
-/// The same of three lists of terms and further arguments.
+/// Whether the numbers make a constraint true, of three lists of terms and further arguments.
 fn is_true_of_three_lists(
     name: Builtin,
     first: &[Term],

@@ -12,8 +12,6 @@ mod sums;
 mod table;
 mod tasks;
 mod terms;
-#[cfg(test)]
-mod tests;
 
 pub use constraint::is_true;
 pub use model::holds;

@@ -11,8 +11,7 @@ use Rattle.fz_spec.specs.declared.term.Term.{Term}
 use Rattle.fz_strength.specs.Domains.{term_set}
 use Rattle.fz_strength.specs.VariableElements.{StandsAt}
 use Rattle.fz_prop.specs.Stores.{IsTermOf}
-use Rattle.fz_prop.proofs.Grown.{in_more, in_before, in_last, limits_more}
-use Rattle.fz_element.proofs.Pairing.{same_or_other}
+use Rattle.fz_prop.proofs.Grown.{same_or_other, in_more, in_before, in_last, limits_more}
 use Rattle.fz_varelement.specs.Choosing.{IsChoice, IsChoiceBetween, IsChosenAt, AreChoices, AreAllChosen, IsHull, IsWider}
 use Rattle.fz_varelement.specs.declared.choices.Hull.{Hull}
 

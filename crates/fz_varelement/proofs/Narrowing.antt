@@ -1,10 +1,10 @@
 -- Keeping the indices of the terms that may be chosen, the value within their hull, and the last one within the bounds of the value.
-use Rattle.std.proofs.Common.{◌≡◌, ℕ, zero, suc, List, [], ◌∷◌, refl, sym, ap, subst, ◌∙◌, arith, length, inl, Result, Ok, Err}
+use Rattle.std.proofs.Common.{◌≡◌, ◌<◌, Bool, true, false, ℕ, zero, suc, List, [], ◌∷◌, refl, sym, ap, subst, ◌∙◌, arith, length, Result, Ok, Err}
 use Rattle.std.specs.Prelude.{ℤ, pos, ◌≤ℤ◌, slice_get, Some, OnErr, IfOk}
 use Rattle.std.specs.List.{AllByRecursion}
 use Rattle.std.proofs.lemmas.Int.{ints}
 use Rattle.fz_sets.specs.Sets.{IsInSet}
-use Rattle.fz_sets.proofs.Lists.{all_at, some_is}
+use Rattle.fz_sets.proofs.Lists.{some_is}
 use Rattle.fz_dom.specs.Changes.{IsFromTo}
 use Rattle.fz_dom.specs.Shape.{least, greatest}
 use Rattle.fz_dom.specs.declared.change.Change.{Change}
@@ -13,20 +13,19 @@ use Rattle.fz_dom.proofs.Ranges.{least_member, greatest_member}
 use Rattle.fz_spec.specs.declared.term.Term.{Term}
 use Rattle.fz_spec.specs.Constraints.{term_value, term_values}
 use Rattle.fz_spec.specs.Truth.{IsElement}
-use Rattle.fz_strength.specs.Domains.{term_set, AreDomains, Within}
-use Rattle.fz_strength.specs.Events.{IsOnly, IsFixedIn, AllFixed}
+use Rattle.fz_strength.specs.Domains.{term_set, AreDomains, Within, room}
+use Rattle.fz_strength.specs.Events.{IsOnly, AllFixed}
 use Rattle.fz_strength.specs.VariableElements.{StandsAt, IsVariableElementLine}
 use Rattle.fz_strength.proofs.Terms.{in_single}
 use Rattle.fz_strength.proofs.VariableElements.{element_value}
-use Rattle.fz_prop.specs.declared.answer.Answer.{Answer}
-use Rattle.fz_prop.specs.declared.answer.Answer.TheVariants.{Fix, NoFix, Subsumed, Failed}
-use Rattle.fz_prop.specs.Answers.{IsAnswerOf, IsCorrectOf, IsDecided}
+use Rattle.fz_prop.specs.Answers.{IsAnswerOf, IsCorrectOf}
+use Rattle.fz_prop.specs.Outcomes.{rested_by}
 use Rattle.fz_prop.specs.Stores.{Stored, Shrinks, IsTermOf, FitsTerm, IsTermChange}
 use Rattle.fz_prop.proofs.Grown.{term_limits}
 use Rattle.fz_prop.proofs.Twice.{room_after}
 use Rattle.fz_prop.proofs.Filled.{term_ranges, one_left, still_only}
-use Rattle.fz_prop.proofs.TermChanges.{term_within, only_in, within_kept, kept_term, none_kept, falls_of, same_store, fixed_stays}
-use Rattle.fz_varelement.specs.Choosing.{IsChosen, IsChoice, IsChosenAt, AreAllChosen, IsHull, IsLess, IsNeverChosen, IsLastWithin, IsLastKept, IsNarrowed, IsRested}
+use Rattle.fz_prop.proofs.TermChanges.{term_within, only_in, within_kept, kept_term, none_kept, falls_of, same_store}
+use Rattle.fz_varelement.specs.Choosing.{IsChosen, IsChoice, IsChosenAt, AreAllChosen, IsHull, IsNeverChosen, IsLastWithin, IsLastKept, IsNarrowed}
 use Rattle.fz_varelement.proofs.Choosing.{stands_from, stands_to, stands_only, stands_term}
 
 -- the terms are of a store with so many variables
@@ -117,20 +116,16 @@ pub step_correct_of : {E : Type 0} (o : Result Change E) (t : Term) (P : ℤ →
 step_correct_of {E} (Ok change) t P T r s needs err h shrinks = step_correct change t P T r s needs h shrinks
 step_correct_of {E} (Err error) t P T r s needs err h shrinks = λ a holds within. subst (λ (u : Stored). Within u.doms a) (sym err) within
 
-less_of : (t : Term) (P : ℤ → Type 0) (xs : List Term) (k c : Term) (r s : Stored) → (AllFixed r.doms (k ∷ c ∷ xs) → IsFixedIn r.doms t) → IsTermChange Changed t P r s → IsLess xs k c r s
-less_of t P xs k c r s one h = (falls_of t P r s h, λ fixed. (let f = one fixed in fixed_stays t P r s f.0 f.1 h))
-
 pub never_of : (t : Term) (P : ℤ → Type 0) (xs : List Term) (k c : Term) (r s : Stored) → IsTermOf (length r.doms) t → ((a : List ℤ) → Within r.doms a → IsChosen xs k c a → P (term_value a t))
     → IsTermChange Wiped t P r s → IsNeverChosen xs k c r.doms
 never_of t P xs k c r s is needs h = λ a within holds. none_kept t P r s h (term_value a t) (term_within r.doms a t is within) (needs a within holds)
 
 -- a change that isn't none
 pub narrowed_by : (change : Change) (t : Term) (P : ℤ → Type 0) (xs : List Term) (k c : Term) (r s : Stored) → (change ≡ Same → ⊥) → IsTermOf (length r.doms) t
-    → (AllFixed r.doms (k ∷ c ∷ xs) → IsFixedIn r.doms t) → ((a : List ℤ) → Within r.doms a → IsChosen xs k c a → P (term_value a t)) → IsTermChange change t P r s
-    → IsNarrowed change xs k c r s
-narrowed_by Same t P xs k c r s not is one needs h = absurd (not refl)
-narrowed_by Changed t P xs k c r s not is one needs h = less_of t P xs k c r s one h
-narrowed_by Wiped t P xs k c r s not is one needs h = never_of t P xs k c r s is needs h
+    → ((a : List ℤ) → Within r.doms a → IsChosen xs k c a → P (term_value a t)) → IsTermChange change t P r s → IsNarrowed change xs k c r s
+narrowed_by Same t P xs k c r s not is needs h = absurd (not refl)
+narrowed_by Changed t P xs k c r s not is needs h = falls_of t P r s h
+narrowed_by Wiped t P xs k c r s not is needs h = never_of t P xs k c r s is needs h
 
 -- two changes, of the index and of the value
 pub correct_both : (first second : Change) (k c : Term) (P Q : ℤ → Type 0) (T : List ℤ → Type 0) (r s t : Stored) → ((a : List ℤ) → Within r.doms a → T a → P (term_value a k))
@@ -144,11 +139,11 @@ never_both first k c P Q xs r s t is index value h shrinks g = λ a within holds
     let is_c : IsTermOf (length s.doms) c = subst (λ (n : ℕ). IsTermOf n c) (sym shrinks.narrower.size) is in
     none_kept c Q s t g (term_value a c) (term_within s.doms a c is_c (within_kept first k P r s a h shrinks within (index a within holds))) (value a within holds)
 
-pub less_both : (k c : Term) (P : ℤ → Type 0) (xs : List Term) (r s t : Stored) → IsTermChange Changed k P r s → Shrinks s t → IsLess xs k c r t
-less_both k c P xs r s t h narrows =
+pub less_both : (k : Term) (P : ℤ → Type 0) (r s t : Stored) → IsTermChange Changed k P r s → Shrinks s t → room t.doms < room r.doms
+less_both k P r s t h narrows =
     let falls = falls_of k P r s h in
     let after = room_after s t narrows in
-    (omega (arith, falls, after), λ fixed. fixed_stays k P r s fixed.0.0 fixed.0.1 h)
+    omega (arith, falls, after)
 
 -- all that is left of a term that doesn't change has the property
 pub all_kept : (t : Term) (P : ℤ → Type 0) (r s : Stored) → IsTermChange Same t P r s → (x : ℤ) → IsInSet (term_set r.doms t) x → P x
@@ -167,9 +162,6 @@ none_stands xs k c r i only none = (
       absurd (none x (subst (λ (m : ℤ). StandsAt m xs x) here stands))),
 )
 
-pub last_fixed : (xs : List Term) (k c : Term) (ds : List (List (ℤ × ℤ))) (i : ℤ) (x : Term) → StandsAt i xs x → AllFixed ds (k ∷ c ∷ xs) → IsFixedIn ds x
-last_fixed xs k c ds i x stands fixed = all_at (IsFixedIn ds) xs stands.0 x fixed.1.1 stands.2
-
 pub last_kept : (change : Change) (xs : List Term) (k c : Term) (i : ℤ) (x : Term) (r s : Stored) → AreTermsOf (length r.doms) xs k c → AreDomains r.doms → IsOnly (term_set r.doms k) i
     → StandsAt i xs x → IsTermChange change x (λ v. IsFromTo (least (term_set r.doms c)) (greatest (term_set r.doms c)) v) r s → IsLastKept change xs k c r s
 last_kept Same xs k c i x r s of domains only stands h =
@@ -184,7 +176,7 @@ last_kept Same xs k c i x r s of domains only stands h =
           subst (λ (t : Term). (least (term_set r.doms c) ≤ℤ least (term_set r.doms t)) × (greatest (term_set r.doms t) ≤ℤ greatest (term_set r.doms c))) same (low.0, high.1)),
     )
 last_kept Changed xs k c i x r s of domains only stands h =
-    less_of x (λ v. IsFromTo (least (term_set r.doms c)) (greatest (term_set r.doms c)) v) xs k c r s (last_fixed xs k c r.doms i x stands) h
+    falls_of x (λ v. IsFromTo (least (term_set r.doms c)) (greatest (term_set r.doms c)) v) r s h
 last_kept Wiped xs k c i x r s of domains only stands h =
     never_of x (λ v. IsFromTo (least (term_set r.doms c)) (greatest (term_set r.doms c)) v) xs k c r s (stands_term (length r.doms) i xs x of.terms stands)
     (needs_last xs k c r.doms i x of domains only stands) h
@@ -272,22 +264,16 @@ line_of_fixed xs k c ds i n x at_k at_c stands at_x =
           subst (λ (t : Term). (least (term_set ds t) ≡ least (term_set ds c)) × (greatest (term_set ds t) ≡ greatest (term_set ds c))) same (low, high);
     }
 
-pub rested_answer : (answer : Answer) (xs : List Term) (k c : Term) (ds es : List (List (ℤ × ℤ))) → AreTermsOf (length es) xs k c → AreDomains es → IsVariableElementLine xs k c es
-    → IsRested answer es k c → IsAnswerOf answer (IsChosen xs k c) (IsVariableElementLine xs k c) ds es
-rested_answer Fix xs k c ds es of domains line rested = line
-rested_answer Subsumed xs k c ds es of domains line rested =
-    let i = rested.0.0 in
-    let n = rested.1.0 in
-    let p = fixed_term xs k c es i n of domains rested.0.1 rested.1.1 line in (
-      always xs k c es i n p.0 of rested.0.1 rested.1.1 p.1 p.2,
-      λ fs filled narrower. line_of_fixed xs k c fs i n p.0 (still_only es fs k i of.index rested.0.1 filled narrower) (still_only es fs c n of.value rested.1.1 filled narrower) p.1
+pub rested_answer : (fixed : Bool) (xs : List Term) (k c : Term) (ds es : List (List (ℤ × ℤ))) → AreTermsOf (length es) xs k c → AreDomains es → IsVariableElementLine xs k c es
+    → (fixed ≡ true → AllFixed es (k ∷ c ∷ [])) → IsAnswerOf (rested_by fixed) (IsChosen xs k c) (IsVariableElementLine xs k c) ds es
+rested_answer false xs k c ds es of domains line both = line
+rested_answer true xs k c ds es of domains line both =
+    let index = (both refl).0 in
+    let value = (both refl).1.0 in
+    let i = index.0 in
+    let n = value.0 in
+    let p = fixed_term xs k c es i n of domains index.1 value.1 line in (
+      always xs k c es i n p.0 of index.1 value.1 p.1 p.2,
+      λ fs filled narrower. line_of_fixed xs k c fs i n p.0 (still_only es fs k i of.index index.1 filled narrower) (still_only es fs c n of.value value.1 filled narrower) p.1
           (still_only es fs p.0 n (stands_term (length es) i xs p.0 of.terms p.1) p.2 filled narrower),
     )
-rested_answer NoFix xs k c ds es of domains line rested = absurd rested
-rested_answer Failed xs k c ds es of domains line rested = absurd rested
-
-pub rested_decided : (answer : Answer) (xs : List Term) (k c : Term) (ds : List (List (ℤ × ℤ))) → IsRested answer ds k c → AllFixed ds (k ∷ c ∷ xs) → IsDecided answer
-rested_decided Fix xs k c ds rested fixed = absurd (rested fixed.0 fixed.1.0)
-rested_decided Subsumed xs k c ds rested fixed = inl refl
-rested_decided NoFix xs k c ds rested fixed = absurd rested
-rested_decided Failed xs k c ds rested fixed = absurd rested

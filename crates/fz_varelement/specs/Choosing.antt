@@ -1,20 +1,17 @@
 -- An index into a list of terms: when an assignment makes it true, which terms may be chosen, and what is done of the work on a store.
-use Rattle.std.specs.Prelude.{◌≡◌, ℕ, ◌<◌, ℤ, ◌≤ℤ◌, ◌↔◌, false, List, ◌∷◌, Option, Some, None}
+use Rattle.std.specs.Prelude.{◌≡◌, ◌<◌, ℤ, ◌≤ℤ◌, ◌↔◌, false, List, Option, Some, None}
 use Rattle.std.specs.Int.{int_min, int_max}
 use Rattle.fz_sets.specs.Sets.{IsInSet}
 use Rattle.fz_dom.specs.Shape.{least, greatest}
 use Rattle.fz_dom.specs.declared.change.Change.{Change}
 use Rattle.fz_dom.specs.declared.change.Change.TheVariants.{Same, Changed, Wiped}
-use Rattle.fz_spec.specs.declared.builtin.Builtin.{Builtin}
 use Rattle.fz_spec.specs.declared.term.Term.{Term}
 use Rattle.fz_spec.specs.Constraints.{term_value, term_values}
 use Rattle.fz_spec.specs.Truth.{IsElement}
 use Rattle.fz_strength.specs.Domains.{term_set, Within, room}
-use Rattle.fz_strength.specs.Events.{IsOnly, IsFixedIn, AllFixed, variables_of}
-use Rattle.fz_strength.specs.VariableElements.{IsVariableSelection, StandsAt, IsOverlap, IsVariableElementLine}
-use Rattle.fz_prop.specs.declared.answer.Answer.{Answer}
-use Rattle.fz_prop.specs.declared.answer.Answer.TheVariants.{Fix, Subsumed}
-use Rattle.fz_prop.specs.Stores.{Stored, FitsTerm}
+use Rattle.fz_strength.specs.Events.{IsOnly}
+use Rattle.fz_strength.specs.VariableElements.{StandsAt, IsOverlap, IsVariableElementLine}
+use Rattle.fz_prop.specs.Stores.{Stored}
 use Rattle.fz_varelement.specs.declared.choices.Hull.{Hull}
 
 abbrev pub IsChosen : List Term → Term → Term → List ℤ → Type 0
@@ -58,10 +55,6 @@ IsWider (Some r) h g = (g.low ≡ int_min h.low r.0) × (g.high ≡ int_max h.hi
 
 -- ---- what is done
 
--- something left, so that not all terms were fixed
-abbrev pub IsLess : List Term → Term → Term → Stored → Stored → Type 0
-IsLess xs k c s t = (room t.doms < room s.doms) × (AllFixed s.doms (k ∷ c ∷ xs) → ⊥)
-
 abbrev pub IsNeverChosen : List Term → Term → Term → List (List (ℤ × ℤ)) → Type 0
 IsNeverChosen xs k c ds = (a : List ℤ) → Within ds a → IsChosen xs k c a → ⊥
 
@@ -73,24 +66,11 @@ IsLastWithin xs k c ds =
 -- what became of the last term that may be chosen
 abbrev pub IsLastKept : Change → List Term → Term → Term → Stored → Stored → Type 0
 IsLastKept Same xs k c s t = (t ≡ s) × IsLastWithin xs k c s.doms
-IsLastKept Changed xs k c s t = IsLess xs k c s t
+IsLastKept Changed xs k c s t = room t.doms < room s.doms
 IsLastKept Wiped xs k c s t = IsNeverChosen xs k c s.doms
 
 -- what became of all terms
 abbrev pub IsNarrowed : Change → List Term → Term → Term → Stored → Stored → Type 0
 IsNarrowed Same xs k c s t = (t ≡ s) × IsVariableElementLine xs k c s.doms
-IsNarrowed Changed xs k c s t = IsLess xs k c s t
+IsNarrowed Changed xs k c s t = room t.doms < room s.doms
 IsNarrowed Wiped xs k c s t = IsNeverChosen xs k c s.doms
-
--- the answer says whether one index and one value are left
-abbrev pub IsRested : Answer → List (List (ℤ × ℤ)) → Term → Term → Type 0
-IsRested Subsumed ds k c = IsFixedIn ds k × IsFixedIn ds c
-IsRested Fix ds k c = IsFixedIn ds k → IsFixedIn ds c → ⊥
-IsRested answer ds k c = ⊥
-
--- the name says that the term at the index is the value; an index that is a number is within the limits; and the variables are
--- listed, those of the index and of the value first
-pub record IsVariableElementOf (name : Builtin) (k : Term) (xs : List Term) (c : Term) (variables : List ℕ) : Type 0 where
-  pub name_is : IsVariableSelection name
-  pub fits : FitsTerm k
-  pub listed : variables ≡ variables_of (k ∷ c ∷ xs)

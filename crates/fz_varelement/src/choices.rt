@@ -9,8 +9,8 @@ ghost use Rattle.fz_prop.specs.Stores.{IsTermOf, FitsTerm};
 ghost use Rattle.fz_varelement.specs.Choosing.{IsChoice, IsChoiceBetween, AreChoices, IsHull, AreAllChosen, IsWider};
 
 use fz_dom::Dom;
-use fz_element::pairs::{end_of, first_of};
 use fz_prop::Store;
+use fz_prop::indices::{first_index, index_end};
 use fz_prop::terms::{greatest_of, has, least_of};
 use fz_spec::term::Term;
 use std::alloc::{AllocError, Global};
@@ -77,13 +77,6 @@ fn next_above(store: &Store, term: Term, value: i32) -> Option<i32>
     }
 }
 
-/// The last index of a list of so many, or the greatest `i32` where the list is longer.
-pub fn last_index(count: usize) -> i32
-    ensures { (k : ℤ) → k ≤ℤ pos 2147483647 → k ≤ℤ pos count → k ≤ℤ result }
-{
-    i32::try_from(count).unwrap_or(i32::MAX)
-}
-
 /// The indices that are left and whose term has bounds that overlap those of a value.
 pub fn choices_of(
     alloc: Global,
@@ -99,7 +92,10 @@ pub fn choices_of(
     ensures { IfOk result (λ d. AreChoices terms.now index value store.now.doms d) }
 {
     let _ = store.doms();
-    let (first, end) = (first_of(store, index), end_of(store, index, terms.len()));
+    let (first, end) = (
+        first_index(store, index),
+        index_end(store, index, terms.len()),
+    );
     let mut indices = Vec::new(alloc);
     for place in first..end {
         if let Some((_least, _greatest)) = choice(store, index, terms, value, place) {

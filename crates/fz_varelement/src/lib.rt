@@ -6,6 +6,3 @@ mod select;
 pub mod variable_element;
 
 pub use variable_element::VariableElement;
-
-#[cfg(test)]
-mod tests;

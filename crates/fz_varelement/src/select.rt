@@ -1,16 +1,15 @@
 //! Keeping the indices whose term may be the value, the value within the hull of these terms, and the last one within the bounds
 //! of the value.
-ghost use Rattle.std.specs.Prelude.{◌≡◌, ℤ, true, ◌∷◌, length, IfOk, OnErr};
+ghost use Rattle.std.specs.Prelude.{◌≡◌, true, length, IfOk, OnErr};
 ghost use Rattle.std.specs.List.{AllByRecursion};
-ghost use Rattle.fz_dom.specs.Changes.{IsFromTo};
-ghost use Rattle.fz_strength.specs.Events.{AllFixed};
 ghost use Rattle.fz_strength.specs.VariableElements.{IsVariableElementLine};
-ghost use Rattle.fz_prop.specs.Answers.{IsAnswerOf, IsCorrectOf, IsDecided};
+ghost use Rattle.fz_prop.specs.Answers.{IsAnswerOf, IsCorrectOf};
 ghost use Rattle.fz_prop.specs.Stores.{Shrinks, IsTermOf, FitsTerm, IsTermChange};
-ghost use Rattle.fz_varelement.specs.Choosing.{IsChosen, IsChosenAt, IsHull, AreAllChosen, IsNarrowed, IsLastKept, IsRested};
+ghost use Rattle.fz_varelement.specs.Choosing.{IsChosen, IsChosenAt, IsHull, AreAllChosen, IsNarrowed, IsLastKept};
 
-use crate::choices::{Hull, choices_of, hull_of, last_index, term_at};
-use fz_prop::terms::{greatest_of, keep_in, least_of, value_of};
+use crate::choices::{Hull, choices_of, hull_of, term_at};
+use fz_prop::indices::last_index;
+use fz_prop::terms::{are_fixed, greatest_of, keep_in, keep_range, least_of, value_of};
 use fz_prop::{Answer, Change, Store};
 use fz_spec::term::Term;
 use std::alloc::{AllocError, Global};
@@ -32,15 +31,13 @@ pub fn keep_variable_element(
     ensures answer { IfOk result
         (λ r. IsAnswerOf r (IsChosen terms.now index value)
         (IsVariableElementLine terms.now index value) store.old.doms store.new.doms) }
-    ensures checking { IfOk result
-        (λ r. AllFixed store.old.doms (index ∷ value ∷ terms.now) → IsDecided r) }
 {
     let change = narrow(alloc, store, index, terms, value)?;
     let _ = store.doms();
     match change {
         Change::Wiped => Ok(Answer::Failed),
         Change::Changed => Ok(Answer::NoFix),
-        Change::Same => Ok(rested(store, index, value)),
+        Change::Same => Ok(Answer::rested(are_fixed(store, &[index, value]))),
     }
 }
 
@@ -62,7 +59,7 @@ fn narrow(
         (λ r. IsNarrowed r terms.now index value store.old store.new) }
 {
     let _ = store.doms();
-    match keep_between(store, index, 1, last_index(terms.len()))? {
+    match keep_range(store, index, 1, last_index(terms.len()))? {
         Change::Same => keep_hull(alloc, store, index, terms, value),
         change => Ok(change),
     }
@@ -90,7 +87,7 @@ fn keep_hull(
     match keep_choices(alloc, store, index, terms, value, hull.all)? {
         Change::Wiped => Ok(Change::Wiped),
         Change::Same => keep_value(store, index, terms, value, hull),
-        Change::Changed => match keep_between(store, value, hull.low, hull.high)? {
+        Change::Changed => match keep_range(store, value, hull.low, hull.high)? {
             Change::Wiped => Ok(Change::Wiped),
             _ => Ok(Change::Changed),
         },
@@ -143,7 +140,7 @@ fn keep_value(
         (λ r. IsNarrowed r terms.now index value store.old store.new) }
 {
     let _ = store.doms();
-    match keep_between(store, value, hull.low, hull.high)? {
+    match keep_range(store, value, hull.low, hull.high)? {
         Change::Same => keep_last(store, index, terms, value),
         change => Ok(change),
     }
@@ -172,33 +169,5 @@ fn keep_last(
         return Ok(Change::Same);
     };
     let (low, high) = (least_of(store, value), greatest_of(store, value));
-    keep_between(store, term, low, high)
-}
-
-/// Keeps the numbers of a term from a low to a high, both among them.
-fn keep_between(store: &mut Store, term: Term, low: i32, high: i32) -> Result<Change, AllocError>
-    requires { IsTermOf (length store.old.doms) term }
-    ensures shrinks { Shrinks store.old store.new }
-    ensures err { OnErr result (store.new ≡ store.old) }
-    ensures change { IfOk result
-        (λ r. IsTermChange r term (λ x. IsFromTo low high x) store.old store.new) }
-{
-    match term {
-        Term::Var(variable) => store.keep_range(variable, low, high),
-        Term::Num(number) if low <= number && number <= high => Ok(Change::Same),
-        Term::Num(_) => Ok(Change::Wiped),
-    }
-}
-
-/// What a run answers after which the line holds.
-fn rested(store: &Store, index: Term, value: Term) -> Answer
-    requires index { IsTermOf (length store.now.doms) index }
-    requires value { IsTermOf (length store.now.doms) value }
-    ensures { IsRested result store.now.doms index value }
-{
-    if value_of(store, index).is_some() && value_of(store, value).is_some() {
-        Answer::Subsumed
-    } else {
-        Answer::Fix
-    }
+    keep_range(store, term, low, high)
 }

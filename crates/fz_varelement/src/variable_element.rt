@@ -1,17 +1,10 @@
-//! Terms of lists by their index.
-ghost use Rattle.std.specs.Prelude.{◌≡◌, List, [], ◌∷◌, length, IfOk};
-ghost use Rattle.fz_spec.specs.Constraints.{One, Terms};
-ghost use Rattle.fz_strength.specs.Events.{AreBelow, AreFixed};
-ghost use Rattle.fz_strength.specs.Lines.{waits};
-ghost use Rattle.fz_strength.specs.Promises.{IsCorrect, Suits};
-ghost use Rattle.fz_strength.specs.VariableElements.{IsVariableSelection};
-ghost use Rattle.fz_prop.specs.Answers.{IsAnswer, IsDecided};
-ghost use Rattle.fz_prop.specs.Stores.{Shrinks, FitsTerm};
+//! The propagator of a term of a list by its index.
+ghost use Rattle.std.specs.Prelude.{◌≡◌, IfOk};
+ghost use Rattle.fz_strength.specs.Sayings.{SelectTerm};
+ghost use Rattle.fz_prop.specs.Stores.{FitsTerm};
 
 use crate::select::keep_variable_element;
-use fz_prop::variables::{add_variable, add_variables};
-use fz_prop::{Answer, Cost, Event, Propagator, Store};
-use fz_spec::builtin::Builtin;
+use fz_prop::{Answer, Propagator, Store};
 use fz_spec::term::Term;
 use std::alloc::{AllocError, Global};
 use std::marker::Model;
@@ -19,27 +12,20 @@ use std::marker::Model;
 /// A value that is to be the term of a list at an index, counted from 1.
 #[derive(Drop)]
 pub struct VariableElement {
-    name: Builtin,
     index: Term,
     terms: Vec<Term>,
     value: Term,
-    variables: Vec<u32>,
 }
 
 impl Model for VariableElement {
-    ghost use Rattle.std.specs.Prelude.{[], ◌∷◌};
-    ghost use Rattle.fz_spec.specs.Constraints.{Constraint, One, Terms};
-    ghost use Rattle.fz_varelement.specs.Choosing.{IsVariableElementOf};
+    ghost use Rattle.fz_strength.specs.Sayings.{Saying, SelectTerm};
+    ghost use Rattle.fz_prop.specs.Stores.{FitsTerm};
 
-    ghost Value = { Constraint };
+    ghost Value = { Saying };
 
-    ghost view = { λ p. record {
-      name = p.name;
-      arguments = One p.index ∷ Terms p.terms.items ∷ One p.value ∷ [];
-    } };
+    ghost view = { λ p. SelectTerm p.terms.items p.index p.value };
 
-    ghost invariant = { λ p.
-        IsVariableElementOf p.name p.index p.terms.items p.value p.variables.items };
+    ghost invariant = { λ p. FitsTerm p.index };
 }
 
 impl VariableElement {
@@ -49,85 +35,27 @@ impl VariableElement {
     /// `AllocError` where there is no memory.
     pub fn new(
         alloc: Global,
-        name: Builtin,
         index: Term,
         terms: &[Term],
         value: Term,
     ) -> Result<VariableElement, AllocError>
-        requires name { IsVariableSelection name }
-        requires fits { FitsTerm index }
-        ensures { IfOk result (λ p. p ≡ record {
-          name = name;
-          arguments = One index ∷ Terms terms.now ∷ One value ∷ [];
-        }) }
+        requires { FitsTerm index }
+        ensures { IfOk result (λ p. p ≡ SelectTerm terms.now index value) }
     {
-        let mut variables = Vec::new(alloc);
-        add_variable(&mut variables, index)?;
-        add_variable(&mut variables, value)?;
-        add_variables(&mut variables, terms)?;
         let terms = Vec::from_slice(alloc, terms)?;
         Ok(VariableElement {
-            name,
             index,
             terms,
             value,
-            variables,
         })
-    }
-
-    /// Narrows a store, as `propagate` does: nothing is kept between runs.
-    ///
-    /// # Errors
-    /// `AllocError` where there is no memory; the store is then narrower, and no assignment is lost.
-    pub fn run(&self, store: &mut Store) -> Result<Answer, AllocError>
-        requires inside { AreBelow (waits self.now) (length store.old.doms) }
-        requires suits { Suits self.now store.old.doms }
-        ensures shrinks { Shrinks store.old store.new }
-        ensures correct { IsCorrect self.now store.old.doms store.new.doms }
-        ensures answer { IfOk result (λ r. IsAnswer r self.now store.old.doms store.new.doms) }
-        ensures checking { IfOk result
-            (λ r. AreFixed (waits self.now) store.old.doms → IsDecided r) }
-    {
-        let alloc = *self.terms.allocator();
-        keep_variable_element(alloc, store, self.index, &self.terms, self.value)
     }
 }
 
 impl Propagator for VariableElement {
-    ghost constraint = { λ p. p };
+    ghost saying = { λ p. p };
 
-    fn vars(&self) -> &[u32] {
-        &self.variables
-    }
-
-    fn event(&self, place: usize) -> Event {
-        match self.index {
-            Term::Var(_) if place == 0 => Event::Any,
-            _ => Event::Bound,
-        }
-    }
-
-    fn cost(&self) -> Cost {
-        let _ = &self.variables;
-        Cost::Linear
-    }
-
-    fn propagate(&mut self, store: &mut Store) -> Result<Answer, AllocError> {
-        self.run(store)
-    }
-
-    fn advise(&mut self, _variable: u32, _store: &Store) {}
-
-    fn copy(&self) -> Result<VariableElement, AllocError> {
+    fn propagate(&self, store: &mut Store) -> Result<Answer, AllocError> {
         let alloc = *self.terms.allocator();
-        let terms = Vec::from_slice(alloc, &self.terms)?;
-        let variables = Vec::from_slice(alloc, &self.variables)?;
-        Ok(VariableElement {
-            name: self.name,
-            index: self.index,
-            terms,
-            value: self.value,
-            variables,
-        })
+        keep_variable_element(alloc, store, self.index, &self.terms, self.value)
     }
 }

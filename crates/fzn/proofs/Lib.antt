@@ -1,4 +1,3 @@
-pub mod Fronts
-pub mod Readings
-pub mod Searches
+pub mod WholeFiles
+pub mod Printed
 pub mod Outcomes

@@ -1,6 +1,6 @@
 -- What the answers of a run say of its text.
 use Rattle.std.specs.Prelude.{ℤ, Bool}
-use Rattle.std.proofs.Common.{◌≡◌, ◌∙◌, ◌≢◌, ℕ, ◌+◌, List, [], ◌++◌, Option, None, Some, IfSome, ap, sym, refl, subst, inl, inr, append_assoc, append-nil, arith, codes, decimal, ◌⊎◌, unwrap_or, take, length}
+use Rattle.std.proofs.Common.{◌≡◌, ◌≤◌, ◌<◌, ◌∙◌, ◌≢◌, ℕ, ◌+◌, List, [], ◌++◌, Option, None, Some, IfSome, ap, sym, refl, subst, inl, inr, append_assoc, append-nil, arith, codes, decimal, ◌⊎◌, unwrap_or, take, length}
 use Rattle.std.specs.Fmt.{digits}
 use Rattle.fz_spec.specs.declared.code.Code.{Code}
 use Rattle.fz_spec.specs.declared.code.Code.TheVariants.{UnknownByte, LargeNumber, UnexpectedToken, DeclaredTwice, UnknownName, WrongType, WrongArity, UnknownConstraint, Unsupported, WrongLengths, OverLimit}
@@ -18,10 +18,15 @@ use Rattle.fz_print.specs.declared.refusal.Refusal.{Refusal}
 use Rattle.fz_print.specs.Refusal.{text_of, code_digits}
 use Rattle.fzn.specs.declared.status.Status.{Status}
 use Rattle.fzn.specs.declared.status.Status.TheVariants.{Done, Refused, Usage, SourceFault, SinkFault, NoMemory}
-use Rattle.fzn.specs.Promises.{AnswersAccepted, AnswersRefused, HasItsCause, HasReadAll, IsDoneOrShort, IsFront, IsRefusedOrShort, IsRefusedRun, IsRun, IsStrictFront, IsWholeRun, Prints, Runs, generated_or, text_for}
-use Rattle.fzn.specs.Steps.{Answers, AnswersShown, Flushes, HasSinkCause, IsShown, IsReadOf, IsRefusal, LeavesNothing, PrintsOf, TakesFront, run_text, shown_text}
-use Rattle.fzn.proofs.Readings.{read_of_front}
-use Rattle.fzn.proofs.Searches.{shown_prints}
+use Rattle.fz_gen.specs.declared.text.TheConstants.{ITEMS_LEAST, ITEMS_MOST}
+use Rattle.fz_generated.proofs.Law.{each_is_accepted}
+use Rattle.fzn.specs.Promises.{AnswersAccepted, AnswersRefused, HasItsCause, HasReadAll, IsDoneOrShort, IsFront, IsRefusedOrShort, IsRefusedRun, IsUnrefused, IsRun, IsStrictFront, IsWholeRun, Prints, Runs, generated_or, text_for}
+use Rattle.fzn.specs.Steps.{Answers, AnswersShown, Flushes, HasSinkCause, IsReadOf, LeavesNothing, PrintsOf}
+use Rattle.fz_search.specs.Searched.{IsShown}
+use Rattle.fz_reader.specs.Refusals.{IsRefusal}
+use Rattle.fz_printing.specs.Texts.{TakesFront, run_text, shown_text}
+use Rattle.fz_reader.proofs.Readings.{read_of_front}
+use Rattle.fzn.proofs.Printed.{shown_prints}
 
 pub no_more : (taken : Option (List ℕ)) → taken ≡ with_more taken []
 no_more None = refl
@@ -226,3 +231,24 @@ whatever (Some p) P h = h p
 pub whichever : {P : Type 0} (n : Option ℕ) → P → IfSome n (λ _. P)
 whichever None p = tt
 whichever (Some n) p = p
+
+-- ---- generated texts
+
+never_refused : (text : List ℕ) (m : Instance) (c : Code) (line column : ℕ) → Reads text (reads.Accepted m) → Reads text (reads.Refused c line column) → ⊥
+never_refused text m c line column h k = let e : reads.Accepted m ≡ reads.Refused c line column = reading_is_one text (reads.Accepted m) (reads.Refused c line column) h k in cc
+
+pub unrefused : (s : Status) (n : ℕ) (text : List ℕ) (o : Options) (before after : Option (List ℕ)) (c d : ℕ) → ITEMS_LEAST ≤ n → n ≤ ITEMS_MOST → text ≡ knapsack n → PrintsOf s text o before after → HasSinkCause s c d → IsUnrefused s
+unrefused Done n text o before after c d some few is p h = inl refl
+unrefused (Refused r) n text o before after c d some few is p h =
+    let a = each_is_accepted n some few in
+    let q = p.2 in
+    absurd (never_refused (knapsack n) a.model q.code r.line r.column a.accepted (subst (λ (t : List ℕ). Reads t (reads.Refused q.code r.line r.column)) is q.reads))
+unrefused Usage n text o before after c d some few is p h = absurd h
+unrefused SourceFault n text o before after c d some few is p h = absurd h
+unrefused SinkFault n text o before after c d some few is p h = inr (inl refl)
+unrefused NoMemory n text o before after c d some few is p h = inr (inr refl)
+
+pub made : (s : Status) (c d : ℕ) → IsUnrefused s → HasSinkCause s c d → d ≡ c → IsDoneOrShort s
+made s c d (inl done) h e = inl done
+made s c d (inr (inl fault)) h e = absurd (let g : HasSinkCause SinkFault c d = subst (λ (t : Status). HasSinkCause t c d) fault h in omega (arith, e, g))
+made s c d (inr (inr short)) h e = inr short

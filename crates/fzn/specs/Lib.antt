@@ -1,4 +1,3 @@
-pub mod Runs
 pub mod Promises
 pub mod Steps
 pub mod Complaints

@@ -5,7 +5,7 @@ use Rattle.fz_spec.specs.Codes.{code_number}
 use Rattle.fz_spec.specs.Instance.{Instance}
 use Rattle.fz_spec.specs.Run.{refusal_text}
 use Rattle.fz_cmd.specs.Meaning.{Options}
-use Rattle.fzn.specs.Runs.{IsRunText}
+use Rattle.fz_runs.specs.Runs.{IsRunText}
 use Rattle.fz_language.specs.Reads.{Reads, Accepted}
 use Rattle.fz_language.specs.Reads as reads
 use Rattle.fz_gen.specs.Knapsack.{knapsack}
@@ -121,6 +121,10 @@ IsDoneOrShort status = (status ≡ Done) ⊎ (status ≡ NoMemory)
 -- a text that is refused so is answered so, unless memory is refused
 abbrev pub IsRefusedOrShort : Code → ℕ → ℕ → Status → Type 0
 IsRefusedOrShort code line column status = (status ≡ Refused (record { code = code_number code; line = line; column = column })) ⊎ (status ≡ NoMemory)
+
+-- a run of a text that is accepted ends so: it is done, or the sink failed, or memory was refused
+abbrev pub IsUnrefused : Status → Type 0
+IsUnrefused status = (status ≡ Done) ⊎ ((status ≡ SinkFault) ⊎ (status ≡ NoMemory))
 
 -- each accepted text of the file is done, unless memory is refused
 abbrev pub AnswersAccepted : Status → Option (List ℕ) → Type 0

@@ -1,5 +1,6 @@
 //! The program over the real files and streams. No clause reaches what these hold, so it is kept short.
-ghost use Rattle.std.specs.Prelude.{◌≡◌};
+ghost use Rattle.std.specs.Prelude.{◌≡◌, ◌≢◌};
+ghost use Rattle.std.specs.IoError.{error_kind};
 ghost use Rattle.std.specs.Process.{exit_status};
 ghost use Rattle.fzn.specs.Promises.{code_of};
 
@@ -11,12 +12,15 @@ use fz_io::file::FileSource;
 use fz_io::gate::NoGate;
 use fz_io::output::OutSink;
 use std::env;
+use std::io;
+use std::io::ErrorKind;
 use std::process::ExitCode;
 
 /// Runs the program with its arguments, says on standard error what is wrong, and answers the exit status.
 pub fn program(rt: HostRuntime) -> ExitCode {
-    let Ok(arguments) = env::args(&rt) else {
-        return ending(&rt, &[], Status::Usage);
+    let arguments = match env::args(&rt) {
+        Ok(arguments) => arguments,
+        Err(fault) => return ending(&rt, &[], untaken(&fault)),
     };
     let Ok(words) = arguments.skip(1).collect::<Vec<String>>(rt.alloc()) else {
         return ending(&rt, &[], Status::NoMemory);
@@ -25,13 +29,24 @@ pub fn program(rt: HostRuntime) -> ExitCode {
     ending(&rt, &words, status)
 }
 
+/// The answer where the arguments can't be taken: memory was refused, or one of them is no text.
+fn untaken(fault: &io::Error) -> Status
+    ensures memory { error_kind fault.now ≡ ErrorKind.OutOfMemory → result ≡ Status.NoMemory }
+    ensures words { error_kind fault.now ≢ ErrorKind.OutOfMemory → result ≡ Status.Usage }
+{
+    match fault.kind() {
+        ErrorKind::OutOfMemory => Status::NoMemory,
+        _ => Status::Usage,
+    }
+}
+
 /// The run of these words over files and the standard streams.
 fn over_streams(rt: &HostRuntime, words: &[String]) -> Status {
     let alloc = rt.alloc();
     let Ok(mut sink) = BufferedSink::new(alloc, OutSink::new(rt.stdout())) else {
         return Status::NoMemory;
     };
-    let mut source = FileSource::new(alloc, *rt);
+    let mut source = FileSource::new(*rt);
     fzn(rt, alloc, words, &mut source, &mut sink, &NoGate)
 }
 

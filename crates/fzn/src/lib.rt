@@ -6,16 +6,11 @@
 
 pub mod command;
 pub mod complaint;
-mod printer;
-pub mod reader;
 pub mod run;
-mod search;
 pub mod status;
-#[cfg(test)]
-mod tests;
 
 pub use command::program;
 pub use complaint::complaint_of;
-pub use reader::model_of;
+pub use fz_reader::model_of;
 pub use run::fzn;
 pub use status::Status;

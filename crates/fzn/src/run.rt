@@ -4,12 +4,11 @@ ghost use Rattle.fz_io.specs.Outside.{one_more};
 ghost use Rattle.fz_print.specs.Refusal.{text_of};
 ghost use Rattle.fz_cmd.specs.Meaning.{options_of};
 ghost use Rattle.fz_gen.specs.Knapsack as texts;
-ghost use Rattle.fzn.specs.Promises.{AnswersAccepted, AnswersRefused, HasItsCause, HasReadAll, HasSelected, IsFlushed, Runs, SelectsOnce, text_for};
-ghost use Rattle.fzn.specs.Steps.{enough_for, Answers, AnswersShown, Flushes, HasSinkCause, HasStopCause, IsReadOf, IsSearched, LeavesNothing, PrintsOf, SelectsAt};
+ghost use Rattle.fzn.specs.Promises.{AnswersAccepted, AnswersRefused, HasItsCause, HasReadAll, HasSelected, IsDoneOrShort, IsFlushed, IsUnrefused, Runs, SelectsOnce, text_for};
+ghost use Rattle.fz_search.specs.Searched.{enough_for, IsSearched};
+ghost use Rattle.fzn.specs.Steps.{Answers, AnswersShown, Flushes, HasSinkCause, IsReadOf, LeavesNothing, PrintsOf, SelectsAt};
+ghost use Rattle.fz_printing.specs.Texts.{HasStopCause};
 
-use crate::printer::{Stop, print_refusal, print_run};
-use crate::reader::model_of;
-use crate::search::{listing_of, search};
 use crate::status::Status;
 use fz_book::Book;
 use fz_cmd::Options;
@@ -21,6 +20,9 @@ use fz_io::outside::{Sink, Source};
 use fz_io::whole::{Whole, read_all};
 use fz_model::model::Model;
 use fz_print::refusal::Refusal;
+use fz_printing::{Stop, print_refusal, print_run};
+use fz_reader::model_of;
+use fz_search::{listing_of, search};
 use fz_space::Space;
 use fz_spec::limits::TEXT_LIMIT;
 use std::alloc::{AllocError, Global};
@@ -34,8 +36,8 @@ use std::sync::Arc;
 /// for a model that is generated, a knapsack of N items, in place of one that is read; and FILE. The text is that of FILE; no FILE
 /// is `-`, standard input. A text may have 67,108,864 bytes. Printed is a block for each satisfying assignment, in any order, and
 /// `==========`; of `-n N` N different blocks alone, where so many satisfy; of a model with a goal the block of a best assignment
-/// and `==========`, with `-a` behind each better one that was found on the way; of a generated model `items=N best=V` in place of
-/// both; where none satisfies, `=====UNSATISFIABLE=====` alone; of a text that is refused, the place, the code and
+/// and `==========`, with `-a` maybe behind others, each better than the one before it; of a generated model `items=N best=V` in
+/// place of both; where none satisfies, `=====UNSATISFIABLE=====` alone; of a text that is refused, the place, the code and
 /// `=====ERROR=====`. Behind all but a refusal `-s` prints how many assignments were listed. Each block, each last line, the two
 /// lines of statistics and each refusal is one piece for the sink, and one flush comes last, whenever something was written.
 ///
@@ -59,10 +61,18 @@ pub fn fzn<T, R: Source, S: Sink, G: Gate>(
     ensures untouched { options_of (map string_bytes words.now) ≡ None
         → (source.new ≡ source.old) × (sink.new ≡ sink.old) }
 
-    // A run that generates its model makes no call of the source. Every other one selects one text, once: that of FILE. No call
-    // changes the source's texts.
+    // A run that generates its model makes no call of the source.
     ensures generated { IfSome (options_of (map string_bytes words.now)) (λ o.
         IfSome o.generate (λ _. source.new ≡ source.old)) }
+
+    // Its text is accepted: it is never refused, and where no count rose it is done, unless memory is refused.
+    ensures unrefused { IfSome (options_of (map string_bytes words.now)) (λ o.
+        IfSome o.generate (λ _. IsUnrefused result)) }
+    ensures made { S.faults sink.new ≡ S.faults sink.old
+        → IfSome (options_of (map string_bytes words.now)) (λ o.
+        IfSome o.generate (λ _. IsDoneOrShort result)) }
+
+    // Every other run selects one text, once: that of FILE. No call changes the source's texts.
     ensures once { IfSome (options_of (map string_bytes words.now)) (λ o. o.generate ≡ None
         → SelectsOnce result (R.selections source.old) (R.selections source.new)) }
     ensures selected { IfSome (options_of (map string_bytes words.now)) (λ o. o.generate ≡ None
@@ -109,6 +119,9 @@ fn run_options<R: Source, S: Sink>(
     requires source { R.faults source.old < 2 ^ 64 - 1 }
     requires sink { S.faults sink.old < 2 ^ 64 - 1 }
     ensures generated { IfSome options.now.generate (λ _. source.new ≡ source.old) }
+    ensures unrefused { IfSome options.now.generate (λ _. IsUnrefused result) }
+    ensures made { S.faults sink.new ≡ S.faults sink.old
+        → IfSome options.now.generate (λ _. IsDoneOrShort result) }
     ensures once { options.now.generate ≡ None
         → SelectsOnce result (R.selections source.old) (R.selections source.new) }
     ensures selected { options.now.generate ≡ None
@@ -135,6 +148,8 @@ fn run_generated<S: Sink>(alloc: Global, items: u32, options: &Options, sink: &m
     requires least { ITEMS_LEAST ≤ items }
     requires most { items ≤ ITEMS_MOST }
     requires faults { S.faults sink.old < 2 ^ 64 - 1 }
+    ensures unrefused { IsUnrefused result }
+    ensures made { S.faults sink.new ≡ S.faults sink.old → IsDoneOrShort result }
     ensures printed { PrintsOf result (texts.knapsack items) options.now
         (S.taken sink.old) (S.taken sink.new) }
     ensures flushed { IsFlushed result (S.taken sink.old) (S.taken sink.new) (S.flushed sink.new) }
@@ -197,7 +212,7 @@ fn read_text<R: Source>(alloc: Global, file: &str, source: &mut R) -> Result<Vec
     }
 }
 
-/// The same of the selected text.
+/// The text that is selected, or its first bytes where it is too long, of which there is one over the limit.
 fn read_selected<R: Source>(alloc: Global, source: &mut R) -> Result<Vec<u8>, Stop>
     requires { R.faults source.old < 2 ^ 64 - 1 }
     ensures once { R.selections source.new ≡ R.selections source.old }

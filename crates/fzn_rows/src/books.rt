@@ -1,5 +1,7 @@
 //! Books, and searches of whole books.
+ghost use Rattle.std.specs.Prelude.{◌≡◌, IfSome};
 ghost use Rattle.fz_sets.specs.Sets.{IsWithinLimits};
+ghost use Rattle.fz_book.specs.Reports.{IsReportable};
 
 use crate::models::{book, least_of_three, one_of, path, two_values};
 use crate::show::show_values;
@@ -10,11 +12,12 @@ use fz_path::{Path, Start};
 use fz_region::Frontier;
 use fz_solo::finish;
 use fz_space::Space;
+use fz_spec::term::Term;
 use std::alloc::{AllocError, Global};
 use std::sync::Arc;
 
 /// What becomes of an account.
-fn take(rt: &HostRuntime, book: &mut Book, account: Account) {
+pub fn take(rt: &HostRuntime, book: &mut Book, account: Account) {
     let answer = match book.take(account) {
         Taken::Taken => "Taken",
         Taken::Stranger(_) => "Stranger",
@@ -63,6 +66,20 @@ fn take_account(rt: &HostRuntime, book: &mut Book, model: &Arc<Model>) -> Result
     Ok(())
 }
 
+/// How many parts are open, and how many edges the first of them has.
+fn show_open(rt: &HostRuntime, book: &Book) {
+    let count = book.open_count();
+    match book.first_open() {
+        Some(frontier) => {
+            let edges = frontier.edges().len();
+            let _ = println!(rt; "open: {count}, the first has {edges} edges");
+        }
+        None => {
+            let _ = println!(rt; "open: {count}");
+        }
+    }
+}
+
 /// What is claimed.
 fn claim(rt: &HostRuntime, book: &mut Book) -> Result<(), AllocError> {
     match book.claim()? {
@@ -96,9 +113,21 @@ fn all_of_two(rt: &HostRuntime) -> Result<(), AllocError> {
     let model = two_values(alloc)?;
     let mut book = book(alloc, &model)?;
     let _ = println!(rt; "-- a book of two values");
+    show_open(rt, &book);
     claimed(rt, &mut book)?;
+    show_open(rt, &book);
     closed(rt, &mut book, &model)?;
+    show_open(rt, &book);
     offer(rt, &mut book, 1)
+}
+
+/// What is recorded, in order.
+fn show_recorded(rt: &HostRuntime, book: &Book) {
+    let _ = print!(rt; "recorded:");
+    for assignment in book.recorded() {
+        show_values(rt, assignment);
+    }
+    let _ = println!(rt; "");
 }
 
 /// Of a search for the least, what is better than all before is recorded.
@@ -106,11 +135,7 @@ fn improved(rt: &HostRuntime, book: &mut Book) -> Result<(), AllocError> {
     offer(rt, book, 2)?;
     offer(rt, book, 2)?;
     offer(rt, book, 1)?;
-    let _ = print!(rt; "recorded:");
-    for assignment in book.recorded() {
-        show_values(rt, assignment);
-    }
-    let _ = println!(rt; "");
+    show_recorded(rt, book);
     Ok(())
 }
 
@@ -121,15 +146,43 @@ fn best(rt: &HostRuntime) -> Result<(), AllocError> {
     improved(rt, &mut book)
 }
 
-/// A search of a whole book.
+/// A search goes on until so many are recorded.
+fn finish_to(
+    rt: &HostRuntime,
+    book: &mut Book,
+    path: &mut Path<Space>,
+    enough: Option<u32>,
+) -> Result<(), AllocError>
+    requires held { IfSome path.old.held (IsReportable book.old.book) }
+    requires model { path.old.model ≡ book.old.book.model }
+    ensures held { IfSome path.new.held (IsReportable book.new.book) }
+    ensures model { path.new.model ≡ book.new.book.model }
+{
+    let end = finish(book, path, enough, true)?;
+    let count = book.recorded().len();
+    let _ = println!(rt; "finish: {end:?}, {count} recorded");
+    Ok(())
+}
+
+/// A search of a whole book, which stops where so many are recorded and then goes on with the same path.
 fn finished(rt: &HostRuntime, enough: Option<u32>) -> Result<(), AllocError> {
     let alloc = rt.alloc();
     let model = one_of(alloc, 1, 3, Goal::Satisfy)?;
     let mut book = book(alloc, &model)?;
     let mut path = path(alloc, &model)?;
-    let end = finish(&mut book, &mut path, enough, true)?;
-    let count = book.recorded().len();
-    let _ = println!(rt; "finish: {end:?}, {count} recorded");
+    finish_to(rt, &mut book, &mut path, enough)?;
+    finish_to(rt, &mut book, &mut path, None)
+}
+
+/// A search for the greatest value records each better one where it improves the book on its way, and else the best alone.
+fn greatest(rt: &HostRuntime, improving: bool) -> Result<(), AllocError> {
+    let alloc = rt.alloc();
+    let model = one_of(alloc, 1, 3, Goal::Maximize(Term::Var(0)))?;
+    let mut book = book(alloc, &model)?;
+    let mut path = path(alloc, &model)?;
+    let end = finish(&mut book, &mut path, None, improving)?;
+    let _ = print!(rt; "improving {improving}: {end:?}, ");
+    show_recorded(rt, &book);
     Ok(())
 }
 
@@ -138,5 +191,8 @@ pub fn all(rt: &HostRuntime) -> Result<(), AllocError> {
     best(rt)?;
     let _ = println!(rt; "-- searches of three values");
     finished(rt, None)?;
-    finished(rt, Some(2))
+    finished(rt, Some(2))?;
+    let _ = println!(rt; "-- searches for the greatest of three values");
+    greatest(rt, true)?;
+    greatest(rt, false)
 }

@@ -7,7 +7,7 @@ use fz_space::Space;
 use std::alloc::AllocError;
 
 /// What each of some events answers.
-fn apply(
+pub fn apply(
     rt: &HostRuntime,
     machine: &mut Machine<Space>,
     events: &[Event],
@@ -20,7 +20,7 @@ fn apply(
 }
 
 /// What a book has recorded, and whether it is closed.
-fn show(rt: &HostRuntime, book: &Book) {
+pub fn show(rt: &HostRuntime, book: &Book) {
     let _ = print!(rt; "recorded:");
     for assignment in book.recorded() {
         show_values(rt, assignment);

@@ -6,6 +6,7 @@ mod books;
 mod machines;
 mod models;
 mod paths;
+mod sharing;
 mod show;
 mod spaces;
 
@@ -23,5 +24,6 @@ fn all(rt: &HostRuntime) -> Result<(), AllocError> {
     spaces::all(rt)?;
     paths::all(rt)?;
     books::all(rt)?;
-    machines::all(rt)
+    machines::all(rt)?;
+    sharing::all(rt)
 }

@@ -36,7 +36,8 @@ fn integer(alloc: Global, low: i32, high: i32) -> Result<Variable, AllocError>
 pub fn one_of(alloc: Global, low: i32, high: i32, goal: Goal) -> Result<Arc<Model>, AllocError>
     requires low { IsWithinLimits low }
     requires high { IsWithinLimits high }
-    requires goal { (goal ≡ Goal.Satisfy) ⊎ (goal ≡ Goal.Minimize (Term.Var 0)) }
+    requires goal { (goal ≡ Goal.Satisfy) ⊎ (goal ≡ Goal.Minimize (Term.Var 0))
+        ⊎ (goal ≡ Goal.Maximize (Term.Var 0)) }
     ensures { IfOk result (λ m. length (arc_value m).variables ≡ 1) }
 {
     let mut variables = Vec::new(alloc);
@@ -69,6 +70,19 @@ pub fn two_that_differ(alloc: Global) -> Result<Arc<Model>, AllocError> {
     let mut constraints = Vec::new(alloc);
     constraints.push(unequal(alloc)?)?;
     let (outputs, search) = (Vec::new(alloc), Vec::new(alloc));
+    shared(
+        alloc,
+        Model::new(variables, constraints, Goal::Satisfy, outputs, search),
+    )
+}
+
+/// `var 1..2: x; var 1..2: y; solve satisfy;`
+pub fn two_by_two(alloc: Global) -> Result<Arc<Model>, AllocError> {
+    let mut variables = Vec::new(alloc);
+    variables.push(integer(alloc, 1, 2)?)?;
+    variables.push(integer(alloc, 1, 2)?)?;
+    let (constraints, outputs) = (Vec::new(alloc), Vec::new(alloc));
+    let search = Vec::new(alloc);
     shared(
         alloc,
         Model::new(variables, constraints, Goal::Satisfy, outputs, search),
@@ -113,7 +127,7 @@ pub fn path(alloc: Global, model: &Arc<Model>) -> Result<Path<Space>, AllocError
         ≡ idle_path (arc_value model.now) (mode_of (arc_value model.now).goal) 8 2) }
 {
     let mode = mode(model.goal());
-    Path::idle(alloc, model.clone()?, mode, 8, 2)
+    Ok(Path::idle(alloc, model.clone()?, mode, 8, 2)?)
 }
 
 /// A book of a model.
@@ -137,7 +151,7 @@ pub fn machine(
     requires { 1 ≤ workers }
 {
     let mode = mode(model.goal());
-    Machine::new(alloc, model.clone()?, mode, workers, 8, 2)
+    Ok(Machine::new(alloc, model.clone()?, mode, workers, 8, 2)?)
 }
 
 /// The first variable is a value, or it isn't.

@@ -4,7 +4,7 @@ ghost use Rattle.std.specs.Arc.{arc_value};
 
 use crate::models::{equals, least_of_three, one_of, two_that_differ};
 use fz_model::{Assignment, Goal, Model};
-use fz_path::{Space as Spaces, Status};
+use fz_search_space::{SearchSpace, Status};
 use fz_space::Space;
 use std::alloc::AllocError;
 use std::sync::Arc;
@@ -28,7 +28,7 @@ fn show(rt: &HostRuntime, what: &str, space: &mut Space) -> Result<(), AllocErro
 fn root(rt: &HostRuntime, model: Arc<Model>) -> Result<Space, AllocError>
     ensures { IfOk result (λ s. s.model ≡ arc_value model) }
 {
-    <Space as Spaces>::root(rt.alloc(), model)
+    Ok(<Space as SearchSpace>::root(rt.alloc(), model)?)
 }
 
 /// Both alternatives of the first variable, the second one on a copy.

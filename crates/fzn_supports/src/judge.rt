@@ -1,10 +1,10 @@
 //! Whether what a space leaves is what the assignments say.
 use crate::numbers::Declared;
-use crate::reader::model_of;
 use crate::rows::Rest;
 use fz_dom::Dom;
 use fz_model::{Assignment, Model};
-use fz_path::{Space as Spaces, Status};
+use fz_reader::model_of;
+use fz_search_space::{SearchSpace, Status};
 use fz_space::Space;
 use fz_truth::holds;
 use std::alloc::{AllocError, Global};
@@ -27,11 +27,11 @@ pub fn judge(
     rest: Rest,
 ) -> Result<Option<Judgement>, AllocError> {
     let model = match model_of(alloc, text.as_bytes())? {
-        Some(model) => shared(alloc, model)?,
-        None => return Ok(None),
+        Ok(model) => shared(alloc, model)?,
+        Err(_) => return Ok(None),
     };
     let solutions = solutions(alloc, &model, assignments)?;
-    let mut space = <Space as Spaces>::root(alloc, model)?;
+    let mut space = <Space as SearchSpace>::root(alloc, model)?;
     let status = space.status()?;
     let doms = space.store().doms();
     let agrees = match status {

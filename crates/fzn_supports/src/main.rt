@@ -5,7 +5,6 @@
 
 mod judge;
 mod numbers;
-mod reader;
 mod rows;
 mod table;
 

@@ -15,6 +15,8 @@ pub enum Numbers {
     Boolean,
     /// 0 alone.
     Zero,
+    /// The least and the greatest of all, -1 and 2.
+    Far,
 }
 
 /// A declaration of a variable, and the numbers that it leaves it.
@@ -32,13 +34,19 @@ impl Numbers {
         match self {
             Numbers::Signed => i32::from(place) - 2,
             Numbers::Counting | Numbers::Boolean | Numbers::Zero => i32::from(place),
+            Numbers::Far => match place {
+                0 => -2_147_483_646,
+                1 => -1,
+                2 => 2,
+                _ => 2_147_483_646,
+            },
         }
     }
 
     /// How many sets of these numbers there are.
     fn sets(self) -> u8 {
         match self {
-            Numbers::Signed | Numbers::Counting => 16,
+            Numbers::Signed | Numbers::Counting | Numbers::Far => 16,
             Numbers::Boolean => 4,
             Numbers::Zero => 2,
         }

@@ -26,7 +26,9 @@ const BOOLEAN: Numbers = Numbers::Boolean;
 
 const ZERO: Numbers = Numbers::Zero;
 
-static GROUPS: [Group; 18] = [
+const FAR: Numbers = Numbers::Far;
+
+static GROUPS: [Group; 28] = [
     Group {
         numbers: [SIGNED, SIGNED, ZERO],
         rest: Rest::Exact,
@@ -35,6 +37,8 @@ static GROUPS: [Group; 18] = [
             "int_ne(x, y)",
             "int_le(x, y)",
             "int_lt(x, y)",
+            "int_lin_eq([1, -1], [x, y], 1)",
+            "int_lin_eq([-1, 1], [x, y], 1)",
         ],
     },
     Group {
@@ -67,6 +71,11 @@ static GROUPS: [Group; 18] = [
             "int_lin_eq_reif([2, -1], [x, y], 0, z)",
             "int_lin_ne_reif([2, -1], [x, y], 0, z)",
             "int_lin_eq_reif([2147483646, -2147483646], [x, y], 0, z)",
+            "int_lin_eq_reif([1, 1], [x, x], -1, z)",
+            "int_lin_eq_reif([1, -1], [x, x], 0, z)",
+            "int_lin_eq_reif([0, 0], [x, y], 0, z)",
+            "int_lin_ne_reif([], [], 0, z)",
+            "int_lin_le_reif([], [], -1, z)",
         ],
     },
     Group {
@@ -175,6 +184,13 @@ static GROUPS: [Group; 18] = [
             "int_lin_ne([1, 1, -1], [x, y, x], 0)",
             "int_lin_le([1, 0, -2], [x, y, x], 0)",
             "int_lt(x, x)",
+            "int_lin_ne([0, 0], [x, y], 0)",
+            "int_lin_eq_reif([1, 1], [x, y], -3, true)",
+            "int_lin_le_reif([1, 1], [x, y], -3, false)",
+            "int_plus(x, 1, y)",
+            "fzn_cumulative([], [], [], x)",
+            "fzn_cumulative([0], [x], [y], 1)",
+            "fzn_cumulative([x], [2], [1], y)",
         ],
     },
     Group {
@@ -228,6 +244,101 @@ static GROUPS: [Group; 18] = [
             "fzn_cumulative([x, y], [2, 2], [1, z], 1)",
             "fzn_cumulative([x, 1], [y, 2], [1, 1], z)",
         ],
+    },
+    Group {
+        numbers: [COUNTING, COUNTING, ZERO],
+        rest: Rest::Exact,
+        constraints: &[
+            "fzn_table_int([x], [3, 1, 1, 7])",
+            "fzn_table_int([x], [])",
+            "fzn_table_int([x, 2], [1, 2, 3, 3, 0, 2])",
+            "fzn_table_int([2, 2], [1, 2, 2, 2])",
+            "array_int_element(2, [5, 3, 1, 0], y)",
+        ],
+    },
+    Group {
+        numbers: [COUNTING, COUNTING, ZERO],
+        rest: Rest::Sound,
+        constraints: &[
+            "fzn_table_int([x, x, y], [1, 2, 3, 2, 2, 1, 3, 3, 0])",
+            "array_int_element(x, [3, 2, 1], x)",
+            "array_var_int_element(2, [0, x], y)",
+            "all_different_int([x, x, y])",
+            "all_different_int([x, 1, 1])",
+            "all_different_int([x, 2, 3])",
+            "fzn_all_different_int([x, 2147483646, y])",
+        ],
+    },
+    Group {
+        numbers: [FAR, FAR, ZERO],
+        rest: Rest::Exact,
+        constraints: &[
+            "int_eq(x, y)",
+            "int_ne(x, y)",
+            "int_le(x, y)",
+            "int_lt(x, y)",
+            "set_in(x, -1..2147483646)",
+            "int_lin_ne([2147483646, 2147483646], [x, y], 0)",
+            "int_lin_le([2000000000, 1500000000], [x, y], 2000000000)",
+            "fzn_table_int([x, y], [-2147483646, 2147483646, 2, 2, 2147483646, -1])",
+        ],
+    },
+    Group {
+        numbers: [FAR, FAR, ZERO],
+        rest: Rest::Sound,
+        constraints: &[
+            "int_abs(x, y)",
+            "int_times(x, -1, y)",
+            "int_max(x, y, 2)",
+            "int_lin_eq([2147483646, 2147483646], [x, y], 0)",
+            "all_different_int([x, y, -1])",
+            "fzn_cumulative([x, y], [2147483646, 2], [1, 1], 1)",
+        ],
+    },
+    Group {
+        numbers: [FAR, FAR, BOOLEAN],
+        rest: Rest::Exact,
+        constraints: &[
+            "int_le_reif(x, y, z)",
+            "int_lin_le_reif([2147483646, 2147483646], [x, y], 0, z)",
+            "set_in_reif(x, {-2147483646, 2, 2147483646}, z)",
+        ],
+    },
+    Group {
+        numbers: [FAR, FAR, BOOLEAN],
+        rest: Rest::Sound,
+        constraints: &[
+            "int_eq_reif(x, y, z)",
+            "int_lin_eq_reif([2147483646, 2147483646], [x, y], 0, z)",
+        ],
+    },
+    Group {
+        numbers: [COUNTING, FAR, ZERO],
+        rest: Rest::Exact,
+        constraints: &["array_int_element(x, [2147483646, -2147483646, 2], y)"],
+    },
+    Group {
+        numbers: [FAR, FAR, FAR],
+        rest: Rest::Exact,
+        constraints: &[
+            "int_lin_le([2147483646, 2147483646, 2147483646], [x, y, z], 0)",
+            "int_lin_ne([2147483646, 2147483646, 2147483646], [x, y, z], -2147483646)",
+        ],
+    },
+    Group {
+        numbers: [FAR, FAR, FAR],
+        rest: Rest::Sound,
+        constraints: &[
+            "int_lin_eq([2147483646, 2147483646, 2147483646], [x, y, z], -2147483646)",
+            "int_times(x, y, z)",
+            "int_div(x, y, z)",
+            "array_var_int_element(x, [2147483646, y], z)",
+        ],
+    },
+    Group {
+        numbers: [FAR, FAR, SIGNED],
+        rest: Rest::Sound,
+        constraints: &["int_plus(x, y, z)", "int_mod(x, y, z)"],
     },
 ];
 

@@ -1,5 +1,6 @@
 //! Models with a goal, and the solutions that a run with `-a` prints: each better than the one before it, and the best last.
-use crate::running::expect_printed;
+use crate::running::{expect_printed, run};
+use fzn::Status;
 use std::test::Fail;
 
 /// A text, and what is printed of it.
@@ -41,6 +42,40 @@ fn rows() -> &'static [Row] {
 fn each_better_solution_is_printed(rt: HostRuntime) -> Result<(), Fail> {
     for (text, printed) in rows() {
         expect_printed(&rt, rt.alloc(), text.as_bytes(), printed)?;
+    }
+    Ok(())
+}
+
+/// A text, and what is printed of it where not all are to be shown.
+const BEST: [Row; 4] = [
+    (
+        "var 0..10: x :: output_var; var 0..10: y :: output_var; constraint int_lin_le([3,2],[x,y],12); solve maximize x;",
+        "x = 4;\ny = 0;\n----------\n==========\n",
+    ),
+    ("var 1..2: x; solve minimize 3;", "----------\n==========\n"),
+    (
+        "var 1..2: x; constraint int_le(3,x); solve minimize x;",
+        "=====UNSATISFIABLE=====\n",
+    ),
+    (
+        "var 2..5: x :: output_var; constraint int_lt(3,x); solve :: int_search([x],input_order,indomain_max) minimize x;",
+        "x = 4;\n----------\n==========\n",
+    ),
+];
+
+fn best() -> &'static [Row] {
+    &BEST
+}
+
+#[test]
+fn a_best_solution_is_printed_alone_or_last(rt: HostRuntime) -> Result<(), Fail> {
+    for (text, printed) in best() {
+        let alone = run(rt.alloc(), text.as_bytes(), &["-n", "5"])?;
+        assert_eq!(rt; alone.status, Status::Done);
+        assert_eq!(rt; alone.printed.as_slice(), printed.as_bytes());
+        let last = run(rt.alloc(), text.as_bytes(), &["-a"])?;
+        assert_eq!(rt; last.status, Status::Done);
+        assert!(rt; last.printed.ends_with(printed.as_bytes()));
     }
     Ok(())
 }

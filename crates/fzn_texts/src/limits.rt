@@ -27,6 +27,43 @@ fn the_sixty_fifth_bracket_is_refused(rt: HostRuntime) -> Result<(), Fail> {
     expect_printed(&rt, alloc, fine.as_bytes(), "----------\n==========\n")
 }
 
+#[test]
+fn of_a_bracket_too_many_and_a_token_too_many_the_first_counts(
+    rt: HostRuntime,
+) -> Result<(), Fail> {
+    let alloc = rt.alloc();
+    let mut behind = nested(alloc, 65)?;
+    behind.push_str(" x")?;
+    expect_refusal(&rt, alloc, behind.as_bytes(), 1, 138, 11)?;
+    let mut before = String::from_str(alloc, "x ")?;
+    before.push_str(&nested(alloc, 65)?)?;
+    expect_refusal(&rt, alloc, before.as_bytes(), 1, 1, 3)
+}
+
+#[test]
+fn the_first_byte_over_the_limit_is_refused(rt: HostRuntime) -> Result<(), Fail> {
+    let blanks = vec![in rt.alloc(); b' '; 67_108_865]?;
+    expect_refusal(&rt, rt.alloc(), &blanks, 1, 67_108_865, 11)
+}
+
+/// So many declarations.
+fn declarations(alloc: Global, count: u32) -> Result<String, AllocError> {
+    let mut text = String::with_capacity(alloc, 32_000_000)?;
+    for number in 0..count {
+        text.push_str(&format!(in alloc; "var 1..1: x{number};")?)?;
+    }
+    text.push_str("solve satisfy;")?;
+    Ok(text)
+}
+
+#[test]
+fn the_first_variable_over_the_limit_is_refused_at_its_name(rt: HostRuntime) -> Result<(), Fail> {
+    let many = declarations(rt.alloc(), 1_000_001)?;
+    // A million declarations of 12 bytes and a number, whose digits are 5,888,890; then ten bytes before the name.
+    let column = 12_000_000 + 5_888_890 + 11;
+    expect_refusal(&rt, rt.alloc(), many.as_bytes(), 1, column, 11)
+}
+
 /// An array of so many zeros.
 fn zeros(alloc: Global, count: usize) -> Result<String, AllocError> {
     let mut text = format!(in alloc; "array [1..{count}] of int: a = [0")?;

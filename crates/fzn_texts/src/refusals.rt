@@ -5,7 +5,7 @@ use std::test::Fail;
 /// A text of one line, the column of its fault and the number of the code. The rows are in the order of the codes.
 type Row = (&'static str, u32, u8);
 
-const ROWS: [Row; 104] = [
+const ROWS: [Row; 137] = [
     ("var 1..2: x; #", 14, 1),
     ("$ solve satisfy;", 1, 1),
     ("var 1..2: x = - 1; solve satisfy;", 15, 1),
@@ -17,6 +17,14 @@ const ROWS: [Row; 104] = [
         1,
     ),
     ("var 1..2: xé; solve satisfy;", 12, 1),
+    ("float: f = 1.5e+; solve satisfy;", 16, 1),
+    ("solve :: a(\"a\nb\") satisfy;", 12, 1),
+    ("solve :: a(\"a\\", 12, 1),
+    (
+        "int: n = 1.5e3$; int: m = 2147483647; solve satisfy;",
+        15,
+        1,
+    ),
     ("var 1..2147483647: x; solve satisfy;", 8, 2),
     ("var -2147483647..1: x; solve satisfy;", 5, 2),
     ("int: n = 0x7FFFFFFF; solve satisfy;", 10, 2),
@@ -27,6 +35,7 @@ const ROWS: [Row; 104] = [
         23,
         2,
     ),
+    ("int: n = 2147483647 #; solve satisfy;", 10, 2),
     ("solve satisfy", 14, 3),
     ("", 1, 3),
     ("var 1..2: x solve satisfy;", 13, 3),
@@ -50,6 +59,26 @@ const ROWS: [Row; 104] = [
     ("var 1..: x; solve satisfy;", 8, 3),
     ("var 1.2: x; solve satisfy;", 8, 3),
     ("set of set of int: s = {1}; solve satisfy;", 8, 3),
+    ("int: n = 0x; solve satisfy;", 11, 3),
+    ("int: n = 00x1; solve satisfy;", 12, 3),
+    ("int: n = 0o8; solve satisfy;", 11, 3),
+    ("int: n = 0xFg; solve satisfy;", 13, 3),
+    ("float: f = 1e; solve satisfy;", 13, 3),
+    ("var 1..2: x ::a:b; solve satisfy;", 16, 3),
+    ("var 1..2: solve; solve satisfy;", 11, 3),
+    ("% only a comment", 17, 3),
+    ("constraint int_ne(x,); solve satisfy;", 21, 3),
+    ("constraint f([1,[2]]); solve satisfy;", 17, 3),
+    ("var 1..2: x :: 3; solve satisfy;", 16, 3),
+    ("var 1..2; solve satisfy;", 9, 3),
+    ("array [1..2] of int: x = 3; solve satisfy;", 26, 3),
+    ("predicate p(int x); solve satisfy;", 17, 3),
+    ("solve minimize [x];", 16, 3),
+    (
+        "var 1..2: x :: a(b(c, {1,2}, [\"s\",]); solve satisfy;",
+        35,
+        3,
+    ),
     ("var 1..2: x; var 1..2: x; solve satisfy;", 24, 4),
     (
         "int: n = 1; array [1..1] of int: n = [1]; solve satisfy;",
@@ -100,6 +129,28 @@ const ROWS: [Row; 104] = [
     ("array [1..2] of int: a = [1,true]; solve satisfy;", 29, 6),
     ("var 1..2: x; int: n = x; solve satisfy;", 23, 6),
     ("int: n :: output_var = 1; solve satisfy;", 11, 6),
+    ("constraint bool_clause([7,-2],[]); solve satisfy;", 25, 6),
+    (
+        "array [1..2] of int: ns = [4,5]; var 1..2: x; constraint int_lin_le([7,x],ns,2); solve satisfy;",
+        72,
+        6,
+    ),
+    ("var bool: b; solve minimize b;", 29, 6),
+    (
+        "array [1..2] of var int: xs = [7,true]; solve satisfy;",
+        34,
+        6,
+    ),
+    (
+        "array [1..2] of set of int: xs = [7,8]; solve satisfy;",
+        35,
+        6,
+    ),
+    (
+        "array [1..2] of var bool: xs = [7,8]; solve satisfy;",
+        33,
+        6,
+    ),
     (
         "array [1..1] of var int: a :: output_var = [1]; solve satisfy;",
         31,
@@ -150,6 +201,7 @@ const ROWS: [Row; 104] = [
         8,
     ),
     ("constraint int_lin_lt([1],[x],2); solve satisfy;", 12, 8),
+    ("constraint g([],[true,false],1..3); solve satisfy;", 12, 8),
     ("var float: f; solve satisfy;", 5, 9),
     ("float: f = 1.5; solve satisfy;", 1, 9),
     ("var set of int: s; solve satisfy;", 5, 9),
@@ -196,6 +248,14 @@ const ROWS: [Row; 104] = [
         9,
     ),
     ("set of bool: s = {1}; solve satisfy;", 1, 9),
+    ("float: f = 1e5; solve satisfy;", 1, 9),
+    ("float: f = -1.5E-3; solve satisfy;", 1, 9),
+    ("var 1.5..2: f; solve satisfy;", 5, 9),
+    (
+        "int: n = 0x1F; set of int: s = 1..3; set of int: t = {}; float: f = 1.5e-3; bool: c = false; solve maximize x;",
+        58,
+        9,
+    ),
     (
         "array [1..1] of var int: a = [1]; array [1..2] of var int: a :: output_array([1..3]) = [1,2]; solve satisfy;",
         65,
@@ -226,6 +286,11 @@ const ROWS: [Row; 104] = [
         10,
     ),
     ("array [1..-1] of int: a = []; solve satisfy;", 23, 10),
+    (
+        "array [1..0] of var int: xs :: output_array([1..2,0..2]) = []; solve satisfy;",
+        32,
+        10,
+    ),
 ];
 
 fn rows() -> &'static [Row] {

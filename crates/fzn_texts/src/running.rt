@@ -14,26 +14,48 @@ use std::test::Fail;
 pub(crate) struct Outcome {
     pub status: Status,
     pub printed: Vec<u8>,
+    pub flushed: usize,
+    pub source_faults: u64,
 }
 
-/// A run with these words over standard input.
-pub(crate) fn run(alloc: Global, text: &[u8], words: &[&str]) -> Result<Outcome, AllocError> {
-    let mut texts = Vec::new(alloc);
-    texts.push(NamedText {
-        name: String::from_str(alloc, "-")?,
-        bytes: Vec::from_slice(alloc, text)?,
-    })?;
+pub(crate) fn strings(alloc: Global, words: &[&str]) -> Result<Vec<String>, AllocError> {
     let mut strings = Vec::new(alloc);
     for word in words {
         strings.push(String::from_str(alloc, word)?)?;
     }
-    let mut source = MemSource::new(texts, Vec::new(alloc));
-    let mut sink = MemSink::new(alloc, Vec::new(alloc));
-    let status = fzn(&(), alloc, &strings, &mut source, &mut sink, &NoGate);
+    Ok(strings)
+}
+
+/// A run over one text, which stands under the names `-` and `m.fzn`, with the calls of these numbers failing.
+pub(crate) fn run_failing(
+    alloc: Global,
+    text: &[u8],
+    words: &[&str],
+    source_fails: &[u64],
+    sink_fails: &[u64],
+) -> Result<Outcome, AllocError> {
+    let mut texts = Vec::new(alloc);
+    for name in ["-", "m.fzn"] {
+        texts.push(NamedText {
+            name: String::from_str(alloc, name)?,
+            bytes: Vec::from_slice(alloc, text)?,
+        })?;
+    }
+    let words = strings(alloc, words)?;
+    let mut source = MemSource::new(texts, Vec::from_slice(alloc, source_fails)?);
+    let mut sink = MemSink::new(alloc, Vec::from_slice(alloc, sink_fails)?);
+    let status = fzn(&(), alloc, &words, &mut source, &mut sink, &NoGate);
     Ok(Outcome {
         status,
         printed: Vec::from_slice(alloc, sink.bytes())?,
+        flushed: sink.flushed_count(),
+        source_faults: source.fault_count(),
     })
+}
+
+/// A run with these words, in which no call fails.
+pub(crate) fn run(alloc: Global, text: &[u8], words: &[&str]) -> Result<Outcome, AllocError> {
+    run_failing(alloc, text, words, &[], &[])
 }
 
 /// The pieces between lines of ten dashes, in sorted order, since blocks may come in any.
@@ -57,7 +79,7 @@ pub(crate) fn expect_printed(
     expect_printed_by(rt, alloc, text, &["-a"], printed)
 }
 
-/// The same of a run with these words.
+/// Runs a text with these words, and compares what is printed in that way.
 pub(crate) fn expect_printed_by(
     rt: &impl Abort,
     alloc: Global,
@@ -79,7 +101,7 @@ pub(crate) fn expect_printed_by(
     Ok(())
 }
 
-/// Runs a text that is refused, and compares the status.
+/// Runs a text that is refused, and compares the status and what is printed.
 pub(crate) fn expect_refusal(
     rt: &impl Abort,
     alloc: Global,
@@ -91,5 +113,11 @@ pub(crate) fn expect_refusal(
     let outcome = run(alloc, text, &["-a"])?;
     let refusal = Refusal { code, line, column };
     assert_eq!(rt; outcome.status, Status::Refused(refusal));
+    let zero = if code < 10 { "0" } else { "" };
+    let printed = format!(in alloc;
+        "% line {line}, column {column}: E{zero}{code}\n=====ERROR=====\n"
+    )?;
+    assert_eq!(rt; outcome.printed.as_slice(), printed.as_bytes());
+    assert_eq!(rt; outcome.flushed, printed.len());
     Ok(())
 }

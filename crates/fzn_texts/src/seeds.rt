@@ -3,10 +3,10 @@ ghost use Rattle.std.specs.Prelude.{◌≡◌, ◌≤◌};
 ghost use Rattle.fz_tree.specs.Better.{mode_of};
 
 use fz_account::Mode;
+use fz_book::End;
 use fz_machine::schedule::next_number;
 use fz_machine::{Event, Machine};
 use fz_model::{Assignment, Goal};
-use fz_solo::End;
 use fz_space::Space;
 use fzn::model_of;
 use std::alloc::Global;

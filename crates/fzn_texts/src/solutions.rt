@@ -1,11 +1,12 @@
 //! Texts that are accepted, and all their solutions.
-use crate::running::expect_printed;
+use crate::running::{expect_printed, run};
+use fzn::Status;
 use std::test::Fail;
 
 /// A text, and what is printed of it.
 type Row = (&'static str, &'static str);
 
-const ROWS: [Row; 15] = [
+const ROWS: [Row; 23] = [
     ("solve satisfy;", "----------\n==========\n"),
     ("var 3..1: x; solve satisfy;", "=====UNSATISFIABLE=====\n"),
     (
@@ -60,6 +61,35 @@ const ROWS: [Row; 15] = [
         "var int: y :: output_var; var 2147483646..2147483646: x :: output_var; constraint int_lin_eq([2147483646,2147483646],[x,y],0); solve satisfy;",
         "y = -2147483646;\nx = 2147483646;\n----------\n==========\n",
     ),
+    (
+        "predicate p(); predicate q(var bool: b, array [1..2,int] of set of 1..3: s, float: f); solve :: a(\"\u{e4}\",\"a\\\"b\") satisfy;",
+        "----------\n==========\n",
+    ),
+    (
+        "var 0..1: x ::var_is_introduced :: is_defined_var; var {1,3}: y :: output_var = 3; var bool: b :: output_var = true; solve satisfy;",
+        "y = 3;\nb = true;\n----------\ny = 3;\nb = true;\n----------\n==========\n",
+    ),
+    ("solve%c\nsatisfy;", "----------\n==========\n"),
+    (
+        "var 0..9: vars :: output_var; constraint int_eq(vars,007); solve satisfy;",
+        "vars = 7;\n----------\n==========\n",
+    ),
+    (
+        "var int: x :: output_var; constraint int_eq(x,-0x1F); var bool: r :: output_var; constraint int_eq_reif(0x7ffffffe,2147483646,r); solve satisfy;",
+        "x = -31;\nr = true;\n----------\n==========\n",
+    ),
+    (
+        "array [1..2] of int: ns = [4,-5]; array [1..2] of set of int: ss = [1..2,{}]; var int: x :: output_var; constraint array_int_maximum(x,ns); solve satisfy;",
+        "x = 4;\n----------\n==========\n",
+    ),
+    (
+        "var bool: b; array [1..2] of var bool: xs :: output_array([0..1]) = [b,true]; constraint array_bool_and(xs,true); solve satisfy;",
+        "xs = array1d(0..1, [true, true]);\n----------\n==========\n",
+    ),
+    (
+        "array [1..4] of var int: m :: output_array([1..2,0..1]) = [1,2,3,-4]; solve satisfy;",
+        "m = array2d(1..2, 0..1, [1, 2, 3, -4]);\n----------\n==========\n",
+    ),
 ];
 
 fn rows() -> &'static [Row] {
@@ -70,6 +100,34 @@ fn rows() -> &'static [Row] {
 fn all_solutions_are_printed(rt: HostRuntime) -> Result<(), Fail> {
     for (text, printed) in rows() {
         expect_printed(&rt, rt.alloc(), text.as_bytes(), printed)?;
+    }
+    Ok(())
+}
+
+/// Words, how many bytes are printed of three solutions, and whether `==========` stands at the end. A block has 18 bytes, that line
+/// 11.
+const COUNTS: [(&[&str], usize, bool); 7] = [
+    (&[], 18, false),
+    (&["-n", "1"], 18, false),
+    (&["-n", "2"], 36, false),
+    (&["-a", "-n", "3"], 54, false),
+    (&["-n", "4"], 65, true),
+    (&["-n", "0"], 65, true),
+    (&["-a"], 65, true),
+];
+
+fn counts() -> &'static [(&'static [&'static str], usize, bool)] {
+    &COUNTS
+}
+
+#[test]
+fn as_many_blocks_are_printed_as_are_asked_for(rt: HostRuntime) -> Result<(), Fail> {
+    let text = b"var 1..3: x :: output_var; solve satisfy;";
+    for (words, length, complete) in counts() {
+        let outcome = run(rt.alloc(), text, words)?;
+        assert_eq!(rt; outcome.status, Status::Done);
+        assert_eq!(rt; outcome.printed.len(), *length);
+        assert_eq!(rt; outcome.printed.ends_with(b"==========\n"), *complete);
     }
     Ok(())
 }

@@ -1,6 +1,6 @@
 use Rattle.std.proofs.Common.{◌∙◌, ℕ, subst, List, length, ◌≡◌, sym}
 use Rattle.std.specs.Prelude.{slice_index}
-use Rattle.fz_agenda.proofs.Words.{idle_zero}
+use Rattle.fz_agenda.proofs.StateBits.{idle_zero}
 use Rattle.fz_agenda.proofs.Standing.{agenda_idle}
 use Rattle.fz_agenda.proofs.agenda.clear.Goals as goal
 

@@ -1,6 +1,6 @@
 use Rattle.std.proofs.Common.{refl}
 use Rattle.fz_prop.proofs.Twice.{shrinks_twice}
-use Rattle.fz_alldiff.proofs.Resting.{clearing_more, rested_answer, rested_decided}
+use Rattle.fz_alldiff.proofs.Resting.{clearing_more, rested_answer}
 use Rattle.fz_alldiff.proofs.far.keep_each.Goals as goal
 
 pub returns-in_err-clear-clause-shrinks : goal.returns-in_err-clear-clause-shrinks
@@ -15,9 +15,7 @@ places-preserved c =
     c.clear.ensures.shrinks c.clear.ensures.correct (c.in_ok-clear.ensures.cleared c.if-not-branch.false) c.places.invariant
 
 pub returns-clause-answer : goal.returns-clause-answer
-returns-clause-answer c = rested_answer c.rested.result c.args.terms.now c.args.store.now c.places.store c.places.done.items c.requires c.places.invariant
-    (rw c.deref.ensures.value at c.in_default.ensures.none refl) (rw c.deref-2.ensures.value at c.rested.ensures)
-
-pub returns-clause-checking : goal.returns-clause-checking
-returns-clause-checking c = rested_decided c.rested.result c.args.terms.now c.args.store.now c.places.store c.places.done.items c.requires c.places.invariant
-    (rw c.deref.ensures.value at c.in_default.ensures.none refl) (rw c.deref-2.ensures.value at c.rested.ensures)
+returns-clause-answer c =
+    let all = rw c.deref-2.ensures.value at c.are_all_done.ensures in
+    rw c.rested.ensures (rested_answer c.are_all_done.result c.args.terms.now c.args.store.now c.places.store c.places.done.items c.requires c.places.invariant
+    (rw c.deref.ensures.value at c.in_default.ensures.none refl) all)

@@ -27,14 +27,14 @@ loop-place-preserved c =
     c.args.store.now c.loop-place.store c.step.new.store c.loop-place.place c.in_default-2.not-Wiped c.is_changed-changed-in_default-2.ensures
     c.in_ok-change-2.ensures.shrinks c.in_ok-change-2.ensures.correct c.in_ok-change-2.ensures.step c.loop-place.invariant
 
-pub rested-requires-clause-operands : goal.rested-requires-clause-operands
-rested-requires-clause-operands c =
+pub are_all_fixed-requires-clause-operands : goal.are_all_fixed-requires-clause-operands
+are_all_fixed-requires-clause-operands c =
     subst (λ (n : ℕ). AllByRecursion (IsTermOf n) c.args.operands.now) (sym c.loop-place.invariant.shrinks.narrower.size) c.requires.operands
 
 pub returns-clause-answer : goal.returns-clause-answer
-returns-clause-answer c =
-    rested_answer c.rested.result c.loop-place.changed (equation c.args.operation c.args.operands.now c.args.value) c.args.store.now c.loop-place.store c.loop-place.place
-    (omega (arith, c.loop-place-test.false)) (c.requires.value, c.requires.operands) c.loop-place.invariant c.rested.ensures
+returns-clause-answer c = rw c.rested.ensures
+    (rested_answer c.are_all_fixed.result c.loop-place.changed (equation c.args.operation c.args.operands.now c.args.value) c.args.store.now c.loop-place.store c.loop-place.place
+    (omega (arith, c.loop-place-test.false)) (c.requires.value, c.requires.operands) c.loop-place.invariant c.if-changed.false c.are_all_fixed.ensures)
 
 pub returns-in-Wiped-clause-answer : goal.returns-in-Wiped-clause-answer
 returns-in-Wiped-clause-answer c =

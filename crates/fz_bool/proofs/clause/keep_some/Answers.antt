@@ -17,9 +17,6 @@ returns-in-Nothing-clause-answer c = nothing_answer c.args.literals.now c.args.r
 pub returns-in-More-clause-answer : goal.returns-in-More-clause-answer
 returns-in-More-clause-answer c = two_line c.args.literals.now c.args.r c.args.store.now.doms c.requires.holds c.in-More.ensures
 
-pub returns-in-More-clause-checking : goal.returns-in-More-clause-checking
-returns-in-More-clause-checking c = λ fixed. absurd (two_not_fixed c.args.literals.now c.args.store.now.doms c.in-More.ensures fixed)
-
 about : (c : goal.After-settled) → IsAbout c.in-Last.literal.term (λ u. u ≡ true_number c.in-Last.literal) (TruthOf c.args.literals.now c.args.r) (LineOf c.args.literals.now c.args.r) c.args.store.now.doms
 about c = last_about c.args.literals.now c.args.r c.in-Last.literal c.args.store.now.doms c.requires.literals c.requires.result c.requires.holds c.in-Last.ensures
 

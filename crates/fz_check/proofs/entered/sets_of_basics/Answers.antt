@@ -7,7 +7,7 @@ use Rattle.fz_language.specs.Within.{BasicFits}
 use Rattle.fz_syntax.specs.Trees.{basic_of}
 use Rattle.fz_syntax.specs.declared.expression.Basic.{Basic}
 use Rattle.fz_resolve.specs.Meant.{environment_of}
-use Rattle.fz_resolve.proofs.Each.{each_more, each_stop}
+use Rattle.fz_language.proofs.Each.{each_more, each_stop}
 use Rattle.fz_check.proofs.EntryLaws.{at_item}
 use Rattle.fz_check.proofs.entered.sets_of_basics.Goals as goal
 

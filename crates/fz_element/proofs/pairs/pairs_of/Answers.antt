@@ -19,11 +19,11 @@ loop-place-preserved c =
     let ds = c.args.store.now.doms in
     let d = term_set ds c.args.index in
     let e = term_set ds c.args.value in
-    let fits_end : SFits w32 c.end_of-end.result = search rules in
+    let fits_end : SFits w32 c.index_end-end.result = search rules in
     let fits_j : SFits w32 j = search rules in
     let test = rw (to_z-of_z fits_end) at c.loop-place-test.true in
-    let below : j <ℤ c.end_of-end.result = grind (arith, ints, test) in
-    let next : to_z w32 (of_z w32 (j +ℤ pos 1)) ≡ j +ℤ pos 1 = to_z-of_z (fits_above c.end_of-end.result j below fits_j fits_end) in
+    let below : j <ℤ c.index_end-end.result = grind (arith, ints, test) in
+    let next : to_z w32 (of_z w32 (j +ℤ pos 1)) ≡ j +ℤ pos 1 = to_z-of_z (fits_above c.index_end-end.result j below fits_j fits_end) in
     elim c.match-paired.branch [
       | in-Some+in_ok-push+in_ok-push-2 w ↦
           let pair = w.in-Some.ensures in
@@ -42,9 +42,9 @@ returns c =
     let xs = c.args.numbers.now in
     let d = term_set c.args.store.now.doms c.args.index in
     let e = term_set c.args.store.now.doms c.args.value in
-    let fits_end : SFits w32 c.end_of-end.result = search rules in
+    let fits_end : SFits w32 c.index_end-end.result = search rules in
     let test = rw (to_z-of_z fits_end) at c.loop-place-test.false in
     let all : (k n : ℤ) → IsPair xs d e k n → k <ℤ j = λ k n pair.
-    let below = c.end_of-end.ensures.above k (element_to k xs n pair.stands) pair.index in grind (arith, ints, test, below) in
+    let below = c.index_end-end.ensures.above k (element_to k xs n pair.stands) pair.index in grind (arith, ints, test, below) in
     pairs_all xs d e c.loop-place.places.items c.loop-place.found.items c.in_ok-indices.indices c.in_ok-values.values j all c.loop-place.invariant
     (rw c.deref.ensures.value at c.in_ok-indices.ensures.one_set) (rw c.deref-2.ensures.value at c.in_ok-values.ensures.one_set)

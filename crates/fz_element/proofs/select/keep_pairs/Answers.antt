@@ -3,7 +3,7 @@ use Rattle.fz_sets.specs.Sets.{IsInSet}
 use Rattle.fz_strength.specs.Domains.{Within}
 use Rattle.fz_prop.specs.Stores.{Stored, IsTermOf}
 use Rattle.fz_prop.proofs.Twice.{shrinks_twice}
-use Rattle.fz_element.proofs.Keeping.{correct_once, correct_twice, fails_at_number, matched_now, rested_answer, rested_decided, falls_twice, changed_open}
+use Rattle.fz_element.proofs.Keeping.{correct_once, correct_twice, fails_at_number, matched_now, rested_answer, falls_twice}
 use Rattle.fz_element.proofs.select.keep_pairs.Goals as goal
 
 pub returns-in_err-second-clause-shrinks : goal.returns-in_err-second-clause-shrinks
@@ -48,12 +48,6 @@ returns-then-has_changed_both-clause-answer c =
     c.args.store.now c.keep_in.new.store c.keep_in-2.new.store (c.if-has_changed_both.ensures.0 refl).1
     c.in_ok-first.ensures.change c.in_ok-second.ensures.change c.in_ok-first.ensures.shrinks c.in_ok-second.ensures.shrinks
 
-pub returns-then-has_changed_both-clause-checking : goal.returns-then-has_changed_both-clause-checking
-returns-then-has_changed_both-clause-checking c = λ single.
-    absurd (changed_open c.in_ok-first.first c.in_ok-second.second c.args.index c.args.value (λ x. IsInSet c.args.indices.now x) (λ x. IsInSet c.args.values.now x)
-    c.args.store.now c.keep_in.new.store c.keep_in-2.new.store c.in_default.not-Wiped (c.if-has_changed_both.ensures.0 refl).1
-    c.in_ok-first.ensures.change c.in_ok-second.ensures.change single)
-
 pub returns-clause-shrinks : goal.returns-clause-shrinks
 returns-clause-shrinks c =
     shrinks_twice c.args.store.now c.keep_in.new.store c.keep_in-2.new.store c.in_ok-first.ensures.shrinks c.in_ok-second.ensures.shrinks
@@ -67,14 +61,9 @@ returns-clause-correct c =
 pub returns-clause-answer : goal.returns-clause-answer
 returns-clause-answer c =
     let narrower = (shrinks_twice c.args.store.now c.keep_in.new.store c.keep_in-2.new.store c.in_ok-first.ensures.shrinks c.in_ok-second.ensures.shrinks).narrower in
-    rested_answer c.rested.result c.args.index c.args.value c.args.numbers.now c.args.store.now.doms c.keep_in-2.new.store.doms
+    rw c.rested.ensures (rested_answer c.are_fixed.result c.args.index c.args.value c.args.numbers.now c.args.store.now.doms c.keep_in-2.new.store.doms
     (subst (λ n. IsTermOf n c.args.index) (sym narrower.size) c.requires.index) (subst (λ n. IsTermOf n c.args.value) (sym narrower.size) c.requires.value)
     (matched_now c.in_ok-first.first c.in_ok-second.second c.args.index c.args.value c.args.numbers.now c.args.indices.now c.args.values.now
     c.args.store.now c.keep_in.new.store c.keep_in-2.new.store c.in_default.not-Wiped c.in_default-second.not-Wiped
     (λ both. cc (c.if-has_changed_both.ensures.1 both)) c.requires.pairs c.in_ok-first.ensures.change c.in_ok-second.ensures.change)
-    c.rested.ensures
-
-pub returns-clause-checking : goal.returns-clause-checking
-returns-clause-checking c =
-    let narrower = (shrinks_twice c.args.store.now c.keep_in.new.store c.keep_in-2.new.store c.in_ok-first.ensures.shrinks c.in_ok-second.ensures.shrinks).narrower in
-    rested_decided c.rested.result c.args.index c.args.value c.args.store.now.doms c.keep_in-2.new.store.doms c.requires.value c.doms.ensures.store.domains narrower c.rested.ensures
+    c.are_fixed.ensures.0)

@@ -4,7 +4,7 @@ use Rattle.fz_engine.proofs.engine.run_all.Given as goal
 
 -- what ran so far
 abbrev pub invariant-steps : goal.invariant-steps
-invariant-steps l = record { run : IsRun l.kinds l.initial.store l.store l.agenda.states; drained : IsDrained l.store }
+invariant-steps l = record { run : IsRun l.network l.initial.store l.store l.agenda.states; drained : IsDrained l.store }
 
 abbrev pub decreases-steps : goal.decreases-steps
 decreases-steps l = work l.store l.agenda.states

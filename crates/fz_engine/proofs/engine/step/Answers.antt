@@ -6,9 +6,9 @@ use Rattle.fz_engine.proofs.engine.step.Goals as goal
 
 pub returns-in-None-clause-run : goal.returns-in-None-clause-run
 returns-in-None-clause-run c =
-    subst (λ (l : Lineup). IsRun c.args.kinds.now c.args.store.now c.args.store.now l.states) (sym c.next.ensures.same)
-    (run_none c.args.kinds.now c.args.store.now c.args.agenda.now.states c.doms.ensures.store c.requires.settled)
+    subst (λ (l : Lineup). IsRun c.args.network.now c.args.store.now c.args.store.now l.states) (sym c.next.ensures.same)
+    (run_none c.args.network.now c.args.store.now c.args.agenda.now.states c.doms.ensures.store c.requires.alive)
 
 pub returns-in-None-clause-progress : goal.returns-in-None-clause-progress
 returns-in-None-clause-progress c =
-    all_rest c.args.kinds.now c.args.agenda.now.states c.args.store.now c.doms.ensures.store c.requires.drained c.in-None.ensures.none c.requires.settled
+    all_rest c.args.network.now c.args.agenda.now.states c.args.store.now c.wakes.ensures.network c.doms.ensures.store c.requires.drained c.in-None.ensures.none c.requires.alive

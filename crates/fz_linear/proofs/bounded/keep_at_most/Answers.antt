@@ -13,7 +13,7 @@ returns-then-number-least-clause-answer c =
     let number_is : c.from-number.result ≡ c.args.number = rw (to_z-of_z c.ranges.number) at c.from-number.ensures in
     let test = rw (to_z-of_z fits_number, to_z-of_z fits_least, number_is) at c.if-number-least.true in
     let above : c.args.number <ℤ c.ends_of-least.result.least = grind (arith, ints, test) in
-    too_high c.args.factors.now c.args.terms.now c.args.number c.ends_of-least.result.least c.args.store.now c.args.store.now c.ends_of-least.ensures.domains c.requires.inside
+    too_high c.args.sum.now.factors.now c.args.sum.now.terms.now c.args.number c.ends_of-least.result.least c.args.store.now c.args.store.now c.ends_of-least.ensures.domains c.requires.inside
     c.ends_of-least.ensures.least above
 
 pub returns-then-greatest-number-clause-answer : goal.returns-then-greatest-number-clause-answer
@@ -23,7 +23,7 @@ returns-then-greatest-number-clause-answer c =
     let number_is : c.from-number.result ≡ c.args.number = rw (to_z-of_z c.ranges.number) at c.from-number.ensures in
     let test = rw (to_z-of_z fits_greatest, to_z-of_z fits_number, number_is) at c.if-greatest-number.true in
     let below : c.ends_of-least.result.greatest ≤ℤ c.args.number = grind (arith, ints, test) in
-    low_enough c.args.factors.now c.args.terms.now c.args.number c.ends_of-least.result.greatest c.args.store.now c.ends_of-least.ensures.domains c.requires.inside
+    low_enough c.args.sum.now.factors.now c.args.sum.now.terms.now c.args.number c.ends_of-least.result.greatest c.args.store.now c.ends_of-least.ensures.domains c.requires.inside
     c.ends_of-least.ensures.greatest below
 
 pub returns-in_err-tighten_all-clause-correct : goal.returns-in_err-tighten_all-clause-correct
@@ -32,7 +32,7 @@ returns-in_err-tighten_all-clause-correct c =
     let fits_number : SFits w128 c.from-number.result = search rules in
     let number_is : c.from-number.result ≡ c.args.number = rw (to_z-of_z c.ranges.number) at c.from-number.ensures in
     let slack : pos c.gap-slack.result ≡ c.args.number -ℤ c.ends_of-least.result.least = rw (to_z-of_z fits_number, to_z-of_z fits_least, number_is) at c.gap-slack.ensures in
-    at_most_correct c.args.factors.now c.args.terms.now c.args.number c.ends_of-least.result.least (pos c.gap-slack.result) c.args.store.now c.tighten_all.new.store
+    at_most_correct c.args.sum.now.factors.now c.args.sum.now.terms.now c.args.number c.ends_of-least.result.least (pos c.gap-slack.result) c.args.store.now c.tighten_all.new.store
     c.ends_of-least.ensures.least slack c.in_err-tighten_all.ensures.kept
 
 pub returns-then-branch-clause-correct : goal.returns-then-branch-clause-correct
@@ -41,34 +41,8 @@ returns-then-branch-clause-correct c =
     let fits_number : SFits w128 c.from-number.result = search rules in
     let number_is : c.from-number.result ≡ c.args.number = rw (to_z-of_z c.ranges.number) at c.from-number.ensures in
     let slack : pos c.gap-slack.result ≡ c.args.number -ℤ c.ends_of-least.result.least = rw (to_z-of_z fits_number, to_z-of_z fits_least, number_is) at c.gap-slack.ensures in
-    at_most_correct c.args.factors.now c.args.terms.now c.args.number c.ends_of-least.result.least (pos c.gap-slack.result) c.args.store.now c.tighten_all.new.store
+    at_most_correct c.args.sum.now.factors.now c.args.sum.now.terms.now c.args.number c.ends_of-least.result.least (pos c.gap-slack.result) c.args.store.now c.tighten_all.new.store
     c.ends_of-least.ensures.least slack c.in_ok-tighten_all.ensures.kept
-
-pub returns-then-branch-clause-checking : goal.returns-then-branch-clause-checking
-returns-then-branch-clause-checking c =
-    let fits_least : SFits w128 c.ends_of-least.result.least = search rules in
-    let fits_greatest : SFits w128 c.ends_of-least.result.greatest = search rules in
-    let fits_number : SFits w128 c.from-number.result = search rules in
-    let number_is : c.from-number.result ≡ c.args.number = rw (to_z-of_z c.ranges.number) at c.from-number.ensures in
-    let low = rw (to_z-of_z fits_number, to_z-of_z fits_least, number_is) at c.if-number-least.false in
-    let high = rw (to_z-of_z fits_greatest, to_z-of_z fits_number, number_is) at c.if-greatest-number.false in
-    let reached : c.ends_of-least.result.least ≤ℤ c.args.number = grind (arith, ints, low) in
-    let short : c.args.number <ℤ c.ends_of-least.result.greatest = grind (arith, ints, high) in
-    λ fixed. absurd (not_fixed c.args.factors.now c.args.terms.now c.args.number c.ends_of-least.result.least c.ends_of-least.result.greatest c.args.store.now.doms
-    c.ends_of-least.ensures.least c.ends_of-least.ensures.greatest reached short fixed)
-
-pub returns-clause-checking : goal.returns-clause-checking
-returns-clause-checking c =
-    let fits_least : SFits w128 c.ends_of-least.result.least = search rules in
-    let fits_greatest : SFits w128 c.ends_of-least.result.greatest = search rules in
-    let fits_number : SFits w128 c.from-number.result = search rules in
-    let number_is : c.from-number.result ≡ c.args.number = rw (to_z-of_z c.ranges.number) at c.from-number.ensures in
-    let low = rw (to_z-of_z fits_number, to_z-of_z fits_least, number_is) at c.if-number-least.false in
-    let high = rw (to_z-of_z fits_greatest, to_z-of_z fits_number, number_is) at c.if-greatest-number.false in
-    let reached : c.ends_of-least.result.least ≤ℤ c.args.number = grind (arith, ints, low) in
-    let short : c.args.number <ℤ c.ends_of-least.result.greatest = grind (arith, ints, high) in
-    λ fixed. absurd (not_fixed c.args.factors.now c.args.terms.now c.args.number c.ends_of-least.result.least c.ends_of-least.result.greatest c.args.store.now.doms
-    c.ends_of-least.ensures.least c.ends_of-least.ensures.greatest reached short fixed)
 
 pub returns-then-is_loose-clause-answer : goal.returns-then-is_loose-clause-answer
 returns-then-is_loose-clause-answer c =
@@ -78,18 +52,5 @@ returns-then-is_loose-clause-answer c =
     let low = rw (to_z-of_z fits_number, to_z-of_z fits_least, number_is) at c.if-number-least.false in
     let reached : c.ends_of-least.result.least ≤ℤ c.args.number = grind (arith, ints, low) in
     let slack : pos c.gap-slack.result ≡ c.args.number -ℤ c.ends_of-least.result.least = rw (to_z-of_z fits_number, to_z-of_z fits_least, number_is) at c.gap-slack.ensures in
-    at_most_rests c.args.factors.now c.args.terms.now c.args.number c.ends_of-least.result.least (pos c.gap-slack.result) c.args.store.now c.args.store.now
+    at_most_rests c.args.sum.now.factors.now c.args.sum.now.terms.now c.args.number c.ends_of-least.result.least (pos c.gap-slack.result) c.args.store.now c.args.store.now
     c.ends_of-least.ensures.least reached slack (refl, c.ends_of-least.ensures.loose c.gap-slack.result (c.is_loose.ensures.0 c.if-is_loose.true))
-
-pub returns-then-is_loose-clause-checking : goal.returns-then-is_loose-clause-checking
-returns-then-is_loose-clause-checking c =
-    let fits_least : SFits w128 c.ends_of-least.result.least = search rules in
-    let fits_greatest : SFits w128 c.ends_of-least.result.greatest = search rules in
-    let fits_number : SFits w128 c.from-number.result = search rules in
-    let number_is : c.from-number.result ≡ c.args.number = rw (to_z-of_z c.ranges.number) at c.from-number.ensures in
-    let low = rw (to_z-of_z fits_number, to_z-of_z fits_least, number_is) at c.if-number-least.false in
-    let high = rw (to_z-of_z fits_greatest, to_z-of_z fits_number, number_is) at c.if-greatest-number.false in
-    let reached : c.ends_of-least.result.least ≤ℤ c.args.number = grind (arith, ints, low) in
-    let short : c.args.number <ℤ c.ends_of-least.result.greatest = grind (arith, ints, high) in
-    λ fixed. absurd (not_fixed c.args.factors.now c.args.terms.now c.args.number c.ends_of-least.result.least c.ends_of-least.result.greatest c.args.store.now.doms
-    c.ends_of-least.ensures.least c.ends_of-least.ensures.greatest reached short fixed)

@@ -14,7 +14,7 @@ returns-then-number-least-clause-answer c =
     let number_is : c.from-number.result ≡ c.args.number = rw (to_z-of_z c.ranges.number) at c.from-number.ensures in
     let test = rw (to_z-of_z fits_number, to_z-of_z fits_least, number_is) at c.if-number-least.true in
     let above : c.args.number <ℤ c.ends_of-least.result.least = grind (arith, ints, test) in
-    over c.args.factors.now c.args.terms.now c.args.number c.ends_of-least.result.least c.args.store.now c.args.store.now c.ends_of-least.ensures.domains c.requires.inside c.ends_of-least.ensures.least above
+    over c.args.sum.now.factors.now c.args.sum.now.terms.now c.args.number c.ends_of-least.result.least c.args.store.now c.args.store.now c.ends_of-least.ensures.domains c.requires.inside c.ends_of-least.ensures.least above
 
 pub returns-then-greatest-number-clause-answer : goal.returns-then-greatest-number-clause-answer
 returns-then-greatest-number-clause-answer c =
@@ -23,7 +23,7 @@ returns-then-greatest-number-clause-answer c =
     let number_is : c.from-number.result ≡ c.args.number = rw (to_z-of_z c.ranges.number) at c.from-number.ensures in
     let test = rw (to_z-of_z fits_greatest, to_z-of_z fits_number, number_is) at c.if-greatest-number.true in
     let below : c.ends_of-least.result.greatest <ℤ c.args.number = grind (arith, ints, test) in
-    under c.args.factors.now c.args.terms.now c.args.number c.ends_of-least.result.greatest c.args.store.now c.args.store.now c.ends_of-least.ensures.domains c.requires.inside c.ends_of-least.ensures.greatest below
+    under c.args.sum.now.factors.now c.args.sum.now.terms.now c.args.number c.ends_of-least.result.greatest c.args.store.now c.args.store.now c.ends_of-least.ensures.domains c.requires.inside c.ends_of-least.ensures.greatest below
 
 pub returns-then-least-greatest-clause-answer : goal.returns-then-least-greatest-clause-answer
 returns-then-least-greatest-clause-answer c =
@@ -37,7 +37,7 @@ returns-then-least-greatest-clause-answer c =
     let short : c.args.number ≤ℤ c.ends_of-least.result.greatest = grind (arith, ints, high) in
     let whole : to_z w128 (of_z w128 c.ends_of-least.result.least) ≡ to_z w128 (of_z w128 c.ends_of-least.result.greatest) = ap (to_z w128) c.if-least-greatest.true in
     let same : c.ends_of-least.result.least ≡ c.ends_of-least.result.greatest = rw (to_z-of_z fits_least, to_z-of_z fits_greatest) at whole in
-    one_sum c.args.factors.now c.args.terms.now c.args.number c.ends_of-least.result.least c.ends_of-least.result.greatest c.args.store.now c.ends_of-least.ensures.domains c.requires.inside c.ends_of-least.ensures.least c.ends_of-least.ensures.greatest reached short same
+    one_sum c.args.sum.now.factors.now c.args.sum.now.terms.now c.args.number c.ends_of-least.result.least c.ends_of-least.result.greatest c.args.store.now c.ends_of-least.ensures.domains c.requires.inside c.ends_of-least.ensures.least c.ends_of-least.ensures.greatest reached short same
 
 pub returns-in_err-tighten_between-clause-correct : goal.returns-in_err-tighten_between-clause-correct
 returns-in_err-tighten_between-clause-correct c =
@@ -47,7 +47,7 @@ returns-in_err-tighten_between-clause-correct c =
     let number_is : c.from-number.result ≡ c.args.number = rw (to_z-of_z c.ranges.number) at c.from-number.ensures in
     let above : pos c.gap-above.result ≡ c.args.number -ℤ c.ends_of-least.result.least = rw (to_z-of_z fits_number, to_z-of_z fits_least, number_is) at c.gap-above.ensures in
     let below : pos c.gap-below.result ≡ c.ends_of-least.result.greatest -ℤ c.args.number = rw (to_z-of_z fits_number, to_z-of_z fits_greatest, number_is) at c.gap-below.ensures in
-    equal_correct c.args.factors.now c.args.terms.now c.args.number c.ends_of-least.result.least c.ends_of-least.result.greatest (pos c.gap-above.result) (pos c.gap-below.result) c.args.store.now c.tighten_between.new.store
+    equal_correct c.args.sum.now.factors.now c.args.sum.now.terms.now c.args.number c.ends_of-least.result.least c.ends_of-least.result.greatest (pos c.gap-above.result) (pos c.gap-below.result) c.args.store.now c.tighten_between.new.store
     c.ends_of-least.ensures.least c.ends_of-least.ensures.greatest above below c.in_err-tighten_between.ensures.kept
 
 pub returns-then-branch-clause-correct : goal.returns-then-branch-clause-correct
@@ -58,16 +58,8 @@ returns-then-branch-clause-correct c =
     let number_is : c.from-number.result ≡ c.args.number = rw (to_z-of_z c.ranges.number) at c.from-number.ensures in
     let above : pos c.gap-above.result ≡ c.args.number -ℤ c.ends_of-least.result.least = rw (to_z-of_z fits_number, to_z-of_z fits_least, number_is) at c.gap-above.ensures in
     let below : pos c.gap-below.result ≡ c.ends_of-least.result.greatest -ℤ c.args.number = rw (to_z-of_z fits_number, to_z-of_z fits_greatest, number_is) at c.gap-below.ensures in
-    equal_correct c.args.factors.now c.args.terms.now c.args.number c.ends_of-least.result.least c.ends_of-least.result.greatest (pos c.gap-above.result) (pos c.gap-below.result) c.args.store.now c.tighten_between.new.store
+    equal_correct c.args.sum.now.factors.now c.args.sum.now.terms.now c.args.number c.ends_of-least.result.least c.ends_of-least.result.greatest (pos c.gap-above.result) (pos c.gap-below.result) c.args.store.now c.tighten_between.new.store
     c.ends_of-least.ensures.least c.ends_of-least.ensures.greatest above below c.in_ok-tighten_between.ensures.kept
-
-pub returns-then-branch-clause-checking : goal.returns-then-branch-clause-checking
-returns-then-branch-clause-checking c =
-    λ fixed. absurd (not_one c.args.factors.now c.args.terms.now c.ends_of-least.result.least c.ends_of-least.result.greatest c.args.store.now.doms c.ends_of-least.ensures.least c.ends_of-least.ensures.greatest (λ same. c.if-least-greatest.false (ap (of_z w128) same)) fixed)
-
-pub returns-clause-checking : goal.returns-clause-checking
-returns-clause-checking c =
-    λ fixed. absurd (not_one c.args.factors.now c.args.terms.now c.ends_of-least.result.least c.ends_of-least.result.greatest c.args.store.now.doms c.ends_of-least.ensures.least c.ends_of-least.ensures.greatest (λ same. c.if-least-greatest.false (ap (of_z w128) same)) fixed)
 
 pub returns-clause-answer : goal.returns-clause-answer
 returns-clause-answer c =
@@ -81,7 +73,7 @@ returns-clause-answer c =
     let short : c.args.number ≤ℤ c.ends_of-least.result.greatest = grind (arith, ints, high) in
     let above : pos c.gap-above.result ≡ c.args.number -ℤ c.ends_of-least.result.least = rw (to_z-of_z fits_number, to_z-of_z fits_least, number_is) at c.gap-above.ensures in
     let below : pos c.gap-below.result ≡ c.ends_of-least.result.greatest -ℤ c.args.number = rw (to_z-of_z fits_number, to_z-of_z fits_greatest, number_is) at c.gap-below.ensures in
-    equal_rests c.args.factors.now c.args.terms.now c.args.number c.ends_of-least.result.least c.ends_of-least.result.greatest (pos c.gap-above.result) (pos c.gap-below.result) c.args.store.now
+    equal_rests c.args.sum.now.factors.now c.args.sum.now.terms.now c.args.number c.ends_of-least.result.least c.ends_of-least.result.greatest (pos c.gap-above.result) (pos c.gap-below.result) c.args.store.now
     c.tighten_between.new.store c.ends_of-least.ensures.least c.ends_of-least.ensures.greatest reached short above below (rw c.if-branch.false at c.in_ok-tighten_between.ensures.ok)
 
 pub returns-then-are_loose-clause-answer : goal.returns-then-are_loose-clause-answer
@@ -96,9 +88,5 @@ returns-then-are_loose-clause-answer c =
     let short : c.args.number ≤ℤ c.ends_of-least.result.greatest = grind (arith, ints, high) in
     let above : pos c.gap-above.result ≡ c.args.number -ℤ c.ends_of-least.result.least = rw (to_z-of_z fits_number, to_z-of_z fits_least, number_is) at c.gap-above.ensures in
     let below : pos c.gap-below.result ≡ c.ends_of-least.result.greatest -ℤ c.args.number = rw (to_z-of_z fits_number, to_z-of_z fits_greatest, number_is) at c.gap-below.ensures in
-    equal_rests c.args.factors.now c.args.terms.now c.args.number c.ends_of-least.result.least c.ends_of-least.result.greatest (pos c.gap-above.result) (pos c.gap-below.result) c.args.store.now
-    c.args.store.now c.ends_of-least.ensures.least c.ends_of-least.ensures.greatest reached short above below (refl, (c.ends_of-least.ensures.loose c.gap-above.result (c.are_loose.ensures.0 c.if-are_loose.true).0), near_negated c.args.factors.now c.args.terms.now c.args.store.now.doms (pos c.gap-below.result) (c.ends_of-least.ensures.loose c.gap-below.result (c.are_loose.ensures.0 c.if-are_loose.true).1))
-
-pub returns-then-are_loose-clause-checking : goal.returns-then-are_loose-clause-checking
-returns-then-are_loose-clause-checking c =
-    λ fixed. absurd (not_one c.args.factors.now c.args.terms.now c.ends_of-least.result.least c.ends_of-least.result.greatest c.args.store.now.doms c.ends_of-least.ensures.least c.ends_of-least.ensures.greatest (λ same. c.if-least-greatest.false (ap (of_z w128) same)) fixed)
+    equal_rests c.args.sum.now.factors.now c.args.sum.now.terms.now c.args.number c.ends_of-least.result.least c.ends_of-least.result.greatest (pos c.gap-above.result) (pos c.gap-below.result) c.args.store.now
+    c.args.store.now c.ends_of-least.ensures.least c.ends_of-least.ensures.greatest reached short above below (refl, (c.ends_of-least.ensures.loose c.gap-above.result (c.are_loose.ensures.0 c.if-are_loose.true).0), near_negated c.args.sum.now.factors.now c.args.sum.now.terms.now c.args.store.now.doms (pos c.gap-below.result) (c.ends_of-least.ensures.loose c.gap-below.result (c.are_loose.ensures.0 c.if-are_loose.true).1))

@@ -10,7 +10,7 @@ use Rattle.fz_strength.specs.declared.relation.Relation.TheVariants.{Equal}
 use Rattle.fz_strength.specs.Domains.{number_at}
 use Rattle.fz_strength.specs.Events.{IsFixedIn}
 use Rattle.fz_prop.specs.declared.answer.Answer.{Answer}
-use Rattle.fz_prop.specs.Answers.{IsCorrectOf, IsDecided}
+use Rattle.fz_prop.specs.Answers.{IsCorrectOf}
 use Rattle.fz_prop.proofs.Answering.{answer_twice, correct_twice}
 use Rattle.fz_prop.proofs.Twice.{shrinks_twice}
 use Rattle.fz_linear.specs.Differences.{DifferenceTruth, DifferenceLine, IsAnswerDifference}
@@ -57,15 +57,3 @@ returns-in_default-clause-answer c =
     (λ r h. answer_twice r (DifferenceTruth Equal d.first d.second d.above) (DifferenceLine Equal d.first d.second d.above) c.args.store.now c.keep_partners.new.store c.keep_second.new.store
     c.in_ok-keep_partners.ensures.shrinks (corrected c) h)
     c.keep_second.ensures.answer
-
-pub returns-in_default-clause-checking : goal.returns-in_default-clause-checking
-returns-in_default-clause-checking c =
-    let d = c.args.d in
-    let before = c.args.store.now in
-    let after = c.keep_partners.new.store in
-    let fits : SFits w32 d.above = search rules in
-    let partners = partners_after c.in_ok-keep_partners.field-0 d.first d.second d.above before after c.requires.apart (rw (to_z-of_z fits) at c.in_ok-keep_partners.ensures.change) c.in_default.not-Wiped in
-    IfOk-weaker c.keep_second.result (λ (r : Answer). IsFixedIn after.doms (Var d.first) → IsDecided r)
-    (λ (r : Answer). IsFixedIn before.doms (Var d.first) ⊎ IsFixedIn before.doms (Var d.second) → IsDecided r)
-    (λ r h fixed. h (first_fixed d.first d.second d.above before.doms after.doms c.requires.first c.keep_second.ensures.old_store.domains c.in_ok-keep_partners.ensures.shrinks.narrower partners fixed))
-    c.keep_second.ensures.checking

@@ -65,11 +65,3 @@ returns-in_default-clause-answer c =
     let d = c.args.d in
     answer_twice c.partnered-in_default.result (DifferenceTruth Equal d.first d.second d.above) (DifferenceLine Equal d.first d.second d.above) c.args.store.now c.keep_partners.new.store c.keep_partners.new.store
     c.in_ok-keep_partners.ensures.shrinks (corrected c) c.partnered-in_default.ensures.answer
-
-pub returns-in_default-clause-checking : goal.returns-in_default-clause-checking
-returns-in_default-clause-checking c = λ fixed.
-    c.partnered-in_default.ensures.checking (
-      fixed.0,
-      still_only c.args.store.now.doms c.keep_partners.new.store.doms (Var c.args.d.first) fixed.0 c.requires.first fixed.1
-          c.partnered-in_default.ensures.store.domains c.in_ok-keep_partners.ensures.shrinks.narrower,
-    )

@@ -12,8 +12,8 @@ returns-in-Equal-clause-answer c = rw c.in-Equal.is (rw (to_z-of_z c.ranges.numb
 
 pub returns-in-NotEqual-clause-answer : goal.returns-in-NotEqual-clause-answer
 returns-in-NotEqual-clause-answer c =
-    let ks = c.args.factors.now in
-    let ts = c.args.terms.now in
+    let ks = c.args.sum.now.factors.now in
+    let ts = c.args.sum.now.terms.now in
     let n = c.args.number in
     let before = c.args.store.now.doms in
     let after = c.keep_equal.new.store.doms in

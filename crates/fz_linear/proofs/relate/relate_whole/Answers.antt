@@ -10,9 +10,9 @@ use Rattle.fz_linear.proofs.relate.relate_whole.Goals as goal
 pub returns-in-Equal-Some-clause-correct : goal.returns-in-Equal-Some-clause-correct
 returns-in-Equal-Some-clause-correct c =
     let d = c.in-Equal-Some.difference in
-    let differs : IsDifferenceIn d c.args.factors.now c.args.terms.now c.args.number = rw (c.in-Equal-Some.is-1) at c.requires.differs in
-    let ks = c.args.factors.now in
-    let ts = c.args.terms.now in
+    let differs : IsDifferenceIn d c.args.sum.now.factors.now c.args.sum.now.terms.now c.args.number = rw (c.in-Equal-Some.is-1) at c.requires.differs in
+    let ks = c.args.sum.now.factors.now in
+    let ts = c.args.sum.now.terms.now in
     let above = differs.above in
     rw (c.in-Equal-Some.is-0, ← above)
     (same_correct (DifferenceTruth Equal d.first d.second d.above) (SumTruth Equal ks ts d.above) (DifferenceLine Equal d.first d.second d.above) (SumLine Equal ks ts d.above)
@@ -21,9 +21,9 @@ returns-in-Equal-Some-clause-correct c =
 pub returns-in-Equal-Some-clause-answer : goal.returns-in-Equal-Some-clause-answer
 returns-in-Equal-Some-clause-answer c =
     let d = c.in-Equal-Some.difference in
-    let differs : IsDifferenceIn d c.args.factors.now c.args.terms.now c.args.number = rw (c.in-Equal-Some.is-1) at c.requires.differs in
-    let ks = c.args.factors.now in
-    let ts = c.args.terms.now in
+    let differs : IsDifferenceIn d c.args.sum.now.factors.now c.args.sum.now.terms.now c.args.number = rw (c.in-Equal-Some.is-1) at c.requires.differs in
+    let ks = c.args.sum.now.factors.now in
+    let ts = c.args.sum.now.terms.now in
     let before = c.args.store.now.doms in
     let after = c.keep_above_by.new.store.doms in
     let above = differs.above in
@@ -36,9 +36,9 @@ returns-in-Equal-Some-clause-answer c =
 pub returns-in-NotEqual-Some-clause-correct : goal.returns-in-NotEqual-Some-clause-correct
 returns-in-NotEqual-Some-clause-correct c =
     let d = c.in-NotEqual-Some.difference in
-    let differs : IsDifferenceIn d c.args.factors.now c.args.terms.now c.args.number = rw (c.in-NotEqual-Some.is-1) at c.requires.differs in
-    let ks = c.args.factors.now in
-    let ts = c.args.terms.now in
+    let differs : IsDifferenceIn d c.args.sum.now.factors.now c.args.sum.now.terms.now c.args.number = rw (c.in-NotEqual-Some.is-1) at c.requires.differs in
+    let ks = c.args.sum.now.factors.now in
+    let ts = c.args.sum.now.terms.now in
     let above = differs.above in
     rw (c.in-NotEqual-Some.is-0, ← above)
     (same_correct (DifferenceTruth NotEqual d.first d.second d.above) (SumTruth NotEqual ks ts d.above) (DifferenceLine NotEqual d.first d.second d.above) (SumLine NotEqual ks ts d.above)
@@ -47,9 +47,9 @@ returns-in-NotEqual-Some-clause-correct c =
 pub returns-in-NotEqual-Some-clause-answer : goal.returns-in-NotEqual-Some-clause-answer
 returns-in-NotEqual-Some-clause-answer c =
     let d = c.in-NotEqual-Some.difference in
-    let differs : IsDifferenceIn d c.args.factors.now c.args.terms.now c.args.number = rw (c.in-NotEqual-Some.is-1) at c.requires.differs in
-    let ks = c.args.factors.now in
-    let ts = c.args.terms.now in
+    let differs : IsDifferenceIn d c.args.sum.now.factors.now c.args.sum.now.terms.now c.args.number = rw (c.in-NotEqual-Some.is-1) at c.requires.differs in
+    let ks = c.args.sum.now.factors.now in
+    let ts = c.args.sum.now.terms.now in
     let before = c.args.store.now.doms in
     let after = c.keep_apart_by.new.store.doms in
     let above = differs.above in

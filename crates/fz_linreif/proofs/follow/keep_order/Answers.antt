@@ -11,13 +11,13 @@ use Rattle.fz_linreif.proofs.follow.keep_order.Goals as goal
 
 pub returns-clause-correct : goal.returns-clause-correct
 returns-clause-correct c =
-    said_correct c.args.said AtMost c.args.factors.now c.args.terms.now c.args.number c.args.r c.args.store.now.doms c.relate_as-answer.new.store.doms c.requires.boolean c.requires.fixed
+    said_correct c.args.said AtMost c.args.sum.now.factors.now c.args.sum.now.terms.now c.args.number c.args.r c.args.store.now.doms c.relate_as-answer.new.store.doms c.requires.boolean c.requires.fixed
     (rw (to_z-of_z c.ranges.number) at c.relate_as-answer.ensures.correct)
 
 pub returns-clause-answer : goal.returns-clause-answer
 returns-clause-answer c =
-    let ks = c.args.factors.now in
-    let ts = c.args.terms.now in
+    let ks = c.args.sum.now.factors.now in
+    let ts = c.args.sum.now.terms.now in
     let n = c.args.number in
     let before = c.args.store.now.doms in
     let after = c.relate_as-answer.new.store.doms in

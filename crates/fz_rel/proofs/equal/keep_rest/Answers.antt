@@ -22,11 +22,3 @@ pub returns-in_default-clause-answer : goal.returns-in_default-clause-answer
 returns-in_default-clause-answer c =
     answer_twice c.same_now.result (TruthOf Equal (Var c.args.x) (Var c.args.y)) (LineOf Equal (Var c.args.x) (Var c.args.y)) c.args.store.now c.keep_among.new.store c.keep_among.new.store
     c.in_ok-keep_among.ensures.shrinks (corrected c) c.same_now.ensures.answer
-
-pub returns-in_default-clause-checking : goal.returns-in_default-clause-checking
-returns-in_default-clause-checking c = λ fixed.
-    c.same_now.ensures.checking (
-      fixed.0,
-      still_only c.args.store.now.doms c.keep_among.new.store.doms (Var c.args.x) fixed.0 c.requires.x fixed.1
-          c.same_now.ensures.store.domains c.in_ok-keep_among.ensures.shrinks.narrower,
-    )

@@ -5,11 +5,11 @@ use Rattle.fz_strength.specs.declared.relation.Relation.TheVariants.{Equal}
 use Rattle.fz_strength.specs.Domains.{dom_at}
 use Rattle.fz_strength.specs.Events.{IsFixedIn}
 use Rattle.fz_prop.specs.declared.answer.Answer.{Answer}
-use Rattle.fz_prop.specs.Answers.{IsCorrectOf, IsDecided}
+use Rattle.fz_prop.specs.Answers.{IsCorrectOf}
 use Rattle.fz_prop.proofs.Answering.{answer_twice, correct_twice}
 use Rattle.fz_prop.proofs.Filled.{still_only}
 use Rattle.fz_prop.proofs.Twice.{shrinks_twice}
-use Rattle.fz_rel.specs.Truths.{TruthOf, LineOf, IsAnswerAs, AreSingle}
+use Rattle.fz_rel.specs.Truths.{TruthOf, LineOf, IsAnswerAs}
 use Rattle.fz_rel.proofs.Equality.{correct_same}
 use Rattle.fz_rel.proofs.equal.keep_same.Goals as goal
 
@@ -33,15 +33,3 @@ returns-in_default-clause-answer c =
     (λ (r : Answer). IsAnswerAs Equal x y r c.args.store.now.doms c.keep_rest.new.store.doms)
     (λ r h. answer_twice r (TruthOf Equal x y) (LineOf Equal x y) c.args.store.now c.keep_among.new.store c.keep_rest.new.store c.in_ok-keep_among.ensures.shrinks (corrected c) h)
     c.keep_rest.ensures.answer
-
-pub returns-in_default-clause-checking : goal.returns-in_default-clause-checking
-returns-in_default-clause-checking c =
-    let x = Var c.args.x in
-    IfOk-weaker c.keep_rest.result (λ (r : Answer). IsFixedIn c.keep_among.new.store.doms x → IsDecided r)
-    (λ (r : Answer). AreSingle x (Var c.args.y) c.args.store.now.doms → IsDecided r)
-    (λ r h single. h (
-      single.0.0,
-      still_only c.args.store.now.doms c.keep_among.new.store.doms x single.0.0 c.requires.x single.0.1
-          c.keep_rest.ensures.old_store.domains c.in_ok-keep_among.ensures.shrinks.narrower,
-    ))
-    c.keep_rest.ensures.checking

@@ -9,8 +9,8 @@ use Rattle.fz_rel.specs.Truths.{gap_of}
 use Rattle.fz_rel.proofs.Orders.{all_ordered, line}
 use Rattle.fz_rel.proofs.order.ordered.Goals as goal
 
-pub returns-then-behind-least_of-clause-answer : goal.returns-then-behind-least_of-clause-answer
-returns-then-behind-least_of-clause-answer c =
+pub returns-then-behind-least_of : goal.returns-then-behind-least_of
+returns-then-behind-least_of c =
     let fits_greatest : SFits w32 c.greatest_of.result = search rules in
     let fits_behind : SFits w32 c.behind.result = search rules in
     let fits_least : SFits w32 c.least_of.result = search rules in
@@ -20,6 +20,6 @@ returns-then-behind-least_of-clause-answer c =
     all_ordered c.args.strict c.args.x c.args.y c.args.store.now.doms c.greatest_of.result c.least_of.result c.requires.x c.requires.y
     c.greatest_of.ensures.upper_bound c.least_of.ensures.lower_bound (rw (← behind) apart)
 
-pub returns-else-behind-least_of-clause-answer : goal.returns-else-behind-least_of-clause-answer
-returns-else-behind-least_of-clause-answer c =
+pub returns-else-behind-least_of : goal.returns-else-behind-least_of
+returns-else-behind-least_of c =
     line c.args.strict (term_set c.args.store.now.doms c.args.x) (term_set c.args.store.now.doms c.args.y) c.requires.lows c.requires.highs

@@ -2,7 +2,7 @@ use Rattle.std.proofs.Common.{ap, ◌∙◌, sym, Ok}
 use Rattle.fz_language.specs.Entries.{term_in}
 use Rattle.fz_syntax.specs.Trees.{basic_of}
 use Rattle.fz_resolve.specs.Meant.{environment_of}
-use Rattle.fz_resolve.proofs.Each.{each_more, each_stop}
+use Rattle.fz_language.proofs.Each.{each_more, each_stop}
 use Rattle.fz_resolve.proofs.resolve.terms_of_basics.Goals as goal
 
 pub returns-in-None : goal.returns-in-None

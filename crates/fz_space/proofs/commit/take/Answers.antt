@@ -6,7 +6,7 @@ pub returns-then-failed-clause-covers : goal.returns-then-failed-clause-covers
 returns-then-failed-clause-covers c = λ m known ds covers. covers_failed m c.args.store.now c.args.failed.now known ds c.args.decision c.if-failed.true covers
 
 pub returns-clause-alive : goal.returns-clause-alive
-returns-clause-alive c = λ m states alive not_failed. alive_lasts m states c.args.store.now c.decide.new.store c.decide.ensures.store c.decide.ensures.shrinks (alive c.if-failed.false)
+returns-clause-alive c = λ n states alive not_failed. alive_lasts n states c.args.store.now c.decide.new.store c.decide.ensures.store c.decide.ensures.shrinks (alive c.if-failed.false)
 
 pub returns-clause-covers : goal.returns-clause-covers
 returns-clause-covers c = λ m known ds covers. covers_taken m c.args.store.now c.decide.new.store c.args.failed.now known ds c.args.decision c.in_ok-left.left c.if-failed.false c.in_ok-left.ensures.decided covers

@@ -19,11 +19,11 @@ loop-place-preserved c =
     let ds = c.args.store.now.doms in
     let k = c.args.index in
     let v = c.args.value in
-    let fits_end : SFits w32 c.end_of-end.result = search rules in
+    let fits_end : SFits w32 c.index_end-end.result = search rules in
     let fits_j : SFits w32 j = search rules in
     let test = rw (to_z-of_z fits_end) at c.loop-place-test.true in
-    let below : j <ℤ c.end_of-end.result = grind (arith, ints, test) in
-    let next : to_z w32 (of_z w32 (j +ℤ pos 1)) ≡ j +ℤ pos 1 = to_z-of_z (fits_above c.end_of-end.result j below fits_j fits_end) in
+    let below : j <ℤ c.index_end-end.result = grind (arith, ints, test) in
+    let next : to_z w32 (of_z w32 (j +ℤ pos 1)) ≡ j +ℤ pos 1 = to_z-of_z (fits_above c.index_end-end.result j below fits_j fits_end) in
     elim c.match-choice.branch [
       | in-Some+in_ok-push w ↦
           let new = w.in-Some.ensures.choice in
@@ -40,8 +40,8 @@ returns c =
     let ds = c.args.store.now.doms in
     let k = c.args.index in
     let v = c.args.value in
-    let fits_end : SFits w32 c.end_of-end.result = search rules in
+    let fits_end : SFits w32 c.index_end-end.result = search rules in
     let test = rw (to_z-of_z fits_end) at c.loop-place-test.false in
     let all : (i : ℤ) (x : Term) → IsChoice xs k v ds i x → i <ℤ j = λ i x choice.
-    let below = c.end_of-end.ensures.above i (stands_to i xs x choice.stands) choice.index in grind (arith, ints, test, below) in
+    let below = c.index_end-end.ensures.above i (stands_to i xs x choice.stands) choice.index in grind (arith, ints, test, below) in
     choices_all xs k v ds c.loop-place.indices.items c.in_ok-indices.indices j all c.loop-place.invariant (rw c.deref.ensures.value at c.in_ok-indices.ensures.one_set)

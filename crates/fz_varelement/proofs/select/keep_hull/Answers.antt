@@ -20,15 +20,15 @@ keep_value-requires-clause-hull c =
     let same : c.keep_choices.new.store ≡ before = same_store k (IsChosenAt xs k v before.doms) before c.keep_choices.new.store (rw c.in-Same.is at c.in_ok-keep_choices.ensures.change) in
     subst (λ (s : Stored). IsHull xs k v s.doms c.hull_of-hull.result.low c.hull_of-hull.result.high) (sym same) c.hull_of-hull.ensures.hull
 
-pub returns-in_err-keep_between-in-Changed-clause-correct : goal.returns-in_err-keep_between-in-Changed-clause-correct
-returns-in_err-keep_between-in-Changed-clause-correct c = λ a holds within.
+pub returns-in_err-keep_range-in-Changed-clause-correct : goal.returns-in_err-keep_range-in-Changed-clause-correct
+returns-in_err-keep_range-in-Changed-clause-correct c = λ a holds within.
     let before = c.args.store.now in
     let xs = c.args.terms.now in
     let k = c.args.index in
     let v = c.args.value in
     let of : AreTermsOf (length before.doms) xs k v = record { index = c.requires.index; terms = c.requires.terms; value = c.requires.value } in
     let chosen = needs_choice xs k v before.doms of c.doms.ensures.store.domains in
-    subst (λ (s : Stored). Within s.doms a) (sym c.in_err-keep_between-in-Changed.ensures.err)
+    subst (λ (s : Stored). Within s.doms a) (sym c.in_err-keep_range-in-Changed.ensures.err)
     (step_correct c.in_ok-keep_choices.field-0 k (IsChosenAt xs k v before.doms) (IsChosen xs k v) before c.keep_choices.new.store chosen c.in_ok-keep_choices.ensures.change
     c.in_ok-keep_choices.ensures.shrinks a holds within)
 
@@ -55,9 +55,9 @@ returns-in-Wiped-2-clause-correct c =
     let fits_low : SFits w32 low = search rules in
     let fits_high : SFits w32 high = search rules in
     let value = needs_value xs k v before.doms low high of c.doms.ensures.store.domains c.hull_of-hull.ensures.hull in
-    correct_both c.in_ok-keep_choices.field-0 c.in_ok-keep_between-in-Changed.field-0 k v (IsChosenAt xs k v before.doms) (λ x. IsFromTo low high x) (IsChosen xs k v) before
-    c.keep_choices.new.store c.keep_between.new.store chosen value c.in_ok-keep_choices.ensures.change c.in_ok-keep_choices.ensures.shrinks
-    (rw (to_z-of_z fits_low, to_z-of_z fits_high) at c.in_ok-keep_between-in-Changed.ensures.change) c.in_ok-keep_between-in-Changed.ensures.shrinks
+    correct_both c.in_ok-keep_choices.field-0 c.in_ok-keep_range-in-Changed.field-0 k v (IsChosenAt xs k v before.doms) (λ x. IsFromTo low high x) (IsChosen xs k v) before
+    c.keep_choices.new.store c.keep_range.new.store chosen value c.in_ok-keep_choices.ensures.change c.in_ok-keep_choices.ensures.shrinks
+    (rw (to_z-of_z fits_low, to_z-of_z fits_high) at c.in_ok-keep_range-in-Changed.ensures.change) c.in_ok-keep_range-in-Changed.ensures.shrinks
 
 pub returns-in-Wiped-2-clause-narrowed : goal.returns-in-Wiped-2-clause-narrowed
 returns-in-Wiped-2-clause-narrowed c =
@@ -72,9 +72,9 @@ returns-in-Wiped-2-clause-narrowed c =
     let fits_low : SFits w32 low = search rules in
     let fits_high : SFits w32 high = search rules in
     let value = needs_value xs k v before.doms low high of c.doms.ensures.store.domains c.hull_of-hull.ensures.hull in
-    never_both c.in_ok-keep_choices.field-0 k v (IsChosenAt xs k v before.doms) (λ x. IsFromTo low high x) xs before c.keep_choices.new.store c.keep_between.new.store c.requires.value
+    never_both c.in_ok-keep_choices.field-0 k v (IsChosenAt xs k v before.doms) (λ x. IsFromTo low high x) xs before c.keep_choices.new.store c.keep_range.new.store c.requires.value
     chosen value c.in_ok-keep_choices.ensures.change c.in_ok-keep_choices.ensures.shrinks
-    (rw (c.in-Wiped-2.is, to_z-of_z fits_low, to_z-of_z fits_high) at c.in_ok-keep_between-in-Changed.ensures.change)
+    (rw (c.in-Wiped-2.is, to_z-of_z fits_low, to_z-of_z fits_high) at c.in_ok-keep_range-in-Changed.ensures.change)
 
 pub returns-in_default : goal.returns-in_default
 returns-in_default c =
@@ -90,10 +90,10 @@ returns-in_default c =
     let fits_high : SFits w32 high = search rules in
     let value = needs_value xs k v before.doms low high of c.doms.ensures.store.domains c.hull_of-hull.ensures.hull in
     record {
-      shrinks = shrinks_twice before c.keep_choices.new.store c.keep_between.new.store c.in_ok-keep_choices.ensures.shrinks c.in_ok-keep_between-in-Changed.ensures.shrinks;
-      correct = correct_both c.in_ok-keep_choices.field-0 c.in_ok-keep_between-in-Changed.field-0 k v (IsChosenAt xs k v before.doms) (λ x. IsFromTo low high x) (IsChosen xs k v) before
-          c.keep_choices.new.store c.keep_between.new.store chosen value c.in_ok-keep_choices.ensures.change c.in_ok-keep_choices.ensures.shrinks
-          (rw (to_z-of_z fits_low, to_z-of_z fits_high) at c.in_ok-keep_between-in-Changed.ensures.change) c.in_ok-keep_between-in-Changed.ensures.shrinks;
-      narrowed = less_both k v (IsChosenAt xs k v before.doms) xs before c.keep_choices.new.store c.keep_between.new.store
-          (rw c.in-Changed.is at c.in_ok-keep_choices.ensures.change) c.in_ok-keep_between-in-Changed.ensures.shrinks;
+      shrinks = shrinks_twice before c.keep_choices.new.store c.keep_range.new.store c.in_ok-keep_choices.ensures.shrinks c.in_ok-keep_range-in-Changed.ensures.shrinks;
+      correct = correct_both c.in_ok-keep_choices.field-0 c.in_ok-keep_range-in-Changed.field-0 k v (IsChosenAt xs k v before.doms) (λ x. IsFromTo low high x) (IsChosen xs k v) before
+          c.keep_choices.new.store c.keep_range.new.store chosen value c.in_ok-keep_choices.ensures.change c.in_ok-keep_choices.ensures.shrinks
+          (rw (to_z-of_z fits_low, to_z-of_z fits_high) at c.in_ok-keep_range-in-Changed.ensures.change) c.in_ok-keep_range-in-Changed.ensures.shrinks;
+      narrowed = less_both k (IsChosenAt xs k v before.doms) before c.keep_choices.new.store c.keep_range.new.store
+          (rw c.in-Changed.is at c.in_ok-keep_choices.ensures.change) c.in_ok-keep_range-in-Changed.ensures.shrinks;
     }

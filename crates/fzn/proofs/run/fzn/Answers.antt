@@ -1,6 +1,7 @@
 use Rattle.std.proofs.Common.{◌≡◌, None, refl, inr}
+use Rattle.std.specs.Prelude.{IfSome}
 use Rattle.fzn.specs.declared.status.Status.TheVariants.{NoMemory}
-use Rattle.fzn.specs.Promises.{AnswersAccepted, AnswersRefused, HasReadAll, HasSelected, SelectsOnce, text_for}
+use Rattle.fzn.specs.Promises.{AnswersAccepted, AnswersRefused, HasReadAll, HasSelected, IsDoneOrShort, IsUnrefused, SelectsOnce, text_for}
 use Rattle.fzn.proofs.Outcomes.{answers_accepted, answers_refused, at_options, runs_short, whatever, whichever}
 use Rattle.fzn.proofs.run.fzn.Goals as goal
 
@@ -40,3 +41,10 @@ returns-in-Err-clause-accepted g c = λ source sink.
 pub returns-in-Err-clause-refused : goal.returns-in-Err-clause-refused
 returns-in-Err-clause-refused g c = λ source sink.
     whatever _ (λ o. AnswersRefused NoMemory (text_for o (g.R.Source.texts c.args.source.now o.file))) (λ o text code line column is reads. inr refl)
+
+pub returns-in-Err-clause-unrefused : goal.returns-in-Err-clause-unrefused
+returns-in-Err-clause-unrefused g c = whatever _ (λ o. IfSome o.generate (λ _. IsUnrefused NoMemory)) (λ o. whichever o.generate (inr (inr refl)))
+
+pub returns-in-Err-clause-made : goal.returns-in-Err-clause-made
+returns-in-Err-clause-made g c = λ sink.
+    whatever _ (λ o. IfSome o.generate (λ _. IsDoneOrShort NoMemory)) (λ o. whichever o.generate (inr refl))

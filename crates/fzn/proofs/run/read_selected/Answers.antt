@@ -1,4 +1,4 @@
-use Rattle.fzn.proofs.Fronts.{read_of_all}
+use Rattle.fzn.proofs.WholeFiles.{read_of_all}
 use Rattle.fzn.proofs.run.read_selected.Goals as goal
 
 pub returns-in-Ok-Bytes-clause-read : goal.returns-in-Ok-Bytes-clause-read

@@ -1,5 +1,5 @@
-use Rattle.fz_agenda.proofs.Words.{joined_member}
+use Rattle.fz_agenda.proofs.Chunks.{listed_more}
 use Rattle.fz_agenda.proofs.members.Members.join.Goals as goal
 
 pub returns-clause-joined : goal.returns-clause-joined
-returns-clause-joined c = λ t i. rw (← c.self.view_is) (joined_member c.self.inside.word c.self.inside.bits c.args.place i c.if-place-self.false)
+returns-clause-joined c = λ t. rw (← c.self.view_is) (listed_more c.self.inside.chunk c.with-self-inside.result c.args.place c.with-self-inside.ensures.numbers)

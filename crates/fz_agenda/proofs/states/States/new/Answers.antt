@@ -1,5 +1,5 @@
-use Rattle.fz_agenda.proofs.Words.{made_of}
+use Rattle.fz_agenda.proofs.StateBits.{states_new}
 use Rattle.fz_agenda.proofs.states.States.new.Goals as goal
 
 pub returns : goal.returns
-returns c = made_of c.in_ok-alive.alive.items c.in_ok-queued.queued.items c.args.count (c.in_ok-alive.ensures.items_if_clones_equal (λ y e. e)) (c.in_ok-queued.ensures.items_if_clones_equal (λ y e. e))
+returns c = states_new c.in_ok-alive.alive c.in_ok-queued.queued c.args.count c.in_ok-alive.ensures.members c.in_ok-queued.ensures.none

@@ -1,23 +1,23 @@
 use Rattle.std.proofs.Common.{◌∙◌, ap, ℕ, List, arith}
 use Rattle.std.specs.Prelude.{slice_index}
-use Rattle.fz_agenda.proofs.Words.{within_states, within_words, states_gone}
+use Rattle.fz_agenda.proofs.StateBits.{within_states, within_words, states_gone, removed}
 use Rattle.fz_agenda.proofs.states.States.retire.Goals as goal
 
-pub clear_bit-requires : goal.clear_bit-requires
-clear_bit-requires c =
+pub remove-requires : goal.remove-requires
+remove-requires c =
     let now = c.self.inside in
     let is = ap (λ (xs : List ℕ). slice_index xs c.args.place) c.self.view_is ∙ c.requires in
-    within_words now.queued.items now.count c.args.place c.self.invariant.queued (within_states now.alive.items now.queued.items now.count c.args.place 1 is (omega arith))
+    within_words now.queued now.count c.args.place c.self.invariant.queued (within_states now.alive now.queued now.count c.args.place 1 is (omega arith))
 
-pub clear_bit-requires-2 : goal.clear_bit-requires-2
-clear_bit-requires-2 c =
+pub remove-requires-2 : goal.remove-requires-2
+remove-requires-2 c =
     let now = c.self.inside in
     let is = ap (λ (xs : List ℕ). slice_index xs c.args.place) c.self.view_is ∙ c.requires in
-    within_words now.alive.items now.count c.args.place c.self.invariant.alive (within_states now.alive.items now.queued.items now.count c.args.place 1 is (omega arith))
+    within_words now.alive now.count c.args.place c.self.invariant.alive (within_states now.alive now.queued now.count c.args.place 1 is (omega arith))
 
 pub returns : goal.returns
 returns c =
     let now = c.self.inside in
     let is = ap (λ (xs : List ℕ). slice_index xs c.args.place) c.self.view_is ∙ c.requires in
-    rw (← c.self.view_is) (states_gone now.alive.items now.queued.items c.clear_bit-2.new.words.items c.clear_bit.new.words.items now.count c.args.place
-    (within_states now.alive.items now.queued.items now.count c.args.place 1 is (omega arith)) c.clear_bit.ensures c.clear_bit-2.ensures)
+    rw (← c.self.view_is) (states_gone now.alive now.queued c.remove-2.new.self c.remove.new.self now.count c.args.place (within_states now.alive now.queued now.count c.args.place 1 is (omega arith))
+    (removed c.args.place now.queued c.remove.new.self c.remove.ensures.members) (removed c.args.place now.alive c.remove-2.new.self c.remove-2.ensures.members))

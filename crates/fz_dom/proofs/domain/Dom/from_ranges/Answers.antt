@@ -1,4 +1,4 @@
-use Rattle.std.proofs.Common.{◌≡◌, ◌∙◌, ℤ, pos, List, [], ◌∷◌, get_or, arith, rules, w32, to_z, of_z}
+use Rattle.std.proofs.Common.{◌≡◌, ℤ, pos, List, [], ◌∷◌, get_or, arith, rules, w32, to_z, of_z}
 use Rattle.std.proofs.lemmas.List.{nil_from_length}
 use Rattle.fz_sets.specs.Sets.{AreRanges, AreOneSet, interval}
 use Rattle.fz_dom.specs.Places.{bit_ranges}

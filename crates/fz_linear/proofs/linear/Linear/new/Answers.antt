@@ -8,13 +8,11 @@ pub invariant_of-result : goal.invariant_of-result
 invariant_of-result c =
     let fits : SFits w32 c.number_right-number.result = search rules in
     rw (to_z-of_z fits) (record {
-      relation_is = c.requires.relation;
+      bounded = c.requires.bounded;
       same = search rules;
       few = search rules;
       fits = search rules;
-      moved = search rules;
-      variables_are = search rules;
       allowed = search rules;
-      differs = rw (c.deref-3.ensures.value, c.deref-4.ensures.value, to_z-of_z fits) at c.difference_of-difference.ensures.some;
-      told = rw (c.deref-3.ensures.value, c.deref-4.ensures.value, to_z-of_z fits) at c.difference_of-difference.ensures.none;
+      differs = rw (c.deref-2.ensures.value, c.deref-3.ensures.value, to_z-of_z fits) at c.difference_of-difference.ensures.some;
+      told = rw (c.deref-2.ensures.value, c.deref-3.ensures.value, to_z-of_z fits) at c.difference_of-difference.ensures.none;
     })

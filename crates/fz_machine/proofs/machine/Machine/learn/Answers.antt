@@ -1,7 +1,7 @@
 use Rattle.std.proofs.Common.{sym, subst}
-use Rattle.fz_machine.specs.declared.event.Event.TheVariants as event
-use Rattle.fz_machine.specs.Cores.{Core, CoreLaw}
-use Rattle.fz_machine.proofs.Keeping.{event_keeps}
+use Rattle.fz_core.specs.declared.event.Event.TheVariants as event
+use Rattle.fz_core.specs.Cores.{Core, CoreLaw}
+use Rattle.fz_core.proofs.Keeping.{event_keeps}
 use Rattle.fz_machine.proofs.AsCode.{on_err, learn_code, unlearned_code}
 use Rattle.fz_machine.proofs.machine.Machine.learn.Goals as goal
 

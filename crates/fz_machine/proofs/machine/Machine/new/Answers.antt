@@ -5,5 +5,5 @@ use Rattle.fz_machine.proofs.machine.Machine.new.Goals as goal
 
 pub invariant_of-result : goal.invariant_of-result
 invariant_of-result g c =
-    new_law (arc_value c.args.model) c.args.mode c.args.workers c.loop-worker._worker c.args.commit_distance c.args.adaptive_distance c.loop-worker.slots.items c.in-Ok.book.book c.requires.mode c.requires.workers (omega arith) c.requires.commit_distance c.requires.adaptive_distance
-    c.loop-worker.invariant (omega arith) c.in-Ok.ensures.ok
+    new_law (arc_value c.args.model) c.args.mode c.args.workers c.args.commit_distance c.args.adaptive_distance c.in-Ok.slots.items c.in_ok-book.book.book c.requires.mode c.requires.workers (omega arith) c.requires.commit_distance c.requires.adaptive_distance
+    c.in-Ok.ensures c.in_ok-book.ensures.ok

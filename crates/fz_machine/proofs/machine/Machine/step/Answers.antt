@@ -1,5 +1,5 @@
 use Rattle.std.proofs.Common.{◌∙◌, sym}
-use Rattle.fz_machine.specs.Cores.{Core}
+use Rattle.fz_core.specs.Cores.{Core}
 use Rattle.fz_machine.proofs.AsCode.{on_err, step_code, stay_code, never_idle, step_law}
 use Rattle.fz_machine.proofs.machine.Machine.step.Goals as goal
 

@@ -1,5 +1,0 @@
-use Rattle.fz_bool.proofs.Names.{event_is}
-use Rattle.fz_bool.proofs.clause.ClausePropagator.event.Goals as goal
-
-pub returns : goal.returns
-returns c = let p = c.self.inside in rw (← c.self.view_is) (λ w at. event_is p.constraint p.literals.items p.r p.variables.items w c.args.place c.self.invariant at)

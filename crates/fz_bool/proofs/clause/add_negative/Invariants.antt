@@ -1,0 +1,7 @@
+use Rattle.std.proofs.Common.{◌≡◌, ◌++◌, map, take}
+use Rattle.fz_strength.specs.Clauses.{negative}
+use Rattle.fz_bool.proofs.clause.add_negative.Given as goal
+
+-- those of the terms so far
+abbrev pub invariant-loop-term : goal.invariant-loop-term
+invariant-loop-term l = l.literals.items ≡ l.initial.literals.items ++ map negative (take l.term-index l.terms)

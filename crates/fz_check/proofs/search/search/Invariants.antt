@@ -1,8 +1,0 @@
-use Rattle.fz_syntax.specs.Trees as trees
-use Rattle.fz_resolve.specs.Meant.{environment_of}
-use Rattle.fz_check.proofs.SearchLaws.{Searched}
-use Rattle.fz_check.proofs.search.search.Given as goal
-
--- those of the annotations so far
-abbrev pub invariant-loop-annotation : goal.invariant-loop-annotation
-invariant-loop-annotation l = Searched (environment_of l.names) trees.annotation_of l.annotations l.annotation-index l.words l.parts.items

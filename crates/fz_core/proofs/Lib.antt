@@ -1,0 +1,10 @@
+pub mod Frontiers
+pub mod Held
+pub mod Keeping
+pub mod Order
+pub mod Once
+pub mod Ends
+pub mod Sums
+pub mod Reaching
+pub mod Steps
+pub mod Workers

@@ -1,0 +1,5 @@
+pub mod Cores
+pub mod Events
+pub mod Lawful
+pub mod Laws
+pub mod Runs

@@ -1,0 +1,12 @@
+pub mod Parts
+pub mod Reading
+pub mod Peaks
+pub mod Blocking
+pub mod Conflicts
+pub mod Whole
+pub mod Stretches
+pub mod Sharing
+pub mod Stepping
+pub mod Narrowing
+pub mod FreeStarts
+pub mod Resting

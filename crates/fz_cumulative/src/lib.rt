@@ -1,0 +1,13 @@
+//! The propagator of tasks that share a bounded resource, by the profile of what each is sure to use (Beldiceanu, Carlsson: "A new
+//! multi-resource cumulatives constraint with negative heights"; Gay, Hartert, Schaus: "Simple and scalable time-table filtering for
+//! the cumulative constraint").
+#![tactic(auto)]
+
+pub mod cumulative;
+mod finding;
+mod narrow;
+mod profile;
+mod starting;
+mod tasks;
+
+pub use cumulative::Cumulative;

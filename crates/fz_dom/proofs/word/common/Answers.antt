@@ -1,5 +1,0 @@
-use Rattle.fz_dom.proofs.Words.{and_bits}
-use Rattle.fz_dom.proofs.word.common.Goals as goal
-
-pub returns : goal.returns
-returns c = λ i l. and_bits c.args.a c.args.b i

@@ -1,5 +1,0 @@
-use Rattle.fz_dom.proofs.Words.{lowered_iff}
-use Rattle.fz_dom.proofs.word.lowered.Goals as goal
-
-pub returns : goal.returns
-returns c = λ i l. lowered_iff c.args.word c.args.by i

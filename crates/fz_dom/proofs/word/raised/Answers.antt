@@ -1,5 +1,0 @@
-use Rattle.fz_dom.proofs.Words.{raised_bits}
-use Rattle.fz_dom.proofs.word.raised.Goals as goal
-
-pub returns : goal.returns
-returns c = λ i l. raised_bits c.args.word c.args.by i c.requires l

@@ -1,5 +1,0 @@
-use Rattle.fz_dom.proofs.Words.{run_bits}
-use Rattle.fz_dom.proofs.word.run_of.Goals as goal
-
-pub returns : goal.returns
-returns c = λ i l. run_bits c.args.first c.args.last i c.requires.first c.requires.last l

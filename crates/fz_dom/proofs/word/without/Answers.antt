@@ -1,7 +1,0 @@
-use Rattle.std.proofs.Common.{rules}
-use Rattle.std.proofs.Common.{rules}
-use Rattle.fz_dom.proofs.Words.{without_bits}
-use Rattle.fz_dom.proofs.word.without.Goals as goal
-
-pub returns : goal.returns
-returns c = λ i l. without_bits c.args.a c.args.b i (search rules) l

@@ -1,0 +1,184 @@
+//! What the spaces of a model share.
+ghost use Rattle.std.specs.Prelude.{◌≡◌, ◌<◌, ◌≤◌, ◌^◌, List, ◌∷◌, [], ◌++◌, length, map, IfOk, OnOk, slice_get, Some};
+ghost use Rattle.std.specs.List.{AllByRecursion};
+ghost use Rattle.std.specs.Arc.{arc_value};
+ghost use Rattle.fz_model.specs.Kept.{IsModel};
+ghost use Rattle.fz_strength.specs.Costs.{cost_of};
+ghost use Rattle.fz_strength.specs.Events.{AreBelow};
+ghost use Rattle.fz_strength.specs.Sayings as said;
+ghost use Rattle.fz_strength.specs.Sayings.{said_terms, saying_of, waits_of};
+ghost use Rattle.fz_prop.specs.Stores.{FitsTerm, Stored};
+ghost use Rattle.fz_says.specs.Fits.{FitsSum};
+ghost use Rattle.fz_says.specs.Said.{said_by, waits_in};
+ghost use Rattle.fz_propagators.specs.Forms.{said_of};
+ghost use Rattle.fz_agenda.specs.Agendas.{IsSettled};
+ghost use Rattle.fz_agenda.specs.Wakes.{IsListedAt, HaveSize, Extends};
+ghost use Rattle.fz_engine.specs.Networks.{IsFull, IsListing, IsNetwork, sayings_of};
+
+use fz_agenda::{Agenda, Wakes};
+use fz_prop::Cost;
+use fz_propagators::AnyPropagator;
+use fz_says::{Saying, Wait};
+use std::alloc::{AllocError, Global};
+use std::marker::Model;
+use std::sync::Arc;
+
+/// A model, propagators of what its constraints say, and who waits for which change. It never changes.
+#[derive(Drop)]
+pub struct Network {
+    model: Arc<fz_model::Model>,
+    propagators: Vec<AnyPropagator>,
+    wakes: Wakes,
+}
+
+impl Model for Network {
+    ghost use Rattle.std.specs.Arc.{arc_value};
+    ghost use Rattle.fz_engine.specs.Networks.{Networked, IsNetwork, sayings_of};
+
+    ghost Value = { Networked };
+
+    ghost view = { λ n. record {
+      model = arc_value n.model;
+      sayings = sayings_of n.propagators.items;
+      wakes = n.wakes;
+    } };
+
+    ghost invariant = { λ n. IsNetwork (record {
+      model = arc_value n.model;
+      sayings = sayings_of n.propagators.items;
+      wakes = n.wakes;
+    }) };
+}
+
+impl Network {
+    /// The network of a model.
+    ///
+    /// # Errors
+    /// `AllocError` where there is no memory.
+    pub fn new(alloc: Global, model: Arc<fz_model::Model>) -> Result<Network, AllocError>
+        ensures { IfOk result (λ n. n.model ≡ arc_value model) }
+    {
+        let Posted { propagators, wakes } = post_all(alloc, &model)?;
+        Ok(Network {
+            model,
+            propagators,
+            wakes,
+        })
+    }
+
+    /// The model.
+    pub fn model(&self) -> &fz_model::Model
+        ensures model { result.now ≡ self.now.model }
+        ensures kept { IsModel self.now.model }
+        ensures network { IsNetwork self.now }
+    {
+        let model = &self.model;
+        let _ = model.variables();
+        model
+    }
+
+    /// The propagator at a place.
+    pub fn propagator(&self, place: u32) -> &AnyPropagator
+        requires { place < length self.now.sayings }
+        ensures { slice_get self.now.sayings place ≡ Some (said_of result.now) }
+    {
+        &self.propagators[place as usize]
+    }
+
+    /// Who waits for which change.
+    pub fn wakes(&self) -> &Wakes
+        ensures wakes { result.now ≡ self.now.wakes }
+        ensures network { IsNetwork self.now }
+    {
+        &self.wakes
+    }
+
+    /// An agenda on which each propagator is queued.
+    ///
+    /// # Errors
+    /// `AllocError` where there is no memory.
+    pub fn agenda(&self, alloc: Global) -> Result<Agenda, AllocError>
+        ensures settled { IfOk result
+            (λ a. (s : Stored) → IsSettled self.now.sayings a.states s) }
+        ensures full { IfOk result (λ a. IsFull (map cost_of self.now.sayings) a) }
+    {
+        full_agenda(alloc, self.wakes.costs())
+    }
+}
+
+/// Propagators, and who of them waits for which change.
+#[derive(Drop)]
+struct Posted {
+    propagators: Vec<AnyPropagator>,
+    wakes: Wakes,
+}
+
+/// A propagator of what each constraint of a model says.
+fn post_all(alloc: Global, model: &fz_model::Model) -> Result<Posted, AllocError>
+    ensures said { IfOk result (λ p. sayings_of p.propagators.items
+        ≡ map saying_of model.now.constraints) }
+    ensures listing { IfOk result (λ p. IsListing (sayings_of p.propagators.items) p.wakes
+        (length model.now.variables)) }
+    ensures kept { IsModel model.now }
+{
+    let constraints = model.constraints();
+    let mut posted = Posted {
+        propagators: Vec::with_capacity(alloc, constraints.len())?,
+        wakes: Wakes::new(alloc, model.variables().len())?,
+    };
+    for constraint in constraints {
+        post(alloc, &mut posted, &Saying::of(constraint))?;
+    }
+    Ok(posted)
+}
+
+/// Adds a propagator of what is said.
+fn post(alloc: Global, posted: &mut Posted, saying: &Saying) -> Result<(), AllocError>
+    requires fits { AllByRecursion FitsTerm (said_terms (said_by saying.now)) }
+    requires sum { FitsSum (said_by saying.now) }
+    requires inside { AreBelow (waits_of (said_by saying.now)) (length posted.old.wakes.any) }
+    requires few { length posted.old.propagators.items < 2 ^ 32 }
+    requires listing { IsListing (sayings_of posted.old.propagators.items) posted.old.wakes
+        (length posted.old.wakes.any) }
+    ensures said { OnOk result (sayings_of posted.new.propagators.items
+        ≡ sayings_of posted.old.propagators.items ++ said_by saying.now ∷ []) }
+    ensures listing { OnOk result (IsListing (sayings_of posted.new.propagators.items)
+        posted.new.wakes (length posted.old.wakes.any)) }
+{
+    let place = posted.wakes.costs().len() as u32;
+    posted.wakes.add_cost(saying.cost())?;
+    let waits = saying.waits(alloc)?;
+    list(&mut posted.wakes, &waits, place)?;
+    let propagator = AnyPropagator::of(alloc, saying)?;
+    posted.propagators.push(propagator)?;
+    Ok(())
+}
+
+/// Lists a propagator at each change that it waits for.
+fn list(wakes: &mut Wakes, waits: &[Wait], place: u32) -> Result<(), AllocError>
+    requires size { HaveSize wakes.old (length wakes.old.any) }
+    requires inside { AreBelow (waits_in waits.now) (length wakes.old.any) }
+    ensures size { HaveSize wakes.new (length wakes.old.any) }
+    ensures extends { Extends wakes.old wakes.new }
+    ensures listed { OnOk result (IsListedAt wakes.new place (waits_in waits.now)) }
+    ensures costs { wakes.new.costs ≡ wakes.old.costs }
+{
+    for wait in waits {
+        wakes.list(wait.variable, wait.event, place)?;
+    }
+    Ok(())
+}
+
+/// An agenda on which propagators of these costs are queued.
+fn full_agenda(alloc: Global, costs: &[Cost]) -> Result<Agenda, AllocError>
+    requires few { length costs.now ≤ 2 ^ 32 }
+    ensures settled { IfOk result (λ a. (sayings : List said.Saying) (s : Stored)
+        → costs.now ≡ map cost_of sayings → IsSettled sayings a.states s) }
+    ensures full { IfOk result (λ a. IsFull costs.now a) }
+{
+    let mut agenda = Agenda::new(alloc, costs.len())?;
+    for (place, cost) in costs.iter().enumerate() {
+        agenda.wake(place as u32, *cost)?;
+    }
+    Ok(agenda)
+}

@@ -1,6 +1,0 @@
-use Rattle.fz_machine.proofs.Reaching.{reaches_law}
-use Rattle.fz_machine.proofs.Once.{each_is_once}
-use Rattle.fz_machine.proofs.laws.each_is_once.Goals as goal
-
-pub returns : goal.returns
-returns c = λ s a reaches all satisfies. each_is_once s a (reaches_law s reaches) all satisfies

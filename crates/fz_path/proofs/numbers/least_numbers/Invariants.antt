@@ -1,7 +1,0 @@
-use Rattle.std.proofs.Common.{◌≡◌, map, take}
-use Rattle.fz_dom.specs.Shape.{least}
-use Rattle.fz_model.specs.Kept.{AreNumbers}
-use Rattle.fz_path.proofs.numbers.least_numbers.Given as goal
-
-abbrev pub invariant-doms : goal.invariant-doms
-invariant-doms l = (l.numbers.items ≡ map least (take l.dom-index l.doms)) × AreNumbers l.numbers.items

@@ -1,7 +1,0 @@
-use Rattle.fz_path.proofs.Decisions.{remade_at}
-use Rattle.fz_path.proofs.trail.Trail.remade.Goals as goal
-
-pub returns-clause-space : goal.returns-clause-space
-returns-clause-space g c = λ m known t.
-    remade_at m known c.args.edges.now c.in_ok-kept.kept.depth (g.S.Space.spaced c.in_ok-kept.kept.space) (g.S.Space.spaced c.commit_all.new.space) (c.in_ok-kept.ensures.space m known t).is_at
-    c.in_ok-commit_all.ensures.model (c.in_ok-commit_all.ensures.covers known)

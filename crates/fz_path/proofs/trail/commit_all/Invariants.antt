@@ -1,9 +1,0 @@
-use Rattle.std.proofs.Common.{◌≡◌, ℤ, Option, List, ◌++◌, take}
-use Rattle.fz_tree.specs.declared.decision.Decision.{Decision}
-use Rattle.fz_path.specs.Spaces.{Covers}
-use Rattle.fz_path.specs.Nodes.{decisions_of}
-use Rattle.fz_path.proofs.trail.commit_all.Given as goal
-
-abbrev pub invariant-edges : goal.invariant-edges
-invariant-edges g l = ((g.S.Space.spaced l.space).model ≡ (g.S.Space.spaced l.initial.space).model)
-    × ((known : Option (List ℤ)) (ds : List Decision) → Covers known ds (g.S.Space.spaced l.initial.space) → Covers known (ds ++ decisions_of (take l.edge-index l.edges)) (g.S.Space.spaced l.space))

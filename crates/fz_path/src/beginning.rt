@@ -1,0 +1,42 @@
+//! What a path begins with.
+ghost use Rattle.std.specs.Prelude.{◌≡◌, ◌≤◌, None, [], IfOk};
+ghost use Rattle.std.specs.Arc.{arc_value};
+ghost use Rattle.fz_branch.specs.Plans.{plan_of};
+ghost use Rattle.fz_trail.specs.Trails.{IsTrail};
+
+use fz_branch::Plan;
+use fz_search_space::SearchSpace;
+use fz_trail::Trail;
+use std::alloc::{AllocError, Global};
+use std::sync::Arc;
+
+/// The plan of a model, and the space of its root alone.
+#[derive(Drop)]
+pub struct Beginning<S: SearchSpace> {
+    pub plan: Plan,
+    pub trail: Trail<S>,
+}
+
+/// The beginning of a model's paths that keep copies at this distance.
+///
+/// # Errors
+/// `AllocError` where there is no memory.
+pub fn beginning_of<S: SearchSpace>(
+    alloc: Global,
+    model: &Arc<fz_model::Model>,
+    commit_distance: u32,
+) -> Result<Beginning<S>, AllocError>
+    requires accepts { S.accepts (arc_value model.now) }
+    requires distance { 1 ≤ commit_distance }
+    ensures plan { IfOk result (λ b. b.plan ≡ plan_of (arc_value model.now)) }
+    ensures distance { IfOk result (λ b. b.trail.distance ≡ commit_distance) }
+    ensures spaces { IfOk result (λ b.
+        IsTrail S.spaced (arc_value model.now) None [] b.trail) }
+{
+    let plan = Plan::of(alloc, model)?;
+    let root = S::root(alloc, model.clone()?)?;
+    Ok(Beginning {
+        plan,
+        trail: Trail::new(alloc, root, commit_distance),
+    })
+}

@@ -1,0 +1,151 @@
+//! Propagators of any shape.
+ghost use Rattle.std.specs.Prelude.{◌≡◌, IfOk};
+ghost use Rattle.std.specs.List.{AllByRecursion};
+ghost use Rattle.fz_strength.specs.Sayings.{said_terms};
+ghost use Rattle.fz_prop.specs.Stores.{FitsTerm};
+ghost use Rattle.fz_says.specs.Fits.{FitsSum};
+ghost use Rattle.fz_says.specs.Said.{said_by};
+ghost use Rattle.fz_propagators.specs.Forms.{said_of};
+
+use fz_alldiff::AllDifferent;
+use fz_arith::Arithmetic;
+use fz_await::Awaiting;
+use fz_bool::{Clause, Parity};
+use fz_cumulative::Cumulative;
+use fz_element::Element;
+use fz_linear::Linear;
+use fz_linreif::ReifiedLinear;
+use fz_prop::{Answer, Propagator, Store};
+use fz_rel::{Comparison, Membership, ReifiedComparison, ReifiedMembership};
+use fz_says::Saying;
+use fz_table::Table;
+use fz_varelement::VariableElement;
+use std::alloc::{AllocError, Global};
+
+/// A propagator of some shape.
+#[derive(Drop)]
+pub enum AnyPropagator {
+    Comparison(Comparison),
+    ReifiedComparison(ReifiedComparison),
+    Membership(Membership),
+    ReifiedMembership(ReifiedMembership),
+    Linear(Linear),
+    ReifiedLinear(ReifiedLinear),
+    Clause(Clause),
+    Arithmetic(Arithmetic),
+    Parity(Parity),
+    Element(Element),
+    VariableElement(VariableElement),
+    Table(Table),
+    AllDifferent(AllDifferent),
+    Cumulative(Cumulative),
+    Awaiting(Awaiting),
+}
+
+impl AnyPropagator {
+    /// The propagator of what is said.
+    ///
+    /// # Errors
+    /// `AllocError` where there is no memory.
+    pub fn of(alloc: Global, saying: &Saying) -> Result<AnyPropagator, AllocError>
+        requires fits { AllByRecursion FitsTerm (said_terms (said_by saying.now)) }
+        requires sum { FitsSum (said_by saying.now) }
+        ensures { IfOk result (λ p. said_of p ≡ said_by saying.now) }
+    {
+        match saying {
+            Saying::Compare(relation, x, y) => {
+                let comparison = Comparison::new(*relation, *x, *y);
+                Ok(AnyPropagator::Comparison(comparison))
+            }
+            Saying::CompareIf(relation, x, y, r) => {
+                let comparison = ReifiedComparison::new(*relation, *x, *y, *r);
+                Ok(AnyPropagator::ReifiedComparison(comparison))
+            }
+            Saying::Member(x, set) => {
+                let membership = Membership::new(*x, set.copy()?);
+                Ok(AnyPropagator::Membership(membership))
+            }
+            Saying::MemberIf(x, set, r) => {
+                let membership = ReifiedMembership::new(alloc, *x, set.copy()?, *r)?;
+                Ok(AnyPropagator::ReifiedMembership(membership))
+            }
+            Saying::Sum(relation, factors, terms, last) => {
+                let linear = Linear::new(alloc, *relation, factors, terms, *last)?;
+                Ok(AnyPropagator::Linear(linear))
+            }
+            Saying::SumIf(relation, factors, terms, number, r) => {
+                let linear = ReifiedLinear::new(alloc, *relation, factors, terms, *number, *r)?;
+                Ok(AnyPropagator::ReifiedLinear(linear))
+            }
+            Saying::Clause(positives, negatives, r) => {
+                let clause = Clause::some_sign(alloc, positives, negatives, *r)?;
+                Ok(AnyPropagator::Clause(clause))
+            }
+            Saying::AnyOf(terms, r) => {
+                let clause = Clause::some(alloc, terms.as_slice(), *r)?;
+                Ok(AnyPropagator::Clause(clause))
+            }
+            Saying::AllOf(terms, r) => {
+                let clause = Clause::all(alloc, terms.as_slice(), *r)?;
+                Ok(AnyPropagator::Clause(clause))
+            }
+            Saying::Equals(operation, terms, value) => {
+                let operands = Vec::from_slice(alloc, terms.as_slice())?;
+                let arithmetic = Arithmetic::new(*operation, operands, *value);
+                Ok(AnyPropagator::Arithmetic(arithmetic))
+            }
+            Saying::Odd(terms) => {
+                let parity = Parity::new(Vec::from_slice(alloc, terms)?);
+                Ok(AnyPropagator::Parity(parity))
+            }
+            Saying::Select(numbers, index, value) => {
+                let element = Element::new(alloc, *index, numbers, *value)?;
+                Ok(AnyPropagator::Element(element))
+            }
+            Saying::SelectTerm(terms, index, value) => {
+                let element = VariableElement::new(alloc, *index, terms, *value)?;
+                Ok(AnyPropagator::VariableElement(element))
+            }
+            Saying::Row(terms, numbers) => {
+                let table = Table::new(alloc, terms, numbers)?;
+                Ok(AnyPropagator::Table(table))
+            }
+            Saying::Differ(terms) => {
+                let different = AllDifferent::new(alloc, terms)?;
+                Ok(AnyPropagator::AllDifferent(different))
+            }
+            Saying::Share(starts, durations, usages, bound) => {
+                let cumulative = Cumulative::new(alloc, starts, durations, usages, *bound)?;
+                Ok(AnyPropagator::Cumulative(cumulative))
+            }
+            Saying::Nothing(constraint) => {
+                let awaiting = Awaiting::new(alloc, constraint)?;
+                Ok(AnyPropagator::Awaiting(awaiting))
+            }
+        }
+    }
+}
+
+impl Propagator for AnyPropagator {
+    ghost saying = { λ p. said_of p };
+
+    fn propagate(&self, store: &mut Store) -> Result<Answer, AllocError> {
+        match self {
+            AnyPropagator::Comparison(comparison) => comparison.propagate(store),
+            AnyPropagator::ReifiedComparison(comparison) => comparison.propagate(store),
+            AnyPropagator::Membership(membership) => membership.propagate(store),
+            AnyPropagator::ReifiedMembership(membership) => membership.propagate(store),
+            AnyPropagator::Linear(linear) => linear.propagate(store),
+            AnyPropagator::ReifiedLinear(linear) => linear.propagate(store),
+            AnyPropagator::Clause(clause) => clause.propagate(store),
+            AnyPropagator::Arithmetic(arithmetic) => arithmetic.propagate(store),
+            AnyPropagator::Parity(parity) => parity.propagate(store),
+            AnyPropagator::Element(element) => element.propagate(store),
+            AnyPropagator::VariableElement(element) => element.propagate(store),
+            AnyPropagator::Table(table) => table.propagate(store),
+            AnyPropagator::AllDifferent(different) => different.propagate(store),
+            AnyPropagator::Cumulative(cumulative) => cumulative.propagate(store),
+            AnyPropagator::Awaiting(awaiting) => awaiting.propagate(store),
+        }
+    }
+}

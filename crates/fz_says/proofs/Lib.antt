@@ -1,0 +1,5 @@
+mod Waiting
+mod Known
+pub mod Fitting
+pub mod Suiting
+mod Checking

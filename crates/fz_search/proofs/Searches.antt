@@ -1,0 +1,153 @@
+-- What a search's book says of the solutions that are shown.
+use Rattle.std.proofs.Common.{◌≡◌, ◌∙◌, append-nil, ℕ, zero, suc, ◌+◌, ◌-◌, drop, sym, ◌≤◌, ◌<◌, List, [], ◌∷◌, ◌++◌, Option, None, Some, length, take, ap, refl, subst, arith, inl, inr, cond, Bool, true, false}
+use Rattle.std.specs.Prelude.{ℤ, ◌↔◌, IsSomeAnd, slice_get}
+use Rattle.std.specs.List.{AllByRecursion}
+use Rattle.std.proofs.lemmas.List.{length-take-le}
+use Rattle.std.proofs.lemmas.List.Sums.{sum_by-take-le}
+use Rattle.fz_spec.specs.Instance.{Instance, AreDeclared, Satisfies, IsBetter, AreImproving, occurrences, is_same}
+use Rattle.fz_spec.specs.Run.{blocks}
+use Rattle.fz_spec.specs.declared.term.Term.{Term}
+use Rattle.fz_spec.specs.declared.goal.Goal.{Goal}
+use Rattle.fz_spec.specs.declared.goal.Goal.TheVariants as goals
+use Rattle.fz_tree.specs.declared.mode.Mode.{Mode}
+use Rattle.fz_tree.specs.declared.mode.Mode.TheVariants as modes
+use Rattle.fz_tree.specs.Book.{Book, BookLaw, opening, Part, SuitsRecord, incumbent_of, times_recorded_in, times_open}
+use Rattle.fz_tree.specs.Better.{Betters, mode_of}
+use Rattle.fz_book.specs.declared.end.End.{End}
+use Rattle.fz_book.specs.declared.end.End.TheVariants as ends
+use Rattle.fz_tree.proofs.Books.{closed_lists, closed_is_best}
+use Rattle.fz_cmd.specs.Meaning.{Options}
+use Rattle.fz_runs.specs.Runs.{AreSome, EndsBest, AreBest, PrintsWanted, PrintsBest, PrintsGoal, PrintsFor, wanted}
+use Rattle.fz_path.specs.Paths.{Pathed, idle_path}
+use Rattle.fz_solo.specs.Searches.{Searches}
+use Rattle.fz_core.specs.Cores.{Core, starting}
+use Rattle.fz_machine.specs.Schedule.{HasGone}
+use Rattle.fz_search.specs.declared.searching.TheConstants.{ADAPTIVE_DISTANCE}
+use Rattle.fz_search.specs.Searched.{IsAlone, IsByTurns, enough_for, HasEnded, IsSearched, IsListing, IsShown, shows_all}
+
+-- ---- the first so many of a list
+
+all_first : (P : List ℤ → Type 0) (l : List (List ℤ)) (n : ℕ) → AllByRecursion P l → AllByRecursion P (take n l)
+all_first P l zero all = tt
+all_first P [] (suc n) all = tt
+all_first P (x ∷ l) (suc n) all = (all.0, all_first P l n all.1)
+
+fewer_first : (a : List ℤ) (l : List (List ℤ)) (n : ℕ) → occurrences a (take n l) ≤ occurrences a l
+fewer_first a l n = sum_by-take-le (λ x. cond (is_same a x) 1 0) l n
+
+counted_once : (mode : Mode) (m : Instance) (a : List ℤ) (recorded : List (List ℤ)) (ps : List Part) → mode ≡ modes.All
+    → (Betters m a (incumbent_of mode recorded) → times_recorded_in mode m a recorded + times_open ps a ≡ 1) → occurrences a recorded ≤ 1
+counted_once modes.All m a recorded ps is h = omega (arith, h tt)
+counted_once modes.Best m a recorded ps is h = absurd (cc is)
+
+pub some_of : (b : Book) (n : ℕ) → BookLaw b → b.mode ≡ modes.All → n ≤ length b.recorded → AreSome b.model n (take n b.recorded)
+some_of b n law all within = record {
+  sound = all_first (Satisfies b.model) b.recorded n law.sound;
+  different = λ a satisfies. (let once = counted_once b.mode b.model a b.recorded b.parts all (law.sums a satisfies) in let fewer = fewer_first a b.recorded n in omega (arith, once, fewer));
+  count = length-take-le n b.recorded within;
+}
+
+-- ---- a search that has ended
+
+ended_by : (w : Option ℕ) (b : Book) (end : End) → (end ≡ ends.Enough) ↔ IsSomeAnd w (λ n. n ≤ length b.recorded) → (end ≡ ends.Closed → b.parts ≡ []) → HasEnded w b
+ended_by None b ends.Closed enough closed = closed refl
+ended_by None b ends.Enough enough closed = absurd (enough.0 refl)
+ended_by (Some n) b ends.Closed enough closed = inr (closed refl)
+ended_by (Some n) b ends.Enough enough closed = inl (enough.0 refl)
+
+pub searched : (m : Instance) (w v : Option ℕ) (b : Book) (end : End) → b.model ≡ m → BookLaw b → v ≡ w
+    → (end ≡ ends.Enough) ↔ IsSomeAnd v (λ n. n ≤ length b.recorded) → (end ≡ ends.Closed → b.parts ≡ []) → IsSearched m w b
+searched m w v b end is law same enough closed = record {
+  model = is;
+  law = law;
+  ended = subst (λ (u : Option ℕ). HasEnded u b) same (ended_by v b end enough closed);
+}
+
+-- by one worker, as the code says it
+pub alone : (m : Instance) (o : Options) (improving : Bool) (mode : Mode) (distance : ℕ) (old b : Book) (begun path : Pathed) → improving ≡ shows_all o.generate o.all → mode ≡ mode_of m.goal → distance ≡ o.commit_distance → old ≡ opening m mode
+    → begun ≡ idle_path m mode distance ADAPTIVE_DISTANCE → Searches improving old begun b path → IsAlone m o b
+alone m o improving mode distance old b begun path all own asked opened idle h =
+    let told = subst (λ (i : Bool). Searches i old begun b path) all h in
+    let from = subst (λ (x : Book). Searches (shows_all o.generate o.all) x begun b path) (opened ∙ ap (opening m) own) told in
+    let same : begun ≡ idle_path m (mode_of m.goal) o.commit_distance ADAPTIVE_DISTANCE = idle ∙ (λ i. idle_path m (own i) (asked i) ADAPTIVE_DISTANCE) in
+    record { path = path; searched = subst (λ (x : Pathed). Searches (shows_all o.generate o.all) (opening m (mode_of m.goal)) x b path) same from }
+
+-- by turns, as the code says it
+pub by_turns : (m : Instance) (o : Options) (seed : ℕ) (enough : Option ℕ) (mode : Mode) (old new : Core) (b : Book) → enough ≡ enough_for m.goal o → mode ≡ mode_of m.goal → old ≡ starting m mode o.workers o.commit_distance ADAPTIVE_DISTANCE
+    → HasGone enough seed old new → b ≡ new.book → IsByTurns m o seed b
+by_turns m o seed enough mode old new b asked own begun gone is =
+    let wanted = subst (λ (e : Option ℕ). HasGone e seed old new) asked gone in
+    record { core = new; gone = subst (λ (x : Core). HasGone (enough_for m.goal o) seed x new) (begun ∙ ap (λ (x : Mode). starting m x o.workers o.commit_distance ADAPTIVE_DISTANCE) own) wanted; is = is }
+
+-- ---- what is shown
+
+pub all_shown : (b : Book) → IsSearched b.model None b → b.mode ≡ modes.All → IsListing b.model None b.recorded true
+all_shown b s all = closed_lists b s.law all s.ended
+
+pub rest_shown : (b : Book) (n : ℕ) → IsSearched b.model (Some n) b → b.mode ≡ modes.All → length b.recorded < n → IsListing b.model (Some n) b.recorded true
+rest_shown b n s all few = (few, elim s.ended [ inl many ↦ absurd (omega (arith, many, few)) | inr closed ↦ closed_lists b s.law all closed ])
+
+-- the mode of a book is its goal's
+pub mode_by_goal : (b : Book) (w : Option ℕ) (goal : Goal) → IsSearched b.model w b → b.model.goal ≡ goal → b.mode ≡ mode_of goal
+mode_by_goal b w goal s is = s.law.own_mode ∙ ap mode_of is
+
+-- ---- a best one
+
+ends_best : (m : Instance) (l : List (List ℤ)) → AllByRecursion (Satisfies m) l → ((a : List ℤ) → Satisfies m a → Betters m a (slice_get l (length l - 1)) → ⊥) → EndsBest m l
+ends_best m [] sound none = λ a satisfies. none a satisfies tt
+ends_best m (x ∷ []) sound none = record { satisfies = sound.0; unbettered = none }
+ends_best m (x ∷ y ∷ ys) sound none =
+    let one : suc (length ys) - 1 ≡ length ys = omega arith in
+    let two : suc (suc (length ys)) - 1 ≡ suc (length ys) = omega arith in
+    let last : slice_get (x ∷ y ∷ ys) (suc (suc (length ys)) - 1) ≡ slice_get (y ∷ ys) (suc (length ys) - 1) = ap (slice_get (x ∷ y ∷ ys)) two ∙ ap (slice_get (y ∷ ys)) (sym one) in
+    ends_best m (y ∷ ys) sound.1 (λ a satisfies better. none a satisfies (subst (λ (o : Option (List ℤ)). Betters m a o) (sym last) better))
+
+of_best : (mode : Mode) (m : Instance) (l : List (List ℤ)) → mode ≡ modes.Best → SuitsRecord mode m l → AreImproving m l
+of_best modes.Best m l is suits = suits
+of_best modes.All m l is suits = absurd (cc is)
+
+incumbent_best : (mode : Mode) (l : List (List ℤ)) → mode ≡ modes.Best → incumbent_of mode l ≡ slice_get l (length l - 1)
+incumbent_best modes.Best l is = refl
+incumbent_best modes.All l is = absurd (cc is)
+
+best_recorded : (b : Book) → BookLaw b → b.mode ≡ modes.Best → b.parts ≡ [] → AreBest true b.model b.recorded
+best_recorded b law best none = record {
+  sound = law.sound;
+  improving = of_best b.mode b.model b.recorded best law.improving;
+  alone = λ e. absurd (cc e);
+  last = ends_best b.model b.recorded law.sound
+      (λ a satisfies better. closed_is_best b a law best none satisfies (subst (λ (o : Option (List ℤ)). Betters b.model a o) (sym (incumbent_best b.mode b.recorded best)) better));
+}
+
+-- the last alone
+last_alone : (all : Bool) (m : Instance) (l : List (List ℤ)) → AreBest true m l → AreBest all m (drop (length l - 1) l)
+last_alone all m [] best = record { sound = tt; improving = tt; alone = λ e. omega arith; last = best.last }
+last_alone all m (x ∷ []) best = record { sound = best.sound; improving = tt; alone = λ e. omega arith; last = best.last }
+last_alone all m (x ∷ y ∷ ys) best =
+    let one : suc (length ys) - 1 ≡ length ys = omega arith in
+    let two : suc (suc (length ys)) - 1 ≡ suc (length ys) = omega arith in
+    let rest = last_alone all m (y ∷ ys) (record { sound = best.sound.1; improving = best.improving.1; alone = λ f. absurd (cc f); last = best.last }) in
+    let same : drop (suc (length ys) - 1) (y ∷ ys) ≡ drop (suc (suc (length ys)) - 1) (x ∷ y ∷ ys) = ap (λ n. drop n (y ∷ ys)) one ∙ ap (λ n. drop n (x ∷ y ∷ ys)) (sym two) in
+    subst (λ (l : List (List ℤ)). AreBest all m l) same rest
+
+pub best_listed : (b : Book) (all : Bool) (l : List (List ℤ)) → IsSearched b.model None b → b.mode ≡ modes.Best → all ≡ true → l ≡ b.recorded → AreBest all b.model l
+best_listed b all l s best is same = rw (is, same) (best_recorded b s.law best s.ended)
+
+pub best_alone : (b : Book) (all : Bool) (l : List (List ℤ)) → IsSearched b.model None b → b.mode ≡ modes.Best → l ≡ b.recorded → AreBest all b.model (drop (length l - 1) l)
+best_alone b all l s best same = subst (λ (k : List (List ℤ)). AreBest all b.model (drop (length k - 1) k)) (sym same) (last_alone all b.model b.recorded (best_recorded b s.law best s.ended))
+
+-- what is shown is declared
+all_declared : (m : Instance) (l : List (List ℤ)) → AllByRecursion (Satisfies m) l → AllByRecursion (AreDeclared m.variables) l
+all_declared m [] all = tt
+all_declared m (a ∷ l) all = (all.0.declared, all_declared m l all.1)
+
+listed_declared : (m : Instance) (w : Option ℕ) (l : List (List ℤ)) (complete : Bool) → IsListing m w l complete → AllByRecursion (AreDeclared m.variables) l
+listed_declared m None l true h = all_declared m l h.sound
+listed_declared m None l false h = absurd h
+listed_declared m (Some n) l true h = all_declared m l h.1.sound
+listed_declared m (Some n) l false h = all_declared m l h.sound
+
+pub shown_declared : (goal : Goal) (m : Instance) (o : Options) (l : List (List ℤ)) (complete : Bool) → IsShown goal o m l complete → AllByRecursion (AreDeclared m.variables) l
+shown_declared goals.Satisfy m o l complete h = listed_declared m (wanted o) l complete h
+shown_declared (goals.Minimize t) m o l complete h = all_declared m l h.1.sound
+shown_declared (goals.Maximize t) m o l complete h = all_declared m l h.1.sound

@@ -1,0 +1,227 @@
+//! The search of a model, and what is shown of it.
+ghost use Rattle.std.specs.Prelude.{◌≡◌, ◌-◌, None, true, drop, length, IfOk};
+ghost use Rattle.std.specs.Arc.{arc_value};
+ghost use Rattle.fz_tree.specs.declared.mode.Mode.TheVariants as modes;
+ghost use Rattle.fz_tree.specs.Better.{mode_of};
+ghost use Rattle.fz_tree.specs.Book.{opening};
+ghost use Rattle.fz_core.specs.Cores.{starting};
+ghost use Rattle.fz_runs.specs.Runs as runs;
+ghost use Rattle.fz_runs.specs.Runs.{AreBest};
+ghost use Rattle.fz_search.specs.Searched as searched;
+ghost use Rattle.fz_search.specs.Searched.{enough_for, IsAlone, IsByTurns, IsSearched, IsSearchedBy, IsListing, IsShown};
+
+use fz_account::Mode;
+use fz_book::Book;
+use fz_cmd::Options;
+use fz_machine::Machine;
+use fz_model::assignment::Assignment;
+use fz_model::model::Model;
+use fz_path::Path;
+use fz_search_space::SearchSpace;
+use fz_solo::finish;
+use fz_spec::goal::Goal;
+use std::alloc::{AllocError, Global};
+use std::sync::Arc;
+
+/// The adaptive distance of recomputation, which nothing reads yet.
+pub const ADAPTIVE_DISTANCE: u32 = 2;
+
+/// What is shown of a search: solutions, and whether they are all.
+#[derive(Clone, Copy)]
+pub struct Listing<'a> {
+    pub found: &'a [Assignment],
+    pub complete: bool,
+}
+
+/// Searches a model for as many solutions as are asked for, or for a best one, over spaces of this kind.
+///
+/// # Errors
+/// `AllocError` where there is no memory.
+pub fn search<S: SearchSpace>(
+    alloc: Global,
+    model: &Arc<Model>,
+    options: &Options,
+) -> Result<Book, AllocError>
+    requires accepts { S.accepts (arc_value model.now) }
+    ensures searched { IfOk result (λ b. IsSearched (arc_value model.now)
+        (enough_for (arc_value model.now).goal options.now) b.book) }
+    ensures by { IfOk result (λ b.
+        IsSearchedBy options.now.interleave (arc_value model.now) options.now b.book) }
+{
+    match options.interleave() {
+        Some(seed) => search_by_turns::<S>(alloc, model, options, seed),
+        None => search_alone::<S>(alloc, model, options),
+    }
+}
+
+/// By one worker.
+fn search_alone<S: SearchSpace>(
+    alloc: Global,
+    model: &Arc<Model>,
+    options: &Options,
+) -> Result<Book, AllocError>
+    requires accepts { S.accepts (arc_value model.now) }
+    ensures searched { IfOk result (λ b. IsSearched (arc_value model.now)
+        (enough_for (arc_value model.now).goal options.now) b.book) }
+    ensures by { IfOk result (λ b. IsAlone (arc_value model.now) options.now b.book) }
+{
+    let distance = options.commit_distance();
+    let mode = mode_of(model.goal());
+    let mut book = begin(alloc, model, mode)?;
+    let mut path: Path<S> = Path::idle(alloc, model.clone()?, mode, distance, ADAPTIVE_DISTANCE)?;
+    let enough = enough_for(model.goal(), options);
+    finish(&mut book, &mut path, enough, shows_all(options))?;
+    Ok(book)
+}
+
+/// By as many workers as are asked for, that take turns on this thread, from this seed on.
+fn search_by_turns<S: SearchSpace>(
+    alloc: Global,
+    model: &Arc<Model>,
+    options: &Options,
+    seed: u64,
+) -> Result<Book, AllocError>
+    requires accepts { S.accepts (arc_value model.now) }
+    ensures searched { IfOk result (λ b. IsSearched (arc_value model.now)
+        (enough_for (arc_value model.now).goal options.now) b.book) }
+    ensures by { IfOk result (λ b. IsByTurns (arc_value model.now) options.now seed b.book) }
+{
+    let mode = mode_of(model.goal());
+    let mut machine = new_machine::<S>(alloc, model, mode, options)?;
+    let enough = enough_for(model.goal(), options);
+    machine.run(seed, enough)?;
+    Ok(machine.into_book())
+}
+
+/// As many idle workers as are asked for.
+fn new_machine<S: SearchSpace>(
+    alloc: Global,
+    model: &Arc<Model>,
+    mode: Mode,
+    options: &Options,
+) -> Result<Machine<S>, AllocError>
+    requires accepts { S.accepts (arc_value model.now) }
+    requires mode { mode ≡ mode_of (arc_value model.now).goal }
+    ensures { IfOk result (λ m. m ≡ starting (arc_value model.now) mode
+        options.now.workers options.now.commit_distance ADAPTIVE_DISTANCE) }
+{
+    let machine = Machine::new(
+        alloc,
+        model.clone()?,
+        mode,
+        options.workers(),
+        options.commit_distance(),
+        ADAPTIVE_DISTANCE,
+    )?;
+    Ok(machine)
+}
+
+/// Whether all solutions of a goal are sought, or a best one.
+fn mode_of(goal: &Goal) -> Mode
+    ensures { result ≡ mode_of goal.now }
+{
+    match goal {
+        Goal::Satisfy => Mode::All,
+        Goal::Minimize(_) | Goal::Maximize(_) => Mode::Best,
+    }
+}
+
+/// A book of a model.
+fn begin(alloc: Global, model: &Arc<Model>, mode: Mode) -> Result<Book, AllocError>
+    requires { mode ≡ mode_of (arc_value model.now).goal }
+    ensures { IfOk result (λ b. b.book ≡ opening (arc_value model.now) mode) }
+{
+    match Book::begin(alloc, model.clone()?, mode) {
+        Ok(book) => Ok(book),
+        Err(_) => Err(AllocError),
+    }
+}
+
+/// How many recorded solutions are enough; where a best one is sought, no number is.
+fn enough_for(goal: &Goal, options: &Options) -> Option<u32>
+    ensures { result ≡ enough_for goal.now options.now }
+{
+    match goal {
+        Goal::Satisfy => wanted(options),
+        Goal::Minimize(_) | Goal::Maximize(_) => None,
+    }
+}
+
+/// How many solutions are asked for, none where it is all of them.
+pub fn wanted(options: &Options) -> Option<u32>
+    ensures { result ≡ runs.wanted options.now }
+{
+    match options.limit() {
+        Some(0) => None,
+        Some(limit) => Some(limit),
+        None if options.all() => None,
+        None => Some(1),
+    }
+}
+
+/// Whether all better ones are shown on the way to a best one: where `-a` asks for them, and never of a generated model.
+fn shows_all(options: &Options) -> bool
+    ensures { result ≡ searched.shows_all options.now.generate options.now.all }
+{
+    options.all() && options.generate().is_none()
+}
+
+/// What is shown of a search that has ended.
+pub fn listing_of<'a>(book: &'a Book, options: &Options) -> Listing<'a>
+    requires { IsSearched book.now.book.model
+        (enough_for book.now.book.model.goal options.now) book.now.book }
+    ensures { IsShown book.now.book.model.goal options.now book.now.book.model
+        result.found.now result.complete }
+{
+    match book.model().goal() {
+        Goal::Satisfy => solutions_of(book, wanted(options)),
+        Goal::Minimize(_) => best_of(book, shows_all(options)),
+        Goal::Maximize(_) => best_of(book, shows_all(options)),
+    }
+}
+
+/// The solutions that were asked for.
+fn solutions_of(book: &Book, wanted: Option<u32>) -> Listing<'_>
+    requires searched { IsSearched book.now.book.model wanted book.now.book }
+    requires mode { book.now.book.mode ≡ modes.All }
+    ensures { IsListing book.now.book.model wanted result.found.now result.complete }
+{
+    let found = book.recorded();
+    match wanted {
+        Some(count) if count as usize <= found.len() => Listing {
+            found: &found[..count as usize],
+            complete: false,
+        },
+        _ => Listing {
+            found,
+            complete: true,
+        },
+    }
+}
+
+/// A best solution, and where all are to be shown the ones before it.
+fn best_of(book: &Book, all: bool) -> Listing<'_>
+    requires searched { IsSearched book.now.book.model None book.now.book }
+    requires mode { book.now.book.mode ≡ modes.Best }
+    ensures best { AreBest all book.now.book.model result.found.now }
+    ensures complete { result.complete ≡ true }
+{
+    let found = book.recorded();
+    if all {
+        return Listing {
+            found,
+            complete: true,
+        };
+    }
+    Listing {
+        found: last_of(found),
+        complete: true,
+    }
+}
+
+/// The last of a list alone; of an empty list nothing.
+fn last_of(found: &[Assignment]) -> &[Assignment]
+    ensures { result.now ≡ drop (length found.now - 1) found.now }
+{
+    &found[found.len().saturating_sub(1)..]
+}

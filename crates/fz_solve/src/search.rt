@@ -1,0 +1,366 @@
+//! Search annotations of the solve item. One that isn't of their form is ignored.
+ghost use Rattle.std.specs.Prelude.{◌≡◌, ◌++◌, ◌∷◌, [], IfOk, OnOk, List, Some, None, map, flat_map, bytes_eq, option_map, codes};
+ghost use Rattle.fz_language.specs.Numerals.{all_of};
+ghost use Rattle.fz_language.specs.Search as searches;
+ghost use Rattle.fz_language.specs.Trees as lang;
+ghost use Rattle.fz_syntax.specs.Trees as trees;
+ghost use Rattle.fz_resolve.specs.Meant.{environment_of};
+ghost use Rattle.fz_solve.specs.Searches.{parts_of_call, option_list, word_of, part_of_words, and_word, is_new, parts_of_new};
+
+use fz_model::{SearchPart, Term};
+use fz_resolve::{Entry, Names};
+use fz_spec::search::{Pick, Value};
+use fz_syntax::{Annotation, Argument, Basic, Name};
+use std::alloc::{AllocError, Global};
+
+/// Which of the search words stood before.
+#[derive(Clone, Copy)]
+struct Words {
+    int_search: bool,
+    bool_search: bool,
+    seq_search: bool,
+}
+
+/// The parts of the search, those of each annotation one behind another. An annotation of a name that stood before says nothing.
+///
+/// # Errors
+/// `AllocError` where there is no memory.
+pub fn search<'a>(
+    alloc: Global,
+    names: &Names<'a>,
+    annotations: &[Annotation<'a>],
+) -> Result<Vec<SearchPart>, AllocError>
+    ensures { IfOk result (λ parts. parts.items
+        ≡ searches.search_of (environment_of names.now) (trees.annotations_of annotations.now)) }
+{
+    let mut parts = Vec::new(alloc);
+    let mut words = Words {
+        int_search: false,
+        bool_search: false,
+        seq_search: false,
+    };
+    for annotation in annotations {
+        push_first(alloc, names, annotation, words, &mut parts)?;
+        words = and_word(words, annotation.name.bytes);
+    }
+    Ok(parts)
+}
+
+/// These words, and this one, if it is one.
+fn and_word(words: Words, name: &[u8]) -> Words
+    ensures { result ≡ and_word words name.now }
+{
+    Words {
+        int_search: words.int_search || name == b"int_search".as_slice(),
+        bool_search: words.bool_search || name == b"bool_search".as_slice(),
+        seq_search: words.seq_search || name == b"seq_search".as_slice(),
+    }
+}
+
+/// Whether a name is a search word, and none of these.
+fn is_new(words: Words, name: &[u8]) -> bool
+    ensures { result ≡ is_new words name.now }
+{
+    if name == b"int_search".as_slice() {
+        !words.int_search
+    } else if name == b"bool_search".as_slice() {
+        !words.bool_search
+    } else if name == b"seq_search".as_slice() {
+        !words.seq_search
+    } else {
+        false
+    }
+}
+
+/// Adds the parts of an annotation, if its name is a search word and none of these.
+fn push_first<'a>(
+    alloc: Global,
+    names: &Names<'a>,
+    annotation: &Annotation<'a>,
+    words: Words,
+    parts: &mut Vec<SearchPart>,
+) -> Result<(), AllocError>
+    ensures { let a = trees.annotation_of annotation.now in
+        OnOk result (parts.new.items ≡ parts.old.items
+        ++ parts_of_new (environment_of names.now) words a) }
+{
+    if is_new(words, annotation.name.bytes) {
+        push_annotation(alloc, names, annotation, parts)?;
+    }
+    Ok(())
+}
+
+fn push_annotation<'a>(
+    alloc: Global,
+    names: &Names<'a>,
+    annotation: &Annotation<'a>,
+    parts: &mut Vec<SearchPart>,
+) -> Result<(), AllocError>
+    ensures { OnOk result (parts.new.items ≡ parts.old.items
+        ++ flat_map (searches.parts_in (environment_of names.now)) (searches.as_argument
+        (trees.annotation_of annotation.now))) }
+{
+    match &annotation.arguments {
+        Some(arguments) => {
+            push_call(alloc, names, annotation.name, arguments, parts)?;
+            Ok(())
+        }
+        None => Ok(()),
+    }
+}
+
+#[cycle(calls)]
+fn push_call<'a>(
+    alloc: Global,
+    names: &Names<'a>,
+    name: Name<'a>,
+    arguments: &[Argument<'a>],
+    parts: &mut Vec<SearchPart>,
+) -> Result<(), AllocError>
+    ensures { OnOk result (parts.new.items ≡ parts.old.items
+        ++ parts_of_call (environment_of names.now) (trees.name_of name.entry) arguments.now) }
+{
+    if is_basic_search(name.bytes) {
+        push_part(alloc, names, arguments, parts)?;
+        return Ok(());
+    }
+    if !is_seq_search(name.bytes) {
+        return Ok(());
+    }
+    if arguments.len() != 1 {
+        return Ok(());
+    }
+    match &arguments[0] {
+        Argument::Brackets {
+            arguments: members,
+            ..
+        } => {
+            for member in members {
+                push_member_call(alloc, names, member, parts)?;
+            }
+            Ok(())
+        }
+        Argument::Simple(_) => Ok(()),
+        Argument::Text { .. } => Ok(()),
+        Argument::Call { .. } => Ok(()),
+    }
+}
+
+#[cycle(calls)]
+fn push_member_call<'a>(
+    alloc: Global,
+    names: &Names<'a>,
+    member: &Argument<'a>,
+    parts: &mut Vec<SearchPart>,
+) -> Result<(), AllocError>
+    ensures { OnOk result (parts.new.items ≡ parts.old.items
+        ++ searches.parts_in (environment_of names.now) (trees.argument_of member.now)) }
+{
+    match member {
+        Argument::Call { name, arguments } => {
+            push_call(alloc, names, *name, arguments, parts)?;
+            Ok(())
+        }
+        Argument::Simple(_) | Argument::Text { .. } | Argument::Brackets { .. } => Ok(()),
+    }
+}
+
+fn is_basic_search(word: &[u8]) -> bool
+    ensures { result ≡ searches.is_basic_search word.now }
+{
+    word == b"int_search".as_slice() || word == b"bool_search".as_slice()
+}
+
+fn is_seq_search(word: &[u8]) -> bool
+    ensures { result ≡ bytes_eq word.now (codes "seq_search") }
+{
+    word == b"seq_search".as_slice()
+}
+
+/// Adds the part of `(variables, pick, value)`, with a fourth argument or without.
+fn push_part<'a>(
+    alloc: Global,
+    names: &Names<'a>,
+    arguments: &[Argument<'a>],
+    parts: &mut Vec<SearchPart>,
+) -> Result<(), AllocError>
+    ensures { OnOk result (parts.new.items ≡ parts.old.items
+        ++ searches.part_in (environment_of names.now) (map trees.argument_of arguments.now)) }
+{
+    if arguments.len() != 3 && arguments.len() != 4 {
+        return Ok(());
+    }
+    push_words(
+        alloc,
+        names,
+        &arguments[0],
+        named(&arguments[1]),
+        named(&arguments[2]),
+        parts,
+    )?;
+    Ok(())
+}
+
+/// The name that an argument is.
+fn named<'a>(argument: &Argument<'a>) -> Option<Name<'a>>
+    ensures { option_map trees.name_of result ≡ word_of (trees.argument_of argument.now) }
+{
+    match argument {
+        Argument::Simple(Basic::Named(name)) => Some(*name),
+        _ => None,
+    }
+}
+
+fn push_words<'a>(
+    alloc: Global,
+    names: &Names<'a>,
+    variables: &Argument<'a>,
+    pick: Option<Name<'a>>,
+    value: Option<Name<'a>>,
+    parts: &mut Vec<SearchPart>,
+) -> Result<(), AllocError>
+    ensures { OnOk result (parts.new.items ≡ parts.old.items
+        ++ part_of_words (environment_of names.now) (trees.argument_of variables.now)
+        (option_map trees.name_of pick.entry) (option_map trees.name_of value.entry)) }
+{
+    match (pick, value) {
+        (Some(pick), Some(value)) => push_over(alloc, names, variables, pick, value, parts),
+        _ => Ok(()),
+    }
+}
+
+fn push_over<'a>(
+    alloc: Global,
+    names: &Names<'a>,
+    variables: &Argument<'a>,
+    pick: Name<'a>,
+    value: Name<'a>,
+    parts: &mut Vec<SearchPart>,
+) -> Result<(), AllocError>
+    ensures { OnOk result (parts.new.items ≡ parts.old.items
+        ++ searches.part_of (environment_of names.now) (trees.argument_of variables.now)
+        (trees.name_of pick.entry) (trees.name_of value.entry)) }
+{
+    match variables_in(alloc, names, variables)? {
+        Some(variables) => {
+            parts.push(SearchPart::new(variables, pick_of(pick.bytes), value_of(value.bytes)))?;
+            Ok(())
+        }
+        None => Ok(()),
+    }
+}
+
+/// The variables of a list of variables and numbers, or of a declared array of them.
+fn variables_in<'a>(
+    alloc: Global,
+    names: &Names<'a>,
+    argument: &Argument<'a>,
+) -> Result<Option<Vec<u32>>, AllocError>
+    ensures { IfOk result (λ found. option_map (λ variables. variables.items) found
+        ≡ searches.variables_in (environment_of names.now) (trees.argument_of argument.now)) }
+{
+    match argument {
+        Argument::Brackets { arguments, .. } => Ok(members(alloc, names, arguments)?),
+        Argument::Simple(Basic::Named(name)) => match names.entry(*name) {
+            Some(Entry::Terms(list)) => Ok(Some(variables_of(alloc, &list.terms)?)),
+            _ => Ok(None),
+        },
+        _ => Ok(None),
+    }
+}
+
+/// The variables among terms.
+fn variables_of(alloc: Global, terms: &[Term]) -> Result<Vec<u32>, AllocError>
+    ensures { IfOk result (λ variables. variables.items ≡ searches.variables_of_terms terms.now) }
+{
+    let mut variables = Vec::new(alloc);
+    for term in terms {
+        push_term(&mut variables, *term)?;
+    }
+    Ok(variables)
+}
+
+fn push_term(variables: &mut Vec<u32>, term: Term) -> Result<(), AllocError>
+    ensures { OnOk result (variables.new.items ≡ variables.old.items
+        ++ searches.variables_of_terms (term ∷ [])) }
+{
+    if let Term::Var(variable) = term {
+        variables.push(variable)?;
+    }
+    Ok(())
+}
+
+fn members<'a>(
+    alloc: Global,
+    names: &Names<'a>,
+    arguments: &[Argument<'a>],
+) -> Result<Option<Vec<u32>>, AllocError>
+    ensures { IfOk result (λ found. option_map (λ variables. variables.items) found
+        ≡ option_map searches.joined (all_of (map (searches.member (environment_of names.now))
+        (map trees.argument_of arguments.now)))) }
+{
+    let mut variables = Vec::new(alloc);
+    for argument in arguments {
+        match member(names, argument) {
+            Some(variable) => push_member(&mut variables, variable)?,
+            None => return Ok(None),
+        }
+    }
+    Ok(Some(variables))
+}
+
+fn push_member(variables: &mut Vec<u32>, variable: Option<u32>) -> Result<(), AllocError>
+    ensures { OnOk result (variables.new.items ≡ variables.old.items ++ option_list variable) }
+{
+    if let Some(variable) = variable {
+        variables.push(variable)?;
+    }
+    Ok(())
+}
+
+/// The variable that a member of a list is, if it is one; nothing where the list isn't of the form.
+fn member<'a>(names: &Names<'a>, argument: &Argument<'a>) -> Option<Option<u32>>
+    ensures { option_map (λ v. option_list v) result
+        ≡ searches.member (environment_of names.now) (trees.argument_of argument.now) }
+{
+    match argument {
+        Argument::Simple(Basic::Truth { .. }) | Argument::Simple(Basic::Numeral(_)) => Some(None),
+        Argument::Simple(Basic::Named(name)) => match names.entry(*name) {
+            Some(Entry::Variable { number, .. }) => Some(Some(*number)),
+            _ => None,
+        },
+        _ => None,
+    }
+}
+
+fn pick_of(word: &[u8]) -> Pick
+    ensures { result ≡ searches.pick_of word.now }
+{
+    if word == b"first_fail".as_slice() {
+        Pick::FirstFail
+    } else if word == b"anti_first_fail".as_slice() {
+        Pick::AntiFirstFail
+    } else if word == b"smallest".as_slice() {
+        Pick::Smallest
+    } else if word == b"largest".as_slice() {
+        Pick::Largest
+    } else {
+        Pick::InputOrder
+    }
+}
+
+fn value_of(word: &[u8]) -> Value
+    ensures { result ≡ searches.value_of word.now }
+{
+    if word == b"indomain_max".as_slice() {
+        Value::IndomainMax
+    } else if word == b"indomain_median".as_slice() {
+        Value::IndomainMedian
+    } else if word == b"indomain_split".as_slice() {
+        Value::IndomainSplit
+    } else if word == b"indomain_reverse_split".as_slice() {
+        Value::IndomainReverseSplit
+    } else {
+        Value::IndomainMin
+    }
+}

@@ -1,6 +1,0 @@
-use Rattle.fz_table.proofs.RowSets.{AreMet}
-use Rattle.fz_table.proofs.row_set.RowSet.meet.Given as goal
-
--- the words so far are met
-abbrev pub invariant-loop-place : goal.invariant-loop-place
-invariant-loop-place l = AreMet l.initial.self-inside.words.items l.word-items l.self-inside.words.items l.place

@@ -1,0 +1,4 @@
+pub mod Trails
+pub mod Places
+pub mod Decisions
+pub mod Nodes

@@ -1,0 +1,337 @@
+//! The spaces beside a path.
+ghost use Rattle.std.specs.Prelude.{◌≡◌, ◌⊎◌, ◌↔◌, ◌≤◌, ◌<◌, ◌+◌, ◌-◌, ◌++◌, ◌∷◌, [], ℕ, ℤ, List, length, false, IsTrue, Option, Some, None, IfNone, is_some, IfOk, IfSome, IsSomeAnd, OnOk, OnErr};
+ghost use Rattle.std.specs.List.{AllByRecursion};
+ghost use Rattle.std.specs.Vec.{vec_len, vec_capacity};
+ghost use Rattle.fz_spec.specs.Instance.{Instance};
+ghost use Rattle.fz_tree.specs.declared.decision.Decision.{Decision};
+ghost use Rattle.fz_tree.specs.Frontier as frontier;
+ghost use Rattle.fz_tree.specs.Frontier.{AreEdges, next_edges};
+ghost use Rattle.fz_search_space.specs.Spaces.{Covers};
+ghost use Rattle.fz_trail.specs.Nodes.{IsAt, decisions_of};
+ghost use Rattle.fz_trail.specs.Places.{IsNear, AreLeftDownTo, IsOneMore, IsUsedUp, HasUsedCopy, nearest_node, last_of};
+ghost use Rattle.fz_trail.specs.Trails.{IsTrail, IsKept, AreKept};
+
+use crate::kept::Kept;
+use fz_region::Edge;
+use fz_search_space::SearchSpace;
+use std::alloc::{AllocError, Global};
+
+/// The space of the root, copies of spaces at nodes of the path, and the space of the node below its edges, if that is at hand.
+/// Spaces that are done with are written over.
+#[derive(Drop)]
+pub struct Trail<S> {
+    pub root: S,
+    pub copies: Vec<Kept<S>>,
+    pub current: Option<S>,
+    pub spare: Vec<S>,
+    pub distance: u32,
+}
+
+impl<S: SearchSpace> Trail<S> {
+    /// The root's space alone.
+    pub fn new(alloc: Global, root: S, distance: u32) -> Trail<S>
+        requires { 1 ≤ distance }
+        ensures distance { result.distance ≡ distance }
+        ensures trail { (m : Instance) (known : Option (List ℤ)) (es : List frontier.Edge)
+            → IsAt m known [] (S.spaced root)
+            → IsTrail S.spaced m known es result }
+    {
+        Trail {
+            root,
+            copies: Vec::new(alloc),
+            current: None,
+            spare: Vec::new(alloc),
+            distance,
+        }
+    }
+
+    /// Forgets all but the root.
+    pub fn clear(&mut self)
+        ensures distance { self.new.distance ≡ self.old.distance }
+        ensures trail { (m : Instance) (known : Option (List ℤ)) (es fs : List frontier.Edge)
+            → IsTrail S.spaced m known es self.old
+            → IsTrail S.spaced m known fs self.new }
+    {
+        self.copies.clear();
+        self.current = None;
+    }
+
+    /// The path has moved to these edges: what isn't above them goes.
+    pub fn retreat(&mut self, edges: &[Edge])
+        ensures distance { self.new.distance ≡ self.old.distance }
+        ensures left { AreLeftDownTo
+            (length edges.now - 1) self.old.copies.items self.new.copies.items }
+        ensures trail { (m : Instance) (known : Option (List ℤ)) (es : List frontier.Edge)
+            → edges.now ≡ next_edges es
+            → IsTrail S.spaced m known es self.old → IsTrail S.spaced m known edges.now self.new }
+    {
+        drop_current(&mut self.current, &mut self.spare);
+        let depth = count_above(edges);
+        drop_below(&mut self.copies, &mut self.spare, depth);
+    }
+
+    /// The space of the node below the edges.
+    ///
+    /// # Errors
+    /// `AllocError` where there is no memory.
+    pub fn take_at(&mut self, edges: &[Edge]) -> Result<S, AllocError>
+        requires edges { AreEdges edges.now }
+        requires trail { (m : Instance) × (known : Option (List ℤ))
+            × IsTrail S.spaced m known edges.now self.old }
+        ensures distance { self.new.distance ≡ self.old.distance }
+        ensures copies { (self.new.copies.items ≡ self.old.copies.items)
+            ⊎ IsUsedUp edges.now self.old.copies.items self.new.copies.items }
+        ensures space { IfOk result (λ s. (m : Instance) (known : Option (List ℤ))
+            → IsTrail S.spaced m known edges.now self.old
+            → IsAt m known edges.now (S.spaced s)) }
+        ensures kept { (m : Instance) (known : Option (List ℤ))
+            → IsTrail S.spaced m known edges.now self.old
+            → IsTrail S.spaced m known edges.now self.new }
+    {
+        if let Some(space) = self.current.take() {
+            return Ok(space);
+        }
+        self.remade(edges)
+    }
+
+    /// The space of a node, made anew from the nearest copy by the decisions behind it.
+    fn remade(&mut self, edges: &[Edge]) -> Result<S, AllocError>
+        requires edges { AreEdges edges.now }
+        requires trail { (m : Instance) × (known : Option (List ℤ))
+            × IsTrail S.spaced m known edges.now self.old }
+        ensures distance { self.new.distance ≡ self.old.distance }
+        ensures copies { (self.new.copies.items ≡ self.old.copies.items)
+            ⊎ IsUsedUp edges.now self.old.copies.items self.new.copies.items }
+        ensures space { IfOk result (λ s. (m : Instance) (known : Option (List ℤ))
+            → IsTrail S.spaced m known edges.now self.old
+            → IsAt m known edges.now (S.spaced s)) }
+        ensures kept { (m : Instance) (known : Option (List ℤ))
+            → IsTrail S.spaced m known edges.now self.old
+            → IsTrail S.spaced m known edges.now self.new }
+    {
+        let kept = self.nearest(edges)?;
+        let depth = kept.depth;
+        let mut space = kept.space;
+        commit_all(&mut space, &edges[depth..])?;
+        Ok(space)
+    }
+
+    /// A space above the node below the edges: the nearest copy, or what was one.
+    fn nearest(&mut self, edges: &[Edge]) -> Result<Kept<S>, AllocError>
+        ensures distance { self.new.distance ≡ self.old.distance }
+        ensures copies { (self.new.copies.items ≡ self.old.copies.items)
+            ⊎ IsUsedUp edges.now self.old.copies.items self.new.copies.items }
+        ensures nearest { IfOk result (λ k. k.depth ≡ nearest_node self.old.copies.items) }
+        ensures space { IfOk result (λ k. (m : Instance) (known : Option (List ℤ))
+            → IsTrail S.spaced m known edges.now self.old
+            → IsKept S.spaced m known edges.now k) }
+        ensures kept { (m : Instance) (known : Option (List ℤ))
+            → IsTrail S.spaced m known edges.now self.old
+            → IsTrail S.spaced m known edges.now self.new }
+    {
+        match self.used_copy(edges) {
+            Some(kept) => Ok(kept),
+            None => self.copy_of_nearest(),
+        }
+    }
+
+    /// The nearest copy itself, where no other node is remade from it.
+    fn used_copy(&mut self, edges: &[Edge]) -> Option<Kept<S>>
+        ensures distance { self.new.distance ≡ self.old.distance }
+        ensures copies { (self.new.copies.items ≡ self.old.copies.items)
+            ⊎ IsUsedUp edges.now self.old.copies.items self.new.copies.items }
+        ensures nearest { IfSome result (λ k. k.depth ≡ nearest_node self.old.copies.items) }
+        ensures none { IfNone result (self.new.copies.items ≡ self.old.copies.items) }
+        ensures used { IsTrue (is_some result) ↔ HasUsedCopy edges.now self.old.copies.items }
+        ensures space { IfSome result (λ k. (m : Instance) (known : Option (List ℤ))
+            → IsTrail S.spaced m known edges.now self.old
+            → IsKept S.spaced m known edges.now k) }
+        ensures kept { (m : Instance) (known : Option (List ℤ))
+            → IsTrail S.spaced m known edges.now self.old
+            → IsTrail S.spaced m known edges.now self.new }
+    {
+        if !self.has_used_copy(edges) {
+            return None;
+        }
+        self.copies.pop()
+    }
+
+    /// A copy of the nearest copy, or of the root's space.
+    fn copy_of_nearest(&mut self) -> Result<Kept<S>, AllocError>
+        ensures distance { self.new.distance ≡ self.old.distance }
+        ensures copies { self.new.copies.items ≡ self.old.copies.items }
+        ensures nearest { IfOk result (λ k. k.depth ≡ nearest_node self.old.copies.items) }
+        ensures space { IfOk result (λ k. (m : Instance) (known : Option (List ℤ))
+            (es : List frontier.Edge)
+            → IsTrail S.spaced m known es self.old → IsKept S.spaced m known es k) }
+        ensures kept { (m : Instance) (known : Option (List ℤ)) (es : List frontier.Edge)
+            → IsTrail S.spaced m known es self.old → IsTrail S.spaced m known es self.new }
+    {
+        match self.copies.last() {
+            Some(kept) => copy_of(&mut self.spare, kept.depth, &kept.space),
+            None => copy_of(&mut self.spare, 0, &self.root),
+        }
+    }
+
+    /// Whether the nearest copy stands at the last edge, which takes its last alternative: no other node is remade from it.
+    fn has_used_copy(&self, edges: &[Edge]) -> bool
+        ensures { IsTrue result ↔ HasUsedCopy edges.now self.now.copies.items }
+    {
+        match (self.copies.last(), edges.last()) {
+            (Some(kept), Some(edge)) => kept.depth == edges.len() - 1 && !edge.has_rest(),
+            _ => false,
+        }
+    }
+
+    /// Keeps a copy of the space at the node below so many edges, where none is within the commit distance above it.
+    ///
+    /// # Errors
+    /// `AllocError` where there is no memory.
+    pub fn keep(&mut self, depth: usize, space: &S) -> Result<(), AllocError>
+        ensures distance { self.new.distance ≡ self.old.distance }
+        ensures copies { (self.new.copies.items ≡ self.old.copies.items)
+            ⊎ IsOneMore S.spaced depth space.now self.old.copies.items self.new.copies.items }
+        ensures near { OnOk result ((m : Instance) (known : Option (List ℤ))
+            (es : List frontier.Edge) → depth ≡ length es → IsTrail S.spaced m known es self.old
+            → IsNear self.new.distance self.new.copies.items depth) }
+        ensures none { OnErr result (self.new.copies.items ≡ self.old.copies.items) }
+        ensures trail { (m : Instance) (known : Option (List ℤ)) (es : List frontier.Edge)
+            → depth ≡ length es
+            → IsAt m known es (S.spaced space.now) → IsTrail S.spaced m known es self.old
+            → IsTrail S.spaced m known es self.new }
+    {
+        if !self.is_due(depth) {
+            return Ok(());
+        }
+        let space = copied(&mut self.spare, space)?;
+        self.copies.push(Kept { depth, space })?;
+        Ok(())
+    }
+
+    /// Whether no copy is within the commit distance above the node below so many edges.
+    fn is_due(&self, depth: usize) -> bool
+        ensures due { IsTrue result → IfSome (last_of self.now.copies.items)
+            (λ kept. kept.depth + self.now.distance ≤ depth) }
+        ensures near { result ≡ false → 1 ≤ self.now.distance
+            → IsSomeAnd (last_of self.now.copies.items)
+            (λ kept. depth < kept.depth + self.now.distance) }
+    {
+        match self.copies.last() {
+            Some(kept) => { kept.depth < depth && depth - kept.depth >= self.distance as usize }
+            None => true,
+        }
+    }
+
+    /// The path goes on below one edge more, and this is the space there.
+    pub fn descend(&mut self, space: S)
+        ensures distance { self.new.distance ≡ self.old.distance }
+        ensures copies { self.new.copies.items ≡ self.old.copies.items }
+        ensures current { self.new.current ≡ Some space }
+        ensures trail { (m : Instance) (known : Option (List ℤ))
+            (es : List frontier.Edge) (e : frontier.Edge)
+            → IsAt m known (es ++ e ∷ []) (S.spaced space)
+            → IsNear self.old.distance self.old.copies.items (length es)
+            → IsTrail S.spaced m known es self.old
+            → IsTrail S.spaced m known (es ++ e ∷ []) self.new }
+    {
+        self.current = Some(space);
+    }
+
+    /// A space that is done with.
+    pub fn release(&mut self, space: S)
+        ensures distance { self.new.distance ≡ self.old.distance }
+        ensures copies { self.new.copies.items ≡ self.old.copies.items }
+        ensures current { self.new.current ≡ self.old.current }
+        ensures spare { (self.new.spare.items ≡ self.old.spare.items)
+            ⊎ (self.new.spare.items ≡ self.old.spare.items ++ space ∷ []) }
+        ensures room { vec_len self.old.spare < vec_capacity self.old.spare
+            → self.new.spare.items ≡ self.old.spare.items ++ space ∷ [] }
+        ensures trail { (m : Instance) (known : Option (List ℤ)) (es : List frontier.Edge)
+            → IsTrail S.spaced m known es self.old
+            → IsTrail S.spaced m known es self.new }
+    {
+        let _ = self.spare.push(space);
+    }
+}
+
+/// How many edges are above the last one.
+fn count_above(edges: &[Edge]) -> usize
+    ensures { result ≡ length edges.now - 1 }
+{
+    if edges.is_empty() { 0 } else { edges.len() - 1 }
+}
+
+/// The space at hand is done with.
+fn drop_current<S: SearchSpace>(current: &mut Option<S>, spare: &mut Vec<S>)
+    ensures { current.new ≡ None }
+{
+    if let Some(space) = current.take() {
+        let _ = spare.push(space);
+    }
+}
+
+/// Drops the copies below a depth.
+fn drop_below<S: SearchSpace>(copies: &mut Vec<Kept<S>>, spare: &mut Vec<S>, depth: usize)
+    ensures left { AreLeftDownTo depth copies.old.items copies.new.items }
+    ensures above { (m : Instance) (known : Option (List ℤ)) (es : List frontier.Edge)
+        (distance : ℕ) → AreKept S.spaced m known es distance 0 copies.old.items
+        → AllByRecursion (λ (k : Kept S). k.depth ≤ depth) copies.new.items }
+{
+    'copies: while is_below(copies, depth) {
+        if let Some(kept) = copies.pop() {
+            let _ = spare.push(kept.space);
+        }
+    }
+}
+
+/// Whether the last copy is below a depth.
+fn is_below<S: SearchSpace>(copies: &[Kept<S>], depth: usize) -> bool
+    ensures below { IsTrue result
+        → IsSomeAnd (last_of copies.now) (λ kept. depth < kept.depth) }
+    ensures above { result ≡ false → IfSome (last_of copies.now) (λ kept. kept.depth ≤ depth) }
+{
+    match copies.last() {
+        Some(kept) => kept.depth > depth,
+        None => false,
+    }
+}
+
+/// Another space that is the same, in place of one that is done with, if there is one.
+fn copied<S: SearchSpace>(spare: &mut Vec<S>, space: &S) -> Result<S, AllocError>
+    ensures { IfOk result (λ s. S.spaced s ≡ S.spaced space.now) }
+{
+    match spare.pop() {
+        Some(mut other) => {
+            other.copy_from(space)?;
+            Ok(other)
+        }
+        None => space.copy(),
+    }
+}
+
+/// A copy of a space, kept below so many edges.
+fn copy_of<S: SearchSpace>(
+    spare: &mut Vec<S>,
+    depth: usize,
+    space: &S,
+) -> Result<Kept<S>, AllocError>
+    ensures depth { IfOk result (λ k. k.depth ≡ depth) }
+    ensures space { IfOk result (λ k. S.spaced k.space ≡ S.spaced space.now) }
+{
+    let space = copied(spare, space)?;
+    Ok(Kept { depth, space })
+}
+
+/// Takes the decisions of some edges, one after the other.
+fn commit_all<S: SearchSpace>(space: &mut S, edges: &[Edge]) -> Result<(), AllocError>
+    requires { AreEdges edges.now }
+    ensures model { (S.spaced space.new).model ≡ (S.spaced space.old).model }
+    ensures covers { OnOk result ((known : Option (List ℤ)) (ds : List Decision)
+        → Covers known ds (S.spaced space.old)
+        → Covers known (ds ++ decisions_of edges.now) (S.spaced space.new)) }
+{
+    'edges: for edge in edges {
+        space.commit(&edge.choice, edge.taken)?;
+    }
+    Ok(())
+}

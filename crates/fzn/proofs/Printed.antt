@@ -1,0 +1,42 @@
+-- The text of what is shown is what is printed.
+use Rattle.std.proofs.Common.{◌≡◌, ◌∙◌, append-nil, ℕ, zero, suc, ◌+◌, ◌-◌, drop, sym, ◌≤◌, ◌<◌, List, [], ◌∷◌, ◌++◌, Option, None, Some, length, take, ap, refl, subst, arith, inl, inr, cond, Bool, true, false}
+use Rattle.std.specs.Prelude.{ℤ, ◌↔◌, IsSomeAnd, slice_get}
+use Rattle.std.specs.List.{AllByRecursion}
+use Rattle.std.proofs.lemmas.List.{length-take-le}
+use Rattle.std.proofs.lemmas.List.Sums.{sum_by-take-le}
+use Rattle.fz_spec.specs.Instance.{Instance, AreDeclared, Satisfies, IsBetter, AreImproving, occurrences, is_same}
+use Rattle.fz_spec.specs.Run.{blocks}
+use Rattle.fz_spec.specs.declared.term.Term.{Term}
+use Rattle.fz_spec.specs.declared.goal.Goal.{Goal}
+use Rattle.fz_spec.specs.declared.goal.Goal.TheVariants as goals
+use Rattle.fz_tree.specs.declared.mode.Mode.{Mode}
+use Rattle.fz_tree.specs.declared.mode.Mode.TheVariants as modes
+use Rattle.fz_tree.specs.Book.{Book, BookLaw, Part, SuitsRecord, incumbent_of, times_recorded_in, times_open}
+use Rattle.fz_tree.specs.Better.{Betters, mode_of}
+use Rattle.fz_book.specs.declared.end.End.{End}
+use Rattle.fz_book.specs.declared.end.End.TheVariants as ends
+use Rattle.fz_tree.proofs.Books.{closed_lists, closed_is_best}
+use Rattle.fz_cmd.specs.Meaning.{Options}
+use Rattle.fz_runs.specs.Runs.{AreSome, EndsBest, AreBest, PrintsWanted, PrintsBest, PrintsGoal, PrintsFor, wanted}
+use Rattle.fz_search.specs.Searched.{HasEnded, IsSearched, IsListing, IsShown, shows_all}
+use Rattle.fz_printing.specs.Texts.{best_text, listing_text, shown_text}
+
+listing_prints : (m : Instance) (w : Option ℕ) (l : List (List ℤ)) (complete : Bool) → IsListing m w l complete → PrintsWanted w m l (listing_text m l complete)
+listing_prints m None l true h = record { lists = h; text = refl }
+listing_prints m None l false h = absurd h
+listing_prints m (Some n) l true h = inr (h.0, record { lists = h.1; text = refl })
+listing_prints m (Some n) l false h = inl (record { are = h; text = append-nil (blocks m l) })
+
+best_prints : (all : Bool) (m : Instance) (l : List (List ℤ)) (complete : Bool) → complete ≡ true → AreBest all m l → PrintsBest all m l (listing_text m l complete)
+best_prints all m l true is best = record { are = best; text = refl }
+best_prints all m l false is best = absurd (cc is)
+
+goal_prints : (generate : Option ℕ) (all : Bool) (t : Term) (m : Instance) (l : List (List ℤ)) (complete : Bool) → complete ≡ true → AreBest (shows_all generate all) m l
+    → PrintsGoal generate all t m l (best_text generate t m l complete)
+goal_prints None all t m l complete is best = best_prints all m l complete is best
+goal_prints (Some items) all t m l complete is best = record { are = best; text = refl }
+
+pub shown_prints : (goal : Goal) (m : Instance) (o : Options) (l : List (List ℤ)) (complete : Bool) → IsShown goal o m l complete → PrintsFor goal o m l (shown_text goal o.generate m l complete)
+shown_prints goals.Satisfy m o l complete h = listing_prints m (wanted o) l complete h
+shown_prints (goals.Minimize t) m o l complete h = goal_prints o.generate o.all t m l complete h.0 h.1
+shown_prints (goals.Maximize t) m o l complete h = goal_prints o.generate o.all t m l complete h.0 h.1
