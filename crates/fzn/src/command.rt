@@ -11,10 +11,9 @@ use fz_io::buffered::BufferedSink;
 use fz_io::file::FileSource;
 use fz_io::gate::NoGate;
 use fz_io::output::OutSink;
-use std::env;
-use std::io;
 use std::io::ErrorKind;
 use std::process::ExitCode;
+use std::{env, io};
 
 /// Runs the program with its arguments, says on standard error what is wrong, and answers the exit status.
 pub fn program(rt: HostRuntime) -> ExitCode {
