@@ -12,6 +12,7 @@ struct Given {
     limit: Option<u32>,
     workers: u32,
     commit_distance: u32,
+    adaptive_distance: u32,
     interleave: Option<u64>,
     stats: bool,
     generate: Option<u32>,
@@ -25,13 +26,14 @@ const NONE: Given = Given {
     limit: None,
     workers: 1,
     commit_distance: 8,
+    adaptive_distance: 2,
     interleave: None,
     stats: false,
     generate: None,
     file: "-",
 };
 
-const GIVEN: [Given; 18] = [
+const GIVEN: [Given; 20] = [
     NONE,
     Given {
         words: &["-a", "-"],
@@ -88,6 +90,17 @@ const GIVEN: [Given; 18] = [
         ..NONE
     },
     Given {
+        words: &["--adaptive-distance", "1", "--commit-distance=3"],
+        commit_distance: 3,
+        adaptive_distance: 1,
+        ..NONE
+    },
+    Given {
+        words: &["--adaptive-distance=1000000"],
+        adaptive_distance: 1_000_000,
+        ..NONE
+    },
+    Given {
         words: &["--interleave", "0"],
         interleave: Some(0),
         ..NONE
@@ -128,7 +141,7 @@ const GIVEN: [Given; 18] = [
     },
 ];
 
-const REFUSED: [&[&str]; 28] = [
+const REFUSED: [&[&str]; 31] = [
     &["-a", "-a"],
     &["-n"],
     &["-n", "-1"],
@@ -138,6 +151,9 @@ const REFUSED: [&[&str]; 28] = [
     &["--commit-distance", "0"],
     &["--commit-distance=1000001"],
     &["--commit-distance"],
+    &["--adaptive-distance", "0"],
+    &["--adaptive-distance=1000001"],
+    &["--adaptive-distance"],
     &["m.fzn", "n.fzn"],
     &["-p", "0"],
     &["-p", "65"],
@@ -172,6 +188,7 @@ fn is_given(options: &Options, given: &Given) -> bool {
         && options.limit() == given.limit
         && options.workers() == given.workers
         && options.commit_distance() == given.commit_distance
+        && options.adaptive_distance() == given.adaptive_distance
         && options.interleave() == given.interleave
         && options.stats() == given.stats
         && options.generate() == given.generate

@@ -5,7 +5,7 @@ use Rattle.clap.specs.Walk.{Rule}
 use Rattle.clap.specs.declared.builder.action.ArgAction.TheVariants.{Set, SetTrue}
 use Rattle.clap.specs.declared.builder.value_parser.ValueParser.TheVariants.{Unsigned}
 use Rattle.fz_gen.specs.declared.text.TheConstants.{ITEMS_LEAST, ITEMS_MOST}
-use Rattle.fz_cmd.specs.declared.options.TheConstants.{COMMIT_DISTANCE_LEAST, COMMIT_DISTANCE_MOST, WORKERS_LEAST, WORKERS_MOST}
+use Rattle.fz_cmd.specs.declared.options.TheConstants.{ADAPTIVE_DISTANCE_LEAST, ADAPTIVE_DISTANCE_MOST, COMMIT_DISTANCE_LEAST, COMMIT_DISTANCE_MOST, WORKERS_LEAST, WORKERS_MOST}
 
 -- -a
 abbrev pub all_rule : Rule
@@ -22,6 +22,10 @@ workers_rule = record (new_rule (codes "workers")) { short = Some 112; action = 
 -- --commit-distance 1..1000000
 abbrev pub distance_rule : Rule
 distance_rule = record (new_rule (codes "commit-distance")) { long = Some (codes "commit-distance"); action = Some Set; parser = Some (Unsigned COMMIT_DISTANCE_LEAST COMMIT_DISTANCE_MOST) }
+
+-- --adaptive-distance 1..1000000
+abbrev pub adaptive_rule : Rule
+adaptive_rule = record (new_rule (codes "adaptive-distance")) { long = Some (codes "adaptive-distance"); action = Some Set; parser = Some (Unsigned ADAPTIVE_DISTANCE_LEAST ADAPTIVE_DISTANCE_MOST) }
 
 -- --interleave 0..18446744073709551615
 abbrev pub interleave_rule : Rule
@@ -44,4 +48,4 @@ abbrev pub plain_app : App
 plain_app = on_top (λ s. record s { no_binary_name = true; disable_help_flag = true }) (new_app (codes "fzn"))
 
 abbrev pub fzn_app : App
-fzn_app = fold with_rule plain_app (all_rule ∷ limit_rule ∷ workers_rule ∷ distance_rule ∷ interleave_rule ∷ stats_rule ∷ generate_rule ∷ file_rule ∷ [])
+fzn_app = fold with_rule plain_app (all_rule ∷ limit_rule ∷ workers_rule ∷ distance_rule ∷ adaptive_rule ∷ interleave_rule ∷ stats_rule ∷ generate_rule ∷ file_rule ∷ [])

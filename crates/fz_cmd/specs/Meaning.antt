@@ -7,29 +7,31 @@ use Rattle.clap.specs.ValueTests.{is_unsigned_in}
 use Rattle.clap.specs.Walk.{is_empty}
 use Rattle.fz_gen.specs.declared.text.TheConstants.{ITEMS_LEAST, ITEMS_MOST}
 use Rattle.fz_cmd.specs.declared.words.Numbers.{Numbers}
-use Rattle.fz_cmd.specs.declared.options.TheConstants.{COMMIT_DISTANCE, COMMIT_DISTANCE_LEAST, COMMIT_DISTANCE_MOST, WORKERS, WORKERS_LEAST, WORKERS_MOST}
+use Rattle.fz_cmd.specs.declared.options.TheConstants.{ADAPTIVE_DISTANCE, ADAPTIVE_DISTANCE_LEAST, ADAPTIVE_DISTANCE_MOST, COMMIT_DISTANCE, COMMIT_DISTANCE_LEAST, COMMIT_DISTANCE_MOST, WORKERS, WORKERS_LEAST, WORKERS_MOST}
 use Rattle.fz_cmd.specs.Command.{fzn_app}
 
--- All solutions or not, how many of them, by how many workers, the commit distance, the seed of the workers' turns, whether statistics are
--- printed, of how many items a model is generated, and the text that is read.
+-- All solutions or not, how many of them, by how many workers, the commit distance, the adaptive distance, the seed of the workers' turns,
+-- whether statistics are printed, of how many items a model is generated, and the text that is read.
 pub record Options : Type 0 where
   pub all : Bool
   pub limit : Option ℕ
   pub workers : ℕ
   pub commit_distance : ℕ
+  pub adaptive_distance : ℕ
   pub interleave : Option ℕ
   pub stats : Bool
   pub generate : Option ℕ
   pub file : List ℕ
 
 -- each number is in its range
-pub record AreInRange (count distance : ℕ) (items : Option ℕ) : Type 0 where
+pub record AreInRange (count distance adaptive : ℕ) (items : Option ℕ) : Type 0 where
   pub workers : (WORKERS_LEAST ≤ count) × (count ≤ WORKERS_MOST)
   pub commit_distance : (COMMIT_DISTANCE_LEAST ≤ distance) × (distance ≤ COMMIT_DISTANCE_MOST)
+  pub adaptive_distance : (ADAPTIVE_DISTANCE_LEAST ≤ adaptive) × (adaptive ≤ ADAPTIVE_DISTANCE_MOST)
   pub generate : IfSome items (λ n. (ITEMS_LEAST ≤ n) × (n ≤ ITEMS_MOST))
 
 abbrev pub HasRanges : Options → Type 0
-HasRanges o = AreInRange o.workers o.commit_distance o.generate
+HasRanges o = AreInRange o.workers o.commit_distance o.adaptive_distance o.generate
 
 -- a flag was given
 abbrev pub is_on : Text → List Row → Bool
@@ -53,17 +55,20 @@ numbers_of rows =
     option_and_then (λ limit.
     option_and_then (λ workers.
     option_and_then (λ distance.
+    option_and_then (λ adaptive.
     option_and_then (λ interleave.
     option_and_then (λ generate.
     Some (record {
       limit = limit;
       workers = unwrap_or workers WORKERS;
       commit_distance = unwrap_or distance COMMIT_DISTANCE;
+      adaptive_distance = unwrap_or adaptive ADAPTIVE_DISTANCE;
       interleave = interleave;
       generate = generate;
     }))
     (number_at rows (codes "generate") ITEMS_LEAST ITEMS_MOST))
     (number_at rows (codes "interleave") 0 18446744073709551615))
+    (number_at rows (codes "adaptive-distance") ADAPTIVE_DISTANCE_LEAST ADAPTIVE_DISTANCE_MOST))
     (number_at rows (codes "commit-distance") COMMIT_DISTANCE_LEAST COMMIT_DISTANCE_MOST))
     (number_at rows (codes "workers") WORKERS_LEAST WORKERS_MOST))
     (number_at rows (codes "limit") 0 4294967295)
@@ -75,6 +80,7 @@ with_file rows n file = cond (is_some n.generate && is_some file) None (Some (re
   limit = n.limit;
   workers = n.workers;
   commit_distance = n.commit_distance;
+  adaptive_distance = n.adaptive_distance;
   interleave = n.interleave;
   stats = is_on (codes "stats") rows;
   generate = n.generate;

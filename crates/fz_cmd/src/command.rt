@@ -1,9 +1,12 @@
 //! The command that clap reads the words by.
 ghost use Rattle.std.specs.Prelude.{◌≡◌, false, IfOk, map, string_bytes};
 ghost use Rattle.clap.specs.Words.{app_of, rule_of, rows_of, found_of, matches_of, fault_of, FailsBy};
-ghost use Rattle.fz_cmd.specs.Command.{all_rule, limit_rule, workers_rule, distance_rule, interleave_rule, stats_rule, generate_rule, file_rule, plain_app, fzn_app};
+ghost use Rattle.fz_cmd.specs.Command.{all_rule, limit_rule, workers_rule, distance_rule, adaptive_rule, interleave_rule, stats_rule, generate_rule, file_rule, plain_app, fzn_app};
 
-use crate::options::{COMMIT_DISTANCE_LEAST, COMMIT_DISTANCE_MOST, WORKERS_LEAST, WORKERS_MOST};
+use crate::options::{
+    ADAPTIVE_DISTANCE_LEAST, ADAPTIVE_DISTANCE_MOST, COMMIT_DISTANCE_LEAST, COMMIT_DISTANCE_MOST,
+    WORKERS_LEAST, WORKERS_MOST,
+};
 use clap::builder::ValueParser;
 use clap::{Arg, ArgAction, ArgMatches, Command, Error};
 use fz_gen::text::{ITEMS_LEAST, ITEMS_MOST};
@@ -50,6 +53,20 @@ fn distance_arg<'a>(alloc: Global) -> Arg<'a>
         .value_parser(ValueParser::Unsigned(
             COMMIT_DISTANCE_LEAST as u64,
             COMMIT_DISTANCE_MOST as u64,
+        ))
+}
+
+/// `--adaptive-distance NUMBER`
+fn adaptive_arg<'a>(alloc: Global) -> Arg<'a>
+    ensures rule { rule_of result ≡ adaptive_rule }
+    ensures local { result.global ≡ false }
+{
+    Arg::new(alloc, "adaptive-distance")
+        .long("adaptive-distance")
+        .action(ArgAction::Set)
+        .value_parser(ValueParser::Unsigned(
+            ADAPTIVE_DISTANCE_LEAST as u64,
+            ADAPTIVE_DISTANCE_MOST as u64,
         ))
 }
 
@@ -109,6 +126,7 @@ fn command<'a>(alloc: Global) -> Result<Command<'a>, AllocError>
     let limit = limit_arg(alloc);
     let workers = workers_arg(alloc);
     let distance = distance_arg(alloc);
+    let adaptive = adaptive_arg(alloc);
     let interleave = interleave_arg(alloc);
     let stats = stats_arg(alloc);
     let generate = generate_arg(alloc);
@@ -117,7 +135,8 @@ fn command<'a>(alloc: Global) -> Result<Command<'a>, AllocError>
     let with_limit = with_all.arg(limit)?;
     let with_workers = with_limit.arg(workers)?;
     let with_distance = with_workers.arg(distance)?;
-    let with_interleave = with_distance.arg(interleave)?;
+    let with_adaptive = with_distance.arg(adaptive)?;
+    let with_interleave = with_adaptive.arg(interleave)?;
     let with_stats = with_interleave.arg(stats)?;
     let with_generate = with_stats.arg(generate)?;
     let with_file = with_generate.arg(file)?;

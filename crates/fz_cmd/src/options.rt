@@ -19,6 +19,13 @@ pub const COMMIT_DISTANCE_MOST: u32 = 1_000_000;
 
 pub const COMMIT_DISTANCE: u32 = 8;
 
+/// The least and the greatest adaptive distance, and the one where none is given.
+pub const ADAPTIVE_DISTANCE_LEAST: u32 = 1;
+
+pub const ADAPTIVE_DISTANCE_MOST: u32 = 1_000_000;
+
+pub const ADAPTIVE_DISTANCE: u32 = 2;
+
 /// What is asked for.
 #[derive(Drop)]
 pub struct Options {
@@ -26,6 +33,7 @@ pub struct Options {
     pub(crate) limit: Option<u32>,
     pub(crate) workers: u32,
     pub(crate) commit_distance: u32,
+    pub(crate) adaptive_distance: u32,
     pub(crate) interleave: Option<u64>,
     pub(crate) stats: bool,
     pub(crate) generate: Option<u32>,
@@ -73,6 +81,14 @@ impl Options {
         ensures kept { HasRanges self.now }
     {
         self.commit_distance
+    }
+
+    /// The adaptive distance: how many commits make a way so long that recomputation keeps a copy in its middle.
+    pub fn adaptive_distance(&self) -> u32
+        ensures distance { result ≡ self.now.adaptive_distance }
+        ensures kept { HasRanges self.now }
+    {
+        self.adaptive_distance
     }
 
     /// The seed of `--interleave`: the workers take turns on one thread, by a schedule that it begins.

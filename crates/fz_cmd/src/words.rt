@@ -7,8 +7,8 @@ ghost use Rattle.fz_cmd.specs.Meaning.{AreInRange};
 use crate::command::parse;
 use crate::name::Name;
 use crate::options::{
-    COMMIT_DISTANCE, COMMIT_DISTANCE_LEAST, COMMIT_DISTANCE_MOST, Options, WORKERS, WORKERS_LEAST,
-    WORKERS_MOST,
+    ADAPTIVE_DISTANCE, ADAPTIVE_DISTANCE_LEAST, ADAPTIVE_DISTANCE_MOST, COMMIT_DISTANCE,
+    COMMIT_DISTANCE_LEAST, COMMIT_DISTANCE_MOST, Options, WORKERS, WORKERS_LEAST, WORKERS_MOST,
 };
 use crate::reading::{is_on, long_number, number, text};
 use clap::ArgMatches;
@@ -22,6 +22,7 @@ pub(crate) struct Numbers {
     pub limit: Option<u32>,
     pub workers: u32,
     pub commit_distance: u32,
+    pub adaptive_distance: u32,
     pub interleave: Option<u64>,
     pub generate: Option<u32>,
 }
@@ -61,7 +62,8 @@ fn with_file(
     numbers: Numbers,
     file: Option<&str>,
 ) -> Result<Option<Options>, AllocError>
-    requires { AreInRange numbers.workers numbers.commit_distance numbers.generate }
+    requires { AreInRange numbers.workers numbers.commit_distance numbers.adaptive_distance
+        numbers.generate }
     ensures { IfOk result (λ r. r ≡ meaning.with_file (rows_of (found_of matches.now)) numbers
         (option_map (λ s. s.now) file.entry)) }
 {
@@ -74,6 +76,7 @@ fn with_file(
         limit: numbers.limit,
         workers: numbers.workers,
         commit_distance: numbers.commit_distance,
+        adaptive_distance: numbers.adaptive_distance,
         interleave: numbers.interleave,
         stats: is_on(matches, "stats"),
         generate: numbers.generate,
@@ -84,7 +87,8 @@ fn with_file(
 /// The numbers that the matches give, each within its bounds.
 fn numbers_of(matches: &ArgMatches<'_>) -> Option<Numbers>
     ensures is { result ≡ meaning.numbers_of (rows_of (found_of matches.now)) }
-    ensures within { IfSome result (λ n. AreInRange n.workers n.commit_distance n.generate) }
+    ensures within { IfSome result (λ n. AreInRange n.workers n.commit_distance
+        n.adaptive_distance n.generate) }
 {
     let limit = number(matches, "limit", 0, u32::MAX)?;
     let workers = number(matches, "workers", WORKERS_LEAST, WORKERS_MOST)?;
@@ -94,12 +98,19 @@ fn numbers_of(matches: &ArgMatches<'_>) -> Option<Numbers>
         COMMIT_DISTANCE_LEAST,
         COMMIT_DISTANCE_MOST,
     )?;
+    let adaptive = number(
+        matches,
+        "adaptive-distance",
+        ADAPTIVE_DISTANCE_LEAST,
+        ADAPTIVE_DISTANCE_MOST,
+    )?;
     let interleave = long_number(matches, "interleave", 0, u64::MAX)?;
     let generate = number(matches, "generate", ITEMS_LEAST, ITEMS_MOST)?;
     Some(Numbers {
         limit,
         workers: workers.unwrap_or(WORKERS),
         commit_distance: distance.unwrap_or(COMMIT_DISTANCE),
+        adaptive_distance: adaptive.unwrap_or(ADAPTIVE_DISTANCE),
         interleave,
         generate,
     })

@@ -17,7 +17,7 @@ pub struct Beginning<S: SearchSpace> {
     pub trail: Trail<S>,
 }
 
-/// The beginning of a model's paths that keep copies at this distance.
+/// The beginning of a model's paths that keep copies at these distances.
 ///
 /// # Errors
 /// `AllocError` where there is no memory.
@@ -25,11 +25,13 @@ pub fn beginning_of<S: SearchSpace>(
     alloc: Global,
     model: &Arc<fz_model::Model>,
     commit_distance: u32,
+    adaptive_distance: u32,
 ) -> Result<Beginning<S>, AllocError>
     requires accepts { S.accepts (arc_value model.now) }
-    requires distance { 1 ≤ commit_distance }
+    requires distances { (1 ≤ commit_distance) × (1 ≤ adaptive_distance) }
     ensures plan { IfOk result (λ b. b.plan ≡ plan_of (arc_value model.now)) }
-    ensures distance { IfOk result (λ b. b.trail.distance ≡ commit_distance) }
+    ensures distances { IfOk result (λ b. (b.trail.distance ≡ commit_distance)
+        × (b.trail.adaptive ≡ adaptive_distance)) }
     ensures spaces { IfOk result (λ b.
         IsTrail S.spaced (arc_value model.now) None [] b.trail) }
 {
@@ -37,6 +39,6 @@ pub fn beginning_of<S: SearchSpace>(
     let root = S::root(alloc, model.clone()?)?;
     Ok(Beginning {
         plan,
-        trail: Trail::new(alloc, root, commit_distance),
+        trail: Trail::new(alloc, root, commit_distance, adaptive_distance),
     })
 }

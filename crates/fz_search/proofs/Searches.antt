@@ -22,7 +22,6 @@ use Rattle.fz_path.specs.Paths.{Pathed, idle_path}
 use Rattle.fz_solo.specs.Searches.{Searches}
 use Rattle.fz_core.specs.Cores.{Core, starting}
 use Rattle.fz_machine.specs.Schedule.{HasGone}
-use Rattle.fz_search.specs.declared.searching.TheConstants.{ADAPTIVE_DISTANCE}
 use Rattle.fz_search.specs.Searched.{IsAlone, IsByTurns, enough_for, HasEnded, IsSearched, IsListing, IsShown, shows_all}
 
 -- ---- the first so many of a list
@@ -64,20 +63,20 @@ searched m w v b end is law same enough closed = record {
 }
 
 -- by one worker, as the code says it
-pub alone : (m : Instance) (o : Options) (improving : Bool) (mode : Mode) (distance : ℕ) (old b : Book) (begun path : Pathed) → improving ≡ shows_all o.generate o.all → mode ≡ mode_of m.goal → distance ≡ o.commit_distance → old ≡ opening m mode
-    → begun ≡ idle_path m mode distance ADAPTIVE_DISTANCE → Searches improving old begun b path → IsAlone m o b
-alone m o improving mode distance old b begun path all own asked opened idle h =
+pub alone : (m : Instance) (o : Options) (improving : Bool) (mode : Mode) (distance adaptive : ℕ) (old b : Book) (begun path : Pathed) → improving ≡ shows_all o.generate o.all → mode ≡ mode_of m.goal → distance ≡ o.commit_distance → adaptive ≡ o.adaptive_distance → old ≡ opening m mode
+    → begun ≡ idle_path m mode distance adaptive → Searches improving old begun b path → IsAlone m o b
+alone m o improving mode distance adaptive old b begun path all own asked kept opened idle h =
     let told = subst (λ (i : Bool). Searches i old begun b path) all h in
     let from = subst (λ (x : Book). Searches (shows_all o.generate o.all) x begun b path) (opened ∙ ap (opening m) own) told in
-    let same : begun ≡ idle_path m (mode_of m.goal) o.commit_distance ADAPTIVE_DISTANCE = idle ∙ (λ i. idle_path m (own i) (asked i) ADAPTIVE_DISTANCE) in
+    let same : begun ≡ idle_path m (mode_of m.goal) o.commit_distance o.adaptive_distance = idle ∙ (λ i. idle_path m (own i) (asked i) (kept i)) in
     record { path = path; searched = subst (λ (x : Pathed). Searches (shows_all o.generate o.all) (opening m (mode_of m.goal)) x b path) same from }
 
 -- by turns, as the code says it
-pub by_turns : (m : Instance) (o : Options) (seed : ℕ) (enough : Option ℕ) (mode : Mode) (old new : Core) (b : Book) → enough ≡ enough_for m.goal o → mode ≡ mode_of m.goal → old ≡ starting m mode o.workers o.commit_distance ADAPTIVE_DISTANCE
+pub by_turns : (m : Instance) (o : Options) (seed : ℕ) (enough : Option ℕ) (mode : Mode) (old new : Core) (b : Book) → enough ≡ enough_for m.goal o → mode ≡ mode_of m.goal → old ≡ starting m mode o.workers o.commit_distance o.adaptive_distance
     → HasGone enough seed old new → b ≡ new.book → IsByTurns m o seed b
 by_turns m o seed enough mode old new b asked own begun gone is =
     let wanted = subst (λ (e : Option ℕ). HasGone e seed old new) asked gone in
-    record { core = new; gone = subst (λ (x : Core). HasGone (enough_for m.goal o) seed x new) (begun ∙ ap (λ (x : Mode). starting m x o.workers o.commit_distance ADAPTIVE_DISTANCE) own) wanted; is = is }
+    record { core = new; gone = subst (λ (x : Core). HasGone (enough_for m.goal o) seed x new) (begun ∙ ap (λ (x : Mode). starting m x o.workers o.commit_distance o.adaptive_distance) own) wanted; is = is }
 
 -- ---- what is shown
 

@@ -10,7 +10,6 @@ use Rattle.fz_path.specs.Paths.{Pathed, idle_path}
 use Rattle.fz_solo.specs.Searches.{Searches}
 use Rattle.fz_core.specs.Cores.{Core, starting}
 use Rattle.fz_machine.specs.Schedule.{HasGone}
-use Rattle.fz_search.specs.declared.searching.TheConstants.{ADAPTIVE_DISTANCE}
 use Rattle.fz_cmd.specs.Meaning.{Options}
 use Rattle.fz_runs.specs.Runs.{AreSome, AreBest, wanted}
 
@@ -37,15 +36,15 @@ pub record IsSearched (m : Instance) (w : Option ℕ) (b : Book) : Type 0 where
 
 -- ---- how a model is searched
 
--- By one worker that keeps copies at the distance that is asked for; the book is told each better one where all are to be shown.
+-- By one worker that keeps copies at the distances that are asked for; the book is told each better one where all are to be shown.
 pub record IsAlone (m : Instance) (o : Options) (b : Book) : Type 0 where
   pub path : Pathed
-  pub searched : Searches (shows_all o.generate o.all) (opening m (mode_of m.goal)) (idle_path m (mode_of m.goal) o.commit_distance ADAPTIVE_DISTANCE) b path
+  pub searched : Searches (shows_all o.generate o.all) (opening m (mode_of m.goal)) (idle_path m (mode_of m.goal) o.commit_distance o.adaptive_distance) b path
 
--- By as many workers as are asked for, which keep copies at that distance and take turns by the schedule that the seed begins.
+-- By as many workers as are asked for, which keep copies at these distances and take turns by the schedule that the seed begins.
 pub record IsByTurns (m : Instance) (o : Options) (seed : ℕ) (b : Book) : Type 0 where
   pub core : Core
-  pub gone : HasGone (enough_for m.goal o) seed (starting m (mode_of m.goal) o.workers o.commit_distance ADAPTIVE_DISTANCE) core
+  pub gone : HasGone (enough_for m.goal o) seed (starting m (mode_of m.goal) o.workers o.commit_distance o.adaptive_distance) core
   pub is : b ≡ core.book
 
 abbrev pub IsSearchedBy : Option ℕ → Instance → Options → Book → Type 0

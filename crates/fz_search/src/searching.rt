@@ -23,9 +23,6 @@ use fz_spec::goal::Goal;
 use std::alloc::{AllocError, Global};
 use std::sync::Arc;
 
-/// The adaptive distance of recomputation, which nothing reads yet.
-pub const ADAPTIVE_DISTANCE: u32 = 2;
-
 /// What is shown of a search: solutions, and whether they are all.
 #[derive(Clone, Copy)]
 pub struct Listing<'a> {
@@ -68,7 +65,8 @@ fn search_alone<S: SearchSpace>(
     let distance = options.commit_distance();
     let mode = mode_of(model.goal());
     let mut book = begin(alloc, model, mode)?;
-    let mut path: Path<S> = Path::idle(alloc, model.clone()?, mode, distance, ADAPTIVE_DISTANCE)?;
+    let adaptive = options.adaptive_distance();
+    let mut path: Path<S> = Path::idle(alloc, model.clone()?, mode, distance, adaptive)?;
     let enough = enough_for(model.goal(), options);
     finish(&mut book, &mut path, enough, shows_all(options))?;
     Ok(book)
@@ -103,7 +101,7 @@ fn new_machine<S: SearchSpace>(
     requires accepts { S.accepts (arc_value model.now) }
     requires mode { mode ≡ mode_of (arc_value model.now).goal }
     ensures { IfOk result (λ m. m ≡ starting (arc_value model.now) mode
-        options.now.workers options.now.commit_distance ADAPTIVE_DISTANCE) }
+        options.now.workers options.now.commit_distance options.now.adaptive_distance) }
 {
     let machine = Machine::new(
         alloc,
@@ -111,7 +109,7 @@ fn new_machine<S: SearchSpace>(
         mode,
         options.workers(),
         options.commit_distance(),
-        ADAPTIVE_DISTANCE,
+        options.adaptive_distance(),
     )?;
     Ok(machine)
 }

@@ -1,5 +1,5 @@
 //! The spaces beside a path.
-ghost use Rattle.std.specs.Prelude.{◌≡◌, ◌⊎◌, ◌↔◌, ◌≤◌, ◌<◌, ◌+◌, ◌-◌, ◌++◌, ◌∷◌, [], ℕ, ℤ, List, length, false, IsTrue, Option, Some, None, IfNone, is_some, IfOk, IfSome, IsSomeAnd, OnOk, OnErr};
+ghost use Rattle.std.specs.Prelude.{◌≡◌, ◌⊎◌, ◌↔◌, ◌≤◌, ◌<◌, ◌+◌, ◌-◌, ◌++◌, ◌∷◌, [], ℕ, ℤ, List, length, take, false, IsTrue, Option, Some, None, IfNone, is_some, IfOk, IfSome, IsSomeAnd, OnOk, OnErr};
 ghost use Rattle.std.specs.List.{AllByRecursion};
 ghost use Rattle.std.specs.Vec.{vec_len, vec_capacity};
 ghost use Rattle.fz_spec.specs.Instance.{Instance};
@@ -8,7 +8,7 @@ ghost use Rattle.fz_tree.specs.Frontier as frontier;
 ghost use Rattle.fz_tree.specs.Frontier.{AreEdges, next_edges};
 ghost use Rattle.fz_search_space.specs.Spaces.{Covers};
 ghost use Rattle.fz_trail.specs.Nodes.{IsAt, decisions_of};
-ghost use Rattle.fz_trail.specs.Places.{IsNear, AreLeftDownTo, IsOneMore, IsUsedUp, HasUsedCopy, nearest_node, last_of};
+ghost use Rattle.fz_trail.specs.Places.{IsNear, AreLeftDownTo, IsOneMore, IsUsedUp, HasUsedCopy, IsWayLong, IsOneBetween, IsDueBetween, AreBehind, half_down, nearest_node, last_of};
 ghost use Rattle.fz_trail.specs.Trails.{IsTrail, IsKept, AreKept};
 
 use crate::kept::Kept;
@@ -25,13 +25,14 @@ pub struct Trail<S> {
     pub current: Option<S>,
     pub spare: Vec<S>,
     pub distance: u32,
+    pub adaptive: u32,
 }
 
 impl<S: SearchSpace> Trail<S> {
     /// The root's space alone.
-    pub fn new(alloc: Global, root: S, distance: u32) -> Trail<S>
-        requires { 1 ≤ distance }
-        ensures distance { result.distance ≡ distance }
+    pub fn new(alloc: Global, root: S, distance: u32, adaptive: u32) -> Trail<S>
+        requires { (1 ≤ distance) × (1 ≤ adaptive) }
+        ensures distances { (result.distance ≡ distance) × (result.adaptive ≡ adaptive) }
         ensures trail { (m : Instance) (known : Option (List ℤ)) (es : List frontier.Edge)
             → IsAt m known [] (S.spaced root)
             → IsTrail S.spaced m known es result }
@@ -42,12 +43,14 @@ impl<S: SearchSpace> Trail<S> {
             current: None,
             spare: Vec::new(alloc),
             distance,
+            adaptive,
         }
     }
 
     /// Forgets all but the root.
     pub fn clear(&mut self)
-        ensures distance { self.new.distance ≡ self.old.distance }
+        ensures distances { (self.new.distance ≡ self.old.distance)
+            × (self.new.adaptive ≡ self.old.adaptive) }
         ensures trail { (m : Instance) (known : Option (List ℤ)) (es fs : List frontier.Edge)
             → IsTrail S.spaced m known es self.old
             → IsTrail S.spaced m known fs self.new }
@@ -58,7 +61,8 @@ impl<S: SearchSpace> Trail<S> {
 
     /// The path has moved to these edges: what isn't above them goes.
     pub fn retreat(&mut self, edges: &[Edge])
-        ensures distance { self.new.distance ≡ self.old.distance }
+        ensures distances { (self.new.distance ≡ self.old.distance)
+            × (self.new.adaptive ≡ self.old.adaptive) }
         ensures left { AreLeftDownTo
             (length edges.now - 1) self.old.copies.items self.new.copies.items }
         ensures trail { (m : Instance) (known : Option (List ℤ)) (es : List frontier.Edge)
@@ -78,9 +82,13 @@ impl<S: SearchSpace> Trail<S> {
         requires edges { AreEdges edges.now }
         requires trail { (m : Instance) × (known : Option (List ℤ))
             × IsTrail S.spaced m known edges.now self.old }
-        ensures distance { self.new.distance ≡ self.old.distance }
-        ensures copies { (self.new.copies.items ≡ self.old.copies.items)
-            ⊎ IsUsedUp edges.now self.old.copies.items self.new.copies.items }
+        ensures distances { (self.new.distance ≡ self.old.distance)
+            × (self.new.adaptive ≡ self.old.adaptive) }
+        ensures copies { AreBehind
+            self.old.adaptive edges.now self.old.copies.items self.new.copies.items }
+        ensures due { OnOk result (self.old.current ≡ None → IsDueBetween self.old.adaptive
+            (nearest_node self.old.copies.items) (length edges.now)
+            self.old.copies.items self.new.copies.items) }
         ensures space { IfOk result (λ s. (m : Instance) (known : Option (List ℤ))
             → IsTrail S.spaced m known edges.now self.old
             → IsAt m known edges.now (S.spaced s)) }
@@ -99,9 +107,13 @@ impl<S: SearchSpace> Trail<S> {
         requires edges { AreEdges edges.now }
         requires trail { (m : Instance) × (known : Option (List ℤ))
             × IsTrail S.spaced m known edges.now self.old }
-        ensures distance { self.new.distance ≡ self.old.distance }
-        ensures copies { (self.new.copies.items ≡ self.old.copies.items)
-            ⊎ IsUsedUp edges.now self.old.copies.items self.new.copies.items }
+        ensures distances { (self.new.distance ≡ self.old.distance)
+            × (self.new.adaptive ≡ self.old.adaptive) }
+        ensures copies { AreBehind
+            self.old.adaptive edges.now self.old.copies.items self.new.copies.items }
+        ensures due { OnOk result (IsDueBetween self.old.adaptive
+            (nearest_node self.old.copies.items) (length edges.now)
+            self.old.copies.items self.new.copies.items) }
         ensures space { IfOk result (λ s. (m : Instance) (known : Option (List ℤ))
             → IsTrail S.spaced m known edges.now self.old
             → IsAt m known edges.now (S.spaced s)) }
@@ -109,16 +121,118 @@ impl<S: SearchSpace> Trail<S> {
             → IsTrail S.spaced m known edges.now self.old
             → IsTrail S.spaced m known edges.now self.new }
     {
-        let kept = self.nearest(edges)?;
-        let depth = kept.depth;
+        let kept = self.near(edges)?;
         let mut space = kept.space;
-        commit_all(&mut space, &edges[depth..])?;
+        commit_all(&mut space, &edges[kept.depth..])?;
         Ok(space)
+    }
+
+    /// A space above the node below the edges: the nearest one, brought half of the way down where that is long.
+    fn near(&mut self, edges: &[Edge]) -> Result<Kept<S>, AllocError>
+        requires edges { AreEdges edges.now }
+        requires trail { (m : Instance) × (known : Option (List ℤ))
+            × IsTrail S.spaced m known edges.now self.old }
+        ensures distances { (self.new.distance ≡ self.old.distance)
+            × (self.new.adaptive ≡ self.old.adaptive) }
+        ensures copies { AreBehind
+            self.old.adaptive edges.now self.old.copies.items self.new.copies.items }
+        ensures due { OnOk result (IsDueBetween self.old.adaptive
+            (nearest_node self.old.copies.items) (length edges.now)
+            self.old.copies.items self.new.copies.items) }
+        ensures below { IfOk result (λ k. k.depth ≤ length edges.now) }
+        ensures space { IfOk result (λ k. (m : Instance) (known : Option (List ℤ))
+            → IsTrail S.spaced m known edges.now self.old
+            → IsKept S.spaced m known edges.now k) }
+        ensures kept { (m : Instance) (known : Option (List ℤ))
+            → IsTrail S.spaced m known edges.now self.old
+            → IsTrail S.spaced m known edges.now self.new }
+    {
+        let kept = self.nearest(edges)?;
+        self.brought_down(edges, kept)
+    }
+
+    /// Brings a space half of the way down to the node below the edges, and keeps a copy of it there, where the way is long.
+    fn brought_down(&mut self, edges: &[Edge], kept: Kept<S>) -> Result<Kept<S>, AllocError>
+        requires edges { AreEdges edges.now }
+        requires above { kept.depth ≤ length edges.now }
+        ensures distances { (self.new.distance ≡ self.old.distance)
+            × (self.new.adaptive ≡ self.old.adaptive) }
+        ensures copies { (self.new.copies.items ≡ self.old.copies.items)
+            ⊎ IsOneBetween self.old.adaptive kept.depth (length edges.now)
+            self.old.copies.items self.new.copies.items }
+        ensures due { OnOk result (IsDueBetween self.old.adaptive kept.depth
+            (length edges.now) self.old.copies.items self.new.copies.items) }
+        ensures below { IfOk result (λ k. k.depth ≤ length edges.now) }
+        ensures space { IfOk result (λ k. (m : Instance) (known : Option (List ℤ))
+            → IsKept S.spaced m known edges.now kept
+            → IsKept S.spaced m known edges.now k) }
+        ensures kept { (m : Instance) (known : Option (List ℤ))
+            → IsKept S.spaced m known edges.now kept
+            → IfSome (last_of self.old.copies.items) (λ k. k.depth ≤ kept.depth)
+            → IsTrail S.spaced m known edges.now self.old
+            → IsTrail S.spaced m known edges.now self.new }
+    {
+        if !self.is_way_long(kept.depth, edges.len()) {
+            return Ok(kept);
+        }
+        self.go_halfway(edges, kept)
+    }
+
+    /// Whether a way has a middle and is as long as the adaptive distance, and some copy stands above it.
+    fn is_way_long(&self, from: usize, to: usize) -> bool
+        requires { from ≤ to }
+        ensures { IsTrue result ↔ IsWayLong self.now.adaptive from to self.now.copies.items }
+    {
+        let count = to - from;
+        count >= 2 && count >= self.adaptive as usize && !self.copies.is_empty()
+    }
+
+    /// Brings a space half of a long way down, and keeps a copy of it there.
+    fn go_halfway(&mut self, edges: &[Edge], kept: Kept<S>) -> Result<Kept<S>, AllocError>
+        requires edges { AreEdges edges.now }
+        requires long { IsWayLong
+            self.old.adaptive kept.depth (length edges.now) self.old.copies.items }
+        ensures distances { (self.new.distance ≡ self.old.distance)
+            × (self.new.adaptive ≡ self.old.adaptive) }
+        ensures copies { (self.new.copies.items ≡ self.old.copies.items)
+            ⊎ IsOneBetween self.old.adaptive kept.depth (length edges.now)
+            self.old.copies.items self.new.copies.items }
+        ensures due { OnOk result (IsOneBetween self.old.adaptive kept.depth
+            (length edges.now) self.old.copies.items self.new.copies.items) }
+        ensures below { IfOk result (λ k. k.depth ≤ length edges.now) }
+        ensures space { IfOk result (λ k. (m : Instance) (known : Option (List ℤ))
+            → IsKept S.spaced m known edges.now kept
+            → IsKept S.spaced m known edges.now k) }
+        ensures kept { (m : Instance) (known : Option (List ℤ))
+            → IsKept S.spaced m known edges.now kept
+            → IfSome (last_of self.old.copies.items) (λ k. k.depth ≤ kept.depth)
+            → IsTrail S.spaced m known edges.now self.old
+            → IsTrail S.spaced m known edges.now self.new }
+    {
+        let depth = kept.depth + (edges.len() - kept.depth) / 2;
+        let space = brought_to(edges, kept, depth)?;
+        self.put(depth, &space)?;
+        Ok(Kept { depth, space })
+    }
+
+    /// Puts a copy of the space at the node below so many edges behind the others.
+    fn put(&mut self, depth: usize, space: &S) -> Result<(), AllocError>
+        ensures distances { (self.new.distance ≡ self.old.distance)
+            × (self.new.adaptive ≡ self.old.adaptive) }
+        ensures copies { OnOk result (IsOneMore
+            S.spaced depth space.now self.old.copies.items self.new.copies.items) }
+        ensures none { OnErr result (self.new.copies.items ≡ self.old.copies.items) }
+        ensures rest { (self.new.root ≡ self.old.root) × (self.new.current ≡ self.old.current) }
+    {
+        let space = copied(&mut self.spare, space)?;
+        self.copies.push(Kept { depth, space })?;
+        Ok(())
     }
 
     /// A space above the node below the edges: the nearest copy, or what was one.
     fn nearest(&mut self, edges: &[Edge]) -> Result<Kept<S>, AllocError>
-        ensures distance { self.new.distance ≡ self.old.distance }
+        ensures distances { (self.new.distance ≡ self.old.distance)
+            × (self.new.adaptive ≡ self.old.adaptive) }
         ensures copies { (self.new.copies.items ≡ self.old.copies.items)
             ⊎ IsUsedUp edges.now self.old.copies.items self.new.copies.items }
         ensures nearest { IfOk result (λ k. k.depth ≡ nearest_node self.old.copies.items) }
@@ -137,7 +251,8 @@ impl<S: SearchSpace> Trail<S> {
 
     /// The nearest copy itself, where no other node is remade from it.
     fn used_copy(&mut self, edges: &[Edge]) -> Option<Kept<S>>
-        ensures distance { self.new.distance ≡ self.old.distance }
+        ensures distances { (self.new.distance ≡ self.old.distance)
+            × (self.new.adaptive ≡ self.old.adaptive) }
         ensures copies { (self.new.copies.items ≡ self.old.copies.items)
             ⊎ IsUsedUp edges.now self.old.copies.items self.new.copies.items }
         ensures nearest { IfSome result (λ k. k.depth ≡ nearest_node self.old.copies.items) }
@@ -158,7 +273,8 @@ impl<S: SearchSpace> Trail<S> {
 
     /// A copy of the nearest copy, or of the root's space.
     fn copy_of_nearest(&mut self) -> Result<Kept<S>, AllocError>
-        ensures distance { self.new.distance ≡ self.old.distance }
+        ensures distances { (self.new.distance ≡ self.old.distance)
+            × (self.new.adaptive ≡ self.old.adaptive) }
         ensures copies { self.new.copies.items ≡ self.old.copies.items }
         ensures nearest { IfOk result (λ k. k.depth ≡ nearest_node self.old.copies.items) }
         ensures space { IfOk result (λ k. (m : Instance) (known : Option (List ℤ))
@@ -188,7 +304,8 @@ impl<S: SearchSpace> Trail<S> {
     /// # Errors
     /// `AllocError` where there is no memory.
     pub fn keep(&mut self, depth: usize, space: &S) -> Result<(), AllocError>
-        ensures distance { self.new.distance ≡ self.old.distance }
+        ensures distances { (self.new.distance ≡ self.old.distance)
+            × (self.new.adaptive ≡ self.old.adaptive) }
         ensures copies { (self.new.copies.items ≡ self.old.copies.items)
             ⊎ IsOneMore S.spaced depth space.now self.old.copies.items self.new.copies.items }
         ensures near { OnOk result ((m : Instance) (known : Option (List ℤ))
@@ -203,8 +320,7 @@ impl<S: SearchSpace> Trail<S> {
         if !self.is_due(depth) {
             return Ok(());
         }
-        let space = copied(&mut self.spare, space)?;
-        self.copies.push(Kept { depth, space })?;
+        self.put(depth, space)?;
         Ok(())
     }
 
@@ -224,7 +340,8 @@ impl<S: SearchSpace> Trail<S> {
 
     /// The path goes on below one edge more, and this is the space there.
     pub fn descend(&mut self, space: S)
-        ensures distance { self.new.distance ≡ self.old.distance }
+        ensures distances { (self.new.distance ≡ self.old.distance)
+            × (self.new.adaptive ≡ self.old.adaptive) }
         ensures copies { self.new.copies.items ≡ self.old.copies.items }
         ensures current { self.new.current ≡ Some space }
         ensures trail { (m : Instance) (known : Option (List ℤ))
@@ -239,7 +356,8 @@ impl<S: SearchSpace> Trail<S> {
 
     /// A space that is done with.
     pub fn release(&mut self, space: S)
-        ensures distance { self.new.distance ≡ self.old.distance }
+        ensures distances { (self.new.distance ≡ self.old.distance)
+            × (self.new.adaptive ≡ self.old.adaptive) }
         ensures copies { self.new.copies.items ≡ self.old.copies.items }
         ensures current { self.new.current ≡ self.old.current }
         ensures spare { (self.new.spare.items ≡ self.old.spare.items)
@@ -274,7 +392,7 @@ fn drop_current<S: SearchSpace>(current: &mut Option<S>, spare: &mut Vec<S>)
 fn drop_below<S: SearchSpace>(copies: &mut Vec<Kept<S>>, spare: &mut Vec<S>, depth: usize)
     ensures left { AreLeftDownTo depth copies.old.items copies.new.items }
     ensures above { (m : Instance) (known : Option (List ℤ)) (es : List frontier.Edge)
-        (distance : ℕ) → AreKept S.spaced m known es distance 0 copies.old.items
+        → AreKept S.spaced m known es 0 copies.old.items
         → AllByRecursion (λ (k : Kept S). k.depth ≤ depth) copies.new.items }
 {
     'copies: while is_below(copies, depth) {
@@ -320,6 +438,20 @@ fn copy_of<S: SearchSpace>(
 {
     let space = copied(spare, space)?;
     Ok(Kept { depth, space })
+}
+
+/// The space of a node brought down to another by the decisions between, as far as propagation takes it there.
+fn brought_to<S: SearchSpace>(edges: &[Edge], kept: Kept<S>, depth: usize) -> Result<S, AllocError>
+    requires edges { AreEdges edges.now }
+    requires below { (kept.depth ≤ depth) × (depth ≤ length edges.now) }
+    ensures { IfOk result (λ s. (m : Instance) (known : Option (List ℤ))
+        → IsKept S.spaced m known edges.now kept
+        → IsAt m known (take depth edges.now) (S.spaced s)) }
+{
+    let mut space = kept.space;
+    commit_all(&mut space, &edges[kept.depth..depth])?;
+    space.status()?;
+    Ok(space)
 }
 
 /// Takes the decisions of some edges, one after the other.

@@ -31,10 +31,10 @@ use std::sync::Arc;
 /// Reads a FlatZinc text, searches for its solutions, and prints them.
 ///
 /// `words` are the arguments of the program: `-a` for all solutions, `-n N` for N of them (0 for all), one where neither is given;
-/// `--commit-distance N` for how often a copy of a node is kept; `--interleave SEED` for a search by workers, `-p N` of them (1
-/// where it isn't given), that take turns on one thread by a schedule which the seed begins; `-s` for statistics; `--generate N`
-/// for a model that is generated, a knapsack of N items, in place of one that is read; and FILE. The text is that of FILE; no FILE
-/// is `-`, standard input. A text may have 67,108,864 bytes. Printed is a block for each satisfying assignment, in any order, and
+/// `--commit-distance N` for how often a copy of a node is kept, `--adaptive-distance N` for how long a way has a copy in its
+/// middle; `--interleave SEED` for a search by workers, `-p N` of them (1 where it isn't given), that take turns on one thread by
+/// a schedule which the seed begins; `-s` for statistics; `--generate N` for a model that is generated, a knapsack of N items, in
+/// place of one that is read; and FILE. The text is that of FILE; no FILE is `-`, standard input. A text may have 67,108,864 bytes. Printed is a block for each satisfying assignment, in any order, and
 /// `==========`; of `-n N` N different blocks alone, where so many satisfy; of a model with a goal the block of a best assignment
 /// and `==========`, with `-a` maybe behind others, each better than the one before it; of a generated model `items=N best=V` in
 /// place of both; where none satisfies, `=====UNSATISFIABLE=====` alone; of a text that is refused, the place, the code and

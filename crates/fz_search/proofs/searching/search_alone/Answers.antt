@@ -4,7 +4,6 @@ use Rattle.fz_spec.specs.declared.goal.Goal.{Goal}
 use Rattle.fz_tree.specs.Book.{Book}
 use Rattle.fz_tree.specs.Better.{mode_of}
 use Rattle.fz_path.specs.Paths.{idle_path}
-use Rattle.fz_search.specs.declared.searching.TheConstants.{ADAPTIVE_DISTANCE}
 use Rattle.fz_search.specs.Searched.{enough_for}
 use Rattle.fz_search.proofs.Searches.{searched, alone}
 use Rattle.fz_search.proofs.searching.search_alone.Goals as goal
@@ -19,6 +18,6 @@ pub returns-clause-by : goal.returns-clause-by
 returns-clause-by g c =
     let m = arc_value c.args.model.now in
     let aim : c.goal.result.now ≡ m.goal = search rules in
-    let same : c.in_ok-path.path ≡ idle_path m c.mode_of-mode.result c.commit_distance-distance.result ADAPTIVE_DISTANCE = search rules in
-    alone m c.args.options.now c.shows_all.result c.mode_of-mode.result c.commit_distance-distance.result c.in_ok-book.book.book c.finish.new.book.book c.in_ok-path.path c.finish.new.path c.shows_all.ensures (c.mode_of-mode.ensures ∙ ap mode_of aim)
-    (search rules) c.in_ok-book.ensures same c.in_ok-finish.ensures.searched
+    let same : c.in_ok-path.path ≡ idle_path m c.mode_of-mode.result c.commit_distance-distance.result c.adaptive_distance-adaptive.result = search rules in
+    alone m c.args.options.now c.shows_all.result c.mode_of-mode.result c.commit_distance-distance.result c.adaptive_distance-adaptive.result c.in_ok-book.book.book c.finish.new.book.book c.in_ok-path.path c.finish.new.path c.shows_all.ensures (c.mode_of-mode.ensures ∙ ap mode_of aim)
+    (search rules) (search rules) c.in_ok-book.ensures same c.in_ok-finish.ensures.searched

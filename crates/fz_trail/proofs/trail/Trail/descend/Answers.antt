@@ -4,9 +4,9 @@ use Rattle.fz_trail.proofs.trail.Trail.descend.Goals as goal
 
 pub returns-clause-trail : goal.returns-clause-trail
 returns-clause-trail g c = λ m known es e at near t. record {
-  distance = t.distance;
+  distances = t.distances;
   root = t.root;
-  copies = kept_deeper g.S.SearchSpace.spaced m known es e c.args.self.now.distance 0 c.args.self.now.copies.items t.copies;
+  copies = kept_deeper g.S.SearchSpace.spaced m known es e 0 c.args.self.now.copies.items t.copies;
   near = near_deeper c.args.self.now.distance es e c.args.self.now.copies.items near t.near;
   current = at;
 }

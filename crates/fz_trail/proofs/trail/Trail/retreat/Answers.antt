@@ -17,11 +17,11 @@ returns-clause-trail g c = λ m known es is t.
     let old = c.args.self.now.copies.items in
     let new = c.drop_below.new.copies.items in
     let left : AreLeftDownTo depth old new = c.drop_below.ensures.left in
-    let front = kept_front spaced m known es distance 0 new left.gone (subst (λ (ks : List (Kept _)). AreKept spaced m known es distance 0 ks) left.parts t.copies) in
+    let front = kept_front spaced m known es 0 new left.gone (subst (λ (ks : List (Kept _)). AreKept spaced m known es 0 ks) left.parts t.copies) in
     record {
-      distance = t.distance;
+      distances = t.distances;
       root = t.root;
-      copies = kept_beside spaced m known es fs distance depth 0 new (retreat_code es fs depth c.count_above-depth.ensures is) (omega (arith, c.count_above-depth.ensures)) (c.drop_below.ensures.above m known es distance t.copies) front;
+      copies = kept_beside spaced m known es fs depth 0 new (retreat_code es fs depth c.count_above-depth.ensures is) (omega (arith, c.count_above-depth.ensures)) (c.drop_below.ensures.above m known es t.copies) front;
       near = near_left distance es fs depth old new is c.count_above-depth.ensures left t.near;
       current = subst (λ (o : Option _). IfSome o (λ s. IsAt m known fs (spaced s))) (sym c.drop_current.ensures) tt;
     }
