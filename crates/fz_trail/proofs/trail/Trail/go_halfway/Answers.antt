@@ -10,7 +10,7 @@ returns-clause-copies g c =
 
 pub returns-clause-space : goal.returns-clause-space
 returns-clause-space g c = λ m known kept. record {
-  above = (half_within c.args.kept.depth (length c.args.edges.now) c.requires.long.1.0).1;
+  above = (half_within c.args.kept.depth (length c.args.edges.now) c.requires.long.1).1;
   is_at = c.in_ok-space.ensures m known kept;
 }
 
