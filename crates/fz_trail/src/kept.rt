@@ -1,5 +1,11 @@
 //! Kept copies of spaces.
 
+/// The most copies that stand beside a path.
+pub const COPIES_MOST: usize = 64;
+
+/// How many go where as many stand as may: every second of the older half.
+pub const COPIES_GONE: usize = 16;
+
 /// The space of a node, and how many edges are above the node.
 #[derive(Drop)]
 pub struct Kept<S> {

@@ -1,5 +1,5 @@
 //! The spaces beside a path.
-ghost use Rattle.std.specs.Prelude.{◌≡◌, ◌⊎◌, ◌↔◌, ◌≤◌, ◌<◌, ◌+◌, ◌-◌, ◌++◌, ◌∷◌, [], ℕ, ℤ, List, length, take, false, IsTrue, Option, Some, None, IfNone, is_some, IfOk, IfSome, IsSomeAnd, OnOk, OnErr};
+ghost use Rattle.std.specs.Prelude.{◌≡◌, ◌⊎◌, ◌↔◌, ◌≤◌, ◌<◌, ◌+◌, ◌-◌, ◌*◌, ◌++◌, ◌∷◌, [], ℕ, ℤ, List, length, take, false, IsTrue, Option, Some, None, IfNone, is_some, IfOk, IfSome, IsSomeAnd, OnOk, OnErr};
 ghost use Rattle.std.specs.List.{AllByRecursion};
 ghost use Rattle.std.specs.Vec.{vec_len, vec_capacity};
 ghost use Rattle.fz_spec.specs.Instance.{Instance};
@@ -8,10 +8,11 @@ ghost use Rattle.fz_tree.specs.Frontier as frontier;
 ghost use Rattle.fz_tree.specs.Frontier.{AreEdges, next_edges};
 ghost use Rattle.fz_search_space.specs.Spaces.{Covers};
 ghost use Rattle.fz_trail.specs.Nodes.{IsAt, decisions_of};
-ghost use Rattle.fz_trail.specs.Places.{IsNear, AreLeftDownTo, IsOneMore, IsUsedUp, HasUsedCopy, IsWayLong, IsOneBetween, IsDueBetween, AreBehind, half_down, nearest_node, last_of};
+ghost use Rattle.fz_trail.specs.Places.{IsNear, AreLeftDownTo, IsOneMore, IsUsedUp, HasUsedCopy, with_room, without_seconds, IsWayLong, IsOneBetween, IsDueBetween, AreBehind, half_down, nearest_node, last_of};
 ghost use Rattle.fz_trail.specs.Trails.{IsTrail, IsKept, AreKept};
+ghost use Rattle.fz_trail.specs.declared.kept.TheConstants.{COPIES_MOST, COPIES_GONE};
 
-use crate::kept::Kept;
+use crate::kept::{COPIES_GONE, COPIES_MOST, Kept};
 use fz_region::Edge;
 use fz_search_space::SearchSpace;
 use std::alloc::{AllocError, Global};
@@ -26,6 +27,8 @@ pub struct Trail<S> {
     pub spare: Vec<S>,
     pub distance: u32,
     pub adaptive: u32,
+    /// Copies above this node may have been thinned out.
+    pub sparse: usize,
 }
 
 impl<S: SearchSpace> Trail<S> {
@@ -44,6 +47,7 @@ impl<S: SearchSpace> Trail<S> {
             spare: Vec::new(alloc),
             distance,
             adaptive,
+            sparse: 0,
         }
     }
 
@@ -57,6 +61,7 @@ impl<S: SearchSpace> Trail<S> {
     {
         self.copies.clear();
         self.current = None;
+        self.sparse = 0;
     }
 
     /// The path has moved to these edges: what isn't above them goes.
@@ -184,7 +189,10 @@ impl<S: SearchSpace> Trail<S> {
         ensures { IsTrue result ↔ IsWayLong self.now.adaptive from to self.now.copies.items }
     {
         let count = to - from;
-        count >= 2 && count >= self.adaptive as usize && !self.copies.is_empty()
+        count >= 2
+            && count >= self.adaptive as usize
+            && !self.copies.is_empty()
+            && self.copies.len() < COPIES_MOST
     }
 
     /// Brings a space half of a long way down, and keeps a copy of it there.
@@ -222,7 +230,8 @@ impl<S: SearchSpace> Trail<S> {
         ensures copies { OnOk result (IsOneMore
             S.spaced depth space.now self.old.copies.items self.new.copies.items) }
         ensures none { OnErr result (self.new.copies.items ≡ self.old.copies.items) }
-        ensures rest { (self.new.root ≡ self.old.root) × (self.new.current ≡ self.old.current) }
+        ensures rest { (self.new.root ≡ self.old.root) × (self.new.current ≡ self.old.current)
+            × (self.new.sparse ≡ self.old.sparse) }
     {
         let space = copied(&mut self.spare, space)?;
         self.copies.push(Kept { depth, space })?;
@@ -306,22 +315,41 @@ impl<S: SearchSpace> Trail<S> {
     pub fn keep(&mut self, depth: usize, space: &S) -> Result<(), AllocError>
         ensures distances { (self.new.distance ≡ self.old.distance)
             × (self.new.adaptive ≡ self.old.adaptive) }
-        ensures copies { (self.new.copies.items ≡ self.old.copies.items)
-            ⊎ IsOneMore S.spaced depth space.now self.old.copies.items self.new.copies.items }
+        ensures copies { (self.new.copies.items ≡ with_room self.old.copies.items)
+            ⊎ IsOneMore S.spaced depth space.now
+            (with_room self.old.copies.items) self.new.copies.items }
         ensures near { OnOk result ((m : Instance) (known : Option (List ℤ))
             (es : List frontier.Edge) → depth ≡ length es → IsTrail S.spaced m known es self.old
             → IsNear self.new.distance self.new.copies.items depth) }
-        ensures none { OnErr result (self.new.copies.items ≡ self.old.copies.items) }
+        ensures none { OnErr result (self.new.copies.items ≡ with_room self.old.copies.items) }
         ensures trail { (m : Instance) (known : Option (List ℤ)) (es : List frontier.Edge)
             → depth ≡ length es
             → IsAt m known es (S.spaced space.now) → IsTrail S.spaced m known es self.old
             → IsTrail S.spaced m known es self.new }
     {
+        self.make_room();
         if !self.is_due(depth) {
             return Ok(());
         }
         self.put(depth, space)?;
         Ok(())
+    }
+
+    /// Where as many copies stand as may, every second of the older half goes, so that their distances grow upwards.
+    fn make_room(&mut self)
+        ensures distances { (self.new.distance ≡ self.old.distance)
+            × (self.new.adaptive ≡ self.old.adaptive) }
+        ensures copies { self.new.copies.items ≡ with_room self.old.copies.items }
+        ensures room { length self.old.copies.items ≤ COPIES_MOST
+            → length self.new.copies.items < COPIES_MOST }
+        ensures trail { (m : Instance) (known : Option (List ℤ)) (es : List frontier.Edge)
+            → IsTrail S.spaced m known es self.old → IsTrail S.spaced m known es self.new }
+    {
+        if self.copies.len() < COPIES_MOST {
+            return;
+        }
+        self.sparse = self.sparse.max(self.copies[2 * COPIES_GONE].depth);
+        thin(&mut self.copies, &mut self.spare);
     }
 
     /// Whether no copy is within the commit distance above the node below so many edges.
@@ -399,6 +427,17 @@ fn drop_below<S: SearchSpace>(copies: &mut Vec<Kept<S>>, spare: &mut Vec<S>, dep
         if let Some(kept) = copies.pop() {
             let _ = spare.push(kept.space);
         }
+    }
+}
+
+/// Drops every second of the older half of the copies.
+fn thin<S: SearchSpace>(copies: &mut Vec<Kept<S>>, spare: &mut Vec<S>)
+    requires { 2 * COPIES_GONE ≤ length copies.old.items }
+    ensures { copies.new.items ≡ without_seconds COPIES_GONE copies.old.items }
+{
+    'places: for place in 0..COPIES_GONE {
+        let kept = copies.remove(place + 1);
+        let _ = spare.push(kept.space);
     }
 }
 

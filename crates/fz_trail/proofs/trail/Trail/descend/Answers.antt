@@ -7,6 +7,7 @@ returns-clause-trail g c = λ m known es e at near t. record {
   distances = t.distances;
   root = t.root;
   copies = kept_deeper g.S.SearchSpace.spaced m known es e 0 c.args.self.now.copies.items t.copies;
-  near = near_deeper c.args.self.now.distance es e c.args.self.now.copies.items near t.near;
+  few = t.few;
+  near = near_deeper c.args.self.now.distance c.args.self.now.sparse es e c.args.self.now.copies.items near t.near;
   current = at;
 }

@@ -1,15 +1,20 @@
-use Rattle.std.proofs.Common.{ℕ, subst, sym}
-use Rattle.fz_trail.specs.Places.{IsNear}
-use Rattle.fz_trail.proofs.Places.{still_near, made_near, trail_more}
+use Rattle.std.proofs.Common.{ℕ, ◌∙◌, inr, subst, sym}
+use Rattle.fz_trail.specs.Places.{IsNear, IsOneMore}
+use Rattle.fz_trail.proofs.Places.{still_near, made_near, further, trail_more}
 use Rattle.fz_trail.proofs.trail.Trail.keep.Goals as goal
 
 pub returns-then-not-is_due-clause-near : goal.returns-then-not-is_due-clause-near
-returns-then-not-is_due-clause-near g c = λ m known es size t. still_near g.S.SearchSpace.spaced m known es c.args.self.now c.args.depth size (c.is_due.ensures.near c.if-not-is_due.true) t
+returns-then-not-is_due-clause-near g c = λ m known es size t. still_near g.S.SearchSpace.spaced m known es c.make_room.new.self c.args.depth size (c.is_due.ensures.near c.if-not-is_due.true) (c.make_room.ensures.trail m known es t)
+
+pub returns-clause-copies : goal.returns-clause-copies
+returns-clause-copies g c = inr (subst (λ ks. IsOneMore g.S.SearchSpace.spaced c.args.depth c.args.space.now ks c.put.new.self.copies.items) c.make_room.ensures.copies c.in_ok-put.ensures.copies)
 
 pub returns-clause-near : goal.returns-clause-near
-returns-clause-near g c = λ m known es size t. subst (λ (d : ℕ). IsNear d c.put.new.self.copies.items c.args.depth) (sym c.put.ensures.distances.0)
-    (made_near g.S.SearchSpace.spaced c.args.self.now.distance c.args.depth c.args.self.now.copies.items c.put.new.self.copies.items c.args.space.now t.distances.0 c.in_ok-put.ensures.copies)
+returns-clause-near g c = λ m known es size t. subst (λ (d : ℕ). IsNear d c.put.new.self.copies.items c.args.depth) (sym (c.put.ensures.distances.0 ∙ c.make_room.ensures.distances.0))
+    (made_near g.S.SearchSpace.spaced c.args.self.now.distance c.args.depth c.make_room.new.self.copies.items c.put.new.self.copies.items c.args.space.now t.distances.0 c.in_ok-put.ensures.copies)
 
 pub returns-clause-trail : goal.returns-clause-trail
 returns-clause-trail g c = λ m known es size is t.
-    trail_more g.S.SearchSpace.spaced m known es c.args.self.now c.put.new.self c.args.depth c.args.space.now c.put.ensures.rest c.put.ensures.distances c.in_ok-put.ensures.copies size is (c.is_due.ensures.due c.if-not-is_due.false) t
+    let u = c.make_room.ensures.trail m known es t in
+    trail_more g.S.SearchSpace.spaced m known es c.make_room.new.self c.put.new.self c.args.depth c.args.space.now c.put.ensures.rest c.put.ensures.distances c.in_ok-put.ensures.copies size is
+    (further c.make_room.new.self.copies.items c.make_room.new.self.distance c.args.depth u.distances.0 (c.is_due.ensures.due c.if-not-is_due.false)) (c.make_room.ensures.room t.few) u

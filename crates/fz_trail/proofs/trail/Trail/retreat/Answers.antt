@@ -5,7 +5,7 @@ use Rattle.fz_trail.specs.Trails.{AreKept}
 use Rattle.fz_trail.specs.declared.kept.Kept.{Kept}
 use Rattle.fz_trail.proofs.Decisions.{retreat_code}
 use Rattle.fz_trail.proofs.Trails.{kept_front, kept_beside}
-use Rattle.fz_trail.proofs.Places.{near_left}
+use Rattle.fz_trail.proofs.Places.{near_left, few_left}
 use Rattle.fz_trail.proofs.trail.Trail.retreat.Goals as goal
 
 pub returns-clause-trail : goal.returns-clause-trail
@@ -22,6 +22,7 @@ returns-clause-trail g c = λ m known es is t.
       distances = t.distances;
       root = t.root;
       copies = kept_beside spaced m known es fs depth 0 new (retreat_code es fs depth c.count_above-depth.ensures is) (omega (arith, c.count_above-depth.ensures)) (c.drop_below.ensures.above m known es t.copies) front;
-      near = near_left distance es fs depth old new is c.count_above-depth.ensures left t.near;
+      few = few_left depth old new left t.few;
+      near = near_left distance c.args.self.now.sparse es fs depth old new is c.count_above-depth.ensures left t.near;
       current = subst (λ (o : Option _). IfSome o (λ s. IsAt m known fs (spaced s))) (sym c.drop_current.ensures) tt;
     }
