@@ -13,6 +13,7 @@ from texts import Text
 
 
 def silent(text):
+    """The text without output."""
     text.declarations = [line.replace(" :: output_var", "") for line in text.declarations]
     return text
 

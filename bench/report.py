@@ -23,10 +23,12 @@ def ratio(ours, theirs):
 
 
 def bar(number):
+    """Ten signs where both take as long, at most forty; a plus says that it goes on."""
     return "" if number is None else "#" * max(1, min(40, round(10 * number))) + ("+" if number > 4.05 else "")
 
 
 def shown(run):
+    """Its seconds; "more" where it was stopped."""
     return "more" if run is None else f"{run.seconds:.2f}"
 
 
@@ -35,16 +37,19 @@ def differs(ours, theirs):
 
 
 def plain(name, ours, theirs):
+    """A line for the screen."""
     number = ratio(ours, theirs)
     told = "" if number is None else f"{number:8.2f} {bar(number)}"
     return f"{name:26} {shown(ours):>8} {shown(theirs):>8} {told}{'  DIFFERENT' if differs(ours, theirs) else ''}"
 
 
 def alone(name, theirs):
+    """A line for the screen, of fzn-gecode alone."""
     return f"{name:26} {shown(theirs):>8} {theirs.nodes if theirs else '':>10}"
 
 
 def mean(numbers):
+    """The geometric mean."""
     return math.exp(sum(math.log(number) for number in numbers) / len(numbers))
 
 
@@ -87,24 +92,28 @@ def answer(*command):
         return ""
 
 
-def surroundings(program):
+def commit_of(program):
+    """The commit that a program was built from: the last one before it, where it stands in a checkout."""
+    built = f"--before=@{int(os.path.getmtime(program))}"
+    return answer("git", "-C", os.path.dirname(os.path.abspath(program)), "log", "-1", built, "--format=%h")
+
+
+def surroundings(commit):
     """The day, the machine, and what was compared."""
     with open("/proc/cpuinfo", encoding="ascii") as file:
         processor = re.search(r"^model name\s*: (.*)$", file.read(), re.M)
     version = re.search(r"Version: ([0-9.]+)", answer("fzn-gecode", "--help"))
-    built = f"--before=@{int(os.path.getmtime(program))}"
-    commit = answer("git", "-C", os.path.dirname(os.path.abspath(program)), "log", "-1", built, "--format=commit %h")
     return (
         f"On {time.strftime('%-d %B %Y')}, {os.cpu_count()} processors ({processor[1] if processor else 'unknown'}) with a load of "
-        f"{os.getloadavg()[1]:.1f}; fzn of {commit or 'an unknown commit'} ({answer('rt', 'version')}); "
+        f"{os.getloadavg()[1]:.1f}; fzn of commit {commit} ({answer('rt', 'version')}); "
         f"fzn-gecode {version[1] if version else 'of an unknown version'}.\n"
     )
 
 
-def write(path, tables, program):
+def write(path, tables, commit):
     """Writes the tables over those in a file, and keeps its notes."""
     with open(path, encoding="utf-8") as file:
         _, head, notes = file.read().partition(NOTES)
-    parts = [INTRODUCTION, surroundings(program)] + [table(title, rows) for title, rows in tables.items() if rows]
+    parts = [INTRODUCTION, surroundings(commit)] + [table(title, rows) for title, rows in tables.items() if rows]
     with open(path, "w", encoding="utf-8") as file:
         file.write("\n".join(parts) + "\n" + head + notes)

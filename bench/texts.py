@@ -77,6 +77,7 @@ class Text:
         self.add(f"bool_clause({listed(positive)},{listed(negative)})")
 
     def divide(self, names, pick="input_order", value="indomain_min"):
+        """These variables are divided next, by that choice."""
         self.parts.append((list(names), pick, value))
 
     def search(self):
