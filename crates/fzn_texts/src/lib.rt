@@ -3,6 +3,7 @@
 
 #[cfg(test)]
 mod complaints;
+mod copies;
 #[cfg(test)]
 mod examples;
 #[cfg(test)]
