@@ -2,4 +2,5 @@ pub mod Picking
 pub mod Medians
 pub mod Numbers
 pub mod Choosing
+pub mod Starting
 pub mod Keeping

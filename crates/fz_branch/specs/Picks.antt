@@ -26,6 +26,10 @@ domain_of ds vs k = domain_at ds (slice_index vs k)
 abbrev pub IsDone : List (List (ℤ × ℤ)) → List ℕ → Type 0
 IsDone ds vs = (k : ℕ) → k < length vs → is_open (domain_of ds vs k) ≡ false
 
+-- none of the variables at the places before this one has more than one value left
+abbrev pub IsPassed : ℕ → List (List (ℤ × ℤ)) → List ℕ → Type 0
+IsPassed n ds vs = (k : ℕ) → k < n → is_open (domain_of ds vs k) ≡ false
+
 -- no variable before this one has more than one value left
 abbrev pub AreClosed : ℕ → List (List (ℤ × ℤ)) → Type 0
 AreClosed n ds = (v : ℕ) → v < n → is_open (domain_at ds v) ≡ false

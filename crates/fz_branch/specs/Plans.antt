@@ -17,6 +17,12 @@ declared_part m = record { variables = range_with_len 0 (length m.variables); pi
 abbrev pub plan_of : Instance → List SearchPart
 plan_of m = m.search ++ declared_part m ∷ []
 
+-- the last part is of all variables in order of declaration
+abbrev pub EndsInAll : List SearchPart → Type 0
+EndsInAll [] = Unit {0}
+EndsInAll (p ∷ []) = p.variables ≡ range_with_len 0 (length p.variables)
+EndsInAll (p ∷ q ∷ ps) = EndsInAll (q ∷ ps)
+
 -- no variable of a part has more than one value left
 abbrev pub AreDone : List (List (ℤ × ℤ)) → List SearchPart → Type 0
 AreDone ds [] = Unit {0}

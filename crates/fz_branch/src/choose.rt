@@ -1,9 +1,10 @@
 //! The next choice.
-ghost use Rattle.std.specs.Prelude.{◌≡◌, MatchOption, true};
+ghost use Rattle.std.specs.Prelude.{◌≡◌, ◌≤◌, ◌<◌, MatchOption, length, slice_index_or, true};
+ghost use Rattle.fz_spec.specs.Instance as instance;
 ghost use Rattle.fz_tree.specs.Choice.{pair_of};
 ghost use Rattle.fz_branch.specs.Values.{is_open, decision_of};
-ghost use Rattle.fz_branch.specs.Picks.{AreClosed, IsDone, domain_at};
-ghost use Rattle.fz_branch.specs.Plans.{AreDone, IsChosen, IsChosenOf};
+ghost use Rattle.fz_branch.specs.Picks.{AreClosed, IsPassed, IsDone, domain_at};
+ghost use Rattle.fz_branch.specs.Plans.{AreDone, EndsInAll, IsChosen, IsChosenOf};
 
 use crate::pick::picked;
 use crate::plan::Plan;
@@ -21,22 +22,50 @@ pub fn choose_among(plan: &Plan, doms: &[Dom], closed: usize) -> Option<Choice>
     ensures { MatchOption result (AreDone doms.now plan.now) (IsChosen plan.now doms.now) }
 {
     let alloc = plan.allocator();
-    for part in plan.parts() {
-        if let Some(choice) = choice_of(alloc, part, doms, closed) {
+    let parts = plan.parts();
+    for place in 0..parts.len() {
+        let start = start_of(parts, place, doms, closed);
+        if let Some(choice) = choice_of(alloc, &parts[place], doms, closed, start) {
             return Some(choice);
         }
     }
     None
 }
 
-/// The choice of one part.
-fn choice_of(alloc: Global, part: &SearchPart, doms: &[Dom], closed: usize) -> Option<Choice>
-    requires { AreClosed closed doms.now }
+/// From which place on a part is looked at: the last one is of all variables, in order, and those before `closed` are passed.
+fn start_of(parts: &[SearchPart], place: usize, doms: &[Dom], closed: usize) -> usize
+    requires closed { AreClosed closed doms.now }
+    requires all { EndsInAll parts.now }
+    requires place { place < length parts.now }
+    ensures start { (d : instance.SearchPart)
+        → result ≤ length (slice_index_or parts.now place d).variables }
+    ensures passed { (d : instance.SearchPart)
+        → IsPassed result doms.now (slice_index_or parts.now place d).variables }
+{
+    let _ = doms;
+    if place + 1 == parts.len() {
+        closed.min(parts[place].variables().len())
+    } else {
+        0
+    }
+}
+
+/// The choice of one part, of which the places before `start` are passed.
+fn choice_of(
+    alloc: Global,
+    part: &SearchPart,
+    doms: &[Dom],
+    closed: usize,
+    start: usize,
+) -> Option<Choice>
+    requires closed { AreClosed closed doms.now }
+    requires start { start ≤ length part.now.variables }
+    requires passed { IsPassed start doms.now part.now.variables }
     ensures { MatchOption result (IsDone doms.now part.now.variables)
         (IsChosenOf doms.now part.now) }
 {
     let variables = part.variables();
-    let Some(place) = picked(part.pick(), variables, doms, closed) else {
+    let Some(place) = picked(part.pick(), variables, doms, closed, start) else {
         return None;
     };
     let variable = variables[place];

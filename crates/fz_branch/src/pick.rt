@@ -1,19 +1,28 @@
 //! Which variable is picked.
-ghost use Rattle.std.specs.Prelude.{◌≡◌, MatchOption, true};
+ghost use Rattle.std.specs.Prelude.{◌≡◌, ◌≤◌, MatchOption, length, true};
 ghost use Rattle.fz_branch.specs.Values.{is_open};
-ghost use Rattle.fz_branch.specs.Picks.{AreClosed, IsDone, IsFirstOpen, IsPicked, rank, domain_at};
+ghost use Rattle.fz_branch.specs.Picks.{AreClosed, IsPassed, IsDone, IsFirstOpen, IsPicked, rank, domain_at};
 
 use crate::value::is_open;
 use fz_dom::Dom;
 use fz_spec::search::Pick;
 
-/// The place in a part of the variable that is picked, where none before `closed` has more than one value left.
-pub fn picked(pick: Pick, variables: &[u32], doms: &[Dom], closed: usize) -> Option<usize>
-    requires { AreClosed closed doms.now }
+/// The place in a part of the variable that is picked, where no variable before `closed`, and none at a place before `start`, has more
+/// than one value left.
+pub fn picked(
+    pick: Pick,
+    variables: &[u32],
+    doms: &[Dom],
+    closed: usize,
+    start: usize,
+) -> Option<usize>
+    requires closed { AreClosed closed doms.now }
+    requires start { start ≤ length variables.now }
+    requires passed { IsPassed start doms.now variables.now }
     ensures { MatchOption result (IsDone doms.now variables.now)
         (IsPicked pick doms.now variables.now) }
 {
-    let Some(first) = first_open(variables, doms, closed) else {
+    let Some(first) = first_open(variables, doms, closed, start) else {
         return None;
     };
     if pick == Pick::InputOrder {
@@ -23,13 +32,16 @@ pub fn picked(pick: Pick, variables: &[u32], doms: &[Dom], closed: usize) -> Opt
 }
 
 /// The place of the first variable that has more than one value left.
-fn first_open(variables: &[u32], doms: &[Dom], closed: usize) -> Option<usize>
-    requires { AreClosed closed doms.now }
+fn first_open(variables: &[u32], doms: &[Dom], closed: usize, start: usize) -> Option<usize>
+    requires closed { AreClosed closed doms.now }
+    requires start { start ≤ length variables.now }
+    requires passed { IsPassed start doms.now variables.now }
     ensures { MatchOption result (IsDone doms.now variables.now)
         (IsFirstOpen doms.now variables.now) }
 {
-    for (place, variable) in variables.iter().enumerate() {
-        if *variable as usize >= closed && is_open_at(*variable, doms) {
+    for place in start..variables.len() {
+        let variable = variables[place];
+        if variable as usize >= closed && is_open_at(variable, doms) {
             return Some(place);
         }
     }

@@ -1,7 +1,7 @@
 //! Plans.
 ghost use Rattle.std.specs.Prelude.{◌≡◌, ◌≤◌, ◌^◌, length, map, IfOk};
 ghost use Rattle.std.specs.List.{range_with_len};
-ghost use Rattle.fz_branch.specs.Plans.{plan_of};
+ghost use Rattle.fz_branch.specs.Plans.{plan_of, EndsInAll};
 
 use fz_model::{Part, SearchPart};
 use fz_spec::search::{Pick, Value};
@@ -21,6 +21,10 @@ impl Model for Plan {
     ghost Value = { List instance.SearchPart };
 
     ghost view = { λ p. p.parts.items };
+
+    ghost use Rattle.fz_branch.specs.Plans.{EndsInAll};
+
+    ghost invariant = { λ p. EndsInAll p.parts.items };
 }
 
 impl Plan {
@@ -44,7 +48,8 @@ impl Plan {
 
     /// The parts, in order.
     pub fn parts(&self) -> &[SearchPart]
-        ensures { result.now ≡ self.now }
+        ensures parts { result.now ≡ self.now }
+        ensures all { EndsInAll self.now }
     {
         &self.parts
     }

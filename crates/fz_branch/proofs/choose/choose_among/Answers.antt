@@ -6,9 +6,9 @@ use Rattle.fz_branch.proofs.choose.choose_among.Goals as goal
 
 pub returns-in-Some : goal.returns-in-Some
 returns-in-Some c =
-    subst (λ (ps : List SearchPart). IsChosen ps c.args.doms.now c.in-Some.choice) c.parts-part-items.ensures
-    (chosen c.args.doms.now c.parts-part-items.result.now c.loop-part.part-index c.part-item.result c.in-Some.choice c.loop-part-test.true c.part-item.is c.loop-part.invariant c.in-Some.ensures)
+    subst (λ (ps : List SearchPart). IsChosen ps c.args.doms.now c.in-Some.choice) c.parts-parts.ensures.parts
+    (chosen c.args.doms.now c.parts-parts.result.now c.loop-place.place c.index-parts-place.result c.in-Some.choice c.loop-place-test.true c.index-parts-place.is c.loop-place.invariant c.in-Some.ensures)
 
-pub loop-part-preserved : goal.loop-part-preserved
-loop-part-preserved c =
-    more_done c.args.doms.now c.parts-part-items.result.now c.loop-part.part-index c.part-item.result c.loop-part-test.true c.part-item.is c.loop-part.invariant c.in_default.ensures
+pub loop-place-preserved : goal.loop-place-preserved
+loop-place-preserved c =
+    more_done c.args.doms.now c.parts-parts.result.now c.loop-place.place c.index-parts-place.result c.loop-place-test.true c.index-parts-place.is c.loop-place.invariant c.in_default.ensures
