@@ -6,3 +6,4 @@ pub mod Chunks
 pub mod StateBits
 pub mod Waking
 pub mod Drained
+pub mod Spared

@@ -123,17 +123,8 @@ first_queued l p lined first =
     let is = lined.each p in
     queued_one (slice_index l.states p) (omega (arith, here, once, more, is))
 
-not_queued : (k : ℕ) → (k ≡ 0) ⊎ (k ≡ 2) → counts_queued k ≡ 0
-not_queued k (inl e) = ap counts_queued e
-not_queued k (inr e) = ap counts_queued e
-
-at_most_two : (k : ℕ) → (k ≡ 0) ⊎ (k ≡ 2) → k ≤ 2
-at_most_two k (inl e) = omega (arith, e)
-at_most_two k (inr e) = omega (arith, e)
-
-pub agenda_finished : (states after : List ℕ) (queues left : List (List ℕ)) (lowest now p k : ℕ) → IsAgenda states queues lowest → IsFirst (lineup states queues) p → p < length states → (k ≡ 0) ⊎ (k ≡ 2)
-    → left ≡ without_first queues → AreEmptyBelow left now → after ≡ slice_set states p k → IsAgenda after left now
-agenda_finished states after queues left lowest now p k agenda first within kind at_queues below at_states =
+pub agenda_gone : (states after : List ℕ) (queues left : List (List ℕ)) (lowest now p : ℕ) → IsAgenda states queues lowest → IsFirst (lineup states queues) p → p < length states → left ≡ without_first queues → AreEmptyBelow left now → after ≡ slice_set states p 2 → IsAgenda after left now
+agenda_gone states after queues left lowest now p agenda first within at_queues below at_states =
     let lined = agenda.lineup in
     let rest = first.0 in
     let line : concat left ≡ rest = ap concat at_queues ∙ line_without p rest queues first.1 in
@@ -142,21 +133,21 @@ agenda_finished states after queues left lowest now p k agenda first within kind
     record {
       lineup = record {
         classes = ap length at_queues ∙ length_without queues ∙ lined.classes;
-        known = subst (λ (xs : List ℕ). (i : ℕ) → slice_index xs i ≤ 2) (sym at_states) (by_place (λ i. slice_index (slice_set states p k) i ≤ 2) p
-            (omega (arith, get_or-set_same states p k 0 within, at_most_two k kind))
-            (λ i ne. omega (arith, get_or-set_other states p i k 0 ne, lined.known i)));
+        known = subst (λ (xs : List ℕ). (i : ℕ) → slice_index xs i ≤ 2) (sym at_states) (by_place (λ i. slice_index (slice_set states p 2) i ≤ 2) p
+            (omega (arith, get_or-set_same states p 2 0 within))
+            (λ i ne. omega (arith, get_or-set_other states p i 2 0 ne, lined.known i)));
         each = subst (λ (xs : List ℕ). (i : ℕ) → times i (concat left) ≡ counts_queued (slice_index xs i)) (sym at_states)
-            (by_place (λ i. times i (concat left) ≡ counts_queued (slice_index (slice_set states p k) i)) p
+            (by_place (λ i. times i (concat left) ≡ counts_queued (slice_index (slice_set states p 2) i)) p
             (let more = split p in
             let once = same_once p in
             let was = lined.each p in
             let one : counts_queued (slice_index states p) ≡ 1 = ap counts_queued (first_queued (lineup states queues) p lined first) in
-            let none : counts_queued (slice_index (slice_set states p k) p) ≡ 0 = ap counts_queued (get_or-set_same states p k 0 within) ∙ not_queued k kind in
+            let none : counts_queued (slice_index (slice_set states p 2) p) ≡ 0 = ap counts_queued (get_or-set_same states p 2 0 within) in
             omega (arith, more, once, was, one, none))
             (λ i ne. let more = split i in
             let never = other_never i p (λ e. ne (sym e)) in
             let was = lined.each i in
-            let same : counts_queued (slice_index (slice_set states p k) i) ≡ counts_queued (slice_index states i) = ap counts_queued (get_or-set_other states p i k 0 ne) in
+            let same : counts_queued (slice_index (slice_set states p 2) i) ≡ counts_queued (slice_index states i) = ap counts_queued (get_or-set_other states p i 2 0 ne) in
             omega (arith, more, never, was, same)));
       };
       below = below;

@@ -97,6 +97,10 @@ states_gone alive queued alive' queued' n p within bits gone =
     states_set alive queued alive' queued' n p 2 within (state_gone alive' queued' p (λ one. (let none = gone.here in omega (arith, one, none))))
     (λ i ne. same_state alive queued alive' queued' i (gone.others i ne) (bits.others i ne))
 
+pub states_revived : (alive queued alive' queued' : List ℕ) (n p : ℕ) → p < n → IsBitSet p 0 queued queued' → IsBitSet p 1 alive alive' → states_of alive' queued' n ≡ slice_set (states_of alive queued n) p 0
+states_revived alive queued alive' queued' n p within bits back =
+    states_set alive queued alive' queued' n p 0 within (state_alive alive' queued' p back.here ∙ bits.here) (λ i ne. same_state alive queued alive' queued' i (back.others i ne) (bits.others i ne))
+
 -- all are idle
 pub states_new : (alive queued : List ℕ) (n : ℕ) → ((i : ℕ) → HasMember alive i ↔ (i < n)) → ((i : ℕ) → HasMember queued i → ⊥) → states_of alive queued n ≡ replicate n 0
 states_new alive queued n living waiting =

@@ -81,10 +81,14 @@ without_first [] = []
 without_first ([] ∷ queues) = [] ∷ without_first queues
 without_first ((i ∷ queue) ∷ queues) = queue ∷ queues
 
--- the first has another state, and its queue goes on without it
-pub record IsFinished (place state : ℕ) (l m : Lineup) : Type 0 where
-  pub states : m.states ≡ slice_set l.states place state
+-- the first is gone, and its queue goes on without it
+pub record IsGone (place : ℕ) (l m : Lineup) : Type 0 where
+  pub states : m.states ≡ slice_set l.states place 2
   pub queues : m.queues ≡ without_first l.queues
+
+-- the same, the first at rest
+abbrev pub rested : ℕ → Lineup → Lineup
+rested place l = lineup (slice_set l.states place 0) (without_first l.queues)
 
 -- none of these is idle
 abbrev pub AreAwake : List ℕ → List ℕ → Type 0

@@ -1,14 +1,14 @@
 -- Who waits for which change.
-use Rattle.std.specs.Prelude.{◌≡◌, ◌⊎◌, ℕ, ◌<◌, ◌≤◌, List, [], ◌∷◌, ◌++◌, length, slice_get, slice_index_or, Some}
+use Rattle.std.specs.Prelude.{◌≡◌, ◌≢◌, ◌⊎◌, ℕ, ◌<◌, ◌≤◌, List, [], ◌∷◌, ◌++◌, length, slice_get, slice_index_or, Some}
 use Rattle.std.specs.List.{AllByRecursion}
 use Rattle.fz_strength.specs.declared.cost.Cost.{Cost}
 use Rattle.fz_strength.specs.declared.event.Event.{Event}
 use Rattle.fz_strength.specs.declared.event.Event.TheVariants.{Any, Bound, Fixed}
 use Rattle.fz_strength.specs.Events.{Wait}
-use Rattle.fz_strength.specs.Sayings.{Saying, waits_of}
+use Rattle.fz_strength.specs.Sayings.{Saying, line_of, waits_of}
 use Rattle.fz_prop.specs.Stores.{Stored, IsStore, IsListed, mark_at}
 use Rattle.fz_agenda.specs.Agendas.{IsSettled}
-use Rattle.fz_agenda.specs.Queues.{Lineup, AreAwake, IsWoken}
+use Rattle.fz_agenda.specs.Queues.{Lineup, rested, AreAwake, IsWoken}
 
 -- for each kind of change and each variable the propagators that wait for it, and the class of each propagator's cost
 pub record Waking : Type 0 where
@@ -75,6 +75,14 @@ pub record IsDraining (w : Waking) (s : Stored) (l : Lineup) (t : Stored) (m : L
   pub woken : IsWoken (IsCalled w s) w.costs l m
   pub settled : (sayings : List Saying) → IsIndexOf sayings w → IsSettled sayings l.states s → IsSettled sayings m.states t
   pub still : s.changed ≡ [] → (t ≡ s) × (m ≡ l)
+
+-- The same after a run of the first, which rests since its line holds: all others that wait for listed changes are woken.
+pub record IsDrainingBut (place : ℕ) (w : Waking) (s : Stored) (l : Lineup) (t : Stored) (m : Lineup) : Type 0 where
+  pub store : IsStore t
+  pub doms : t.doms ≡ s.doms
+  pub woken : IsWoken (λ (i : ℕ). IsCalled w s i × (i ≢ place)) w.costs (rested place l) m
+  pub settled : (sayings : List Saying) (saying : Saying) → IsIndexOf sayings w → IsSettled sayings l.states s → slice_get sayings place ≡ Some saying → line_of saying s.doms → IsSettled sayings m.states t
+  pub still : s.changed ≡ [] → (t ≡ s) × (m ≡ rested place l)
 
 -- nothing is listed or marked
 pub record IsDrained (s : Stored) : Type 0 where

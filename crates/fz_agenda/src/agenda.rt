@@ -1,9 +1,9 @@
 //! Which propagators are queued.
-ghost use Rattle.std.specs.Prelude.{◌≡◌, ◌↔◌, ℕ, ◌<◌, ◌+◌, ◌*◌, List, [], ◌∷◌, ◌++◌, length, slice_index, slice_index_or, slice_set, replicate, IfOk, OnOk, OnErr, MatchOption, if◌then◌else◌};
+ghost use Rattle.std.specs.Prelude.{◌≡◌, ◌↔◌, ℕ, ◌<◌, ◌+◌, ◌*◌, List, [], ◌∷◌, ◌++◌, length, slice_index, slice_index_or, slice_set, replicate, IfOk, OnOk, OnErr, MatchOption};
 ghost use Rattle.std.specs.List.{concat};
 ghost use Rattle.std.specs.Int.{bit_at};
 ghost use Rattle.fz_prop.specs.Stores.{IsListed};
-ghost use Rattle.fz_agenda.specs.Queues.{lineup, line_of, IsFirst, AreEmptyBelow, IsAgenda, IsAtRest, class_of, cost_at, IsIdle, IsQueued, without_first, IsFinished, AreAwake, IsWoken};
+ghost use Rattle.fz_agenda.specs.Queues.{lineup, line_of, IsFirst, AreEmptyBelow, IsAgenda, IsAtRest, class_of, cost_at, IsIdle, IsQueued, without_first, IsGone, AreAwake, IsWoken};
 
 use crate::queue::Queue;
 use crate::states::States;
@@ -105,32 +105,21 @@ impl Agenda {
         self.states.idle_in(word)
     }
 
-    /// The first has run and is idle.
-    pub fn rest(&mut self, place: u32)
-        requires { IsFirst self.old place }
-        ensures { IsFinished place 0 self.old self.new }
-    {
-        finish(
-            &mut self.queues,
-            &mut self.lowest,
-            &mut self.states,
-            place,
-            false,
-        );
-    }
-
     /// The first has run and is gone.
     pub fn retire(&mut self, place: u32)
         requires { IsFirst self.old place }
-        ensures { IsFinished place 2 self.old self.new }
+        ensures { IsGone place self.old self.new }
     {
-        finish(
-            &mut self.queues,
-            &mut self.lowest,
-            &mut self.states,
-            place,
-            true,
-        );
+        retire_first(&mut self.queues, &mut self.lowest, &mut self.states, place);
+    }
+
+    /// One that is gone is idle again.
+    pub(crate) fn revive(&mut self, place: u32)
+        requires { slice_index self.old.states place ≡ 2 }
+        ensures { self.new
+            ≡ lineup (slice_set self.old.states place 0) self.old.queues }
+    {
+        self.states.revive(place as usize);
     }
 
     /// Another agenda that is the same.
@@ -301,26 +290,16 @@ fn enqueue(
     Ok(())
 }
 
-/// The first has run: it is idle or gone, and leaves its queue.
-fn finish(
-    queues: &mut Vec<Queue>,
-    lowest: &mut usize,
-    states: &mut States,
-    place: u32,
-    is_gone: bool,
-)
+/// The first has run and is gone: it leaves its queue.
+fn retire_first(queues: &mut Vec<Queue>, lowest: &mut usize, states: &mut States, place: u32)
     requires first { IsFirst (lineup states.old queues.old.items) place }
     requires agenda { IsAgenda states.old queues.old.items lowest.old }
     ensures agenda { IsAgenda states.new queues.new.items lowest.new }
-    ensures finished { IsFinished place (if is_gone then 2 else 0)
-        (lineup states.old queues.old.items) (lineup states.new queues.new.items) }
+    ensures gone { IsGone place (lineup states.old queues.old.items)
+        (lineup states.new queues.new.items) }
 {
     *lowest = pop_first(queues, *lowest);
-    if is_gone {
-        states.retire(place as usize);
-    } else {
-        states.rest(place as usize);
-    }
+    states.retire(place as usize);
 }
 
 /// The first of the cheapest class leaves; that class.

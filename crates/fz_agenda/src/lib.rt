@@ -12,5 +12,5 @@ mod states;
 pub mod wakes;
 
 pub use agenda::Agenda;
-pub use draining::drain;
+pub use draining::{drain, drain_but};
 pub use wakes::Wakes;

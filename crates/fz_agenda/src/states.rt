@@ -78,14 +78,6 @@ impl States {
         self.queued.insert(place);
     }
 
-    /// One that is queued is idle.
-    pub fn rest(&mut self, place: usize)
-        requires { slice_index self.old place ≡ 1 }
-        ensures { self.new ≡ slice_set self.old place 0 }
-    {
-        self.queued.remove(place);
-    }
-
     /// One that is queued is gone.
     pub fn retire(&mut self, place: usize)
         requires { slice_index self.old place ≡ 1 }
@@ -93,6 +85,15 @@ impl States {
     {
         self.queued.remove(place);
         self.alive.remove(place);
+    }
+
+    /// One that is gone is idle again.
+    pub fn revive(&mut self, place: usize)
+        requires { slice_index self.old place ≡ 2 }
+        ensures { self.new ≡ slice_set self.old place 0 }
+    {
+        self.queued.remove(place);
+        self.alive.insert(place);
     }
 
     /// All are idle.

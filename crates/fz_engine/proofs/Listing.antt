@@ -1,7 +1,6 @@
 -- Lists of those that wait, one propagator after another.
 use Rattle.std.proofs.Common.{◌≡◌, ◌⊎◌, inl, inr, ℕ, zero, suc, ◌+◌, ◌<◌, List, [], ◌∷◌, ◌++◌, refl, sym, ◌∙◌, ap, subst, arith, length, map, take}
 use Rattle.std.specs.Prelude.{Some, slice_get, slice_index_or}
-use Rattle.std.specs.List.{AllByRecursion}
 use Rattle.fz_strength.specs.declared.cost.Cost.{Cost}
 use Rattle.fz_strength.specs.declared.event.Event.TheVariants.{Any, Bound, Fixed}
 use Rattle.fz_strength.specs.Costs.{cost_of}
@@ -12,7 +11,7 @@ use Rattle.fz_agenda.specs.Wakes.{Waking, waiting_at, with_cost, IsListedAt, IsI
 use Rattle.fz_says.specs.declared.waits.Wait as code
 use Rattle.fz_says.specs.Said.{waits_in}
 use Rattle.fz_propagators.specs.declared.any.AnyPropagator.{AnyPropagator}
-use Rattle.fz_engine.specs.Networks.{IsListing, sayings_of}
+use Rattle.fz_engine.specs.Networks.{IsListing}
 
 pub extends_twice : (u v w : Waking) → Extends u v → Extends v w → Extends u w
 extends_twice u v w p q event variable place listed = q event variable place (p event variable place listed)

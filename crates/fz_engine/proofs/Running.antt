@@ -1,25 +1,28 @@
 -- Runs of propagators, one after another.
-use Rattle.std.proofs.Common.{◌≡◌, inl, inr, ℕ, ◌+◌, ◌*◌, ◌<◌, ◌≤◌, List, [], ◌∷◌, refl, sym, ◌∙◌, ap, subst, arith, length, true, false, nat_eq, cond, get_or}
-use Rattle.std.specs.Prelude.{ℤ, slice_get, slice_index, slice_set, Some}
+use Rattle.std.proofs.Common.{◌≡◌, ◌⊎◌, Result, Ok, Err, inl, inr, ℕ, ◌+◌, ◌*◌, ◌<◌, ◌≤◌, List, [], ◌∷◌, refl, sym, ◌∙◌, ap, subst, arith, length, true, false, nat_eq, cond, get_or}
+use Rattle.std.specs.Prelude.{IfOk, ℤ, slice_get, slice_index, slice_set, Some}
 use Rattle.std.specs.List.{AllByRecursion}
 use Rattle.std.proofs.Math.Nat.{mul-le-mul_left}
+use Rattle.std.proofs.lemmas.List.{length-set}
 use Rattle.std.proofs.lemmas.List.Sums.{sum_by-cons, sum_by-set}
 use Rattle.fz_sets.proofs.Lists.{all_at}
 use Rattle.fz_spec.specs.declared.term.Term.{Term}
-use Rattle.fz_spec.specs.Constraints.{Constraint, IsTrueOf}
 use Rattle.fz_strength.specs.Domains.{Within, IsNarrower, room}
 use Rattle.fz_strength.specs.Promises.{IsTruth, RestsForGood}
 use Rattle.fz_strength.specs.Sayings.{Saying, line_of, said_terms, saying_of, truth_of, truths_of}
 use Rattle.fz_strength.proofs.Terms.{term_narrower}
-use Rattle.fz_prop.specs.Answers.{IsCorrectOf}
+use Rattle.fz_prop.specs.declared.answer.Answer.{Answer}
+use Rattle.fz_prop.specs.declared.answer.Answer.TheVariants.{Fix, NoFix, Subsumed, Failed}
+use Rattle.fz_prop.specs.Answers.{IsAnswerOf, IsCorrectOf}
 use Rattle.fz_prop.specs.Stores.{Stored, IsStore, Shrinks, IsTermOf}
 use Rattle.fz_prop.proofs.Twice.{narrower_twice}
 use Rattle.fz_agenda.specs.Agendas.{IsSettled}
 use Rattle.fz_agenda.specs.Queues.{Lineup, IsAtRest, counts_queued, queued}
-use Rattle.fz_agenda.specs.Wakes.{Waking, HaveSize, IsDraining, IsDrained}
-use Rattle.fz_agenda.proofs.Settled.{settled_lasts, all_rest_at_rest, may_be_idle, may_be_gone}
+use Rattle.fz_agenda.specs.Wakes.{Waking, HaveSize, IsDraining, IsDrainingBut, IsDrained}
+use Rattle.fz_agenda.proofs.Settled.{settled_lasts, all_rest_at_rest, may_be_gone}
 use Rattle.fz_agenda.proofs.Places.{within_of}
 use Rattle.fz_engine.specs.Networks.{Networked, AreOf, IsNetwork}
+use Rattle.fz_engine.specs.Steps.{IsAnswerAt}
 use Rattle.fz_engine.specs.Runs.{IsAlive, IsRun, AreNeverTrue, AllRest, HasMoved, work}
 
 -- ---- what is said fits a narrower store
@@ -92,10 +95,19 @@ with_states n s t states after run settled = record {
   alive = record { size = run.alive.size; terms = run.alive.terms; settled = settled };
 }
 
-pub ran_fix : (n : Networked) (s t : Stored) (states after : List ℕ) (i : ℕ) (saying : Saying) → IsRun n s t states → slice_get n.sayings i ≡ Some saying → i < length states → line_of saying t.doms
-    → after ≡ slice_set states i 0 → IsRun n s t after
-ran_fix n s t states after i saying run is within rests at =
-    with_states n s t states after run (subst (λ (x : List ℕ). IsSettled n.sayings x t) (sym at) (may_be_idle n.sayings states t i saying run.alive.settled is within rests))
+-- the first rests, and all others that wait for its changes are woken
+pub run_drained_but : (n : Networked) (r s t : Stored) (mid after : Lineup) (place : ℕ) (saying : Saying) → IsNetwork n → IsRun n r s mid.states → IsDrainingBut place n.wakes s mid t after
+    → slice_get n.sayings place ≡ Some saying → line_of saying s.doms → IsRun n r t after.states
+run_drained_but n r s t mid after place saying network run draining is rests = record {
+  store = draining.store;
+  narrower = subst (λ (ds : List (List (ℤ × ℤ))). IsNarrower r.doms ds) (sym draining.doms) run.narrower;
+  correct = λ a all within. subst (λ (ds : List (List (ℤ × ℤ))). Within ds a) (sym draining.doms) (run.correct a all within);
+  alive = record {
+    size = ap length draining.doms ∙ run.alive.size;
+    terms = subst (λ (ds : List (List (ℤ × ℤ))). AreOf n.sayings ds) (sym draining.doms) run.alive.terms;
+    settled = draining.settled n.sayings saying network.listing.index run.alive.settled is rests;
+  };
+}
 
 pub ran_gone : (n : Networked) (s t : Stored) (states after : List ℕ) (i : ℕ) (saying : Saying) → IsRun n s t states → slice_get n.sayings i ≡ Some saying → i < length states → RestsForGood saying t.doms
     → after ≡ slice_set states i 2 → IsRun n s t after
@@ -105,6 +117,15 @@ ran_gone n s t states after i saying run is within rests at =
 pub never_true : (n : Networked) (ds : List (List (ℤ × ℤ))) (i : ℕ) (saying : Saying) → IsNetwork n → slice_get n.sayings i ≡ Some saying → ((a : List ℤ) → Within ds a → truth_of saying a → ⊥)
     → AreNeverTrue n.model.constraints ds
 never_true n ds i saying network is never = λ a all within. never a within (all_at (λ (x : Saying). truth_of x a) n.sayings i saying (network.said.follow a all) is)
+
+-- what a run answers
+pub answered : {E : Type 0} (r : Result Answer E) (n : Networked) (place : ℕ) (saying : Saying) (s t : Stored) → IsNetwork n → slice_get n.sayings place ≡ Some saying
+    → IfOk r (λ x. IsAnswerOf x (truth_of saying) (line_of saying) s.doms t.doms) → IfOk r (λ x. IsAnswerAt x n place s t)
+answered (Err x) n place saying s t network is answer = tt
+answered (Ok Fix) n place saying s t network is answer = (saying, is, answer)
+answered (Ok NoFix) n place saying s t network is answer = answer
+answered (Ok Subsumed) n place saying s t network is answer = (saying, is, answer.1)
+answered (Ok Failed) n place saying s t network is answer = never_true n s.doms place saying network is answer
 
 -- after a run no assignment is there: none was before it
 pub never_before : (n : Networked) (s t : Stored) (after : List ℕ) → IsRun n s t after → AreNeverTrue n.model.constraints t.doms → AreNeverTrue n.model.constraints s.doms
@@ -137,8 +158,8 @@ queued_falls states i k is within none =
 pub queued_within : (states : List ℕ) (i : ℕ) → slice_index states i ≡ 1 → i < length states
 queued_within states i is = within_of states i (λ zero. absurd (omega (arith, is, zero)))
 
-pub moved_set : (s t : Stored) (states after : List ℕ) (i k : ℕ) → Shrinks s t → slice_index states i ≡ 1 → counts_queued k ≡ 0 → after ≡ slice_set states i k → HasMoved s states t after
-moved_set s t states after i k shrinks is none at = elim shrinks.falls [
+pub moved_set : (s t : Stored) (states after : List ℕ) (i k : ℕ) → (t ≡ s) ⊎ (room t.doms < room s.doms) → slice_index states i ≡ 1 → counts_queued k ≡ 0 → after ≡ slice_set states i k → HasMoved s states t after
+moved_set s t states after i k falls is none at = elim falls [
   | inl same ↦ inr (same, subst (λ (x : List ℕ). queued x < queued states) (sym at) (queued_falls states i k is (queued_within states i is) none))
   | inr less ↦ inl less
 ]
@@ -160,4 +181,20 @@ work_falls w s t u states mid after (inr moved) size drained draining =
     let whole : length after.states ≡ length states = draining.woken.size ∙ size in
     let same : room u.doms ≡ room s.doms = ap (λ (x : Stored). room x.doms) (still.0 ∙ moved.0) in
     let fewer : queued after.states < queued states = subst (λ (x : List ℕ). queued x < queued states) (sym (ap (λ (l : Lineup). l.states) still.1)) moved.1 in
+    rw (whole, same) (omega (arith, fewer))
+
+pub work_falls_but : (w : Waking) (s t u : Stored) (before after : Lineup) (place : ℕ) → (t ≡ s) ⊎ (room t.doms < room s.doms) → slice_index before.states place ≡ 1 → IsDrained s
+    → IsDrainingBut place w t before u after → work u after.states < work s before.states
+work_falls_but w s t u before after place (inr less) is drained draining =
+    let same : room u.doms ≡ room t.doms = ap room draining.doms in
+    let lower : room u.doms < room s.doms = omega (arith, same, less) in
+    let whole : length after.states ≡ length before.states = draining.woken.size ∙ length-set before.states place 0 in
+    let few : queued after.states ≤ length before.states = omega (arith, queued_few after.states, whole) in
+    rw whole (work_by_room (room u.doms) (room s.doms) (length before.states) (queued after.states) (queued before.states) lower few)
+work_falls_but w s t u before after place (inl moved) is drained draining =
+    let still = draining.still (ap (λ (x : Stored). x.changed) moved ∙ drained.none) in
+    let states : after.states ≡ slice_set before.states place 0 = ap (λ (l : Lineup). l.states) still.1 in
+    let whole : length after.states ≡ length before.states = ap length states ∙ length-set before.states place 0 in
+    let same : room u.doms ≡ room s.doms = ap (λ (x : Stored). room x.doms) (still.0 ∙ moved) in
+    let fewer : queued after.states < queued before.states = subst (λ (x : List ℕ). queued x < queued before.states) (sym states) (queued_falls before.states place 0 is (queued_within before.states place is) refl) in
     rw (whole, same) (omega (arith, fewer))

@@ -1,11 +1,24 @@
 -- What a step of propagation answers.
-use Rattle.std.specs.Prelude.{ℕ, ◌<◌, List}
+use Rattle.std.specs.Prelude.{◌≡◌, ℕ, ◌<◌, List, slice_get, Some}
 use Rattle.fz_spec.specs.Constraints.{Constraint}
+use Rattle.fz_strength.specs.Domains.{room}
+use Rattle.fz_strength.specs.Promises.{RestsForGood}
+use Rattle.fz_strength.specs.Sayings.{Saying, line_of}
+use Rattle.fz_prop.specs.declared.answer.Answer.{Answer}
+use Rattle.fz_prop.specs.declared.answer.Answer.TheVariants.{Fix, NoFix, Subsumed, Failed as Fails}
 use Rattle.fz_prop.specs.Stores.{Stored}
 use Rattle.fz_agenda.specs.Wakes.{IsDrained}
 use Rattle.fz_engine.specs.declared.engine.Progress.{Progress}
 use Rattle.fz_engine.specs.declared.engine.Progress.TheVariants.{Rested, Failed, Going}
+use Rattle.fz_engine.specs.Networks.{Networked}
 use Rattle.fz_engine.specs.Runs.{AllRest, AreNeverTrue, work}
+
+-- a run of the propagator at a place, from one store to another
+abbrev pub IsAnswerAt : Answer → Networked → ℕ → Stored → Stored → Type 0
+IsAnswerAt Fix n place s t = (saying : Saying) × (slice_get n.sayings place ≡ Some saying) × line_of saying t.doms
+IsAnswerAt NoFix n place s t = room t.doms < room s.doms
+IsAnswerAt Subsumed n place s t = (saying : Saying) × (slice_get n.sayings place ≡ Some saying) × RestsForGood saying t.doms
+IsAnswerAt Fails n place s t = AreNeverTrue n.model.constraints s.doms
 
 abbrev pub IsProgress : Progress → List Constraint → Stored → List ℕ → Stored → List ℕ → Type 0
 IsProgress Rested cs s states t after = AllRest cs t.doms

@@ -1,12 +1,13 @@
 //! Running propagators until all rest.
-ghost use Rattle.std.specs.Prelude.{◌≡◌, true, false, IfOk, slice_index};
+ghost use Rattle.std.specs.Prelude.{◌≡◌, ◌⊎◌, ◌<◌, true, false, IfOk, slice_index};
+ghost use Rattle.fz_strength.specs.Domains.{room};
 ghost use Rattle.fz_agenda.specs.Queues.{IsFirst};
 ghost use Rattle.fz_agenda.specs.Wakes.{IsDrained};
-ghost use Rattle.fz_engine.specs.Runs.{IsAlive, IsRun, AreNeverTrue, AllRest, HasMoved};
-ghost use Rattle.fz_engine.specs.Steps.{IsProgress};
+ghost use Rattle.fz_engine.specs.Runs.{IsAlive, IsRun, AreNeverTrue, AllRest};
+ghost use Rattle.fz_engine.specs.Steps.{IsAnswerAt, IsProgress};
 
 use crate::network::Network;
-use fz_agenda::{Agenda, drain};
+use fz_agenda::{Agenda, drain, drain_but};
 use fz_prop::{Answer, Propagator, Store};
 use std::alloc::AllocError;
 
@@ -75,7 +76,8 @@ fn step(network: &Network, store: &mut Store, agenda: &mut Agenda) -> Result<Pro
     }
 }
 
-/// Runs a propagator that is queued, and wakes those that wait for its changes.
+/// Runs a propagator that is queued, and wakes those that wait for its changes; the propagator itself only where it is to run
+/// again.
 fn run_next(
     network: &Network,
     place: u32,
@@ -90,42 +92,39 @@ fn run_next(
     ensures progress { IfOk result (λ p. IsProgress p network.now.model.constraints
         store.old agenda.old.states store.new agenda.new.states) }
 {
-    if !run(network, place, store, agenda)? {
-        return Ok(Progress::Failed);
+    match run(network, place, store, agenda)? {
+        Answer::Fix => {
+            drain_but(network.wakes(), place, store, agenda)?;
+            Ok(Progress::Going)
+        }
+        Answer::NoFix => {
+            drain(network.wakes(), store, agenda)?;
+            Ok(Progress::Going)
+        }
+        Answer::Subsumed => {
+            agenda.retire(place);
+            drain(network.wakes(), store, agenda)?;
+            Ok(Progress::Going)
+        }
+        Answer::Failed => Ok(Progress::Failed),
     }
-    drain(network.wakes(), store, agenda)?;
-    Ok(Progress::Going)
 }
 
-/// Runs a propagator that is queued; false where it fails.
+/// Runs a propagator that is queued, and stays so.
 fn run(
     network: &Network,
     place: u32,
     store: &mut Store,
-    agenda: &mut Agenda,
-) -> Result<bool, AllocError>
-    requires first { IsFirst agenda.old place }
-    requires queued { slice_index agenda.old.states place ≡ 1 }
-    requires alive { IsAlive network.now agenda.old.states store.old }
-    ensures run { IsRun network.now store.old store.new agenda.new.states }
-    ensures moved { IfOk result
-        (λ b. b ≡ true → HasMoved store.old agenda.old.states store.new agenda.new.states) }
-    ensures failed { IfOk result
-        (λ b. b ≡ false → AreNeverTrue network.now.model.constraints store.old.doms) }
+    agenda: &Agenda,
+) -> Result<Answer, AllocError>
+    requires queued { slice_index agenda.now.states place ≡ 1 }
+    requires alive { IsAlive network.now agenda.now.states store.old }
+    ensures run { IsRun network.now store.old store.new agenda.now.states }
+    ensures falls { (store.new ≡ store.old) ⊎ (room store.new.doms < room store.old.doms) }
+    ensures answer { IfOk result (λ r. IsAnswerAt r network.now place store.old store.new) }
 {
     let _ = network.wakes();
     let answer = network.propagator(place).propagate(store);
     let _ = store.doms();
-    match answer? {
-        Answer::Fix => {
-            agenda.rest(place);
-            Ok(true)
-        }
-        Answer::NoFix => Ok(true),
-        Answer::Subsumed => {
-            agenda.retire(place);
-            Ok(true)
-        }
-        Answer::Failed => Ok(false),
-    }
+    answer
 }

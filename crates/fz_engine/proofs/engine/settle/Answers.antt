@@ -1,5 +1,4 @@
-use Rattle.std.proofs.Common.{List, sym, subst, ap, ◌∙◌, length}
-use Rattle.std.specs.Prelude.{ℤ}
+use Rattle.std.proofs.Common.{subst}
 use Rattle.fz_agenda.specs.Wakes.{Waking, IsDraining}
 use Rattle.fz_engine.proofs.Running.{run_none, run_drained, sized}
 use Rattle.fz_engine.proofs.engine.settle.Goals as goal

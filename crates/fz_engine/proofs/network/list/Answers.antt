@@ -1,7 +1,5 @@
 use Rattle.std.proofs.Common.{◌∙◌, length}
-use Rattle.std.specs.Prelude.{slice_index_or}
 use Rattle.fz_strength.specs.declared.event.Event.TheVariants.{Any}
-use Rattle.fz_says.specs.declared.waits.Wait as code
 use Rattle.fz_engine.proofs.Listing.{extends_twice, has_variable, listed_next}
 use Rattle.fz_engine.proofs.network.list.Goals as goal
 

@@ -1,4 +1,3 @@
-use Rattle.std.specs.Arc.{arc_value}
 use Rattle.fz_engine.specs.Networks.{sayings_of}
 use Rattle.fz_engine.proofs.Posting.{network_of}
 use Rattle.fz_engine.proofs.network.Network.new.Goals as goal
