@@ -1,7 +1,8 @@
 -- The command whose words clap reads: the options, each by a rule, and FILE.
-use Rattle.std.specs.Prelude.{true, Some, [], ◌∷◌, codes, fold}
+use Rattle.std.specs.Prelude.{ℕ, true, Some, [], ◌∷◌, codes, fold}
 use Rattle.clap.specs.Simple.{App, new_app, new_rule, with_rule, on_top}
 use Rattle.clap.specs.Walk.{Rule}
+use Rattle.clap.specs.Words.{Text}
 use Rattle.clap.specs.declared.builder.action.ArgAction.TheVariants.{Set, SetTrue}
 use Rattle.clap.specs.declared.builder.value_parser.ValueParser.TheVariants.{Unsigned}
 use Rattle.fz_gen.specs.declared.text.TheConstants.{ITEMS_LEAST, ITEMS_MOST}
@@ -19,17 +20,21 @@ limit_rule = record (new_rule (codes "limit")) { short = Some 110; action = Some
 abbrev pub workers_rule : Rule
 workers_rule = record (new_rule (codes "workers")) { short = Some 112; action = Some Set; parser = Some (Unsigned WORKERS_LEAST WORKERS_MOST) }
 
+-- --NAME, with a number within these bounds
+abbrev pub number_rule : Text → ℕ → ℕ → Rule
+number_rule name least most = record (new_rule name) { long = Some name; action = Some Set; parser = Some (Unsigned least most) }
+
 -- --commit-distance 1..1000000
 abbrev pub distance_rule : Rule
-distance_rule = record (new_rule (codes "commit-distance")) { long = Some (codes "commit-distance"); action = Some Set; parser = Some (Unsigned COMMIT_DISTANCE_LEAST COMMIT_DISTANCE_MOST) }
+distance_rule = number_rule (codes "commit-distance") COMMIT_DISTANCE_LEAST COMMIT_DISTANCE_MOST
 
 -- --adaptive-distance 1..1000000
 abbrev pub adaptive_rule : Rule
-adaptive_rule = record (new_rule (codes "adaptive-distance")) { long = Some (codes "adaptive-distance"); action = Some Set; parser = Some (Unsigned ADAPTIVE_DISTANCE_LEAST ADAPTIVE_DISTANCE_MOST) }
+adaptive_rule = number_rule (codes "adaptive-distance") ADAPTIVE_DISTANCE_LEAST ADAPTIVE_DISTANCE_MOST
 
 -- --interleave 0..18446744073709551615
 abbrev pub interleave_rule : Rule
-interleave_rule = record (new_rule (codes "interleave")) { long = Some (codes "interleave"); action = Some Set; parser = Some (Unsigned 0 18446744073709551615) }
+interleave_rule = number_rule (codes "interleave") 0 18446744073709551615
 
 -- -s
 abbrev pub stats_rule : Rule
@@ -37,7 +42,7 @@ stats_rule = record (new_rule (codes "stats")) { short = Some 115; action = Some
 
 -- --generate 1..1000
 abbrev pub generate_rule : Rule
-generate_rule = record (new_rule (codes "generate")) { long = Some (codes "generate"); action = Some Set; parser = Some (Unsigned ITEMS_LEAST ITEMS_MOST) }
+generate_rule = number_rule (codes "generate") ITEMS_LEAST ITEMS_MOST
 
 -- FILE
 abbrev pub file_rule : Rule

@@ -1,7 +1,7 @@
 //! The command that clap reads the words by.
 ghost use Rattle.std.specs.Prelude.{◌≡◌, false, IfOk, map, string_bytes};
 ghost use Rattle.clap.specs.Words.{app_of, rule_of, rows_of, found_of, matches_of, fault_of, FailsBy};
-ghost use Rattle.fz_cmd.specs.Command.{all_rule, limit_rule, workers_rule, distance_rule, adaptive_rule, interleave_rule, stats_rule, generate_rule, file_rule, plain_app, fzn_app};
+ghost use Rattle.fz_cmd.specs.Command.{all_rule, limit_rule, workers_rule, number_rule, stats_rule, file_rule, plain_app, fzn_app};
 
 use crate::options::{
     ADAPTIVE_DISTANCE_LEAST, ADAPTIVE_DISTANCE_MOST, COMMIT_DISTANCE_LEAST, COMMIT_DISTANCE_MOST,
@@ -42,43 +42,15 @@ fn workers_arg<'a>(alloc: Global) -> Arg<'a>
         .value_parser(ValueParser::Unsigned(WORKERS_LEAST as u64, WORKERS_MOST as u64))
 }
 
-/// `--commit-distance NUMBER`
-fn distance_arg<'a>(alloc: Global) -> Arg<'a>
-    ensures rule { rule_of result ≡ distance_rule }
+/// `--NAME NUMBER`, the number within these bounds.
+fn number_arg<'a>(alloc: Global, name: &'a str, least: u64, most: u64) -> Arg<'a>
+    ensures rule { rule_of result ≡ number_rule name.now least most }
     ensures local { result.global ≡ false }
 {
-    Arg::new(alloc, "commit-distance")
-        .long("commit-distance")
+    Arg::new(alloc, name)
+        .long(name)
         .action(ArgAction::Set)
-        .value_parser(ValueParser::Unsigned(
-            COMMIT_DISTANCE_LEAST as u64,
-            COMMIT_DISTANCE_MOST as u64,
-        ))
-}
-
-/// `--adaptive-distance NUMBER`
-fn adaptive_arg<'a>(alloc: Global) -> Arg<'a>
-    ensures rule { rule_of result ≡ adaptive_rule }
-    ensures local { result.global ≡ false }
-{
-    Arg::new(alloc, "adaptive-distance")
-        .long("adaptive-distance")
-        .action(ArgAction::Set)
-        .value_parser(ValueParser::Unsigned(
-            ADAPTIVE_DISTANCE_LEAST as u64,
-            ADAPTIVE_DISTANCE_MOST as u64,
-        ))
-}
-
-/// `--interleave SEED`
-fn interleave_arg<'a>(alloc: Global) -> Arg<'a>
-    ensures rule { rule_of result ≡ interleave_rule }
-    ensures local { result.global ≡ false }
-{
-    Arg::new(alloc, "interleave")
-        .long("interleave")
-        .action(ArgAction::Set)
-        .value_parser(ValueParser::Unsigned(0, u64::MAX))
+        .value_parser(ValueParser::Unsigned(least, most))
 }
 
 /// `-s`
@@ -89,17 +61,6 @@ fn stats_arg<'a>(alloc: Global) -> Arg<'a>
     Arg::new(alloc, "stats")
         .short('s')
         .action(ArgAction::SetTrue)
-}
-
-/// `--generate NUMBER`
-fn generate_arg<'a>(alloc: Global) -> Arg<'a>
-    ensures rule { rule_of result ≡ generate_rule }
-    ensures local { result.global ≡ false }
-{
-    Arg::new(alloc, "generate")
-        .long("generate")
-        .action(ArgAction::Set)
-        .value_parser(ValueParser::Unsigned(ITEMS_LEAST as u64, ITEMS_MOST as u64))
 }
 
 /// FILE
@@ -125,11 +86,21 @@ fn command<'a>(alloc: Global) -> Result<Command<'a>, AllocError>
     let all = all_arg(alloc);
     let limit = limit_arg(alloc);
     let workers = workers_arg(alloc);
-    let distance = distance_arg(alloc);
-    let adaptive = adaptive_arg(alloc);
-    let interleave = interleave_arg(alloc);
+    let distance = number_arg(
+        alloc,
+        "commit-distance",
+        COMMIT_DISTANCE_LEAST as u64,
+        COMMIT_DISTANCE_MOST as u64,
+    );
+    let adaptive = number_arg(
+        alloc,
+        "adaptive-distance",
+        ADAPTIVE_DISTANCE_LEAST as u64,
+        ADAPTIVE_DISTANCE_MOST as u64,
+    );
+    let interleave = number_arg(alloc, "interleave", 0, u64::MAX);
     let stats = stats_arg(alloc);
-    let generate = generate_arg(alloc);
+    let generate = number_arg(alloc, "generate", ITEMS_LEAST as u64, ITEMS_MOST as u64);
     let file = file_arg(alloc);
     let with_all = plain(alloc).arg(all)?;
     let with_limit = with_all.arg(limit)?;
