@@ -1,5 +1,5 @@
 -- A constraint and a Boolean that says whether it is true.
-use Rattle.std.proofs.Common.{◌≡◌, ℕ, List, sym, ap, subst, length, arith}
+use Rattle.std.proofs.Common.{◌≡◌, ℕ, List, refl, sym, ap, subst, length, arith}
 use Rattle.std.specs.Prelude.{ℤ, pos}
 use Rattle.std.proofs.lemmas.Int.{ints, by_lt_z}
 use Rattle.fz_sets.specs.Sets.{IsInRange}
@@ -10,6 +10,7 @@ use Rattle.fz_strength.specs.Domains.{term_set, AreDomains, Within, IsNarrower}
 use Rattle.fz_strength.specs.Events.{IsOnly, IsFixedIn}
 use Rattle.fz_strength.specs.Lines.{IsReifiedLine}
 use Rattle.fz_strength.specs.Promises.{IsTruth}
+use Rattle.fz_strength.proofs.Terms.{in_single}
 use Rattle.fz_prop.specs.declared.answer.Answer.{Answer}
 use Rattle.fz_prop.specs.declared.answer.Answer.TheVariants.{Fix, NoFix, Subsumed, Failed}
 use Rattle.fz_prop.specs.Answers.{IsAnswerOf, IsCorrectOf}
@@ -113,6 +114,9 @@ zero_of x truth not =
     let low = truth.0 in
     let high = truth.1 in
     by_lt_z x (pos 1) (λ below. omega (arith, ints, low, below)) (λ above. absurd (not (omega (arith, ints, high, above))))
+
+pub zero_left : (ds : List (List (ℤ × ℤ))) (r : Term) (v : ℤ) → IsTruth ds r → IsOnly (term_set ds r) v → (v ≡ pos 1 → ⊥) → IsOnly (term_set ds r) (pos 0)
+zero_left ds r v truth only not = subst (IsOnly (term_set ds r)) (zero_of v (truth v (rw only (in_single v v refl))) not) only
 
 pub refuted_about : (P : List ℤ → Type 0) (s : Sides) (r : Term) (ds : List (List (ℤ × ℤ))) → IsTermOf (length ds) r → IsTruth ds r → AreSides s ds
     → ((a : List ℤ) → Within ds a → P a → ⊥) → ((es : List (List (ℤ × ℤ))) → AreDomains es → IsNarrower ds es → s.against es)

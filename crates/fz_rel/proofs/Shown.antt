@@ -17,7 +17,7 @@ use Rattle.fz_strength.proofs.Terms.{in_single}
 use Rattle.fz_prop.specs.Stores.{IsTermOf}
 use Rattle.fz_prop.specs.Truths.{HasRanges, AreSides, TruthWith, LineWith, IsAbout}
 use Rattle.fz_prop.proofs.Filled.{term_ranges, narrower_ranges, one_left}
-use Rattle.fz_prop.proofs.Reifying.{shown_about, refuted_about, zero_of}
+use Rattle.fz_prop.proofs.Reifying.{shown_about, refuted_about}
 use Rattle.fz_prop.proofs.TermChanges.{term_within, narrower_term}
 use Rattle.fz_rel.specs.Truths.{TruthOf}
 use Rattle.fz_rel.specs.Reified.{sides_of}
@@ -184,8 +184,3 @@ refuted_zero relation x y r ds is_x is_y is_r truth filled refuted =
     refuted_rests relation (term_set es x) (term_set es y) in_x in_y
     (refuted_still relation (term_set ds x) (term_set ds y) (term_set es x) (term_set es y) (part_of (term_set ds x) (term_set es x) has_x in_x (narrower_term ds es x narrower))
     (part_of (term_set ds y) (term_set es y) has_y in_y (narrower_term ds es y narrower)) refuted))
-
--- ---- a Boolean that is fixed
-
-pub zero_left : (ds : List (List (ℤ × ℤ))) (r : Term) (v : ℤ) → IsTruth ds r → IsOnly (term_set ds r) v → (v ≡ pos 1 → ⊥) → IsOnly (term_set ds r) (pos 0)
-zero_left ds r v truth only not = subst (IsOnly (term_set ds r)) (zero_of v (truth v (rw only (in_single v v refl))) not) only

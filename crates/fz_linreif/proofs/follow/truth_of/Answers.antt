@@ -1,6 +1,6 @@
 use Rattle.std.proofs.Common.{rules, ◌≡◌}
 use Rattle.std.specs.Prelude.{pos}
-use Rattle.fz_rel.proofs.Shown.{zero_left}
+use Rattle.fz_prop.proofs.Reifying.{zero_left}
 use Rattle.fz_linreif.proofs.follow.truth_of.Goals as goal
 
 pub returns-in-Some : goal.returns-in-Some

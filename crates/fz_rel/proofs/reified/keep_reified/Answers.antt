@@ -2,10 +2,10 @@ use Rattle.std.proofs.Common.{rules, ◌≡◌, subst}
 use Rattle.std.specs.Prelude.{pos}
 use Rattle.fz_strength.specs.Domains.{term_set}
 use Rattle.fz_strength.specs.Events.{IsOnly}
-use Rattle.fz_prop.proofs.Reifying.{one_correct, zero_correct, one_answer, zero_answer}
+use Rattle.fz_prop.proofs.Reifying.{one_correct, zero_correct, one_answer, zero_answer, zero_left}
 use Rattle.fz_rel.specs.Truths.{TruthOf}
 use Rattle.fz_rel.specs.Reified.{sides_of}
-use Rattle.fz_rel.proofs.Shown.{are_sides, zero_left}
+use Rattle.fz_rel.proofs.Shown.{are_sides}
 use Rattle.fz_rel.proofs.reified.keep_reified.Goals.{in-Some-eq1+in_ok-answer-in-Some-eq1, in-Some+in_ok-answer-in-Some, in-None+in_ok-answer-in-None}
 use Rattle.fz_rel.proofs.reified.keep_reified.Goals as goal
 
