@@ -1,5 +1,5 @@
 -- Scores of satisfying assignments are natural numbers below 2^32.
-use Rattle.std.proofs.Common.{◌≡◌, ◌<◌, ◌^◌, ℕ, zero, suc, List, [], ◌∷◌, arith, Option, Some, None}
+use Rattle.std.proofs.Common.{◌≡◌, ◌<◌, ◌^◌, ℕ, zero, suc, List, [], ◌∷◌, arith, Some, None}
 use Rattle.std.specs.Prelude.{ℤ, pos, ◌≤ℤ◌, nat_abs, unwrap_or}
 use Rattle.std.specs.List.{AllByRecursion, slice_get}
 use Rattle.std.proofs.lemmas.Int.{ints}
