@@ -8,3 +8,4 @@ pub mod Sums
 pub mod Reaching
 pub mod Steps
 pub mod Workers
+pub mod Scores

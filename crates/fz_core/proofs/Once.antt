@@ -35,7 +35,7 @@ path_same : (m : Instance) (a : List ℤ) (known : Option (List ℤ)) (o : Optio
 path_same m a known None all satisfies own model = refl
 path_same m a known (Some c) all satisfies own model = account_has m a c own.law model all own.given satisfies
 
-held_model : (m n : Instance) (o : Option Account) (mode : Mode) → n ≡ m → IfSome o (λ (c : Account). (c.model ≡ n) × (c.mode ≡ mode)) → IfSome o (λ (c : Account). c.model ≡ m)
+held_model : (m n : Instance) (o : Option Account) (mode : Mode) → n ≡ m → IfSome o (λ (c : Account). (c.model ≡ n) × (c.mode ≡ mode) × (c.given ≡ [])) → IfSome o (λ (c : Account). c.model ≡ m)
 held_model m n None mode is same = tt
 held_model m n (Some c) mode is same = same.0 ∙ is
 

@@ -34,7 +34,7 @@ held_law p None law is = record { own_mode = law.own_mode; distances = law.dista
 held_law p (Some c) law is = record {
   own_mode = law.own_mode;
   distances = law.distances;
-  held = (is.model, is.mode);
+  held = (is.model, is.mode, is.given);
   known = subst (λ (m : Instance). IfSome c.witness (Satisfies m)) is.model is.law.witness;
   suits = suits_in c.mode p.mode c.witness is.mode (hands_out c is.law).suits;
 }
@@ -56,7 +56,7 @@ holds_other m w held hand of_m is task = record {
 pub held_by : (m : Instance) (w : Worker) (c : Account) → IsWorkerOf m w → w.path.held ≡ Some c → IsHeldBy w.path c
 held_by m w c of_m holds =
     let own : IsOwn w.path.known c = subst (λ (o : Option Account). IfSome o (IsOwn w.path.known)) holds of_m.account in
-    let same = subst (λ (o : Option Account). IfSome o (λ (x : Account). (x.model ≡ w.path.model) × (x.mode ≡ w.path.mode))) holds of_m.law.held in
+    let same = subst (λ (o : Option Account). IfSome o (λ (x : Account). (x.model ≡ w.path.model) × (x.mode ≡ w.path.mode) × (x.given ≡ []))) holds of_m.law.held in
     record { law = own.law; model = same.0; mode = same.1; given = own.given }
 
 -- ---- hands
@@ -114,11 +114,11 @@ victim_worker m w c of_m holds can =
 
 -- ---- learning
 
-learned_held : (m : Instance) (mode : Mode) (a : List ℤ) (held : Option Account) → IfSome held (λ (c : Account). (c.model ≡ m) × (c.mode ≡ mode)) → IfSome (held_with a held) (λ (c : Account). (c.model ≡ m) × (c.mode ≡ mode))
+learned_held : (m : Instance) (mode : Mode) (a : List ℤ) (held : Option Account) → IfSome held (λ (c : Account). (c.model ≡ m) × (c.mode ≡ mode) × (c.given ≡ [])) → IfSome (held_with a held) (λ (c : Account). (c.model ≡ m) × (c.mode ≡ mode) × (c.given ≡ []))
 learned_held m mode a None same = tt
 learned_held m mode a (Some c) same = same
 
-learned_own : (p : Pathed) (a : List ℤ) (held : Option Account) → IsNews p a → IfSome held (λ (c : Account). (c.model ≡ p.model) × (c.mode ≡ p.mode)) → IfSome held (IsOwn p.known) → IfSome (held_with a held) (IsOwn (Some a))
+learned_own : (p : Pathed) (a : List ℤ) (held : Option Account) → IsNews p a → IfSome held (λ (c : Account). (c.model ≡ p.model) × (c.mode ≡ p.mode) × (c.given ≡ [])) → IfSome held (IsOwn p.known) → IfSome (held_with a held) (IsOwn (Some a))
 learned_own p a None news same own = tt
 learned_own p a (Some c) news same own = record {
   law = learns c a own.law (same.1 ∙ news.best) (subst (λ (m : Instance). Satisfies m a) (sym same.0) news.satisfies)

@@ -1,4 +1,4 @@
-use Rattle.std.proofs.Common.{◌≡◌, ◌∙◌, ◌+◌, ◌<◌, ◌≤◌, suc, length, drop, ap, sym, arith}
+use Rattle.std.proofs.Common.{◌≡◌, ◌∙◌, ◌+◌, suc, drop, ap, sym, arith}
 use Rattle.std.specs.List.{position_from}
 use Rattle.std.proofs.Math.ListN.{drop_of_length-le}
 use Rattle.fz_machine.specs.Schedule.{can}

@@ -1,4 +1,3 @@
-use Rattle.std.proofs.Common.{◌≡◌}
 use Rattle.fz_machine.proofs.Going.{begins_so, acting, acts_lawful, acts_on, acts_less, acts_short, stops_run, closed_by}
 use Rattle.fz_machine.proofs.machine.Machine.run.Goals as goal
 

@@ -1,0 +1,62 @@
+-- The word and the assignments that were put, one after the other.
+use Rattle.std.proofs.Common.{◌≡◌, ℕ, ◌+◌, ◌≤◌, min, zero, suc, List, [], ◌∷◌, ◌++◌, length, refl, sym, ap, ◌∙◌, subst, arith, Option, Some, None, IfSome}
+use Rattle.std.specs.Prelude.{ℤ, nat_abs, All}
+use Rattle.fz_spec.specs.Instance.{Instance, Satisfies, score}
+use Rattle.fz_bound.specs.Rule.{UNSET}
+use Rattle.fz_team.specs.Members.{IsScoreOf, least_score, listed}
+use Rattle.std.proofs.lemmas.List.{length-append}
+use Rattle.atomic_table.specs.Seated.{TableId}
+use Rattle.fz_bound.specs.Seats.{Seated, joined}
+use Rattle.fz_team.specs.declared.member.Member.{Member}
+use Rattle.fz_team.specs.Members.{IsMember}
+use Rattle.fz_team.specs.Ends.{IsWordOf, IsTeam}
+
+pub least_small : (m : Instance) (l : List (List ℤ)) → least_score m l ≤ UNSET
+least_small m [] = omega arith
+least_small m (a ∷ l) = let h = least_small m l in omega arith
+
+pub least_snoc : (m : Instance) (l : List (List ℤ)) (a : List ℤ) → least_score m (l ++ a ∷ []) ≡ min (least_score m l) (nat_abs (score m a))
+least_snoc m [] a = omega arith
+least_snoc m (x ∷ xs) a = let h = least_snoc m xs a in omega arith
+
+all_snoc : (P : List ℤ → Type 0) (l : List (List ℤ)) (a : List ℤ) → All P l → P a → All P (l ++ a ∷ [])
+all_snoc P [] a all p zero d h = p
+all_snoc P [] a all p (suc k) d h = absurd (omega arith)
+all_snoc P (x ∷ xs) a all p zero d h = all 0 d (omega arith)
+all_snoc P (x ∷ xs) a all p (suc k) d h = all_snoc P xs a (λ i e t. all (suc i) e (omega arith)) p k d (omega arith)
+
+pub word_begins : (m : Instance) → IsWordOf m [] UNSET
+word_begins m = record { sound = λ k d h. absurd (omega arith); least = refl }
+
+-- one worker more
+pub word_goes_on : (m : Instance) (l : List (List ℤ)) (least k : ℕ) (best : Option (List ℤ)) → IsWordOf m l least → IsScoreOf m k best → IsWordOf m (l ++ listed best) (min least k)
+word_goes_on m l least k None word is = record {
+  sound = subst (λ (xs : List (List ℤ)). All (Satisfies m) xs) (sym (append_nil l)) word.sound;
+  least = let h = least_small m l in let e = word.least in omega arith ∙ ap (least_score m) (sym (append_nil l));
+}
+  where
+    append_nil : (xs : List (List ℤ)) → xs ++ [] ≡ xs
+    append_nil [] = refl
+    append_nil (x ∷ xs) = ap (λ (ys : List (List ℤ)). x ∷ ys) (append_nil xs)
+word_goes_on m l least k (Some a) word is = record {
+  sound = all_snoc (Satisfies m) l a word.sound is.0;
+  least = let e = word.least in let f = is.1 in let h = least_snoc m l a in omega arith;
+}
+
+-- one worker's seat is joined, and what it found is listed
+pub joins_one : (m : Instance) (word : TableId) (n total : ℕ) (seat new : Seated) (x : Member) (l more : List (List ℤ)) (before : List Member) → IsMember m word n x → new ≡ joined seat x.seat → more ≡ l ++ listed x.best
+    → seat.bound ≡ word → seat.parts ≡ total + length before → IsWordOf m l seat.least
+    → (new.bound ≡ word) × (new.parts ≡ total + length (before ++ x ∷ [])) × IsWordOf m more new.least
+joins_one m word n total seat new x l more before of joins lists bound parts is =
+    rw (joins, lists) (bound, omega (arith, length-append before (x ∷ []), of.parts, parts), word_goes_on m l seat.least x.seat.least x.best is of.best)
+
+-- the workers of a team came back
+pub came_back : (m : Instance) (word : TableId) (n : ℕ) (left : Seated) (before after : List Member) → IsTeam m word n left before → All (IsMember m word n) after → length after ≡ length before → IsTeam m word n left after
+came_back m word n left before after team all len = record { bound = team.bound; fresh = team.fresh; parts = ap (λ (k : ℕ). left.parts + k) len ∙ team.parts; members = all }
+
+-- the same as a round answers it
+pub round_back : (m : Instance) (word : TableId) (n : ℕ) (left : Seated) (before : List Member) {V : Type 0} (items : V → List Member) (o : Option V) (after : V) → o ≡ Some after → IsTeam m word n left before
+    → IfSome o (λ (v : V). All (IsMember m word n) (items v)) → IfSome o (λ (v : V). length (items v) ≡ length before) → IsTeam m word n left (items after)
+round_back m word n left before {V} items o after is team all len =
+    came_back m word n left before (items after) team (subst (λ (p : Option V). IfSome p (λ (v : V). All (IsMember m word n) (items v))) is all)
+    (subst (λ (p : Option V). IfSome p (λ (v : V). length (items v) ≡ length before)) is len)

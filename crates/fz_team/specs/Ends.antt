@@ -1,0 +1,40 @@
+-- How a team ends.
+use Rattle.std.specs.Prelude.{◌≡◌, ℕ, ◌+◌, ◌≤◌, ℤ, List, [], length, Option, None, All, IsSomeAnd}
+use Rattle.fz_spec.specs.Instance.{Instance, Satisfies}
+use Rattle.fz_tree.specs.Book.{Book}
+use Rattle.fz_path.specs.Paths.{Pathed}
+use Rattle.atomic_table.specs.Seated.{TableId}
+use Rattle.fz_bound.specs.Rule.{UNSET, PARTS}
+use Rattle.fz_bound.specs.Seats.{Seated}
+use Rattle.fz_team.specs.declared.end.End.{End}
+use Rattle.fz_team.specs.declared.end.End.TheVariants.{Enough, Closed, Short}
+use Rattle.fz_team.specs.declared.member.Member.{Member}
+use Rattle.fz_team.specs.Members.{IsMember, least_score}
+
+-- a path of this model that holds nothing
+pub record IsIdleOf (m : Instance) (p : Pathed) : Type 0 where
+  pub held : p.held ≡ None
+  pub model : p.model ≡ m
+
+-- Enough and Closed come only with a book of the model handed in that shows it.
+abbrev pub Ends : End → Option ℕ → Instance → Book → Type 0
+Ends Enough enough m b = (b.model ≡ m) × IsSomeAnd enough (λ n. n ≤ length b.recorded)
+Ends Closed enough m b = (b.model ≡ m) × (b.parts ≡ [])
+Ends Short enough m b = Unit {0}
+
+-- each of them satisfies, and the word is the least of their scores
+pub record IsWordOf (m : Instance) (bests : List (List ℤ)) (word : ℕ) : Type 0 where
+  pub sound : All (Satisfies m) bests
+  pub least : word ≡ least_score m bests
+
+abbrev pub HasBests : End → Instance → List (List ℤ) → ℕ → Type 0
+HasBests Enough m bests word = IsWordOf m bests word
+HasBests Closed m bests word = IsWordOf m bests word
+HasBests Short m bests word = Unit {0}
+
+-- its workers are of this model and word, and together with the seat that is left they have all parts
+pub record IsTeam (m : Instance) (word : TableId) (workers : ℕ) (left : Seated) (all : List Member) : Type 0 where
+  pub bound : left.bound ≡ word
+  pub fresh : left.least ≡ UNSET
+  pub parts : left.parts + length all ≡ PARTS
+  pub members : All (IsMember m word workers) all

@@ -1,0 +1,43 @@
+-- What critical sections make of the values behind the locks that they hold.
+use Rattle.std.specs.Prelude.{◌≡◌, true, false, Option, Some, None}
+use Rattle.fz_tree.specs.Frontier.{can_cut, part_of}
+use Rattle.fz_tree.specs.Account.{Account, with_given}
+use Rattle.fz_tree.specs.Book.{Book, Takes, IsOpen}
+use Rattle.fz_path.specs.Paths.{Pathed, with_held, held_behind, can_cut_held}
+use Rattle.fz_path.specs.Cuts.{held_behind_cut}
+use Rattle.fz_team.specs.declared.section.Handed.{Handed}
+use Rattle.fz_team.specs.declared.section.Handed.TheVariants.{Taken, Dropped}
+use Rattle.fz_team.specs.declared.section.CutOff.{CutOff}
+
+-- an account of this model, of what is open in the book
+abbrev pub IsOwnOf : Book → Account → Type 0
+IsOwnOf b c = (b.model ≡ c.model) × IsOpen b c.before
+
+-- it is taken exactly where it is of the book's model and of an open frontier; else the book is as before
+abbrev pub HandsIn : Handed → Account → Book → Book → Type 0
+HandsIn Taken c old new = Takes old c new
+HandsIn Dropped c old new = (IsOwnOf old c → ⊥) × (new ≡ old)
+
+-- the account of what the path holds is handed in, and it goes on with what is left
+pub record HasReported (handed : Handed) (path : Pathed) (book : Book) (path' : Pathed) (book' : Book) : Type 0 where
+  pub account : Account
+  pub holds : path.held ≡ Some account
+  pub path_is : path' ≡ with_held path (held_behind account)
+  pub hands : HandsIn handed account book book'
+
+abbrev pub Reports : Option Handed → Pathed → Book → Pathed → Book → Type 0
+Reports (Some handed) path book path' book' = HasReported handed path book path' book'
+Reports None path book path' book' = (path.held ≡ None) × (path' ≡ path) × (book' ≡ book)
+
+-- a part is cut off what the path holds, and the account that names it as given is handed in
+pub record HasCut (off : CutOff) (path : Pathed) (book : Book) (path' : Pathed) (book' : Book) : Type 0 where
+  pub account : Account
+  pub holds : path.held ≡ Some account
+  pub can : can_cut account.after ≡ true
+  pub task_is : off.task ≡ part_of account.after
+  pub path_is : path' ≡ with_held path (held_behind_cut account)
+  pub hands : HandsIn off.handed (with_given account) book book'
+
+abbrev pub Cuts : Option CutOff → Pathed → Book → Pathed → Book → Type 0
+Cuts (Some off) path book path' book' = HasCut off path book path' book'
+Cuts None path book path' book' = (can_cut_held path.held ≡ false) × (path' ≡ path) × (book' ≡ book)

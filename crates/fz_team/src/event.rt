@@ -1,0 +1,350 @@
+//! One event of one worker: the lock, the call, the gate.
+ghost use Rattle.std.specs.Prelude.{length, ◌≡◌, ◌<◌, OnOk, OnErr};
+ghost use Rattle.fz_team.specs.Members.{IsMember};
+
+use crate::crew::Crew;
+use crate::member::Member;
+use crate::score::{NO_SCORE, score_of};
+use crate::section;
+use crate::section::{CutOff, Handed};
+use fz_book::{Book, has_enough};
+use fz_io::gate::{EventKind, Gate};
+use fz_model::Assignment;
+use fz_path::{Path, Start, Step};
+use fz_region::Frontier;
+use fz_search_space::SearchSpace;
+use fz_truth::holds;
+use std::alloc::AllocError;
+use std::sync::Wait;
+use std::sync::atomic::Ordering;
+
+/// What a worker is to do next, as it saw its path last.
+#[derive(Clone, Copy)]
+pub enum Next {
+    /// It has something to report.
+    Report,
+    /// It holds a frontier.
+    Step,
+    /// It holds nothing.
+    Gain,
+}
+
+/// What a path asks for.
+fn next_of<S: SearchSpace>(path: &Path<S>, enough: Option<u32>) -> Next {
+    if path.is_idle() {
+        return Next::Gain;
+    }
+    if path.is_spent() || (enough.is_some() && 0 < path.found_count()) {
+        return Next::Report;
+    }
+    Next::Step
+}
+
+/// What a worker is to do first: in a later round its path may hold something.
+pub fn first<R: Wait, S: SearchSpace, G: Gate>(rt: &R, crew: &Crew<S, G>, worker: u32) -> Next
+    requires { worker < length crew.now.paths.now }
+{
+    next_of(&crew.paths[worker as usize].lock(rt), crew.enough)
+}
+
+/// Whether nothing more is to be done on a book.
+fn is_done(book: &Book, enough: Option<u32>) -> bool {
+    book.is_closed() || has_enough(book, enough)
+}
+
+/// A step of the worker's path. What it found is put where a best one is sought.
+pub fn step<R: Wait, S: SearchSpace, G: Gate>(
+    rt: &R,
+    crew: &Crew<S, G>,
+    member: &mut Member,
+) -> Result<Next, AllocError>
+    requires { IsMember crew.now.model.now crew.now.bound.now (length crew.now.paths.now) member.old }
+    ensures { IsMember crew.now.model.now crew.now.bound.now (length crew.now.paths.now) member.new }
+{
+    let (found, next) = look(rt, crew, member.worker)?;
+    if let Some(found) = found {
+        offer(rt, crew, &found)?;
+        put(crew, member, found);
+    }
+    Ok(next)
+}
+
+/// The step itself, and a copy of what it found where a best one is sought.
+fn look<R: Wait, S: SearchSpace, G: Gate>(
+    rt: &R,
+    crew: &Crew<S, G>,
+    worker: u32,
+) -> Result<(Option<Assignment>, Next), AllocError>
+    requires { worker < length crew.now.paths.now }
+{
+    crew.gate.before(worker, EventKind::Step);
+    let mut path = crew.paths[worker as usize].lock(rt);
+    let step = path.step()?;
+    if step != Step::Idle {
+        crew.gate.at(worker, EventKind::Step);
+    }
+    let found = if step == Step::Found {
+        known(&path)?
+    } else {
+        None
+    };
+    Ok((found, next_of(&path, crew.enough)))
+}
+
+/// A copy of what a path knows.
+fn known<S: SearchSpace>(path: &Path<S>) -> Result<Option<Assignment>, AllocError> {
+    match path.known() {
+        Some(known) => Ok(Some(known.copy()?)),
+        None => Ok(None),
+    }
+}
+
+/// The book records it, if it is better than its incumbent.
+fn offer<R: Wait, S: SearchSpace, G: Gate>(
+    rt: &R,
+    crew: &Crew<S, G>,
+    found: &Assignment,
+) -> Result<(), AllocError> {
+    let found = found.copy()?;
+    match crew.book.lock(rt).offer(found) {
+        Ok(_) => Ok(()),
+        Err(_) => Err(AllocError),
+    }
+}
+
+/// Puts the score of an assignment that satisfies, and keeps it where its score is the least that this worker put.
+fn put<S: SearchSpace, G: Gate>(crew: &Crew<S, G>, member: &mut Member, found: Assignment)
+    requires { IsMember crew.now.model.now crew.now.bound.now (length crew.now.paths.now) member.old }
+    ensures { IsMember crew.now.model.now crew.now.bound.now (length crew.now.paths.now) member.new }
+{
+    if !holds(crew.model, &found) {
+        return;
+    }
+    let score = score_of(crew.model, &found);
+    member.known = member.known.min(score);
+    let least = least_of(crew, member);
+    crew.bound.put(&mut member.seat, score);
+    if score < least {
+        member.best = Some(found);
+    }
+}
+
+/// The least score that a worker put.
+fn least_of<S: SearchSpace, G: Gate>(crew: &Crew<S, G>, member: &Member) -> u64
+    requires { IsMember crew.now.model.now crew.now.bound.now (length crew.now.paths.now) member.now }
+    ensures { result ≡ member.now.seat.least }
+{
+    match &member.best {
+        Some(best) => score_of(crew.model, best),
+        None => NO_SCORE,
+    }
+}
+
+/// The worker's path learns the incumbent, where the word says that there is a better one than it knows.
+pub fn learn<R: Wait, S: SearchSpace, G: Gate>(
+    rt: &R,
+    crew: &Crew<S, G>,
+    member: &mut Member,
+) -> Result<(), AllocError>
+    requires { IsMember crew.now.model.now crew.now.bound.now (length crew.now.paths.now) member.old }
+    ensures { IsMember crew.now.model.now crew.now.bound.now (length crew.now.paths.now) member.new }
+{
+    if member.known <= crew.bound.load(&mut member.seat) {
+        return Ok(());
+    }
+    let Some(best) = incumbent(rt, crew)? else {
+        return Ok(());
+    };
+    tell(rt, crew, member.worker, &best)?;
+    put(crew, member, best);
+    Ok(())
+}
+
+/// A copy of the incumbent.
+fn incumbent<R: Wait, S: SearchSpace, G: Gate>(
+    rt: &R,
+    crew: &Crew<S, G>,
+) -> Result<Option<Assignment>, AllocError> {
+    let book = crew.book.lock(rt);
+    match book.incumbent() {
+        Some(best) => Ok(Some(best.copy()?)),
+        None => Ok(None),
+    }
+}
+
+/// The worker's path learns an assignment.
+fn tell<R: Wait, S: SearchSpace, G: Gate>(
+    rt: &R,
+    crew: &Crew<S, G>,
+    worker: u32,
+    best: &Assignment,
+) -> Result<(), AllocError>
+    requires { worker < length crew.now.paths.now }
+{
+    crew.gate.before(worker, EventKind::Learn);
+    let mut path = crew.paths[worker as usize].lock(rt);
+    path.learn(best)?;
+    crew.gate.at(worker, EventKind::Learn);
+    Ok(())
+}
+
+/// The worker hands in its account.
+pub fn report<R: Wait, S: SearchSpace, G: Gate>(
+    rt: &R,
+    crew: &Crew<S, G>,
+    worker: u32,
+) -> Result<Next, AllocError>
+    requires { worker < length crew.now.paths.now }
+{
+    crew.gate.before(worker, EventKind::Report);
+    let mut path = crew.paths[worker as usize].lock(rt);
+    let mut book = crew.book.lock(rt);
+    if let Some(handed) = section::report(&mut path, &mut book)? {
+        taken(handed)?;
+        crew.gate.at(worker, EventKind::Report);
+    }
+    if is_done(&book, crew.enough) {
+        crew.stop.store(true, Ordering::SeqCst);
+    }
+    Ok(next_of(&path, crew.enough))
+}
+
+/// Where an account was dropped, the team ends as for want of memory: what it was of is open, and nobody holds it.
+fn taken(handed: Handed) -> Result<(), AllocError>
+    ensures taken { OnOk result (handed ≡ Handed.Taken) }
+    ensures dropped { OnErr result (handed ≡ Handed.Dropped) }
+{
+    match handed {
+        Handed::Taken => Ok(()),
+        Handed::Dropped => Err(AllocError),
+    }
+}
+
+/// The worker takes up the task in its hand.
+pub fn start<R: Wait, S: SearchSpace, G: Gate>(
+    rt: &R,
+    crew: &Crew<S, G>,
+    member: &mut Member,
+) -> Result<Next, AllocError>
+    requires { IsMember crew.now.model.now crew.now.bound.now (length crew.now.paths.now) member.old }
+    ensures { IsMember crew.now.model.now crew.now.bound.now (length crew.now.paths.now) member.new }
+{
+    let Some(task) = member.hand.take() else {
+        return Ok(Next::Gain);
+    };
+    crew.gate.before(member.worker, EventKind::Start);
+    let mut path = crew.paths[member.worker as usize].lock(rt);
+    match path.start(task) {
+        Start::Started => {
+            crew.gate.at(member.worker, EventKind::Start);
+            Ok(next_of(&path, crew.enough))
+        }
+        Start::Busy(task) => {
+            member.hand = Some(task);
+            Ok(next_of(&path, crew.enough))
+        }
+        Start::NoMemory(task) => {
+            member.hand = Some(task);
+            Err(AllocError)
+        }
+    }
+}
+
+/// The worker claims what nobody has claimed, or steals a part of what another holds. It says whether its hand is full.
+pub fn gain<R: Wait, S: SearchSpace, G: Gate>(
+    rt: &R,
+    crew: &Crew<S, G>,
+    member: &mut Member,
+) -> Result<bool, AllocError>
+    requires { IsMember crew.now.model.now crew.now.bound.now (length crew.now.paths.now) member.old }
+    ensures { IsMember crew.now.model.now crew.now.bound.now (length crew.now.paths.now) member.new }
+{
+    let task = if has_unclaimed(rt, crew) {
+        claim(rt, crew, member.worker)?
+    } else {
+        steal_any(rt, crew, member.worker)?
+    };
+    let full = task.is_some();
+    if full {
+        member.hand = task;
+    }
+    Ok(full)
+}
+
+/// Whether something is unclaimed. Where nothing is left to do, workers are told to stop.
+fn has_unclaimed<R: Wait, S: SearchSpace, G: Gate>(rt: &R, crew: &Crew<S, G>) -> bool {
+    let book = crew.book.lock(rt);
+    if is_done(&book, crew.enough) {
+        crew.stop.store(true, Ordering::SeqCst);
+        return false;
+    }
+    book.has_unclaimed()
+}
+
+fn claim<R: Wait, S: SearchSpace, G: Gate>(
+    rt: &R,
+    crew: &Crew<S, G>,
+    worker: u32,
+) -> Result<Option<Frontier>, AllocError> {
+    crew.gate.before(worker, EventKind::Claim);
+    let mut book = crew.book.lock(rt);
+    let task = book.claim()?;
+    if task.is_some() {
+        crew.gate.at(worker, EventKind::Claim);
+    }
+    Ok(task)
+}
+
+/// Tries the paths behind the worker's own, around.
+fn steal_any<R: Wait, S: SearchSpace, G: Gate>(
+    rt: &R,
+    crew: &Crew<S, G>,
+    worker: u32,
+) -> Result<Option<Frontier>, AllocError>
+    requires { worker < length crew.now.paths.now }
+{
+    let own = worker as usize;
+    'behind: for victim in own + 1..crew.paths.len() {
+        let task = steal(rt, crew, worker, victim)?;
+        if task.is_some() {
+            return Ok(task);
+        }
+    }
+    'before: for victim in 0..own {
+        let task = steal(rt, crew, worker, victim)?;
+        if task.is_some() {
+            return Ok(task);
+        }
+    }
+    Ok(None)
+}
+
+/// Tries one path: its lock first, the book's inside.
+fn steal<R: Wait, S: SearchSpace, G: Gate>(
+    rt: &R,
+    crew: &Crew<S, G>,
+    worker: u32,
+    victim: usize,
+) -> Result<Option<Frontier>, AllocError>
+    requires { victim < length crew.now.paths.now }
+{
+    if !can_cut(rt, crew, victim) {
+        return Ok(None);
+    }
+    crew.gate.before(worker, EventKind::Steal);
+    let mut path = crew.paths[victim].lock(rt);
+    let mut book = crew.book.lock(rt);
+    let Some(CutOff { task, handed }) = section::cut(&mut path, &mut book)? else {
+        return Ok(None);
+    };
+    taken(handed)?;
+    crew.gate.at(worker, EventKind::Steal);
+    Ok(Some(task))
+}
+
+/// Whether a path had a part to be cut off when it was looked at.
+fn can_cut<R: Wait, S: SearchSpace, G: Gate>(rt: &R, crew: &Crew<S, G>, victim: usize) -> bool
+    requires { victim < length crew.now.paths.now }
+{
+    crew.paths[victim].lock(rt).can_cut()
+}

@@ -1,0 +1,15 @@
+//! Several threads that search one tree: each has a path behind a lock of its own, and all have one book behind another.
+#![tactic(auto)]
+
+mod crew;
+pub mod end;
+mod event;
+pub mod member;
+mod rest;
+mod score;
+pub mod section;
+mod team;
+mod work;
+
+pub use end::{End, TeamEnd};
+pub use team::run;

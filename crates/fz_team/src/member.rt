@@ -1,0 +1,16 @@
+//! Workers between two rounds.
+use fz_bound::Seat;
+use fz_model::Assignment;
+use fz_region::Frontier;
+
+/// A worker: its number, its seat of the bound word, the assignment of the least score that it put, the task in its hand, and the
+/// score of what its path was last seen to know. `short` says that it had no memory.
+#[derive(Drop)]
+pub struct Member {
+    pub worker: u32,
+    pub seat: Seat,
+    pub best: Option<Assignment>,
+    pub hand: Option<Frontier>,
+    pub known: u64,
+    pub short: bool,
+}

@@ -1,0 +1,97 @@
+//! Critical sections: what a worker does to the values behind the locks that it holds.
+ghost use Rattle.std.specs.Prelude.{◌≡◌, ◌≤◌, ◌+◌, IfOk, OnOk, OnErr};
+ghost use Rattle.fz_book.specs.Needs.{found_needed, given_needed};
+ghost use Rattle.fz_path.specs.Paths.{found_held};
+ghost use Rattle.fz_team.specs.Sections.{HandsIn, Reports, Cuts};
+
+use fz_account::{Account, Cut};
+use fz_book::{Book, Taken};
+use fz_path::Path;
+use fz_region::Frontier;
+use fz_search_space::SearchSpace;
+use std::alloc::AllocError;
+
+/// What became of an account that was handed in.
+#[derive(Clone, Copy, Debug, PartialEq, Eq)]
+pub enum Handed {
+    /// The book took it.
+    Taken,
+    /// It was of another model, or of no open frontier.
+    Dropped,
+}
+
+/// A part that was cut off, and what became of the account that names it.
+#[derive(Drop)]
+pub struct CutOff {
+    pub task: Frontier,
+    pub handed: Handed,
+}
+
+/// Makes room for what a path found and knows, and for one part that it gives.
+fn make_room<S: SearchSpace>(book: &mut Book, path: &Path<S>) -> Result<(), AllocError>
+    ensures found { OnOk result (found_held path.now.held + 1 ≤ book.new.found_room) }
+    ensures given { OnOk result (1 ≤ book.new.given_room) }
+    ensures book { book.new.book ≡ book.old.book }
+{
+    let Some(found) = path.found_count().checked_add(1) else {
+        return Err(AllocError);
+    };
+    book.make_room(found, 1)
+}
+
+/// The book takes an account for which it has room. One that it doesn't take is dropped: what it is of stays open.
+fn hand_in(book: &mut Book, account: Account) -> Handed
+    requires found { found_needed account ≤ book.old.found_room }
+    requires given { given_needed account ≤ book.old.given_room }
+    ensures { HandsIn result account book.old.book book.new.book }
+{
+    match book.take(account) {
+        Taken::Taken => Handed::Taken,
+        Taken::Stranger(_) => Handed::Dropped,
+        Taken::Foreign(_) => Handed::Dropped,
+        Taken::NoMemory(_) => unreachable!(),
+    }
+}
+
+/// The book takes the account of what the path holds, and the path goes on with what is left. `None` where it held nothing.
+///
+/// # Errors
+/// `AllocError` where there is no memory; the path is as before, and so is the book, but for its room.
+pub fn report<S: SearchSpace>(
+    path: &mut Path<S>,
+    book: &mut Book,
+) -> Result<Option<Handed>, AllocError>
+    ensures reported { IfOk result (λ handed.
+        Reports handed path.old book.old.book path.new book.new.book) }
+    ensures path { OnErr result (path.new ≡ path.old) }
+    ensures book { OnErr result (book.new.book ≡ book.old.book) }
+{
+    let _ = path.model();
+    make_room(book, path)?;
+    let Some(account) = path.report()? else {
+        return Ok(None);
+    };
+    Ok(Some(hand_in(book, account)))
+}
+
+/// Cuts a part off what the path holds and hands it out, if there is one. The book takes the account that names it as given, and the
+/// path goes on with what is left.
+///
+/// # Errors
+/// `AllocError` where there is no memory; the path is as before, and so is the book, but for its room.
+pub fn cut<S: SearchSpace>(
+    path: &mut Path<S>,
+    book: &mut Book,
+) -> Result<Option<CutOff>, AllocError>
+    ensures cut { IfOk result (λ off. Cuts off path.old book.old.book path.new book.new.book) }
+    ensures path { OnErr result (path.new ≡ path.old) }
+    ensures book { OnErr result (book.new.book ≡ book.old.book) }
+{
+    let _ = path.model();
+    make_room(book, path)?;
+    let Some(Cut { task, account }) = path.cut()? else {
+        return Ok(None);
+    };
+    let handed = hand_in(book, account);
+    Ok(Some(CutOff { task, handed }))
+}

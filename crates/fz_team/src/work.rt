@@ -1,0 +1,70 @@
+//! The loop of a worker.
+ghost use Rattle.std.specs.Prelude.{length};
+ghost use Rattle.fz_team.specs.Members.{IsMember};
+
+use crate::crew::Crew;
+use crate::event::{Next, first, gain, learn, report, start, step};
+use crate::member::Member;
+use crate::rest::Rest;
+use fz_io::gate::Gate;
+use fz_search_space::SearchSpace;
+use std::alloc::AllocError;
+use std::sync::Wait;
+use std::sync::atomic::Ordering;
+
+/// Acts until workers are to stop.
+pub fn work<R: Wait, S: SearchSpace, G: Gate>(
+    rt: &R,
+    crew: &Crew<S, G>,
+    mut member: Member,
+) -> Member
+    requires { IsMember crew.now.model.now crew.now.bound.now (length crew.now.paths.now) member }
+    ensures { IsMember crew.now.model.now crew.now.bound.now (length crew.now.paths.now) result }
+{
+    let mut rest = Rest::new();
+    let mut next = first(rt, crew, member.worker);
+    for _ in rt.forever() {
+        if crew.stop.load(Ordering::SeqCst) {
+            break;
+        }
+        match turn(rt, crew, &mut member, next, &mut rest) {
+            Ok(after) => next = after,
+            Err(_) => {
+                member.short = true;
+                crew.stop.store(true, Ordering::SeqCst);
+            }
+        }
+    }
+    member
+}
+
+/// One turn: a report, a step, a start, a claim or a theft.
+fn turn<R: Wait, S: SearchSpace, G: Gate>(
+    rt: &R,
+    crew: &Crew<S, G>,
+    member: &mut Member,
+    next: Next,
+    rest: &mut Rest,
+) -> Result<Next, AllocError>
+    requires { IsMember crew.now.model.now crew.now.bound.now (length crew.now.paths.now) member.old }
+    ensures { IsMember crew.now.model.now crew.now.bound.now (length crew.now.paths.now) member.new }
+{
+    match next {
+        Next::Report => report(rt, crew, member.worker),
+        Next::Step => {
+            learn(rt, crew, member)?;
+            step(rt, crew, member)
+        }
+        Next::Gain => {
+            if member.hand.is_some() {
+                return start(rt, crew, member);
+            }
+            if gain(rt, crew, member)? {
+                rest.reset();
+            } else {
+                rest.wait(rt);
+            }
+            Ok(Next::Gain)
+        }
+    }
+}
