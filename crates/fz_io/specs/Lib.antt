@@ -6,3 +6,4 @@ pub mod Memory
 pub mod Output
 pub mod Buffered
 pub mod File
+pub mod Paced

@@ -8,7 +8,7 @@ use crate::outside::{Failed, Sink};
 use std::alloc::{AllocError, Global};
 
 /// A sink that keeps up to 64 KiB of what it takes, so that a piece is no system call, and hands them on to another sink when
-/// there is no more room and at each `flush`. Once a call of the other sink has failed nothing is handed on: each further call
+/// there is no more room, at each `hand_on` and at each `flush`. Once a call of the other sink has failed nothing is handed on: each further call
 /// fails. What is kept when the sink is dropped is lost, so that nothing is written behind a caller's back.
 #[derive(Drop)]
 pub struct BufferedSink<S: Sink + Drop> {
@@ -111,6 +111,25 @@ impl<S: Sink + Drop> Sink for BufferedSink<S> {
         }
         self.drain()?;
         Ok(self.buffer.put(piece))
+    }
+
+    fn hand_on(&mut self) -> Result<(), Failed>
+        requires { buffered_faults S.faults self.old < 2 ^ 64 - 1 }
+        ensures taken { buffered_taken S.taken self.new ≡ buffered_taken S.taken self.old }
+        ensures kept { OnOk result (buffered_kept self.new ≡ []) }
+        ensures flushed { S.flushed (buffered_inner self.old)
+            ≤ S.flushed (buffered_inner self.new) }
+        ensures cause { HasCause (buffered_faults S.faults self.old)
+            (buffered_faults S.faults self.new) result }
+        ensures fails { OnErr result (IsTrue (has_failed self.new)) }
+        ensures refuses { IsTrue (has_failed self.old) → IsErr result }
+        ensures quiet { IsTrue (has_failed self.old)
+            → buffered_inner self.new ≡ buffered_inner self.old }
+    {
+        if self.has_failed {
+            return Err(self.refuse());
+        }
+        self.drain()
     }
 
     fn flush(&mut self) -> Result<(), Failed>

@@ -13,6 +13,7 @@ pub mod memory_sink;
 pub mod memory_source;
 pub mod output;
 pub mod outside;
+pub mod paced;
 pub mod sure_sink;
 pub mod sure_source;
 pub mod texts;

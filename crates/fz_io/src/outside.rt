@@ -72,6 +72,21 @@ pub trait Sink {
         ensures flushed { flushed self.old ≤ flushed self.new }
         ensures cause { HasCause (faults self.old) (faults self.new) result };
 
+    /// Whether what was taken is to be handed on by now. A sink that keeps nothing back never asks for it.
+    fn is_due(&self) -> bool {
+        false
+    }
+
+    /// Hands on what was taken to where its reader finds it. It takes nothing, and flushes nothing that it has to tell.
+    fn hand_on(&mut self) -> Result<(), Failed>
+        requires { faults self.old < 2 ^ 64 - 1 }
+        ensures taken { taken self.new ≡ taken self.old }
+        ensures flushed { flushed self.old ≤ flushed self.new }
+        ensures cause { HasCause (faults self.old) (faults self.new) result }
+    {
+        Ok(())
+    }
+
     // No more bytes are flushed than were taken.
     ghost flushed_within: { (s : Self) → FlushedWithin (taken s) (flushed s) };
 }

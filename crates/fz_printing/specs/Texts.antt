@@ -32,6 +32,10 @@ HasStopCause before after result = MatchResult result (λ _. after ≡ before) (
 abbrev pub ending : Bool → List (List ℤ) → List ℕ
 ending complete l = if complete then closing l else []
 
+-- what stands behind the blocks of all that is listed
+abbrev pub end_text : Options → List (List ℤ) → Bool → List ℕ
+end_text o l complete = ending complete l ++ statistics_text (counted o.stats l)
+
 abbrev pub listing_text : Instance → List (List ℤ) → Bool → List ℕ
 listing_text m l complete = blocks m l ++ ending complete l
 

@@ -7,7 +7,7 @@ ghost use Rattle.fz_io.specs.Outside.{with_more};
 ghost use Rattle.fz_print.specs.Refusal.{text_of};
 ghost use Rattle.fz_print.specs.Ending.{statistics_text};
 ghost use Rattle.fz_runs.specs.Runs.{counted, summary_of};
-ghost use Rattle.fz_printing.specs.Texts.{TakesFront, HasStopCause, ending, best_text, listing_text, run_text, shown_text};
+ghost use Rattle.fz_printing.specs.Texts.{TakesFront, HasStopCause, end_text, ending, best_text, listing_text, run_text, shown_text};
 
 use fz_cmd::Options;
 use fz_io::outside::Sink;
@@ -48,6 +48,26 @@ pub fn print_run<S: Sink>(
     ensures cause { HasStopCause (S.faults sink.old) (S.faults sink.new) result }
 {
     print_shown(alloc, sink, model, options.generate(), found, complete)?;
+    put_statistics(alloc, sink, options.stats(), found)
+}
+
+/// Prints what stands behind the blocks of all that is listed: the closing line where there is one, and the statistics where they
+/// are asked for.
+pub fn print_end<S: Sink>(
+    alloc: Global,
+    sink: &mut S,
+    options: &Options,
+    found: &[Assignment],
+    complete: bool,
+) -> Result<(), Stop>
+    requires { S.faults sink.old < 2 ^ 64 - 1 }
+    ensures taken { OnOk result (S.taken sink.new
+        ≡ with_more (S.taken sink.old) (end_text options.now found.now complete)) }
+    ensures front { OnErr result (TakesFront (end_text options.now found.now complete)
+        (S.taken sink.old) (S.taken sink.new)) }
+    ensures cause { HasStopCause (S.faults sink.old) (S.faults sink.new) result }
+{
+    put_ending(alloc, sink, found, complete)?;
     put_statistics(alloc, sink, options.stats(), found)
 }
 
@@ -165,7 +185,7 @@ fn print_listing<S: Sink>(
         (S.taken sink.old) (S.taken sink.new)) }
     ensures cause { HasStopCause (S.faults sink.old) (S.faults sink.new) result }
 {
-    put_blocks(alloc, sink, model, found)?;
+    print_blocks(alloc, sink, model, found)?;
     put_ending(alloc, sink, found, complete)
 }
 
@@ -190,7 +210,8 @@ fn put_ending<S: Sink>(
     }
 }
 
-fn put_blocks<S: Sink>(
+/// Prints a block for each solution.
+pub fn print_blocks<S: Sink>(
     alloc: Global,
     sink: &mut S,
     model: &Model,

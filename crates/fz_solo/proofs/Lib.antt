@@ -1,2 +1,3 @@
 pub mod Walks
 mod Searching
+mod Stretching

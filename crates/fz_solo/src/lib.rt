@@ -2,5 +2,7 @@
 #![tactic(auto)]
 
 pub mod solo;
+pub mod stretches;
 
-pub use solo::finish;
+pub use solo::{finish, take_up};
+pub use stretches::{Halt, stretch};

@@ -1,7 +1,7 @@
 use Rattle.std.proofs.Common.{◌≡◌, take}
 use Rattle.fz_spec.specs.Run.{blocks}
 use Rattle.fz_io.specs.Outside.{with_more}
-use Rattle.fz_printing.proofs.printer.put_blocks.Given as goal
+use Rattle.fz_printing.proofs.printer.print_blocks.Given as goal
 
 -- the blocks of those so far are taken
 abbrev pub invariant-loop-assignment : goal.invariant-loop-assignment

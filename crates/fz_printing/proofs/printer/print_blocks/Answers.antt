@@ -1,7 +1,7 @@
 use Rattle.std.proofs.Common.{arith}
 use Rattle.fz_spec.specs.Run.{block}
 use Rattle.fz_printing.proofs.Fronts.{front_within, whenever}
-use Rattle.fz_printing.proofs.printer.put_blocks.Goals as goal
+use Rattle.fz_printing.proofs.printer.print_blocks.Goals as goal
 
 pub returns-in_err-put_block-clause-front : goal.returns-in_err-put_block-clause-front
 returns-in_err-put_block-clause-front g c =

@@ -1,0 +1,153 @@
+-- What ends a run that is begun.
+use Rattle.std.proofs.Common.{◌≡◌, ◌∙◌, ◌<◌, ◌≤◌, ◌+◌, ◌-◌, ◌⊎◌, inl, inr, ℕ, zero, suc, List, [], ◌∷◌, ◌++◌, length, take, append_assoc, append-nil, refl, sym, ap, subst, arith, Bool, true, false, Option, Some, None, length-append}
+use Rattle.std.specs.Prelude.{ℤ, flat_map}
+use Rattle.std.specs.List.{AllByRecursion}
+use Rattle.std.proofs.lemmas.Bool.{cases_lt}
+use Rattle.std.proofs.lemmas.List.{length-take-le}
+use Rattle.std.proofs.lemmas.List.Sums.{sum_by-take-le}
+use Rattle.std.proofs.lemmas.List.Concat.{flat_map-append}
+use Rattle.fz_spec.specs.declared.goal.Goal.{Goal}
+use Rattle.fz_spec.specs.declared.goal.Goal.TheVariants.{Satisfy, Minimize, Maximize}
+use Rattle.fz_spec.specs.declared.term.Term.{Term}
+use Rattle.fz_spec.specs.Instance.{Instance, Satisfies, Lists, occurrences, is_same}
+use Rattle.fz_spec.specs.Run.{PrintsAll, block, blocks, closing}
+use Rattle.fz_tree.proofs.Counts.{one_if, count_append}
+use Rattle.fz_cmd.specs.Meaning.{Options}
+use Rattle.fz_print.specs.Ending.{statistics_text}
+use Rattle.fz_runs.specs.Runs.{AreSome, AreBest, PrintsWanted, PrintsGoal, PrintsFor, wanted, counted}
+use Rattle.fz_begun.specs.Begun.{IsWithin, IsBelow, AreFound, AreBettered, AreBegun, IsShort, CanEnd}
+use Rattle.fz_begun.proofs.Extensions.{ListsAll, lists_all, GoesUp, goes_up_from}
+
+-- ---- pieces of a list
+
+all_front : (P : List ℤ → Type 0) (l k : List (List ℤ)) (n : ℕ) → AllByRecursion P (l ++ k) → AllByRecursion P (l ++ take n k)
+all_front P [] k zero h = tt
+all_front P [] [] (suc n) h = tt
+all_front P [] (x ∷ k) (suc n) h = (h.0, all_front P [] k n h.1)
+all_front P (y ∷ l) k n h = (h.0, all_front P l k n h.1)
+
+fewer : (a : List ℤ) (l k : List (List ℤ)) (n : ℕ) → occurrences a (l ++ take n k) ≤ occurrences a (l ++ k)
+fewer a l k n =
+    let e = count_append (is_same a) l (take n k) in
+    let f = count_append (is_same a) l k in
+    let g = sum_by-take-le (λ x. one_if (is_same a x)) k n in
+    omega (arith, e, f, g)
+
+-- ---- bytes
+
+closing_some : (l : List (List ℤ)) → 0 < length (closing l)
+closing_some [] = omega arith
+closing_some (a ∷ l) = omega arith
+
+block_some : (m : Instance) (a : List ℤ) → 0 < length (block m a)
+block_some m a = omega (arith, length-append {A = ℕ})
+
+blocks_some : (m : Instance) (n : ℕ) (l : List (List ℤ)) → n ≤ length l → 0 < n → 0 < length (blocks m (take n l))
+blocks_some m zero l within some = absurd (omega (arith, some))
+blocks_some m (suc n) [] within some = absurd (omega (arith, within))
+blocks_some m (suc n) (a ∷ l) within some = let h = block_some m a in omega (arith, h, length-append (block m a) (blocks m (take n l)))
+
+-- ---- whole runs
+
+-- what is shown, and the bytes of it that stand behind the first blocks
+record Shows (o : Options) (m : Instance) (goal : Goal) (l : List (List ℤ)) : Type 0 where
+  listed : List (List ℤ)
+  rest : List ℕ
+  prints : PrintsFor goal o m listed (blocks m l ++ rest)
+  some : IsShort goal o (length l) → 0 < length rest
+
+-- all of them, and the closing line
+all_text : (m : Instance) (l more : List (List ℤ)) → blocks m (l ++ more) ++ closing (l ++ more) ≡ blocks m l ++ (blocks m more ++ closing (l ++ more))
+all_text m l more = ap (λ u. u ++ closing (l ++ more)) (flat_map-append (block m) l more) ∙ append_assoc (blocks m l) (blocks m more) (closing (l ++ more))
+
+end_some : (front end : List ℕ) → 0 < length end → 0 < length (front ++ end)
+end_some front end h = omega (arith, h, length-append front end)
+
+all_of : (m : Instance) (l : List (List ℤ)) (whole : ListsAll m l) → PrintsAll m (l ++ whole.more) (blocks m l ++ (blocks m whole.more ++ closing (l ++ whole.more)))
+all_of m l whole = record { lists = whole.lists; text = sym (all_text m l whole.more) }
+
+some_of : (m : Instance) (n : ℕ) (l : List (List ℤ)) (whole : ListsAll m l) → length l ≤ n → n ≤ length (l ++ whole.more) → AreSome m n (l ++ take (n - length l) whole.more)
+some_of m n l whole few many =
+    let size = length-append l whole.more in
+    let within : n - length l ≤ length whole.more = omega (arith, size, many) in
+    record {
+      sound = all_front (Satisfies m) l whole.more (n - length l) whole.lists.sound;
+      different = λ a s. (let once = whole.lists.each_once a s in let less = fewer a l whole.more (n - length l) in omega (arith, once, less));
+      count = (let part = length-take-le (n - length l) whole.more within in let e = length-append l (take (n - length l) whole.more) in omega (arith, part, e, few));
+    }
+
+shows_some : (o : Options) (m : Instance) (n : ℕ) (l : List (List ℤ)) (whole : ListsAll m l) → wanted o ≡ Some n → length l ≤ n → (length (l ++ whole.more) < n) ⊎ (n ≤ length (l ++ whole.more)) → Shows o m Satisfy l
+shows_some o m n l whole asked few (inl less) = record {
+  listed = l ++ whole.more;
+  rest = blocks m whole.more ++ closing (l ++ whole.more);
+  prints = subst (λ (w : Option ℕ). PrintsWanted w m (l ++ whole.more) (blocks m l ++ (blocks m whole.more ++ closing (l ++ whole.more)))) (sym asked) (inr (less, all_of m l whole));
+  some = λ _. end_some (blocks m whole.more) (closing (l ++ whole.more)) (closing_some (l ++ whole.more));
+}
+shows_some o m n l whole asked few (inr many) =
+    let k = n - length l in
+    record {
+      listed = l ++ take k whole.more;
+      rest = blocks m (take k whole.more);
+      prints = subst (λ (w : Option ℕ). PrintsWanted w m (l ++ take k whole.more) (blocks m l ++ blocks m (take k whole.more))) (sym asked)
+          (inl (record { are = some_of m n l whole few many; text = sym (flat_map-append (block m) l (take k whole.more)) }));
+      some = λ short.
+          let below : length l < n = subst (λ (w : Option ℕ). IsBelow w (length l)) asked short in
+          let size = length-append l whole.more in
+          blocks_some m k whole.more (omega (arith, size, many)) (omega (arith, below));
+    }
+
+shows_wanted : (o : Options) (m : Instance) (w : Option ℕ) (l : List (List ℤ)) → wanted o ≡ w → AreFound m w l → Shows o m Satisfy l
+shows_wanted o m None l asked found =
+    let whole = lists_all m l found.sound found.different in
+    record {
+      listed = l ++ whole.more;
+      rest = blocks m whole.more ++ closing (l ++ whole.more);
+      prints = subst (λ (v : Option ℕ). PrintsWanted v m (l ++ whole.more) (blocks m l ++ (blocks m whole.more ++ closing (l ++ whole.more)))) (sym asked) (all_of m l whole);
+      some = λ _. end_some (blocks m whole.more) (closing (l ++ whole.more)) (closing_some (l ++ whole.more));
+    }
+shows_wanted o m (Some n) l asked found =
+    let whole = lists_all m l found.sound found.different in
+    shows_some o m n l whole asked found.within (elim (cases_lt (length (l ++ whole.more)) n) [ inl less ↦ inl less | inr other ↦ inr (omega (arith, other)) ])
+
+-- each better one, up to a best one
+best_by : (generate : Option ℕ) (all : Bool) (t : Term) (m : Instance) (l : List (List ℤ)) (up : GoesUp m l) → generate ≡ None → all ≡ true
+    → PrintsGoal generate all t m (l ++ up.more) (blocks m l ++ (blocks m up.more ++ closing (l ++ up.more)))
+best_by None true t m l up read shows = record {
+  are = record { sound = up.sound; improving = up.improving; alone = λ e. absurd (cc e); last = up.ends };
+  text = sym (all_text m l up.more);
+}
+best_by None false t m l up read shows = absurd (cc shows)
+best_by (Some items) all t m l up read shows = absurd (cc read)
+
+shows : (o : Options) (m : Instance) (goal : Goal) (l : List (List ℤ)) → AreBegun goal o m l → Shows o m goal l
+shows o m Satisfy l begun = shows_wanted o m (wanted o) l refl begun
+shows o m (Minimize t) l begun =
+    let up = goes_up_from m l begun.sound begun.improving in
+    record {
+      listed = l ++ up.more;
+      rest = blocks m up.more ++ closing (l ++ up.more);
+      prints = best_by o.generate o.all t m l up begun.read begun.all;
+      some = λ _. end_some (blocks m up.more) (closing (l ++ up.more)) (closing_some (l ++ up.more));
+    }
+shows o m (Maximize t) l begun =
+    let up = goes_up_from m l begun.sound begun.improving in
+    record {
+      listed = l ++ up.more;
+      rest = blocks m up.more ++ closing (l ++ up.more);
+      prints = best_by o.generate o.all t m l up begun.read begun.all;
+      some = λ _. end_some (blocks m up.more) (closing (l ++ up.more)) (closing_some (l ++ up.more));
+    }
+
+front_some : (front end : List ℕ) → 0 < length front → 0 < length (front ++ end)
+front_some front end h = omega (arith, h, length-append front end)
+
+pub can_end : (o : Options) (m : Instance) (l : List (List ℤ)) → AreBegun m.goal o m l → CanEnd o m l
+can_end o m l begun =
+    let s = shows o m m.goal l begun in
+    let behind = statistics_text (counted o.stats s.listed) in
+    record {
+      listed = s.listed;
+      more = s.rest ++ behind;
+      run = record { shown = blocks m l ++ s.rest; prints = s.prints; text = sym (append_assoc (blocks m l) s.rest behind) };
+      some = λ short. front_some s.rest behind (s.some short);
+    }

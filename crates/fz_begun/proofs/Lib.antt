@@ -1,0 +1,4 @@
+pub mod Decisions
+pub mod Among
+pub mod Extensions
+pub mod Endings

@@ -1,0 +1,150 @@
+//! Printers.
+ghost use Rattle.std.specs.Prelude.{◌≡◌, ◌<◌, ◌≤◌, ◌^◌, ◌-◌, None, Some, length};
+ghost use Rattle.fz_printer.specs.Printed.{book_of, printed_of, stopped_of, as_found_of, wanted_of, due_of, AccountsTo, CountsMark, Grew, IsReady, KeepsPrinting, MarksMemory};
+
+use fz_account::Account;
+use fz_book::{Book, Taken};
+use fz_io::outside::Sink;
+use fz_printing::{Stop, print_blocks};
+use std::alloc::Global;
+
+/// A book of its own, how many of its recorded solutions it handed to the sink, and why it stopped, where it did. Where it prints
+/// solutions as they are found it prints each that the book records, up to as many as are wanted; else it prints none.
+#[derive(Drop)]
+pub struct Printer {
+    book: Book,
+    as_found: bool,
+    wanted: Option<u32>,
+    printed: usize,
+    stopped: Option<Stop>,
+}
+
+impl Printer {
+    /// Nothing is printed yet.
+    pub fn new(book: Book, as_found: bool, wanted: Option<u32>) -> Printer
+        ensures book { book_of result ≡ book.book }
+        ensures as_found { as_found_of result ≡ as_found }
+        ensures wanted { wanted_of result ≡ wanted }
+        ensures printed { printed_of result ≡ 0 }
+        ensures stopped { stopped_of result ≡ None }
+    {
+        Printer {
+            book,
+            as_found,
+            wanted,
+            printed: 0,
+            stopped: None,
+        }
+    }
+
+    /// The book that its accounts were taken into.
+    pub fn book(&self) -> &Book
+        ensures { result.now.book ≡ book_of self.now }
+    {
+        &self.book
+    }
+
+    /// Whether solutions are printed as they are found.
+    pub fn as_found(&self) -> bool
+        ensures { result ≡ as_found_of self.now }
+    {
+        self.as_found
+    }
+
+    /// How many solutions are wanted, none where it is all of them.
+    pub fn wanted(&self) -> Option<u32>
+        ensures { result ≡ wanted_of self.now }
+    {
+        self.wanted
+    }
+
+    /// How many blocks the sink took whole.
+    pub fn printed_count(&self) -> usize
+        ensures { result ≡ printed_of self.now }
+    {
+        self.printed
+    }
+
+    /// Why it stopped, where it did.
+    pub fn stopped(&self) -> Option<Stop>
+        ensures { result ≡ stopped_of self.now }
+    {
+        self.stopped
+    }
+
+    /// Takes an account into its book, and prints what the book recorded with it. An account of another model, or of what isn't
+    /// open, is dropped.
+    pub fn account<S: Sink>(&mut self, alloc: Global, sink: &mut S, account: Account)
+        requires working { stopped_of self.old ≡ None }
+        requires ready { IsReady self.old }
+        requires faults { S.faults sink.old < 2 ^ 64 - 1 }
+        ensures taken { AccountsTo account self.old self.new }
+        ensures grew { Grew self.old self.new (S.taken sink.old) (S.taken sink.new) }
+        ensures ready { stopped_of self.new ≡ None → IsReady self.new }
+        ensures cause { CountsMark (S.faults sink.old) (S.faults sink.new) (stopped_of self.new) }
+    {
+        match self.book.take(account) {
+            Taken::Taken => self.print_due(alloc, sink),
+            Taken::Stranger(_) => {}
+            Taken::Foreign(_) => {}
+            Taken::NoMemory(_) => self.stopped = Some(Stop::Memory),
+        }
+    }
+
+    /// Prints what is recorded and due, and not printed yet.
+    fn print_due<S: Sink>(&mut self, alloc: Global, sink: &mut S)
+        requires working { stopped_of self.old ≡ None }
+        requires within { printed_of self.old ≤ due_of self.old }
+        requires faults { S.faults sink.old < 2 ^ 64 - 1 }
+        ensures keeps { KeepsPrinting self.old self.new }
+        ensures book { book_of self.new ≡ book_of self.old }
+        ensures grew { Grew self.old self.new (S.taken sink.old) (S.taken sink.new) }
+        ensures ready { stopped_of self.new ≡ None → IsReady self.new }
+        ensures cause { CountsMark (S.faults sink.old) (S.faults sink.new) (stopped_of self.new) }
+    {
+        let due = self.due();
+        let found = &self.book.recorded()[self.printed..due];
+        match print_blocks(alloc, sink, self.book.model(), found) {
+            Ok(()) => self.printed = due,
+            Err(stop) => self.stopped = Some(stop),
+        }
+    }
+
+    /// How many of those recorded are to be printed by now.
+    fn due(&self) -> usize
+        ensures due { result ≡ due_of self.now }
+        ensures within { result ≤ length (book_of self.now).recorded }
+    {
+        let count = self.book.recorded().len();
+        if !self.as_found {
+            return 0;
+        }
+        match self.wanted {
+            Some(wanted) => count.min(wanted as usize),
+            None => count,
+        }
+    }
+
+    /// Has the sink hand on what it took.
+    pub fn hand_on<S: Sink>(&mut self, sink: &mut S)
+        requires working { stopped_of self.old ≡ None }
+        requires faults { S.faults sink.old < 2 ^ 64 - 1 }
+        ensures keeps { KeepsPrinting self.old self.new }
+        ensures book { book_of self.new ≡ book_of self.old }
+        ensures printed { printed_of self.new ≡ printed_of self.old }
+        ensures taken { S.taken sink.new ≡ S.taken sink.old }
+        ensures cause { CountsMark (S.faults sink.old) (S.faults sink.new) (stopped_of self.new) }
+        ensures fault { stopped_of self.new ≡ Some Stop.Memory → ⊥ }
+    {
+        if sink.hand_on().is_err() {
+            self.stopped = Some(Stop::Fault);
+        }
+    }
+
+    /// Marks that memory was refused.
+    pub fn refuse(&mut self)
+        ensures { MarksMemory self.old self.new }
+    {
+        self.stopped = Some(Stop::Memory);
+    }
+}

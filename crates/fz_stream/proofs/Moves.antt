@@ -1,0 +1,170 @@
+-- A search that prints on its way, call by call.
+use Rattle.std.proofs.Common.{◌≡◌, ◌≢◌, ◌∙◌, ◌≤◌, ◌<◌, ◌+◌, ◌⊎◌, inl, inr, ℕ, suc, List, [], length, Bool, true, false, Option, Some, None, IfSome, IsSomeAnd, refl, sym, ap, subst, arith}
+use Rattle.std.proofs.lemmas.Bool.{cases_lt}
+use Rattle.fz_tree.specs.Frontier.{Frontier}
+use Rattle.fz_tree.specs.Account.{Account}
+use Rattle.fz_tree.specs.Book.{Book, IsOpen, Takes}
+use Rattle.fz_tree.specs.declared.mode.Mode.TheVariants.{Best}
+use Rattle.fz_book.specs.Reports.{IsReportable}
+use Rattle.fz_path.specs.Paths.{Pathed, started, held_behind}
+use Rattle.fz_printing.specs.declared.printer.Stop.{Stop}
+use Rattle.fz_printing.specs.declared.printer.Stop.TheVariants.{Memory}
+use Rattle.fz_printer.specs.declared.printer.Printer.{Printer}
+use Rattle.fz_printer.specs.Printed.{book_of, wanted_of, as_found_of, printed_of, stopped_of, due_among, AccountsTo, CountsMark, Grew, HasPrinted, IsBelow, IsReady, KeepsPrinting, MarksMemory}
+use Rattle.fz_printer.proofs.Printing.{printed_on, marked, within_recorded}
+use Rattle.fz_solo.specs.declared.stretches.Halt.{Halt}
+use Rattle.fz_solo.specs.declared.stretches.Halt.TheVariants.{Never}
+use Rattle.fz_solo.specs.Stretches.{Reported, ReportsEach, Begins, Starts, Looks, Reports}
+use Rattle.fz_stream.specs.Streamed.{HasTakenUp, IsFilled, IsFilledFor, NothingOpen, OnNoMemory, Streams}
+
+below_of : (wanted : Option ℕ) (printed count : ℕ) → (IsFilledFor wanted count → ⊥) → printed ≤ count → IsBelow wanted printed
+below_of None printed count not few = tt
+below_of (Some n) printed count not few = cases (cases_lt printed n)
+  where
+    cases : (printed < n) ⊎ (n ≤ printed) → printed < n
+    cases (inl less) = less
+    cases (inr many) = absurd (not (omega (arith, many, few)))
+
+-- fewer are printed than are wanted, where more are wanted than are recorded
+pub is_below : (p : Printer) → IsReady p → (IsFilled p → ⊥) → IsBelow (wanted_of p) (printed_of p)
+is_below p ready not = below_of (wanted_of p) (printed_of p) (length (book_of p).recorded) not
+    (let few = within_recorded (as_found_of p) (wanted_of p) (length (book_of p).recorded) in omega (arith, few, ready))
+
+pub begins : (p : Printer) (q : Pathed) (taken : Option (List ℕ)) → Streams p q taken p q taken
+begins p q taken = record {
+  keeps = record { as_found = refl; wanted = refl };
+  model = refl;
+  mode = refl;
+  printed = λ before h. h;
+  reported = λ n. Begins;
+}
+
+both_keep : (old p new : Printer) → KeepsPrinting old p → KeepsPrinting p new → KeepsPrinting old new
+both_keep old p new first second = record { as_found = second.as_found ∙ first.as_found; wanted = second.wanted ∙ first.wanted }
+
+none_is_no_memory : (s : Option Stop) → s ≡ None → s ≢ Some Memory
+none_is_no_memory s none e = cc
+
+-- the printer is handed the account of a stretch
+pub accounted : (old p new : Printer) (at q r : Pathed) (taken middle after : Option (List ℕ)) (c : Account) (halt : Halt) → Streams old at taken p q middle → stopped_of p ≡ None → IsReady p → (IsFilled p → ⊥) → IsReportable (book_of p) c
+    → (as_found_of p ≡ false → halt ≡ Never) → ReportsEach halt c q r → AccountsTo c p new → Grew p new middle after → Streams old at taken new r after
+accounted old p new at q r taken middle after c halt s none ready more reportable never reports to grew = record {
+  keeps = both_keep old p new s.keeps grew.keeps;
+  model = grew.book.model ∙ s.model;
+  mode = grew.book.mode ∙ s.mode;
+  printed = λ before h. printed_on p new before middle after grew none ready (is_below p ready more) (s.printed before h);
+  reported = λ n. elim to [
+    | inl takes ↦ reports (as_found_of old) (book_of old) (book_of p) (book_of new) at (λ best alone. never (s.keeps.as_found ∙ alone)) takes (s.reported (none_is_no_memory (stopped_of p) none))
+    | inr same ↦ elim same.1 [ inl memory ↦ absurd (n memory) | inr other ↦ elim other [ inl foreign ↦ absurd (foreign reportable.model) | inr stranger ↦ absurd (stranger reportable.is_open) ] ]
+  ];
+}
+
+-- a mark is set, or nothing is
+pub handed_on : (old p new : Printer) (at q : Pathed) (taken middle after : Option (List ℕ)) → Streams old at taken p q middle → stopped_of p ≡ None → IsReady p → (IsFilled p → ⊥) → KeepsPrinting p new → book_of new ≡ book_of p → printed_of new ≡ printed_of p
+    → after ≡ middle → Streams old at taken new q after
+handed_on old p new at q taken middle after s none ready more keeps book printed same = record {
+  keeps = both_keep old p new s.keeps keeps;
+  model = ap (λ (b : Book). b.model) book ∙ s.model;
+  mode = ap (λ (b : Book). b.mode) book ∙ s.mode;
+  printed = λ before h. marked p new before middle after none book keeps printed same (is_below p ready more) (s.printed before h);
+  reported = λ n. subst (λ (b : Book). Reported (as_found_of old) (book_of old) at b q) (sym book) (s.reported (none_is_no_memory (stopped_of p) none));
+}
+
+-- memory was refused: then nothing is said of the search
+pub refused : (old p new : Printer) (at q r : Pathed) (taken middle : Option (List ℕ)) → Streams old at taken p q middle → stopped_of p ≡ None → IsReady p → (IsFilled p → ⊥) → MarksMemory p new → Streams old at taken new r middle
+refused old p new at q r taken middle s none ready more marks = record {
+  keeps = both_keep old p new s.keeps marks.keeps;
+  model = ap (λ (b : Book). b.model) marks.book ∙ s.model;
+  mode = ap (λ (b : Book). b.mode) marks.book ∙ s.mode;
+  printed = λ before h. marked p new before middle middle none marks.book marks.keeps marks.printed refl (is_below p ready more) (s.printed before h);
+  reported = λ n. absurd (n marks.stopped);
+}
+
+-- the path takes up a part
+pub taken_up : (old p : Printer) (at q r : Pathed) (taken middle : Option (List ℕ)) → Streams old at taken p q middle → HasTakenUp (book_of p) q r → Streams old at taken p r middle
+taken_up old p at q r taken middle s (inl same) = subst (λ (x : Pathed). Streams old at taken p x middle) (sym same) s
+taken_up old p at q r taken middle s (inr begun) = record {
+  keeps = s.keeps;
+  model = s.model;
+  mode = s.mode;
+  printed = s.printed;
+  reported = λ n. subst (λ (x : Pathed). Reported (as_found_of old) (book_of old) at (book_of p) x) (sym begun.1.2) (Starts (book_of p) q begun.1.0 (s.reported n) begun.0 begun.1.1);
+}
+
+behind : (i : Bool) (b : Book) (p : Pathed) (c : Book) (q : Pathed) → Reported i b p c q → (d : Book) (r : Pathed) → Reported i c q d r → Reported i b p d r
+behind i b p c q first d r Begins = first
+behind i b p c q first d r (Starts e s f h none is_open) = Starts e s f (behind i b p c q first e s h) none is_open
+behind i b p c q first d r (Looks e s step held h steps) = Looks e s step held (behind i b p c q first e s h) steps
+behind i b p c q first d r (Reports e new s a h holds alone takes) = Reports e new s a (behind i b p c q first e s h) holds alone takes
+
+-- one part of a search behind another
+pub both_stream : (old p new : Printer) (at q r : Pathed) (taken middle after : Option (List ℕ)) → Streams old at taken p q middle → stopped_of p ≡ None → Streams p q middle new r after → Streams old at taken new r after
+both_stream old p new at q r taken middle after first none second = record {
+  keeps = both_keep old p new first.keeps second.keeps;
+  model = second.model ∙ first.model;
+  mode = second.mode ∙ first.mode;
+  printed = λ before h. second.printed before (first.printed before h);
+  reported = λ n.
+      behind (as_found_of old) (book_of old) at (book_of p) q (first.reported (none_is_no_memory (stopped_of p) none)) (book_of new) r
+      (subst (λ (b : Bool). Reported b (book_of p) q (book_of new) r) first.keeps.as_found (second.reported n));
+}
+
+-- ---- where nothing is taken up
+
+pub nothing_taken : (old p new : Printer) (at q r : Pathed) (taken middle : Option (List ℕ)) → Streams old at taken p q middle → stopped_of p ≡ None → IsReady p → (IsFilled p → ⊥) → NothingOpen p new → OnNoMemory new (HasTakenUp (book_of p) q r) → Streams old at taken new r middle
+nothing_taken old p new at q r taken middle s none ready more (inl nothing) moved =
+    let n : stopped_of new ≢ Some Memory = none_is_no_memory (stopped_of new) (ap stopped_of nothing.0 ∙ none) in
+    subst (λ (x : Printer). Streams old at taken x r middle) (sym nothing.0) (taken_up old p at q r taken middle s (moved n))
+nothing_taken old p new at q r taken middle s none ready more (inr marks) moved = refused old p new at q r taken middle s none ready more marks
+
+pub nothing_ended : (p new : Printer) → NothingOpen p new → stopped_of new ≡ None → IsFilled new ⊎ ((book_of new).parts ≡ [])
+nothing_ended p new (inl nothing) none = inr (ap (λ (x : Printer). (book_of x).parts) nothing.0 ∙ nothing.1)
+nothing_ended p new (inr marks) none = absurd (none_is_no_memory (stopped_of new) none marks.stopped)
+
+pub nothing_ready : (p new : Printer) → NothingOpen p new → IsReady p → stopped_of new ≡ None → IsReady new
+nothing_ready p new (inl nothing) ready none = subst IsReady (sym nothing.0) ready
+nothing_ready p new (inr marks) ready none = absurd (none_is_no_memory (stopped_of new) none marks.stopped)
+
+counts_by : (s : Option Stop) (a b : ℕ) → b ≡ a → (s ≡ None) ⊎ (s ≡ Some Memory) → CountsMark a b s
+counts_by s a b same (inl none) = subst (λ (x : Option Stop). CountsMark a b x) (sym none) same
+counts_by s a b same (inr memory) = subst (λ (x : Option Stop). CountsMark a b x) (sym memory) same
+
+pub nothing_counts : (p new : Printer) (a b : ℕ) → NothingOpen p new → stopped_of p ≡ None → b ≡ a → CountsMark a b (stopped_of new)
+nothing_counts p new a b (inl nothing) none same = counts_by (stopped_of new) a b same (inl (ap stopped_of nothing.0 ∙ none))
+nothing_counts p new a b (inr marks) none same = counts_by (stopped_of new) a b same (inr marks.stopped)
+
+-- ---- what a stretch leaves
+
+-- what is taken, where printing goes on
+pub takes_of : (c : Account) (p new : Printer) → AccountsTo c p new → IsReportable (book_of p) c → stopped_of new ≡ None → Takes (book_of p) c (book_of new)
+takes_of c p new (inl takes) r none = takes
+takes_of c p new (inr same) r none = elim same.1 [
+  | inl memory ↦ absurd (none_is_no_memory (stopped_of new) none memory)
+  | inr other ↦ elim other [ inl foreign ↦ absurd (foreign r.model) | inr stranger ↦ absurd (stranger r.is_open) ]
+]
+
+pub counts_on : (s : Option Stop) (a b c : ℕ) → b ≡ a → CountsMark b c s → CountsMark a c s
+counts_on s a b c same counts = subst (λ n. CountsMark n c s) same counts
+
+-- ---- from turn to turn
+
+-- the path has taken up a part, and it is searched
+pub went_on : (old p next new : Printer) (at q r s : Pathed) (taken middle after : Option (List ℕ)) → Streams old at taken p q middle → stopped_of p ≡ None → next ≡ p → OnNoMemory next (HasTakenUp (book_of p) q r) → Streams next r middle new s after → Streams old at taken new s after
+went_on old p next new at q r s taken middle after first none same moved second =
+    let still : stopped_of next ≡ None = ap stopped_of same ∙ none in
+    both_stream old next new at r s taken middle after
+    (subst (λ (x : Printer). Streams old at taken x r middle) (sym same) (taken_up old p at q r taken middle first (moved (none_is_no_memory (stopped_of next) still)))) still second
+
+pub ready_kept : (p new : Printer) → IsReady p → KeepsPrinting p new → book_of new ≡ book_of p → printed_of new ≡ printed_of p → IsReady new
+ready_kept p new ready keeps book printed =
+    printed ∙ ready ∙ (λ i. due_among (sym keeps.as_found i) (sym keeps.wanted i) (length (sym book i).recorded))
+
+pub more_kept : (p new : Printer) → (IsFilled p → ⊥) → KeepsPrinting p new → book_of new ≡ book_of p → IsFilled new → ⊥
+more_kept p new more keeps book filled =
+    more (subst (λ (w : Option ℕ). IsFilledFor w (length (book_of p).recorded)) keeps.wanted (subst (λ (b : Book). IsFilledFor (wanted_of new) (length b.recorded)) book filled))
+
+pub same_count : (s : Option Stop) (a b : ℕ) → CountsMark a b s → s ≡ None → b ≡ a
+same_count s a b counts none = subst (λ (x : Option Stop). CountsMark a b x) none counts
+
+pub no_part : (held : Option Account) (b : Book) → held ≡ None → IfSome held (IsReportable b)
+no_part held b none = subst (λ (o : Option Account). IfSome o (IsReportable b)) (sym none) tt

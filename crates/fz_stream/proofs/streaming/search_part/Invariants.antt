@@ -1,0 +1,22 @@
+use Rattle.std.proofs.Common.{◌≡◌, IsSomeAnd, None, length}
+use Rattle.fz_book.specs.Reports.{IsReportable}
+use Rattle.fz_printer.specs.Printed.{book_of, stopped_of, IsReady}
+use Rattle.fz_solo.specs.Walks.{weight_held}
+use Rattle.fz_stream.specs.Streamed.{IsFilled, Streams}
+use Rattle.fz_stream.proofs.streaming.search_part.Given as goal
+
+abbrev pub invariant-stretches : goal.invariant-stretches
+invariant-stretches g l = record {
+  working : stopped_of l.printer ≡ None;
+  ready : IsReady l.printer;
+  more : IsFilled l.printer → ⊥;
+  held : IsSomeAnd l.path.held (IsReportable (book_of l.printer));
+  model : l.path.model ≡ (book_of l.printer).model;
+  path : l.path.model ≡ l.initial.path.model;
+  faults : g.K.Sink.faults l.sink ≡ g.K.Sink.faults l.initial.sink;
+  parts : length (book_of l.printer).parts ≡ length (book_of l.initial.printer).parts;
+  streams : Streams l.initial.printer l.initial.path (g.K.Sink.taken l.initial.sink) l.printer l.path (g.K.Sink.taken l.sink);
+}
+
+abbrev pub decreases-stretches : goal.decreases-stretches
+decreases-stretches g l = weight_held l.path.held
