@@ -38,7 +38,7 @@ below n (Equals e) all =
     all_both (λ (w : Wait). w.variable < n) (wait_for Bound e.result) (waits_for (operand_event e.operation) e.operands) (wait_below Bound e.result n all.0) (waits_below (operand_event e.operation) e.operands n all.1)
 below n (Odd ts) all = waits_below Fixed ts n all
 below n (Select xs k c) all = waits_below Any (k ∷ c ∷ []) n all
-below n (SelectTerm xs k c) all = all_both (λ (w : Wait). w.variable < n) (wait_for Any k) (waits_for Bound (c ∷ xs)) (wait_below Any k n all.0) (waits_below Bound (c ∷ xs) n all.1)
+below n (SelectTerm xs k c) all = waits_below Any (k ∷ c ∷ xs) n all
 below n (Row xs table) all = waits_below Any xs n all
 below n (Differ xs) all = waits_below Fixed xs n all
 below n (Share ss dd us b) all = waits_below Bound (terms_of_tasks ss dd us b) n all

@@ -69,8 +69,8 @@ fn add_said(waits: &mut Vec<Wait>, saying: &Saying) -> Result<(), AllocError>
         Saying::Select(_, index, value) => add_all(waits, Event::Any, &[*index, *value]),
         Saying::SelectTerm(terms, index, value) => {
             add(waits, Event::Any, *index)?;
-            add(waits, Event::Bound, *value)?;
-            add_all(waits, Event::Bound, terms)
+            add(waits, Event::Any, *value)?;
+            add_all(waits, Event::Any, terms)
         }
         Saying::Row(terms, _) => add_all(waits, Event::Any, terms),
         Saying::Share(starts, durations, usages, bound) => {

@@ -1,13 +1,13 @@
 -- The sizes of the numbers of a set lie between its least and its greatest size, and each of these is one of them.
 use Rattle.std.proofs.Common.{◌≡◌, List, [], ◌∷◌, ◌<◌, length, map, refl, sym, ◌∙◌, arith, inl, inr}
-use Rattle.std.specs.Prelude.{ℤ, pos, negsuc, nat_abs, neg_ℤ, ◌≤ℤ◌, ◌<ℤ◌, ◌⊎◌}
+use Rattle.std.specs.Prelude.{ℤ, pos, negsuc, neg_ℤ, ◌≤ℤ◌, ◌⊎◌}
 use Rattle.std.specs.Int.{int_min, int_max}
-use Rattle.std.specs.List.{AllByRecursion, fold}
+use Rattle.std.specs.List.{fold}
 use Rattle.std.proofs.lemmas.Int.{ints, clamps, by_lt_z}
 use Rattle.fz_sets.specs.Sets.{IsInSet, IsInRange, AreRanges}
-use Rattle.fz_dom.specs.Shape.{IsDomain, least, greatest}
+use Rattle.fz_dom.specs.Shape.{least, greatest}
 use Rattle.fz_dom.proofs.Ranges.{AreRanges-head, AreRanges-tail, least_member, greatest_member}
-use Rattle.fz_strength.specs.Laws.{HasSizes, SizesOfSets}
+use Rattle.fz_strength.specs.Laws.{SizesOfSets}
 use Rattle.fz_strength.specs.Operations.{size_of, size_between, least_size, greatest_size}
 
 -- ---- the least

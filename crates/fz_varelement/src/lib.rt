@@ -1,8 +1,9 @@
 //! The propagator of an index into a list of terms.
 #![tactic(auto)]
 
-mod choices;
+mod matches;
 mod select;
 pub mod variable_element;
+mod words;
 
 pub use variable_element::VariableElement;

@@ -1,15 +1,18 @@
-//! Keeping the indices whose term may be the value, the value within the hull of these terms, and the last one within the bounds
-//! of the value.
-ghost use Rattle.std.specs.Prelude.{◌≡◌, true, length, IfOk, OnErr};
+//! Keeping the indices and the numbers that have a match, and of the term at the last index what is left of the value.
+ghost use Rattle.std.specs.Prelude.{ℤ, length, IfOk};
 ghost use Rattle.std.specs.List.{AllByRecursion};
+ghost use Rattle.fz_sets.specs.Sets.{IsInSet};
+ghost use Rattle.fz_strength.specs.Domains.{term_set};
 ghost use Rattle.fz_strength.specs.VariableElements.{IsVariableElementLine};
 ghost use Rattle.fz_prop.specs.Answers.{IsAnswerOf, IsCorrectOf};
-ghost use Rattle.fz_prop.specs.Stores.{Shrinks, IsTermOf, FitsTerm, IsTermChange};
-ghost use Rattle.fz_varelement.specs.Choosing.{IsChosen, IsChosenAt, IsHull, AreAllChosen, IsNarrowed, IsLastKept};
+ghost use Rattle.fz_prop.specs.Stores.{Shrinks, IsTermOf, FitsTerm};
+ghost use Rattle.fz_varelement.specs.Matching.{IsChosen, AreAllMatched, AreMatches, IsNarrowed};
 
-use crate::choices::{Hull, choices_of, hull_of, term_at};
+use crate::matches::{copy_of, matches_of};
+use crate::words::{are_all_matched, term_at};
+use fz_dom::Dom;
 use fz_prop::indices::last_index;
-use fz_prop::terms::{are_fixed, greatest_of, keep_in, keep_range, least_of, value_of};
+use fz_prop::terms::{are_fixed, keep_in, keep_range, value_of};
 use fz_prop::{Answer, Change, Store};
 use fz_spec::term::Term;
 use std::alloc::{AllocError, Global};
@@ -25,7 +28,9 @@ pub fn keep_variable_element(
     requires index { IsTermOf (length store.old.doms) index }
     requires terms { AllByRecursion (IsTermOf (length store.old.doms)) terms.now }
     requires value { IsTermOf (length store.old.doms) value }
-    requires fits { FitsTerm index }
+    requires fits_index { FitsTerm index }
+    requires fits_terms { AllByRecursion FitsTerm terms.now }
+    requires fits_value { FitsTerm value }
     ensures shrinks { Shrinks store.old store.new }
     ensures correct { IsCorrectOf (IsChosen terms.now index value) store.old.doms store.new.doms }
     ensures answer { IfOk result
@@ -52,7 +57,9 @@ fn narrow(
     requires index { IsTermOf (length store.old.doms) index }
     requires terms { AllByRecursion (IsTermOf (length store.old.doms)) terms.now }
     requires value { IsTermOf (length store.old.doms) value }
-    requires fits { FitsTerm index }
+    requires fits_index { FitsTerm index }
+    requires fits_terms { AllByRecursion FitsTerm terms.now }
+    requires fits_value { FitsTerm value }
     ensures shrinks { Shrinks store.old store.new }
     ensures correct { IsCorrectOf (IsChosen terms.now index value) store.old.doms store.new.doms }
     ensures narrowed { IfOk result
@@ -60,13 +67,13 @@ fn narrow(
 {
     let _ = store.doms();
     match keep_range(store, index, 1, last_index(terms.len()))? {
-        Change::Same => keep_hull(alloc, store, index, terms, value),
+        Change::Same => keep_matches(alloc, store, index, terms, value),
         change => Ok(change),
     }
 }
 
-/// Narrows the index to the terms that may be chosen and the value to their hull, or else the last term that may be chosen.
-fn keep_hull(
+/// Keeps the indices and the numbers that have a match, or else narrows the term at the last index.
+fn keep_matches(
     alloc: Global,
     store: &mut Store,
     index: Term,
@@ -76,78 +83,84 @@ fn keep_hull(
     requires index { IsTermOf (length store.old.doms) index }
     requires terms { AllByRecursion (IsTermOf (length store.old.doms)) terms.now }
     requires value { IsTermOf (length store.old.doms) value }
-    requires fits { FitsTerm index }
+    requires fits_index { FitsTerm index }
+    requires fits_terms { AllByRecursion FitsTerm terms.now }
+    requires fits_value { FitsTerm value }
     ensures shrinks { Shrinks store.old store.new }
     ensures correct { IsCorrectOf (IsChosen terms.now index value) store.old.doms store.new.doms }
     ensures narrowed { IfOk result
         (λ r. IsNarrowed r terms.now index value store.old store.new) }
 {
     let _ = store.doms();
-    let hull = hull_of(store, index, terms, value);
-    match keep_choices(alloc, store, index, terms, value, hull.all)? {
+    if are_all_matched(store, index, terms, value) {
+        return keep_last(alloc, store, index, terms, value);
+    }
+    let (indices, numbers) = matches_of(alloc, store, index, terms, value)?;
+    keep_indices(alloc, store, index, terms, value, &indices, &numbers)
+}
+
+/// Keeps the indices that have a match, and then the numbers that do.
+fn keep_indices(
+    alloc: Global,
+    store: &mut Store,
+    index: Term,
+    terms: &[Term],
+    value: Term,
+    indices: &Dom,
+    numbers: &Dom,
+) -> Result<Change, AllocError>
+    requires index { IsTermOf (length store.old.doms) index }
+    requires terms { AllByRecursion (IsTermOf (length store.old.doms)) terms.now }
+    requires value { IsTermOf (length store.old.doms) value }
+    requires fits { FitsTerm value }
+    requires matches { AreMatches terms.now index value store.old.doms indices.now numbers.now }
+    ensures shrinks { Shrinks store.old store.new }
+    ensures correct { IsCorrectOf (IsChosen terms.now index value) store.old.doms store.new.doms }
+    ensures narrowed { IfOk result
+        (λ r. IsNarrowed r terms.now index value store.old store.new) }
+{
+    match keep_in(store, index, indices)? {
         Change::Wiped => Ok(Change::Wiped),
-        Change::Same => keep_value(store, index, terms, value, hull),
-        Change::Changed => match keep_range(store, value, hull.low, hull.high)? {
+        Change::Same => keep_numbers(alloc, store, index, terms, value, indices, numbers),
+        Change::Changed => match keep_in(store, value, numbers)? {
             Change::Wiped => Ok(Change::Wiped),
-            _ => Ok(Change::Changed),
+            Change::Same | Change::Changed => Ok(Change::Changed),
         },
     }
 }
 
-/// Keeps the indices of terms that may be chosen, unless all are.
-fn keep_choices(
+/// Keeps the numbers of the value that have a match, where all indices have one, or else narrows the term at the last index.
+fn keep_numbers(
     alloc: Global,
     store: &mut Store,
     index: Term,
     terms: &[Term],
     value: Term,
-    all: bool,
+    indices: &Dom,
+    numbers: &Dom,
 ) -> Result<Change, AllocError>
     requires index { IsTermOf (length store.old.doms) index }
     requires terms { AllByRecursion (IsTermOf (length store.old.doms)) terms.now }
     requires value { IsTermOf (length store.old.doms) value }
-    requires fits { FitsTerm index }
-    requires all { all ≡ true → AreAllChosen terms.now index value store.old.doms }
-    ensures shrinks { Shrinks store.old store.new }
-    ensures err { OnErr result (store.new ≡ store.old) }
-    ensures change { IfOk result
-        (λ r. IsTermChange r index (IsChosenAt terms.now index value store.old.doms)
-        store.old store.new) }
-{
-    if all {
-        return Ok(Change::Same);
-    }
-    let indices = choices_of(alloc, store, index, terms, value)?;
-    keep_in(store, index, &indices)
-}
-
-/// Keeps the value within the hull of the terms at all indices, or else the last term within the bounds of the value.
-fn keep_value(
-    store: &mut Store,
-    index: Term,
-    terms: &[Term],
-    value: Term,
-    hull: Hull,
-) -> Result<Change, AllocError>
-    requires index { IsTermOf (length store.old.doms) index }
-    requires terms { AllByRecursion (IsTermOf (length store.old.doms)) terms.now }
-    requires value { IsTermOf (length store.old.doms) value }
-    requires hull { IsHull terms.now index value store.old.doms hull.low hull.high }
-    requires all { AreAllChosen terms.now index value store.old.doms }
+    requires fits { FitsTerm value }
+    requires matches { AreMatches terms.now index value store.old.doms indices.now numbers.now }
+    requires all { (i : ℤ) → IsInSet (term_set store.old.doms index) i → IsInSet indices.now i }
     ensures shrinks { Shrinks store.old store.new }
     ensures correct { IsCorrectOf (IsChosen terms.now index value) store.old.doms store.new.doms }
     ensures narrowed { IfOk result
         (λ r. IsNarrowed r terms.now index value store.old store.new) }
 {
+    let _ = indices;
     let _ = store.doms();
-    match keep_range(store, value, hull.low, hull.high)? {
-        Change::Same => keep_last(store, index, terms, value),
+    match keep_in(store, value, numbers)? {
+        Change::Same => keep_last(alloc, store, index, terms, value),
         change => Ok(change),
     }
 }
 
-/// Where one index is left, keeps its term within the bounds of the value.
+/// Where one index is left, keeps of its term what is left of the value; all indices and numbers have a match.
 fn keep_last(
+    alloc: Global,
     store: &mut Store,
     index: Term,
     terms: &[Term],
@@ -156,10 +169,12 @@ fn keep_last(
     requires index { IsTermOf (length store.old.doms) index }
     requires terms { AllByRecursion (IsTermOf (length store.old.doms)) terms.now }
     requires value { IsTermOf (length store.old.doms) value }
+    requires fits { FitsTerm value }
+    requires matched { AreAllMatched terms.now index value store.old.doms }
     ensures shrinks { Shrinks store.old store.new }
     ensures correct { IsCorrectOf (IsChosen terms.now index value) store.old.doms store.new.doms }
-    ensures last { IfOk result
-        (λ r. IsLastKept r terms.now index value store.old store.new) }
+    ensures narrowed { IfOk result
+        (λ r. IsNarrowed r terms.now index value store.old store.new) }
 {
     let _ = store.doms();
     let Some(place) = value_of(store, index) else {
@@ -168,6 +183,6 @@ fn keep_last(
     let Some(term) = term_at(terms, place) else {
         return Ok(Change::Same);
     };
-    let (low, high) = (least_of(store, value), greatest_of(store, value));
-    keep_range(store, term, low, high)
+    let wanted = copy_of(alloc, store, value)?;
+    keep_in(store, term, &wanted)
 }

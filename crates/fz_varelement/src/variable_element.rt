@@ -1,5 +1,6 @@
 //! The propagator of a term of a list by its index.
 ghost use Rattle.std.specs.Prelude.{◌≡◌, IfOk};
+ghost use Rattle.std.specs.List.{AllByRecursion};
 ghost use Rattle.fz_strength.specs.Sayings.{SelectTerm};
 ghost use Rattle.fz_prop.specs.Stores.{FitsTerm};
 
@@ -18,6 +19,7 @@ pub struct VariableElement {
 }
 
 impl Model for VariableElement {
+    ghost use Rattle.std.specs.List.{AllByRecursion};
     ghost use Rattle.fz_strength.specs.Sayings.{Saying, SelectTerm};
     ghost use Rattle.fz_prop.specs.Stores.{FitsTerm};
 
@@ -25,7 +27,8 @@ impl Model for VariableElement {
 
     ghost view = { λ p. SelectTerm p.terms.items p.index p.value };
 
-    ghost invariant = { λ p. FitsTerm p.index };
+    ghost invariant = { λ p. FitsTerm p.index × AllByRecursion FitsTerm p.terms.items
+        × FitsTerm p.value };
 }
 
 impl VariableElement {
@@ -39,7 +42,9 @@ impl VariableElement {
         terms: &[Term],
         value: Term,
     ) -> Result<VariableElement, AllocError>
-        requires { FitsTerm index }
+        requires fits_index { FitsTerm index }
+        requires fits_terms { AllByRecursion FitsTerm terms.now }
+        requires fits_value { FitsTerm value }
         ensures { IfOk result (λ p. p ≡ SelectTerm terms.now index value) }
     {
         let terms = Vec::from_slice(alloc, terms)?;

@@ -28,7 +28,7 @@ const ZERO: Numbers = Numbers::Zero;
 
 const FAR: Numbers = Numbers::Far;
 
-static GROUPS: [Group; 28] = [
+static GROUPS: [Group; 29] = [
     Group {
         numbers: [SIGNED, SIGNED, ZERO],
         rest: Rest::Exact,
@@ -205,7 +205,7 @@ static GROUPS: [Group; 28] = [
     },
     Group {
         numbers: [COUNTING, SIGNED, SIGNED],
-        rest: Rest::Sound,
+        rest: Rest::Exact,
         constraints: &[
             "array_var_int_element(x, [y, 0, z], -1)",
             "array_var_int_element(x, [y, 0], z)",
@@ -213,11 +213,13 @@ static GROUPS: [Group; 28] = [
     },
     Group {
         numbers: [COUNTING, BOOLEAN, BOOLEAN],
+        rest: Rest::Exact,
+        constraints: &["array_var_bool_element(x, [y, false], z)"],
+    },
+    Group {
+        numbers: [COUNTING, BOOLEAN, BOOLEAN],
         rest: Rest::Sound,
-        constraints: &[
-            "array_var_bool_element(x, [y, false], z)",
-            "array_var_bool_element(x, [y, z, y], true)",
-        ],
+        constraints: &["array_var_bool_element(x, [y, z, y], true)"],
     },
     Group {
         numbers: [COUNTING, COUNTING, COUNTING],
@@ -254,6 +256,7 @@ static GROUPS: [Group; 28] = [
             "fzn_table_int([x, 2], [1, 2, 3, 3, 0, 2])",
             "fzn_table_int([2, 2], [1, 2, 2, 2])",
             "array_int_element(2, [5, 3, 1, 0], y)",
+            "array_var_int_element(2, [0, x], y)",
         ],
     },
     Group {
@@ -262,7 +265,6 @@ static GROUPS: [Group; 28] = [
         constraints: &[
             "fzn_table_int([x, x, y], [1, 2, 3, 2, 2, 1, 3, 3, 0])",
             "array_int_element(x, [3, 2, 1], x)",
-            "array_var_int_element(2, [0, x], y)",
             "all_different_int([x, x, y])",
             "all_different_int([x, 1, 1])",
             "all_different_int([x, 2, 3])",
@@ -323,6 +325,7 @@ static GROUPS: [Group; 28] = [
         constraints: &[
             "int_lin_le([2147483646, 2147483646, 2147483646], [x, y, z], 0)",
             "int_lin_ne([2147483646, 2147483646, 2147483646], [x, y, z], -2147483646)",
+            "array_var_int_element(x, [2147483646, y], z)",
         ],
     },
     Group {
@@ -332,7 +335,6 @@ static GROUPS: [Group; 28] = [
             "int_lin_eq([2147483646, 2147483646, 2147483646], [x, y, z], -2147483646)",
             "int_times(x, y, z)",
             "int_div(x, y, z)",
-            "array_var_int_element(x, [2147483646, y], z)",
         ],
     },
     Group {

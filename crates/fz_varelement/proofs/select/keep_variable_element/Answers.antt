@@ -13,5 +13,5 @@ returns-in-Same-clause-answer c =
     let v = c.args.value in
     let narrowed = rw c.in-Same.is at c.in_ok-change.ensures.narrowed in
     let of : AreTermsOf (length before.doms) xs k v = record { index = c.requires.index; terms = c.requires.terms; value = c.requires.value } in
-    rw c.rested.ensures (rested_answer c.are_fixed.result xs k v before.doms after.doms (subst (λ (s : Stored). AreTermsOf (length s.doms) xs k v) (sym narrowed.0) of) c.doms.ensures.store.domains
+    rw c.rested.ensures (rested_answer c.are_fixed.result xs k v before.doms after.doms (subst (λ (s : Stored). AreTermsOf (length s.doms) xs k v) (sym narrowed.0) of)
     (subst (λ (s : Stored). IsVariableElementLine xs k v s.doms) (sym narrowed.0) narrowed.1) c.are_fixed.ensures.0)

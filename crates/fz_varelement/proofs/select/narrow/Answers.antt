@@ -5,7 +5,7 @@ use mir.Val.{SFits}
 use mir.Syntax.{w32}
 use Rattle.fz_dom.specs.Changes.{IsFromTo}
 use Rattle.fz_prop.specs.Stores.{IsTermChange}
-use Rattle.fz_varelement.specs.Choosing.{IsChosen}
+use Rattle.fz_varelement.specs.Matching.{IsChosen}
 use Rattle.fz_varelement.proofs.Narrowing.{AreTermsOf, needs_place, step_correct, narrowed_by}
 use Rattle.fz_varelement.proofs.select.narrow.Goals as goal
 
@@ -19,7 +19,7 @@ returns-in_default c =
     let last = c.last_index.result in
     let fits : SFits w32 last = search rules in
     let of : AreTermsOf (length before.doms) xs k v = record { index = c.requires.index; terms = c.requires.terms; value = c.requires.value } in
-    let needs = needs_place xs k v before.doms last of c.doms.ensures.store.domains c.requires.fits c.last_index.ensures.above in
+    let needs = needs_place xs k v before.doms last of c.doms.ensures.store.domains c.requires.fits_index c.last_index.ensures.above in
     let change : IsTermChange c.in_ok-change.change k (λ x. IsFromTo (pos 1) last x) before after = rw (to_z-of_z fits) at c.in_ok-change.ensures.change in
     record {
       shrinks = c.in_ok-change.ensures.shrinks;
