@@ -4,7 +4,7 @@ ghost use Rattle.std.specs.List.{AllByRecursion};
 ghost use Rattle.fz_spec.specs.declared.limits.TheConstants.{ELEMENT_LIMIT};
 ghost use Rattle.fz_strength.specs.declared.relation.Relation.TheVariants.{Below};
 ghost use Rattle.fz_strength.specs.Events.{AllFixed};
-ghost use Rattle.fz_prop.specs.declared.answer.Answer.TheVariants.{Fix};
+ghost use Rattle.fz_prop.specs.declared.answer.Answer.TheVariants.{Fix, NoFix};
 ghost use Rattle.fz_prop.specs.Answers.{IsCorrectOf};
 ghost use Rattle.fz_prop.specs.Stores.{Shrinks, FitsTerm};
 ghost use Rattle.fz_linear.specs.Differences.{IsDifferenceIn, IsPruned};
@@ -49,7 +49,35 @@ pub fn relate(
     }
 }
 
-/// Narrows a store by how a sum relates to a number, as `relate` does; where the sum is known to be the difference of two
+/// Narrows a store by how a sum relates to a number, as `relate` does, again and again until that changes nothing more.
+fn relate_to_rest(
+    store: &mut Store,
+    sum: &Weighted<'_>,
+    relation: Relation,
+    number: i32,
+) -> Result<Answer, AllocError>
+    requires bounded { relation ≢ Below }
+    requires law { IsWeighted sum.now }
+    requires inside { AreTermsOf (length store.old.doms) sum.now.terms.now }
+    requires fits { AllByRecursion FitsTerm sum.now.terms.now }
+    ensures shrinks { Shrinks store.old store.new }
+    ensures correct { IsCorrectOf (SumTruth relation sum.now.factors.now sum.now.terms.now number)
+        store.old.doms store.new.doms }
+    ensures answer { IfOk result
+        (λ r. IsAnswerSum relation sum.now.factors.now sum.now.terms.now number r store.old.doms store.new.doms) }
+    ensures rests { IfOk result (λ r. r ≢ NoFix) }
+{
+    'runs: loop {
+        match relate(store, sum, relation, number)? {
+            Answer::NoFix => {}
+            Answer::Fix => return Ok(Answer::Fix),
+            Answer::Subsumed => return Ok(Answer::Subsumed),
+            Answer::Failed => return Ok(Answer::Failed),
+        }
+    }
+}
+
+/// Narrows a store by how a sum relates to a number until it rests; where the sum is known to be the difference of two
 /// variables, which is to be the number or isn't, on whole domains.
 ///
 /// # Errors
@@ -76,7 +104,7 @@ pub fn relate_whole(
     match (relation, difference) {
         (Relation::Equal, Some(difference)) => keep_above_by(store, difference),
         (Relation::NotEqual, Some(difference)) => keep_apart_by(store, difference),
-        _ => relate(store, sum, relation, number),
+        _ => relate_to_rest(store, sum, relation, number),
     }
 }
 

@@ -9,7 +9,7 @@ ghost use Rattle.fz_prop.specs.Answers.{IsCorrectOf};
 ghost use Rattle.fz_prop.specs.Stores.{Shrinks, IsStore, IsTermOf, IsChangeAt};
 ghost use Rattle.fz_rel.specs.Truths.{TruthOf, IsAnswerAs};
 
-use fz_prop::terms::keep_only;
+use fz_prop::terms::{keep_only, value_of};
 use fz_prop::{Answer, Change, Store};
 use fz_spec::term::Term;
 use std::alloc::AllocError;
@@ -23,7 +23,7 @@ pub fn keep_equal(store: &mut Store, x: Term, y: Term) -> Result<Answer, AllocEr
     ensures answer { IfOk result (λ r. IsAnswerAs Equal x y r store.old.doms store.new.doms) }
 {
     match (x, y) {
-        (Term::Var(v), Term::Var(w)) => keep_same(store, v, w),
+        (Term::Var(v), Term::Var(w)) => keep_variables(store, v, w),
         (Term::Num(number), _) => keep_number(store, x, y, number),
         (_, Term::Num(number)) => keep_number(store, y, x, number),
     }
@@ -48,7 +48,26 @@ fn keep_number(
     Ok(Answer::settled(change))
 }
 
-/// Narrows a store so that two variables are equal.
+/// Narrows a store so that two variables are equal: where one of them is fixed, the other keeps its number alone.
+fn keep_variables(store: &mut Store, v: u32, w: u32) -> Result<Answer, AllocError>
+    requires v { v < length store.old.doms }
+    requires w { w < length store.old.doms }
+    ensures shrinks { Shrinks store.old store.new }
+    ensures correct { IsCorrectOf (TruthOf Equal (Var v) (Var w)) store.old.doms store.new.doms }
+    ensures answer { IfOk result
+        (λ r. IsAnswerAs Equal (Var v) (Var w) r store.old.doms store.new.doms) }
+{
+    let (x, y) = (Term::Var(v), Term::Var(w));
+    if let Some(value) = value_of(store, x) {
+        return keep_number(store, x, y, value);
+    }
+    if let Some(value) = value_of(store, y) {
+        return keep_number(store, y, x, value);
+    }
+    keep_same(store, v, w)
+}
+
+/// Narrows a store so that two variables are equal, by the whole of what is left of each.
 fn keep_same(store: &mut Store, x: u32, y: u32) -> Result<Answer, AllocError>
     requires x { x < length store.old.doms }
     requires y { y < length store.old.doms }
