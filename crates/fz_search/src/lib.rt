@@ -1,7 +1,9 @@
-//! The search of a model by the options: by one worker, or by several that take turns on one thread; and what is shown of the book
-//! that it leaves.
+//! The search of a model by the options: by one worker, by several that take turns on one thread, or by several in threads; and what
+//! is shown of the book that it leaves.
 #![tactic(auto)]
 
 pub mod searching;
+pub mod team;
 
 pub use searching::{Listing, listing_of, search};
+pub use team::search_in_threads;

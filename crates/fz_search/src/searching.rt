@@ -115,7 +115,7 @@ fn new_machine<S: SearchSpace>(
 }
 
 /// Whether all solutions of a goal are sought, or a best one.
-fn mode_of(goal: &Goal) -> Mode
+pub(crate) fn mode_of(goal: &Goal) -> Mode
     ensures { result ≡ mode_of goal.now }
 {
     match goal {
@@ -125,7 +125,7 @@ fn mode_of(goal: &Goal) -> Mode
 }
 
 /// A book of a model.
-fn begin(alloc: Global, model: &Arc<Model>, mode: Mode) -> Result<Book, AllocError>
+pub(crate) fn begin(alloc: Global, model: &Arc<Model>, mode: Mode) -> Result<Book, AllocError>
     requires { mode ≡ mode_of (arc_value model.now).goal }
     ensures { IfOk result (λ b. b.book ≡ opening (arc_value model.now) mode) }
 {
@@ -136,7 +136,7 @@ fn begin(alloc: Global, model: &Arc<Model>, mode: Mode) -> Result<Book, AllocErr
 }
 
 /// How many recorded solutions are enough; where a best one is sought, no number is.
-fn enough_for(goal: &Goal, options: &Options) -> Option<u32>
+pub(crate) fn enough_for(goal: &Goal, options: &Options) -> Option<u32>
     ensures { result ≡ enough_for goal.now options.now }
 {
     match goal {
@@ -158,7 +158,7 @@ pub fn wanted(options: &Options) -> Option<u32>
 }
 
 /// Whether all better ones are shown on the way to a best one: where `-a` asks for them, and never of a generated model.
-fn shows_all(options: &Options) -> bool
+pub(crate) fn shows_all(options: &Options) -> bool
     ensures { result ≡ searched.shows_all options.now.generate options.now.all }
 {
     options.all() && options.generate().is_none()

@@ -11,12 +11,21 @@ use fz_io::buffered::BufferedSink;
 use fz_io::file::FileSource;
 use fz_io::gate::NoGate;
 use fz_io::output::OutSink;
-use std::io::ErrorKind;
+use std::alloc::AllocGlobal;
+use std::env::Env;
+use std::fs::Files;
+use std::io::{Eprint, ErrorKind, Input, Write};
 use std::process::ExitCode;
+use std::sync::Wait;
+use std::thread::Threads;
 use std::{env, io};
 
-/// Runs the program with its arguments, says on standard error what is wrong, and answers the exit status.
-pub fn program(rt: HostRuntime) -> ExitCode {
+/// Runs the program with its arguments over a writer for what it prints, says on standard error what is wrong, and answers the exit
+/// status.
+pub fn program<
+    R: Env + Files + Input + Eprint + AllocGlobal + Threads + Wait + Sync + Copy,
+    W: Write + Drop,
+>(rt: R, out: W) -> ExitCode {
     let arguments = match env::args(&rt) {
         Ok(arguments) => arguments,
         Err(fault) => return ending(&rt, &[], untaken(&fault)),
@@ -24,7 +33,7 @@ pub fn program(rt: HostRuntime) -> ExitCode {
     let Ok(words) = arguments.skip(1).collect::<Vec<String>>(rt.alloc()) else {
         return ending(&rt, &[], Status::NoMemory);
     };
-    let status = over_streams(&rt, &words);
+    let status = over_streams(&rt, out, &words);
     ending(&rt, &words, status)
 }
 
@@ -39,10 +48,14 @@ fn untaken(fault: &io::Error) -> Status
     }
 }
 
-/// The run of these words over files and the standard streams.
-fn over_streams(rt: &HostRuntime, words: &[String]) -> Status {
+/// The run of these words over files, standard input and this writer.
+fn over_streams<R: Files + Input + AllocGlobal + Threads + Wait + Sync + Copy, W: Write + Drop>(
+    rt: &R,
+    out: W,
+    words: &[String],
+) -> Status {
     let alloc = rt.alloc();
-    let Ok(mut sink) = BufferedSink::new(alloc, OutSink::new(rt.stdout())) else {
+    let Ok(mut sink) = BufferedSink::new(alloc, OutSink::new(out)) else {
         return Status::NoMemory;
     };
     let mut source = FileSource::new(*rt);
@@ -50,7 +63,7 @@ fn over_streams(rt: &HostRuntime, words: &[String]) -> Status {
 }
 
 /// Says on standard error what is wrong, and answers the exit status.
-fn ending(rt: &HostRuntime, words: &[String], status: Status) -> ExitCode
+fn ending<R: Eprint + AllocGlobal>(rt: &R, words: &[String], status: Status) -> ExitCode
     ensures { exit_status result ≡ code_of status }
 {
     match complaint_of(rt.alloc(), words, &status) {

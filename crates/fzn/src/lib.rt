@@ -12,5 +12,5 @@ pub mod status;
 pub use command::program;
 pub use complaint::complaint_of;
 pub use fz_reader::model_of;
-pub use run::fzn;
+pub use run::{alone, fzn};
 pub use status::Status;

@@ -1,4 +1,5 @@
 //! The top call.
+ghost use Rattle.std.specs.Arc.{arc_value};
 ghost use Rattle.std.specs.Prelude.{◌≡◌, ◌≢◌, ◌⊎◌, ℕ, ◌-◌, ◌^◌, ◌<◌, ◌≤◌, None, IfSome, IfOk, length, map, string_bytes};
 ghost use Rattle.fz_io.specs.Outside.{one_more};
 ghost use Rattle.fz_print.specs.Refusal.{text_of};
@@ -22,28 +23,30 @@ use fz_model::model::Model;
 use fz_print::refusal::Refusal;
 use fz_printing::{Stop, print_refusal, print_run};
 use fz_reader::model_of;
-use fz_search::{listing_of, search};
+use fz_search::{listing_of, search, search_in_threads};
 use fz_space::Space;
 use fz_spec::limits::TEXT_LIMIT;
 use std::alloc::{AllocError, Global};
-use std::sync::Arc;
+use std::sync::{Arc, Wait};
+use std::thread::Threads;
 
 /// Reads a FlatZinc text, searches for its solutions, and prints them.
 ///
 /// `words` are the arguments of the program: `-a` for all solutions, `-n N` for N of them (0 for all), one where neither is given;
 /// `--commit-distance N` for how often a copy of a node is kept, `--adaptive-distance N` for how long a way has a copy in its
-/// middle; `--interleave SEED` for a search by workers, `-p N` of them (1 where it isn't given), that take turns on one thread by
-/// a schedule which the seed begins; `-s` for statistics; `--generate N` for a model that is generated, a knapsack of N items, in
-/// place of one that is read; and FILE. The text is that of FILE; no FILE is `-`, standard input. A text may have 67,108,864 bytes. Printed is a block for each satisfying assignment, in any order, and
+/// middle; `-p N` for a search by so many workers (1 where it isn't given); `--interleave SEED` for workers that take turns on one
+/// thread by a schedule which the seed begins; `-s` for statistics; `--generate N` for a model that is generated, a knapsack of N
+/// items, in place of one that is read; and FILE. The text is that of FILE; no FILE is `-`, standard input. A text may have
+/// 67,108,864 bytes. Printed is a block for each satisfying assignment, in any order, and
 /// `==========`; of `-n N` N different blocks alone, where so many satisfy; of a model with a goal the block of a best assignment
 /// and `==========`, with `-a` maybe behind others, each better than the one before it; of a generated model `items=N best=V` in
 /// place of both; where none satisfies, `=====UNSATISFIABLE=====` alone; of a text that is refused, the place, the code and
 /// `=====ERROR=====`. Behind all but a refusal `-s` prints how many assignments were listed. Each block, each last line, the two
 /// lines of statistics and each refusal is one piece for the sink, and one flush comes last, whenever something was written.
 ///
-/// `rt` and `gate` are for the threads to come: a run takes no thread yet, and waits for nobody. Without `--interleave` one worker
-/// searches, whatever `-p` says.
-pub fn fzn<T, R: Source, S: Sink, G: Gate>(
+/// With `-p N` above 1 and without `--interleave` the workers search in threads of `rt`, and `gate` sees their events. Every other run
+/// takes no thread, waits for nobody and makes no call of the gate.
+pub fn fzn<T: Threads + Wait + Sync, R: Source, S: Sink, G: Gate + Sync>(
     rt: &T,
     alloc: Global,
     words: &[String],
@@ -103,14 +106,56 @@ pub fn fzn<T, R: Source, S: Sink, G: Gate>(
         AnswersRefused result (text_for o (R.texts source.old o.file))) }
 {
     match options(alloc, words) {
-        Ok(Some(options)) => run_options(alloc, &options, source, sink),
+        Ok(Some(options)) => run_with(rt, alloc, &options, source, sink, gate),
         Ok(None) => Status::Usage,
         Err(_) => Status::NoMemory,
     }
 }
 
-/// The run of these options: of a generated text, or of one file's.
-fn run_options<R: Source, S: Sink>(
+/// The run of these options by threads, where several workers are asked for that take no turns; else by this thread alone.
+fn run_with<T: Threads + Wait + Sync, R: Source, S: Sink, G: Gate + Sync>(
+    rt: &T,
+    alloc: Global,
+    options: &Options,
+    source: &mut R,
+    sink: &mut S,
+    gate: &G,
+) -> Status
+    requires source { R.faults source.old < 2 ^ 64 - 1 }
+    requires sink { S.faults sink.old < 2 ^ 64 - 1 }
+    ensures generated { IfSome options.now.generate (λ _. source.new ≡ source.old) }
+    ensures unrefused { IfSome options.now.generate (λ _. IsUnrefused result) }
+    ensures made { S.faults sink.new ≡ S.faults sink.old
+        → IfSome options.now.generate (λ _. IsDoneOrShort result) }
+    ensures once { options.now.generate ≡ None
+        → SelectsOnce result (R.selections source.old) (R.selections source.new) }
+    ensures selected { options.now.generate ≡ None
+        → HasSelected result (R.selections source.old) (R.selections source.new)
+        (R.is_selected source.new options.now.file) }
+    ensures texts { R.texts source.new ≡ R.texts source.old }
+    ensures whole { options.now.generate ≡ None → HasReadAll result (R.left source.new) }
+    ensures printed { Runs result options.now
+        (text_for options.now (R.texts source.old options.now.file))
+        (S.taken sink.old) (S.taken sink.new) }
+    ensures flushed { IsFlushed result (S.taken sink.old) (S.taken sink.new) (S.flushed sink.new) }
+    ensures cause { HasItsCause result (R.faults source.old) (R.faults source.new)
+        (S.faults sink.old) (S.faults sink.new) }
+    ensures used { result ≢ Status.Usage }
+{
+    if options.workers() < 2 || options.interleave().is_some() {
+        return alone(alloc, options, source, sink);
+    }
+    run_options(
+        alloc,
+        &|model: Arc<Model>| search_in_threads::<T, Space, G>(rt, alloc, &model, options, gate),
+        options,
+        source,
+        sink,
+    )
+}
+
+/// The run of these options by this thread alone, which waits for nobody: by one worker, or by several that take turns.
+pub fn alone<R: Source, S: Sink>(
     alloc: Global,
     options: &Options,
     source: &mut R,
@@ -137,14 +182,64 @@ fn run_options<R: Source, S: Sink>(
         (S.faults sink.old) (S.faults sink.new) }
     ensures used { result ≢ Status.Usage }
 {
+    run_options(
+        alloc,
+        &|model: Arc<Model>| search::<Space>(alloc, &model, options),
+        options,
+        source,
+        sink,
+    )
+}
+
+/// The run of these options, with this search: of a generated text, or of one file's.
+fn run_options<F: Fn(Arc<Model>) -> Result<Book, AllocError>, R: Source, S: Sink>(
+    alloc: Global,
+    search_by: &F,
+    options: &Options,
+    source: &mut R,
+    sink: &mut S,
+) -> Status
+    requires callable { (m : _) → F.pre search_by.now m }
+    requires searches { (m : _) (r : _) → F.post search_by.now m r → IfOk r (λ b.
+        IsSearched (arc_value m) (enough_for (arc_value m).goal options.now) b.book) }
+    requires source { R.faults source.old < 2 ^ 64 - 1 }
+    requires sink { S.faults sink.old < 2 ^ 64 - 1 }
+    ensures generated { IfSome options.now.generate (λ _. source.new ≡ source.old) }
+    ensures unrefused { IfSome options.now.generate (λ _. IsUnrefused result) }
+    ensures made { S.faults sink.new ≡ S.faults sink.old
+        → IfSome options.now.generate (λ _. IsDoneOrShort result) }
+    ensures once { options.now.generate ≡ None
+        → SelectsOnce result (R.selections source.old) (R.selections source.new) }
+    ensures selected { options.now.generate ≡ None
+        → HasSelected result (R.selections source.old) (R.selections source.new)
+        (R.is_selected source.new options.now.file) }
+    ensures texts { R.texts source.new ≡ R.texts source.old }
+    ensures whole { options.now.generate ≡ None → HasReadAll result (R.left source.new) }
+    ensures printed { Runs result options.now
+        (text_for options.now (R.texts source.old options.now.file))
+        (S.taken sink.old) (S.taken sink.new) }
+    ensures flushed { IsFlushed result (S.taken sink.old) (S.taken sink.new) (S.flushed sink.new) }
+    ensures cause { HasItsCause result (R.faults source.old) (R.faults source.new)
+        (S.faults sink.old) (S.faults sink.new) }
+    ensures used { result ≢ Status.Usage }
+{
     match options.generate() {
-        Some(items) => run_generated(alloc, items, options, sink),
-        None => run_file(alloc, options, source, sink),
+        Some(items) => run_generated(alloc, search_by, items, options, sink),
+        None => run_file(alloc, search_by, options, source, sink),
     }
 }
 
 /// The run of a generated model of so many items.
-fn run_generated<S: Sink>(alloc: Global, items: u32, options: &Options, sink: &mut S) -> Status
+fn run_generated<F: Fn(Arc<Model>) -> Result<Book, AllocError>, S: Sink>(
+    alloc: Global,
+    search_by: &F,
+    items: u32,
+    options: &Options,
+    sink: &mut S,
+) -> Status
+    requires callable { (m : _) → F.pre search_by.now m }
+    requires searches { (m : _) (r : _) → F.post search_by.now m r → IfOk r (λ b.
+        IsSearched (arc_value m) (enough_for (arc_value m).goal options.now) b.book) }
     requires least { ITEMS_LEAST ≤ items }
     requires most { items ≤ ITEMS_MOST }
     requires faults { S.faults sink.old < 2 ^ 64 - 1 }
@@ -156,18 +251,22 @@ fn run_generated<S: Sink>(alloc: Global, items: u32, options: &Options, sink: &m
     ensures cause { HasSinkCause result (S.faults sink.old) (S.faults sink.new) }
 {
     match knapsack(alloc, items) {
-        Ok(generated) => run_text(alloc, &generated, options, sink),
+        Ok(generated) => run_text(alloc, search_by, &generated, options, sink),
         Err(_) => Status::NoMemory,
     }
 }
 
 /// The run of one file.
-fn run_file<R: Source, S: Sink>(
+fn run_file<F: Fn(Arc<Model>) -> Result<Book, AllocError>, R: Source, S: Sink>(
     alloc: Global,
+    search_by: &F,
     options: &Options,
     source: &mut R,
     sink: &mut S,
 ) -> Status
+    requires callable { (m : _) → F.pre search_by.now m }
+    requires searches { (m : _) (r : _) → F.post search_by.now m r → IfOk r (λ b.
+        IsSearched (arc_value m) (enough_for (arc_value m).goal options.now) b.book) }
     requires source { R.faults source.old < 2 ^ 64 - 1 }
     requires sink { S.faults sink.old < 2 ^ 64 - 1 }
     ensures once { R.selections source.new ≡ one_more (R.selections source.old) }
@@ -183,7 +282,7 @@ fn run_file<R: Source, S: Sink>(
     ensures used { result ≢ Status.Usage }
 {
     match read_text(alloc, file_of(options), source) {
-        Ok(text) => run_text(alloc, &text, options, sink),
+        Ok(text) => run_text(alloc, search_by, &text, options, sink),
         Err(Stop::Fault) => Status::SourceFault,
         Err(Stop::Memory) => Status::NoMemory,
     }
@@ -231,38 +330,64 @@ fn read_selected<R: Source>(alloc: Global, source: &mut R) -> Result<Vec<u8>, St
 }
 
 /// The run of a text.
-fn run_text<S: Sink>(alloc: Global, text: &[u8], options: &Options, sink: &mut S) -> Status
-    requires { S.faults sink.old < 2 ^ 64 - 1 }
+fn run_text<F: Fn(Arc<Model>) -> Result<Book, AllocError>, S: Sink>(
+    alloc: Global,
+    search_by: &F,
+    text: &[u8],
+    options: &Options,
+    sink: &mut S,
+) -> Status
+    requires callable { (m : _) → F.pre search_by.now m }
+    requires searches { (m : _) (r : _) → F.post search_by.now m r → IfOk r (λ b.
+        IsSearched (arc_value m) (enough_for (arc_value m).goal options.now) b.book) }
+    requires faults { S.faults sink.old < 2 ^ 64 - 1 }
     ensures printed { PrintsOf result text.now options.now (S.taken sink.old) (S.taken sink.new) }
     ensures flushed { IsFlushed result (S.taken sink.old) (S.taken sink.new) (S.flushed sink.new) }
     ensures cause { HasSinkCause result (S.faults sink.old) (S.faults sink.new) }
 {
     match model_of(alloc, text) {
-        Ok(Ok(model)) => run_model(alloc, model, options, sink),
+        Ok(Ok(model)) => run_model(alloc, search_by, model, options, sink),
         Ok(Err(refused)) => refuse(alloc, refused, sink),
         Err(_) => Status::NoMemory,
     }
 }
 
 /// Searches a model, and prints what is asked for.
-fn run_model<S: Sink>(alloc: Global, model: Model, options: &Options, sink: &mut S) -> Status
-    requires { S.faults sink.old < 2 ^ 64 - 1 }
+fn run_model<F: Fn(Arc<Model>) -> Result<Book, AllocError>, S: Sink>(
+    alloc: Global,
+    search_by: &F,
+    model: Model,
+    options: &Options,
+    sink: &mut S,
+) -> Status
+    requires callable { (m : _) → F.pre search_by.now m }
+    requires searches { (m : _) (r : _) → F.post search_by.now m r → IfOk r (λ b.
+        IsSearched (arc_value m) (enough_for (arc_value m).goal options.now) b.book) }
+    requires faults { S.faults sink.old < 2 ^ 64 - 1 }
     ensures printed { AnswersShown result model options.now (S.taken sink.old) (S.taken sink.new) }
     ensures flushed { IsFlushed result (S.taken sink.old) (S.taken sink.new) (S.flushed sink.new) }
     ensures cause { HasSinkCause result (S.faults sink.old) (S.faults sink.new) }
 {
-    match searched(alloc, model, options) {
+    match searched(alloc, search_by, model, options) {
         Ok(book) => show(alloc, &book, options, sink),
         Err(_) => Status::NoMemory,
     }
 }
 
 /// The book of a model's search.
-fn searched(alloc: Global, model: Model, options: &Options) -> Result<Book, AllocError>
+fn searched<F: Fn(Arc<Model>) -> Result<Book, AllocError>>(
+    alloc: Global,
+    search_by: &F,
+    model: Model,
+    options: &Options,
+) -> Result<Book, AllocError>
+    requires callable { (m : _) → F.pre search_by.now m }
+    requires searches { (m : _) (r : _) → F.post search_by.now m r → IfOk r (λ b.
+        IsSearched (arc_value m) (enough_for (arc_value m).goal options.now) b.book) }
     ensures { IfOk result (λ b. IsSearched model (enough_for model.goal options.now) b.book) }
 {
     match Arc::new(alloc, model) {
-        Ok(model) => search::<Space>(alloc, &model, options),
+        Ok(model) => search_by(model),
         Err(_) => Err(AllocError),
     }
 }

@@ -4,5 +4,5 @@
 use std::process::ExitCode;
 
 fn main(rt: HostRuntime) -> ExitCode {
-    fzn::program(rt)
+    fzn::program(rt, rt.stdout())
 }

@@ -58,7 +58,7 @@ fn rows_print_what_is_written_there(rt: HostRuntime) -> Result<(), Fail> {
 #[test]
 fn two_solutions_are_two_different_ones_of_three(rt: HostRuntime) -> Result<(), Fail> {
     let alloc = rt.alloc();
-    let outcome = run(alloc, THREE_VALUES.as_bytes(), &["-n", "2"])?;
+    let outcome = run(&rt, alloc, THREE_VALUES.as_bytes(), &["-n", "2"])?;
     assert_eq!(rt; outcome.status, Answer::Done);
     let blocks = blocks_of(alloc, &outcome.printed)?;
     let pairs = [
@@ -79,7 +79,7 @@ fn two_solutions_are_two_different_ones_of_three(rt: HostRuntime) -> Result<(), 
 
 #[test]
 fn a_tie_has_one_block_with_either_value(rt: HostRuntime) -> Result<(), Fail> {
-    let outcome = run(rt.alloc(), TIE.as_bytes(), &["-p", "3"])?;
+    let outcome = run(&rt, rt.alloc(), TIE.as_bytes(), &["-p", "3"])?;
     assert_eq!(rt; outcome.status, Answer::Done);
     let either = [
         "x = 1;\ny = 1;\n----------\n==========\n",
@@ -105,7 +105,7 @@ fn last_of_growing(rt: &impl Abort, printed: &str) -> Result<i32, Fail> {
 
 #[test]
 fn one_of_four_workers_prints_ones_that_grow(rt: HostRuntime) -> Result<(), Fail> {
-    let outcome = run(rt.alloc(), GREATEST.as_bytes(), &["-a", "-p", "4"])?;
+    let outcome = run(&rt, rt.alloc(), GREATEST.as_bytes(), &["-a", "-p", "4"])?;
     assert_eq!(rt; outcome.status, Answer::Done);
     let printed = std::str::from_utf8(&outcome.printed)?;
     assert!(rt; printed.ends_with("x = 4;\ny = 0;\n----------\n==========\n"));

@@ -10,7 +10,7 @@ fn a_failing_sink_has_taken_a_front(rt: HostRuntime) -> Result<(), Fail> {
     let alloc = rt.alloc();
     // one block of 18 bytes, and nothing behind it; then the whole text of 65 bytes, which isn't flushed
     for (fails, length) in [(2, 18), (5, 65)] {
-        let outcome = run_failing(alloc, THREE_VALUES, &["-a"], &[], &[fails])?;
+        let outcome = run_failing(&rt, alloc, THREE_VALUES, &["-a"], &[], &[fails])?;
         assert_eq!(rt; outcome.status, Status::SinkFault);
         assert_eq!(rt; outcome.printed.len(), length);
         assert!(rt;
@@ -28,10 +28,10 @@ fn a_failing_sink_has_taken_a_front(rt: HostRuntime) -> Result<(), Fail> {
 #[test]
 fn a_failing_source_prints_nothing(rt: HostRuntime) -> Result<(), Fail> {
     let alloc = rt.alloc();
-    let first_read = run_failing(alloc, THREE_VALUES, &["-a"], &[2], &[])?;
+    let first_read = run_failing(&rt, alloc, THREE_VALUES, &["-a"], &[2], &[])?;
     assert_eq!(rt; first_read.status, Status::SourceFault);
     assert!(rt; first_read.printed.is_empty());
-    let no_such_file = run(alloc, THREE_VALUES, &["-a", "none.fzn"])?;
+    let no_such_file = run(&rt, alloc, THREE_VALUES, &["-a", "none.fzn"])?;
     assert_eq!(rt; no_such_file.status, Status::SourceFault);
     assert!(rt; no_such_file.printed.is_empty());
     Ok(())
@@ -70,7 +70,7 @@ fn words() -> &'static [(&'static [&'static str], bool)] {
 fn the_words_are_options_and_at_most_one_file(rt: HostRuntime) -> Result<(), Fail> {
     for (words, are_accepted) in words() {
         let fails: &[u64] = if *are_accepted { &[] } else { &[1] };
-        let outcome = run_failing(rt.alloc(), b"solve satisfy;", words, fails, fails)?;
+        let outcome = run_failing(&rt, rt.alloc(), b"solve satisfy;", words, fails, fails)?;
         let status = if *are_accepted {
             Status::Done
         } else {

@@ -3,7 +3,9 @@ use crate::running::run;
 use fzn::Status;
 use std::alloc::Global;
 use std::process::Abort;
+use std::sync::Wait;
 use std::test::Fail;
+use std::thread::Threads;
 
 /// A text, the words, and how what is printed ends.
 type Row = (&'static str, &'static [&'static str], &'static str);
@@ -48,7 +50,7 @@ fn ends() -> &'static [Row] {
 #[test]
 fn statistics_are_the_last_lines(rt: HostRuntime) -> Result<(), Fail> {
     for (text, words, end) in ends() {
-        let outcome = run(rt.alloc(), text.as_bytes(), words)?;
+        let outcome = run(&rt, rt.alloc(), text.as_bytes(), words)?;
         assert_eq!(rt; outcome.status, Status::Done);
         assert!(rt; outcome.printed.ends_with(end.as_bytes()));
     }
@@ -56,8 +58,13 @@ fn statistics_are_the_last_lines(rt: HostRuntime) -> Result<(), Fail> {
 }
 
 /// Runs with these words over a source that has an empty text, and compares what is printed.
-fn expect(rt: &impl Abort, alloc: Global, words: &[&str], printed: &str) -> Result<(), Fail> {
-    let outcome = run(alloc, b"", words)?;
+fn expect<R: Abort + Threads + Wait + Sync>(
+    rt: &R,
+    alloc: Global,
+    words: &[&str],
+    printed: &str,
+) -> Result<(), Fail> {
+    let outcome = run(rt, alloc, b"", words)?;
     assert_eq!(rt; outcome.status, Status::Done);
     assert_eq!(rt; outcome.printed.as_slice(), printed.as_bytes());
     Ok(())
@@ -102,7 +109,12 @@ fn a_generated_model_is_summed_up(rt: HostRuntime) -> Result<(), Fail> {
 
 #[test]
 fn a_generated_model_has_no_file(rt: HostRuntime) -> Result<(), Fail> {
-    let outcome = run(rt.alloc(), b"solve satisfy;", &["--generate", "4", "-"])?;
+    let outcome = run(
+        &rt,
+        rt.alloc(),
+        b"solve satisfy;",
+        &["--generate", "4", "-"],
+    )?;
     assert_eq!(rt; outcome.status, Status::Usage);
     assert!(rt; outcome.printed.is_empty());
     Ok(())

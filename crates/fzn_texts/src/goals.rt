@@ -70,10 +70,10 @@ fn best() -> &'static [Row] {
 #[test]
 fn a_best_solution_is_printed_alone_or_last(rt: HostRuntime) -> Result<(), Fail> {
     for (text, printed) in best() {
-        let alone = run(rt.alloc(), text.as_bytes(), &["-n", "5"])?;
+        let alone = run(&rt, rt.alloc(), text.as_bytes(), &["-n", "5"])?;
         assert_eq!(rt; alone.status, Status::Done);
         assert_eq!(rt; alone.printed.as_slice(), printed.as_bytes());
-        let last = run(rt.alloc(), text.as_bytes(), &["-a"])?;
+        let last = run(&rt, rt.alloc(), text.as_bytes(), &["-a"])?;
         assert_eq!(rt; last.status, Status::Done);
         assert!(rt; last.printed.ends_with(printed.as_bytes()));
     }

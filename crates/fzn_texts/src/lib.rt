@@ -15,6 +15,8 @@ mod goals;
 #[cfg(test)]
 mod limits;
 #[cfg(test)]
+mod meeting;
+#[cfg(test)]
 mod refusals;
 #[cfg(test)]
 mod running;
@@ -22,5 +24,7 @@ mod running;
 mod seeds;
 #[cfg(test)]
 mod solutions;
+#[cfg(test)]
+mod threads;
 #[cfg(test)]
 mod turns;

@@ -96,11 +96,11 @@ fn are_dashes(printed: &[u8], end: &[u8]) -> bool {
 #[test]
 fn a_million_solutions_are_listed(rt: HostRuntime) -> Result<(), Fail> {
     let text = b"var 1..1000002: x; solve satisfy;";
-    let all = run(rt.alloc(), text, &["-a"])?;
+    let all = run(&rt, rt.alloc(), text, &["-a"])?;
     assert_eq!(rt; all.status, Status::Done);
     assert_eq!(rt; all.printed.len(), 11 * 1_000_002 + 11);
     assert!(rt; are_dashes(&all.printed, b"==========\n"));
-    let some = run(rt.alloc(), text, &["-n", "1000000"])?;
+    let some = run(&rt, rt.alloc(), text, &["-n", "1000000"])?;
     assert_eq!(rt; some.status, Status::Done);
     assert_eq!(rt; some.printed.len(), 11 * 1_000_000);
     assert!(rt; are_dashes(&some.printed, b""));

@@ -1,5 +1,5 @@
 //! Runs over a text in memory.
-use fz_io::gate::NoGate;
+use fz_io::gate::{Gate, NoGate};
 use fz_io::memory_sink::MemSink;
 use fz_io::memory_source::MemSource;
 use fz_io::texts::NamedText;
@@ -7,7 +7,9 @@ use fz_print::refusal::Refusal;
 use fzn::{Status, fzn};
 use std::alloc::{AllocError, Global};
 use std::process::Abort;
+use std::sync::Wait;
 use std::test::Fail;
+use std::thread::Threads;
 
 /// What a run leaves.
 #[derive(Drop)]
@@ -27,12 +29,36 @@ pub(crate) fn strings(alloc: Global, words: &[&str]) -> Result<Vec<String>, Allo
 }
 
 /// A run over one text, which stands under the names `-` and `m.fzn`, with the calls of these numbers failing.
-pub(crate) fn run_failing(
+pub(crate) fn run_failing<R: Threads + Wait + Sync>(
+    rt: &R,
     alloc: Global,
     text: &[u8],
     words: &[&str],
     source_fails: &[u64],
     sink_fails: &[u64],
+) -> Result<Outcome, AllocError> {
+    run_all(rt, alloc, text, words, source_fails, sink_fails, &NoGate)
+}
+
+/// A run with these words that a gate watches, in which no call fails.
+pub(crate) fn run_watched<R: Threads + Wait + Sync, G: Gate + Sync>(
+    rt: &R,
+    alloc: Global,
+    text: &[u8],
+    words: &[&str],
+    gate: &G,
+) -> Result<Outcome, AllocError> {
+    run_all(rt, alloc, text, words, &[], &[], gate)
+}
+
+fn run_all<R: Threads + Wait + Sync, G: Gate + Sync>(
+    rt: &R,
+    alloc: Global,
+    text: &[u8],
+    words: &[&str],
+    source_fails: &[u64],
+    sink_fails: &[u64],
+    gate: &G,
 ) -> Result<Outcome, AllocError> {
     let mut texts = Vec::new(alloc);
     for name in ["-", "m.fzn"] {
@@ -44,7 +70,7 @@ pub(crate) fn run_failing(
     let words = strings(alloc, words)?;
     let mut source = MemSource::new(texts, Vec::from_slice(alloc, source_fails)?);
     let mut sink = MemSink::new(alloc, Vec::from_slice(alloc, sink_fails)?);
-    let status = fzn(&(), alloc, &words, &mut source, &mut sink, &NoGate);
+    let status = fzn(rt, alloc, &words, &mut source, &mut sink, gate);
     Ok(Outcome {
         status,
         printed: Vec::from_slice(alloc, sink.bytes())?,
@@ -54,8 +80,13 @@ pub(crate) fn run_failing(
 }
 
 /// A run with these words, in which no call fails.
-pub(crate) fn run(alloc: Global, text: &[u8], words: &[&str]) -> Result<Outcome, AllocError> {
-    run_failing(alloc, text, words, &[], &[])
+pub(crate) fn run<R: Threads + Wait + Sync>(
+    rt: &R,
+    alloc: Global,
+    text: &[u8],
+    words: &[&str],
+) -> Result<Outcome, AllocError> {
+    run_failing(rt, alloc, text, words, &[], &[])
 }
 
 /// The pieces between lines of ten dashes, in sorted order, since blocks may come in any.
@@ -70,8 +101,8 @@ pub(crate) fn blocks_of(alloc: Global, printed: &[u8]) -> Result<Vec<String>, Fa
 }
 
 /// Runs a text with `-a`, and compares what is printed, whatever the order of its blocks.
-pub(crate) fn expect_printed(
-    rt: &impl Abort,
+pub(crate) fn expect_printed<R: Abort + Threads + Wait + Sync>(
+    rt: &R,
     alloc: Global,
     text: &[u8],
     printed: &str,
@@ -80,14 +111,14 @@ pub(crate) fn expect_printed(
 }
 
 /// Runs a text with these words, and compares what is printed in that way.
-pub(crate) fn expect_printed_by(
-    rt: &impl Abort,
+pub(crate) fn expect_printed_by<R: Abort + Threads + Wait + Sync>(
+    rt: &R,
     alloc: Global,
     text: &[u8],
     words: &[&str],
     printed: &str,
 ) -> Result<(), Fail> {
-    let outcome = run(alloc, text, words)?;
+    let outcome = run(rt, alloc, text, words)?;
     assert_eq!(rt; outcome.status, Status::Done);
     let got = blocks_of(alloc, &outcome.printed)?;
     let wanted = blocks_of(alloc, printed.as_bytes())?;
@@ -102,15 +133,15 @@ pub(crate) fn expect_printed_by(
 }
 
 /// Runs a text that is refused, and compares the status and what is printed.
-pub(crate) fn expect_refusal(
-    rt: &impl Abort,
+pub(crate) fn expect_refusal<R: Abort + Threads + Wait + Sync>(
+    rt: &R,
     alloc: Global,
     text: &[u8],
     line: u32,
     column: u32,
     code: u8,
 ) -> Result<(), Fail> {
-    let outcome = run(alloc, text, &["-a"])?;
+    let outcome = run(rt, alloc, text, &["-a"])?;
     let refusal = Refusal { code, line, column };
     assert_eq!(rt; outcome.status, Status::Refused(refusal));
     let zero = if code < 10 { "0" } else { "" };

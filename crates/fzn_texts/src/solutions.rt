@@ -124,7 +124,7 @@ fn counts() -> &'static [(&'static [&'static str], usize, bool)] {
 fn as_many_blocks_are_printed_as_are_asked_for(rt: HostRuntime) -> Result<(), Fail> {
     let text = b"var 1..3: x :: output_var; solve satisfy;";
     for (words, length, complete) in counts() {
-        let outcome = run(rt.alloc(), text, words)?;
+        let outcome = run(&rt, rt.alloc(), text, words)?;
         assert_eq!(rt; outcome.status, Status::Done);
         assert_eq!(rt; outcome.printed.len(), *length);
         assert_eq!(rt; outcome.printed.ends_with(b"==========\n"), *complete);

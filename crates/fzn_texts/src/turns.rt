@@ -85,7 +85,7 @@ fn expect_either(rt: &impl Abort, printed: &[u8], one: &str, other: &str) {
 #[test]
 fn a_best_one_of_two_is_printed(rt: HostRuntime) -> Result<(), Fail> {
     let text = b"var 1..2: x :: output_var; var 1..2: y :: output_var; solve minimize x;";
-    let outcome = run(rt.alloc(), text, &["-p", "3", "--interleave", "3"])?;
+    let outcome = run(&rt, rt.alloc(), text, &["-p", "3", "--interleave", "3"])?;
     assert_eq!(rt; outcome.status, Status::Done);
     expect_either(
         &rt,
@@ -100,7 +100,7 @@ fn a_best_one_of_two_is_printed(rt: HostRuntime) -> Result<(), Fail> {
 fn as_many_are_printed_as_are_asked_for(rt: HostRuntime) -> Result<(), Fail> {
     let alloc = rt.alloc();
     let words = ["-n", "2", "-p", "4", "--interleave", "2"];
-    let outcome = run(alloc, THREE_VALUES.as_bytes(), &words)?;
+    let outcome = run(&rt, alloc, THREE_VALUES.as_bytes(), &words)?;
     assert_eq!(rt; outcome.status, Status::Done);
     // Each block of a line of seven bytes and the one of dashes, and nothing behind them.
     assert_eq!(rt; outcome.printed.len(), 36);
@@ -118,7 +118,7 @@ fn as_many_are_printed_as_are_asked_for(rt: HostRuntime) -> Result<(), Fail> {
 fn better_ones_come_one_after_the_other(rt: HostRuntime) -> Result<(), Fail> {
     let alloc = rt.alloc();
     let words = ["-a", "-p", "4", "--interleave", "1"];
-    let outcome = run(alloc, GREATEST.as_bytes(), &words)?;
+    let outcome = run(&rt, alloc, GREATEST.as_bytes(), &words)?;
     assert_eq!(rt; outcome.status, Status::Done);
     assert!(rt;
         outcome

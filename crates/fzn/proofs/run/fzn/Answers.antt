@@ -7,13 +7,13 @@ use Rattle.fzn.proofs.run.fzn.Goals as goal
 
 pub returns-in-Ok-Some-clause-accepted : goal.returns-in-Ok-Some-clause-accepted
 returns-in-Ok-Some-clause-accepted g c = λ source sink.
-    at_options _ (λ o. AnswersAccepted c.run_options.result (text_for o (g.R.Source.texts c.args.source.now o.file))) c.in-Ok-Some.options (rw c.in-Ok-Some.field-0-is at c.in-Ok-Some.ensures)
-    (answers_accepted c.run_options.result _ _ _ _ _ _ _ _ c.run_options.ensures.printed c.run_options.ensures.cause c.run_options.ensures.used source sink)
+    at_options _ (λ o. AnswersAccepted c.run_with.result (text_for o (g.R.Source.texts c.args.source.now o.file))) c.in-Ok-Some.options (rw c.in-Ok-Some.field-0-is at c.in-Ok-Some.ensures)
+    (answers_accepted c.run_with.result _ _ _ _ _ _ _ _ c.run_with.ensures.printed c.run_with.ensures.cause c.run_with.ensures.used source sink)
 
 pub returns-in-Ok-Some-clause-refused : goal.returns-in-Ok-Some-clause-refused
 returns-in-Ok-Some-clause-refused g c = λ source sink.
-    at_options _ (λ o. AnswersRefused c.run_options.result (text_for o (g.R.Source.texts c.args.source.now o.file))) c.in-Ok-Some.options (rw c.in-Ok-Some.field-0-is at c.in-Ok-Some.ensures)
-    (answers_refused c.run_options.result _ _ _ _ _ _ _ _ c.run_options.ensures.printed c.run_options.ensures.cause c.run_options.ensures.used source sink)
+    at_options _ (λ o. AnswersRefused c.run_with.result (text_for o (g.R.Source.texts c.args.source.now o.file))) c.in-Ok-Some.options (rw c.in-Ok-Some.field-0-is at c.in-Ok-Some.ensures)
+    (answers_refused c.run_with.result _ _ _ _ _ _ _ _ c.run_with.ensures.printed c.run_with.ensures.cause c.run_with.ensures.used source sink)
 
 pub returns-in-Err-clause-selected : goal.returns-in-Err-clause-selected
 returns-in-Err-clause-selected g c =

@@ -1,0 +1,6 @@
+use Rattle.std.proofs.Common.{◌≡◌}
+use Rattle.std.specs.Vec.{vec_len}
+use Rattle.fz_search.proofs.team.paths_of.Given as goal
+
+abbrev pub invariant-workers : goal.invariant-workers
+invariant-workers g l = vec_len l.paths ≡ l._worker
