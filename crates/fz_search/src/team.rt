@@ -4,7 +4,7 @@ ghost use Rattle.std.specs.Arc.{arc_value};
 ghost use Rattle.fz_tree.specs.Better.{mode_of};
 ghost use Rattle.fz_search.specs.Searched.{enough_for, IsSearched};
 
-use crate::searching::{ADAPTIVE_DISTANCE, begin, enough_for, mode_of, shows_all};
+use crate::searching::{begin, enough_for, mode_of, shows_all};
 use fz_account::Mode;
 use fz_book::Book;
 use fz_cmd::Options;
@@ -75,9 +75,10 @@ fn paths_of<S: SearchSpace>(
     ensures several { IfOk result (λ v. (1 ≤ vec_len v) × (vec_len v ≤ 64)) }
 {
     let distance = options.commit_distance();
+    let adaptive = options.adaptive_distance();
     let mut paths = Vec::new(alloc);
     'workers: for _worker in 0..options.workers() {
-        paths.push(Path::idle(alloc, model.clone()?, mode, distance, ADAPTIVE_DISTANCE)?)?;
+        paths.push(Path::idle(alloc, model.clone()?, mode, distance, adaptive)?)?;
     }
     Ok(paths)
 }
@@ -96,8 +97,9 @@ fn finish_book<S: SearchSpace>(
 {
     let mut book = book;
     let distance = options.commit_distance();
+    let adaptive = options.adaptive_distance();
     let mode = mode_of(model.goal());
-    let mut path: Path<S> = Path::idle(alloc, model.clone()?, mode, distance, ADAPTIVE_DISTANCE)?;
+    let mut path: Path<S> = Path::idle(alloc, model.clone()?, mode, distance, adaptive)?;
     let enough = enough_for(model.goal(), options);
     finish(&mut book, &mut path, enough, shows_all(options))?;
     Ok(book)
