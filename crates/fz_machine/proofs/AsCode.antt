@@ -1,7 +1,7 @@
 -- Events as the code says them: s is the machine by its fields, i the number of a worker, read the worker as it is read there.
-use Rattle.std.proofs.Common.{◌≡◌, ◌∙◌, ℕ, ◌<◌, ◌≤◌, ◌^◌, replicate, List, length, set, get_or, Bool, true, false, not, ◌&&◌, eqb, ap, sym, subst, refl, arith, Option, Some, None, IfSome, Result, Ok, Err}
+use Rattle.std.proofs.Common.{◌≡◌, ◌∙◌, ℕ, ◌<◌, ◌≤◌, ◌^◌, replicate, List, length, set, get_or, Bool, true, false, not, ◌&&◌, eqb, ap, sym, subst, refl, arith, Option, Some, None, IfNone, IfSome, Result, Ok, Err}
 use Rattle.std.specs.Prelude.{ℤ, is_some, IfOk, OnErr, nat_lt}
-use Rattle.std.specs.List.{slice_get}
+use Rattle.std.specs.List.{slice_get, list_all}
 use Rattle.std.proofs.lemmas.List.{set-get_or}
 use Rattle.std.proofs.lemmas.Option.{slice_get_within, get_or_from_slice_get, slice_get_read}
 use Rattle.std.proofs.lemmas.Bool.{and_parts, ltb-true}
@@ -12,7 +12,7 @@ use Rattle.fz_tree.specs.Frontier.{Frontier, part_of}
 use Rattle.fz_tree.specs.Account.{Account, with_given}
 use Rattle.fz_spec.specs.Instance.{Instance}
 use Rattle.fz_tree.specs.Better.{mode_of}
-use Rattle.fz_tree.specs.Book.{Book, Claims, Takes, opening}
+use Rattle.fz_tree.specs.Book.{Book, Claims, Takes, opening, is_claimed}
 use Rattle.fz_account.specs.declared.account.Learned.{Learned}
 use Rattle.fz_path.specs.declared.step.Step as stepping
 use Rattle.fz_path.specs.declared.step.Step.TheVariants as steps
@@ -321,3 +321,33 @@ pub new_law : (m : Instance) (mode : Mode) (n commit adaptive : ℕ) (slots : Li
 new_law m mode n commit adaptive slots b own several numbered one two is book =
     let core : List Worker → Book → Core = λ ws x. record { workers = ws; book = x } in
     subst CoreLaw (sym (ap (λ (ws : List Worker). core ws b) is ∙ ap (core (replicate n (idle m mode commit adaptive))) book)) (start_law m mode n commit adaptive own several numbered one two)
+
+-- ---- where lawful events look
+
+-- a claim finds one that nobody has claimed
+pub some_unclaimed : (s old : Core) (i : ℕ) (o : Option Frontier) → s ≡ old → is_lawful old (Claim i) ≡ true → o ≡ None → IfNone o (list_all is_claimed s.book.parts ≡ true) → ⊥
+some_unclaimed s old i o view lawful is all =
+    let open_part : has_unclaimed old.book ≡ true = (and_parts (is_free (worker_at old i)) (has_unclaimed old.book) lawful).1 in
+    let closed : list_all is_claimed s.book.parts ≡ true = subst (λ (p : Option Frontier). IfNone p (list_all is_claimed s.book.parts ≡ true)) is all in
+    let bad : not true ≡ true = subst (λ (b : Bool). not b ≡ true) closed (subst (λ (x : Core). has_unclaimed x.book ≡ true) (sym view) open_part) in cc
+
+-- by a worker that there is
+pub claims_within : (s old : Core) (i : ℕ) → s ≡ old → is_lawful old (Claim i) ≡ true → i < length s.workers
+claims_within s old i view lawful =
+    let f = free (worker_at old i) (and_parts (is_free (worker_at old i)) (has_unclaimed old.book) lawful).0 in
+    slice_get_within s.workers i f.worker (subst (λ (x : Core). worker_at x i ≡ Some f.worker) (sym view) f.at)
+
+pub learns_within : (s old : Core) (w i : ℕ) → s ≡ old → is_lawful old (Learn w i) ≡ true → w < length s.workers
+learns_within s old w i view lawful =
+    let at = some_is_there (worker_at old w) (and_parts (is_some (worker_at old w)) (nat_lt i (length (improving old.book))) lawful).0 in
+    slice_get_within s.workers w at.0 (subst (λ (x : Core). worker_at x w ≡ Some at.0) (sym view) at.1)
+
+improving_within : (mode : Mode) (recorded : List (List ℤ)) (i : ℕ) → i < length (improving_in mode recorded) → i < length recorded
+improving_within All recorded i h = absurd (omega (arith, h))
+improving_within Best recorded i h = h
+
+-- of a number that is recorded
+pub learns_recorded : (s old : Core) (w i : ℕ) (recorded : List (List ℤ)) → s ≡ old → is_lawful old (Learn w i) ≡ true → recorded ≡ s.book.recorded → i < length recorded
+learns_recorded s old w i recorded view lawful is =
+    let low = ltb-true i (length (improving old.book)) (and_parts (is_some (worker_at old w)) (nat_lt i (length (improving old.book))) lawful).1 in
+    rw is (improving_within s.book.mode s.book.recorded i (subst (λ (x : Core). i < length (improving x.book)) (sym view) low))

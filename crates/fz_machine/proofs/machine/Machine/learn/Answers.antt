@@ -1,9 +1,21 @@
-use Rattle.std.proofs.Common.{sym, subst}
+use Rattle.std.proofs.Common.{◌≡◌, ◌<◌, length, sym, subst, rules}
+use Rattle.std.specs.Vec.{vec_len}
 use Rattle.fz_core.specs.declared.event.Event.TheVariants as event
 use Rattle.fz_core.specs.Cores.{Core, CoreLaw}
 use Rattle.fz_core.proofs.Keeping.{event_keeps}
-use Rattle.fz_machine.proofs.AsCode.{on_err, learn_code, unlearned_code}
+use Rattle.fz_machine.proofs.AsCode.{on_err, learn_code, unlearned_code, learns_within, learns_recorded}
 use Rattle.fz_machine.proofs.machine.Machine.learn.Goals as goal
+
+pub bounds-recorded-number : goal.bounds-recorded-number
+bounds-recorded-number g c =
+    let s : Core = record { workers = c.self.inside.workers.items; book = c.self.inside.book.book } in
+    learns_recorded s c.args.self.now c.args.worker c.args.number c.recorded.result.now c.self.view_is c.requires c.recorded.ensures.recorded
+
+pub index_mut-requires : goal.index_mut-requires
+index_mut-requires g c =
+    let s : Core = record { workers = c.self.inside.workers.items; book = c.self.inside.book.book } in
+    let long : vec_len c.self.inside.workers ≡ length c.self.inside.workers.items = search rules in
+    subst (λ n. c.args.worker < n) (sym long) (learns_within s c.args.self.now c.args.worker c.args.number c.self.view_is c.requires)
 
 pub returns-in_err-learned-clause-err : goal.returns-in_err-learned-clause-err
 returns-in_err-learned-clause-err g c =
