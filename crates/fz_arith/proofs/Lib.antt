@@ -1,4 +1,6 @@
 pub mod Quotients
 pub mod Between
+pub mod Same
+pub mod Sizing
 pub mod Places
 pub mod Steps

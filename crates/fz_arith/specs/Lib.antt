@@ -1,2 +1,3 @@
 pub mod Extremes
+pub mod Factors
 pub mod Narrowing

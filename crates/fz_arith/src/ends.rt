@@ -2,6 +2,8 @@
 ghost use Rattle.std.specs.Prelude.{◌≡◌, ◌≢◌, ◌<◌, ℤ, pos, neg_ℤ, ◌+ℤ◌, ◌-ℤ◌, ◌*ℤ◌, ◌<ℤ◌, int_div, int_lt, List, [], ◌∷◌, ◌⊎◌, length, map, if◌then◌else◌};
 ghost use Rattle.std.specs.Int.{int_min, int_max};
 ghost use Rattle.std.specs.List.{AllByRecursion, fold};
+ghost use Rattle.fz_sets.specs.Sets.{IsInSet};
+ghost use Rattle.fz_dom.specs.Changes.{IsFromTo};
 ghost use Rattle.fz_strength.specs.Domains.{term_set};
 ghost use Rattle.fz_strength.specs.Operations.{size_between, least_size, low_of, high_of, between, own_bounds, remainder, corner_bounds, difference_bounds, quotient_bounds, remainder_bounds, signed_bounds, result_bounds};
 ghost use Rattle.fz_strength.specs.declared.operation.Operation.TheVariants.{Plus, Times, Abs};
@@ -116,7 +118,9 @@ pub fn product_bounds(store: &Store, x: Term, y: Term, value: Term) -> Bounds
 /// A term between its own ends.
 pub fn own_bounds(store: &Store, term: Term) -> Bounds
     requires { IsTermOf (length store.now.doms) term }
-    ensures { result ≡ own_bounds term store.now.doms }
+    ensures bounds { result ≡ own_bounds term store.now.doms }
+    ensures between { (u : ℤ) → IsInSet (term_set store.now.doms term) u
+        → IsFromTo result.low result.high u }
 {
     Bounds {
         term,

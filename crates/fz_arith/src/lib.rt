@@ -6,6 +6,7 @@
 pub mod arithmetic;
 mod bounds;
 mod ends;
+mod factors;
 mod narrow;
 
 pub use arithmetic::Arithmetic;

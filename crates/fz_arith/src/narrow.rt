@@ -10,6 +10,7 @@ ghost use Rattle.fz_prop.specs.Stores.{Shrinks, IsStore, IsTermOf, IsTermChange,
 ghost use Rattle.fz_arith.specs.Narrowing.{IsClamped, IsDivided, IsStep};
 
 use crate::bounds::bounds_at;
+use crate::factors::keep_factors;
 use fz_prop::terms::{are_fixed, remove, value_of};
 use fz_prop::{Answer, Change, Store};
 use fz_spec::term::Term;
@@ -18,6 +19,30 @@ use std::alloc::AllocError;
 
 /// Narrows a store so that a term is what an operation makes of others.
 pub fn keep_equation(
+    store: &mut Store,
+    operation: Operation,
+    operands: &[Term],
+    value: Term,
+) -> Result<Answer, AllocError>
+    requires value { IsTermOf (length store.old.doms) value }
+    requires operands { AllByRecursion (IsTermOf (length store.old.doms)) operands.now }
+    ensures shrinks { Shrinks store.old store.new }
+    ensures correct { IsCorrectOf (EquationTruth (equation operation operands.now value))
+        store.old.doms store.new.doms }
+    ensures answer { IfOk result
+        (λ r. IsAnswerOf r (EquationTruth (equation operation operands.now value))
+        (IsEquationLine (equation operation operands.now value))
+        store.old.doms store.new.doms) }
+{
+    let left = keep_factors(store, operation, operands, value)?;
+    if !left {
+        return Ok(Answer::Failed);
+    }
+    keep_bounds(store, operation, operands, value)
+}
+
+/// Keeps each term between the bounds that the ends of the others give.
+fn keep_bounds(
     store: &mut Store,
     operation: Operation,
     operands: &[Term],
@@ -113,7 +138,7 @@ fn step(
 }
 
 /// Keeps the numbers of a term that lie between its bounds.
-fn keep_between(store: &mut Store, bounds: Bounds) -> Result<Change, AllocError>
+pub fn keep_between(store: &mut Store, bounds: Bounds) -> Result<Change, AllocError>
     requires { IsTermOf (length store.old.doms) bounds.term }
     ensures shrinks { Shrinks store.old store.new }
     ensures err { OnErr result (store.new ≡ store.old) }

@@ -1,6 +1,6 @@
 use Rattle.fz_strength.specs.Operations.{equation}
 use Rattle.fz_arith.proofs.Steps.{IsNarrowing}
-use Rattle.fz_arith.proofs.narrow.keep_equation.Given as goal
+use Rattle.fz_arith.proofs.narrow.keep_bounds.Given as goal
 
 -- the terms so far were kept between their bounds
 abbrev pub invariant-loop-place : goal.invariant-loop-place

@@ -1,0 +1,135 @@
+-- Roots of squares, sizes of factors, and what is kept of them.
+use Rattle.std.proofs.Common.{◌≡◌, ℕ, zero, suc, ◌+◌, ◌-◌, ◌*◌, ◌<◌, ◌≤◌, List, [], ◌∷◌, refl, sym, subst, ◌∙◌, arith, length, ◌⊎◌, inl, inr, Result, Ok, Err}
+use Rattle.std.specs.Prelude.{ℤ, pos, negsuc, neg_ℤ, ◌*ℤ◌, ◌≤ℤ◌, ◌<ℤ◌, OnErr, IfOk}
+use Rattle.std.proofs.lemmas.Int.{ints, clamps, by_lt_z}
+use Rattle.std.proofs.Math.IntN.{pos-*ℤ-pos, pos-*ℤ-negsuc, negsuc-*ℤ-pos, negsuc-*ℤ-negsuc, *ℤ_comm}
+use Rattle.fz_sets.specs.Sets.{IsInSet}
+use Rattle.fz_dom.specs.Changes.{IsFromTo}
+use Rattle.fz_dom.specs.declared.change.Change.{Change}
+use Rattle.fz_dom.specs.declared.change.Change.TheVariants.{Wiped}
+use Rattle.fz_spec.specs.declared.term.Term.{Term}
+use Rattle.fz_spec.specs.Constraints.{term_value}
+use Rattle.fz_strength.specs.declared.operation.Operation.TheVariants.{Times}
+use Rattle.fz_strength.specs.Domains.{term_set, Within}
+use Rattle.fz_strength.specs.Operations.{Equation, equation, EquationTruth}
+use Rattle.fz_prop.specs.Answers.{IsCorrectOf}
+use Rattle.fz_prop.specs.Stores.{Stored, Shrinks, IsTermOf, IsTermChange}
+use Rattle.fz_prop.proofs.TermChanges.{term_within, within_kept, none_kept}
+use Rattle.fz_arith.specs.Factors.{IsNever, IsRoot}
+
+-- ---- roots
+
+-- a square, and the size of what is squared
+pub square : (u : ℤ) → (v : ℕ) × ((u *ℤ u) ≡ pos (v * v)) × ((u ≡ pos v) ⊎ (u ≡ neg_ℤ (pos v)))
+square (pos m) = (m, pos-*ℤ-pos m m, inl refl)
+square (negsuc m) = (suc m, negsuc-*ℤ-negsuc m m, inr refl)
+
+squares_rise : (a d : ℕ) → a * a ≤ (a + d) * (a + d)
+squares_rise a d = omega arith
+
+square_of : (a v : ℕ) → a ≤ v → a * a ≤ v * v
+square_of a v to =
+    let e : v ≡ a + (v - a) = omega (arith, to) in
+    subst (λ (k : ℕ). a * a ≤ k * k) (sym e) (squares_rise a (v - a))
+
+pub below_root : (n : ℤ) (root v : ℕ) → IsRoot n root → pos (v * v) ≤ℤ n → v ≤ root
+below_root n root v is at = by_lt_z (pos root) (pos v)
+    (λ over. let rise = square_of (root + 1) v (omega (arith, ints, over)) in let next = is.1 in absurd (omega (arith, ints, rise, next, at)))
+    (λ to. omega (arith, ints, to))
+
+pub root_least : (n : ℤ) (root v : ℕ) → IsRoot n root → (n <ℤ pos (v * v)) → pos 0 ≤ℤ n → root < v
+root_least n root v is at from = by_lt_z (pos root) (pos v)
+    (λ under. omega (arith, ints, under))
+    (λ to. let rise = square_of v root (omega (arith, ints, to)) in let below = is.0 in absurd (omega (arith, ints, clamps, rise, below, at, from)))
+
+-- the root of a square between two numbers
+pub root_between : (u most least low high : ℤ) (n m : ℤ) (root : ℕ) → IsRoot m root → most ≡ pos root → ((v : ℕ) → n ≤ℤ pos (v * v) → least ≤ℤ pos v)
+    → n ≤ℤ (u *ℤ u) → (u *ℤ u) ≤ℤ m → low ≤ℤ u → u ≤ℤ high
+    → (neg_ℤ most ≤ℤ u) × (u ≤ℤ most) × (neg_ℤ least <ℤ low → least ≤ℤ u) × (high <ℤ least → u ≤ℤ neg_ℤ least)
+root_between u most least low high n m root is of_most is_least from to in_low in_high =
+    let s = square u in
+    let v = s.0 in
+    let small : v ≤ root = below_root m root v is (rw s.1 at to) in
+    let large : least ≤ℤ pos v = is_least v (rw s.1 at from) in
+    elim s.2 [
+      | inl e ↦ (
+        omega (arith, ints, e, small, of_most),
+        omega (arith, ints, e, small, of_most),
+        (λ above. omega (arith, ints, e, large)),
+        (λ below. omega (arith, ints, e, large, below, in_high)),
+      )
+      | inr e ↦ (
+        omega (arith, ints, e, small, of_most),
+        omega (arith, ints, e, small, of_most),
+        (λ above. omega (arith, ints, e, large, above, in_low)),
+        (λ below. omega (arith, ints, e, large)),
+      )
+    ]
+
+-- ---- factors
+
+-- a factor of what isn't 0 is no larger than it
+pub factor_size : (u w m : ℤ) → ((u *ℤ w) ≡ pos 0 → ⊥) → neg_ℤ m ≤ℤ (u *ℤ w) → (u *ℤ w) ≤ℤ m → IsFromTo (neg_ℤ m) m u
+factor_size (pos a) (pos zero) m not low high = let e : (pos a *ℤ pos 0) ≡ pos (a * 0) = pos-*ℤ-pos a 0 in absurd (not (omega (arith, ints, e)))
+factor_size (pos a) (pos (suc b)) m not low high =
+    let to : pos (a * suc b) ≤ℤ m = rw (pos-*ℤ-pos a (suc b)) at high in
+    (omega (arith, ints, to), omega (arith, ints, to))
+factor_size (pos a) (negsuc b) m not low high =
+    let from : neg_ℤ m ≤ℤ neg_ℤ (pos (a * suc b)) = rw (pos-*ℤ-negsuc a b) at low in
+    (omega (arith, ints, from), omega (arith, ints, from))
+factor_size (negsuc a) (pos zero) m not low high = let e : (negsuc a *ℤ pos 0) ≡ neg_ℤ (pos (suc a * 0)) = negsuc-*ℤ-pos a 0 in absurd (not (omega (arith, ints, e)))
+factor_size (negsuc a) (pos (suc b)) m not low high =
+    let from : neg_ℤ m ≤ℤ neg_ℤ (pos (suc a * suc b)) = rw (negsuc-*ℤ-pos a (suc b)) at low in
+    (omega (arith, ints, from), omega (arith, ints, from))
+factor_size (negsuc a) (negsuc b) m not low high =
+    let to : pos (suc a * suc b) ≤ℤ m = rw (negsuc-*ℤ-negsuc a b) at high in
+    (omega (arith, ints, to), omega (arith, ints, to))
+
+-- ---- what is kept
+
+pub kept_correct : {E : Type 0} (o : Result Change E) (t : Term) (P : ℤ → Type 0) (e : Equation) (r s : Stored) → ((a : List ℤ) → Within r.doms a → EquationTruth e a → P (term_value a t))
+    → OnErr o (s ≡ r) → IfOk o (λ change. IsTermChange change t P r s) → Shrinks r s → IsCorrectOf (EquationTruth e) r.doms s.doms
+kept_correct {E} (Ok change) t P e r s needs err h shrinks = λ a holds within. within_kept change t P r s a h shrinks within (needs a within holds)
+kept_correct {E} (Err error) t P e r s needs err h shrinks = λ a holds within. subst (λ (u : Stored). Within u.doms a) (sym err) within
+
+pub kept_never : (answer : Change) (t : Term) (P : ℤ → Type 0) (e : Equation) (r s : Stored) → answer ≡ Wiped → IsTermOf (length r.doms) t
+    → ((a : List ℤ) → Within r.doms a → EquationTruth e a → P (term_value a t)) → IsTermChange answer t P r s → IsNever e r.doms
+kept_never answer t P e r s wiped is needs h = λ a within holds.
+    none_kept t P r s (subst (λ (c : Change). IsTermChange c t P r s) wiped h) (term_value a t) (term_within r.doms a t is within) (needs a within holds)
+
+-- ---- what the bounds say of an assignment
+
+pub needs_root : (x z : Term) (ds : List (List (ℤ × ℤ))) (low high : ℤ) → IsTermOf (length ds) x → IsTermOf (length ds) z
+    → ((u : ℤ) → IsInSet (term_set ds x) u → IsInSet (term_set ds z) (u *ℤ u) → IsFromTo low high u)
+    → (a : List ℤ) → Within ds a → EquationTruth (equation Times (x ∷ x ∷ []) z) a → IsFromTo low high (term_value a x)
+needs_root x z ds low high is_x is_z between = λ a within holds.
+    between (term_value a x) (term_within ds a x is_x within) (subst (IsInSet (term_set ds z)) (sym holds) (term_within ds a z is_z within))
+
+pub needs_first : (x y z : Term) (ds : List (List (ℤ × ℤ))) (low high : ℤ) → IsTermOf (length ds) x → IsTermOf (length ds) z
+    → ((u w : ℤ) → IsInSet (term_set ds x) u → IsInSet (term_set ds z) (u *ℤ w) → IsFromTo low high u)
+    → (a : List ℤ) → Within ds a → EquationTruth (equation Times (x ∷ y ∷ []) z) a → IsFromTo low high (term_value a x)
+needs_first x y z ds low high is_x is_z between = λ a within holds.
+    between (term_value a x) (term_value a y) (term_within ds a x is_x within) (subst (IsInSet (term_set ds z)) (sym holds) (term_within ds a z is_z within))
+
+pub needs_second : (x y z : Term) (ds : List (List (ℤ × ℤ))) (low high : ℤ) → IsTermOf (length ds) y → IsTermOf (length ds) z
+    → ((u w : ℤ) → IsInSet (term_set ds y) u → IsInSet (term_set ds z) (u *ℤ w) → IsFromTo low high u)
+    → (a : List ℤ) → Within ds a → EquationTruth (equation Times (x ∷ y ∷ []) z) a → IsFromTo low high (term_value a y)
+needs_second x y z ds low high is_y is_z between = λ a within holds.
+    between (term_value a y) (term_value a x) (term_within ds a y is_y within)
+    (subst (IsInSet (term_set ds z)) (sym (*ℤ_comm (term_value a y) (term_value a x) ∙ holds)) (term_within ds a z is_z within))
+
+pub first_kept : {E : Type 0} (o : Result Change E) (x y z t : Term) (low high : ℤ) (r s : Stored) → t ≡ x → IsTermOf (length r.doms) x → IsTermOf (length r.doms) z
+    → ((u w : ℤ) → IsInSet (term_set r.doms x) u → IsInSet (term_set r.doms z) (u *ℤ w) → IsFromTo low high u)
+    → OnErr o (s ≡ r) → IfOk o (λ change. IsTermChange change t (λ u. IsFromTo low high u) r s) → Shrinks r s
+    → IsCorrectOf (EquationTruth (equation Times (x ∷ y ∷ []) z)) r.doms s.doms
+first_kept {E} o x y z t low high r s is is_x is_z between err kept shrinks =
+    kept_correct o x (λ u. IsFromTo low high u) (equation Times (x ∷ y ∷ []) z) r s (needs_first x y z r.doms low high is_x is_z between) err
+    (subst (λ (v : Term). IfOk o (λ change. IsTermChange change v (λ u. IsFromTo low high u) r s)) is kept) shrinks
+
+pub second_kept : {E : Type 0} (o : Result Change E) (x y z t : Term) (low high : ℤ) (r s : Stored) → t ≡ y → IsTermOf (length r.doms) y → IsTermOf (length r.doms) z
+    → ((u w : ℤ) → IsInSet (term_set r.doms y) u → IsInSet (term_set r.doms z) (u *ℤ w) → IsFromTo low high u)
+    → OnErr o (s ≡ r) → IfOk o (λ change. IsTermChange change t (λ u. IsFromTo low high u) r s) → Shrinks r s
+    → IsCorrectOf (EquationTruth (equation Times (x ∷ y ∷ []) z)) r.doms s.doms
+second_kept {E} o x y z t low high r s is is_y is_z between err kept shrinks =
+    kept_correct o y (λ u. IsFromTo low high u) (equation Times (x ∷ y ∷ []) z) r s (needs_second x y z r.doms low high is_y is_z between) err
+    (subst (λ (v : Term). IfOk o (λ change. IsTermChange change v (λ u. IsFromTo low high u) r s)) is kept) shrinks
