@@ -49,7 +49,7 @@ fn all_of_a_thousand_assignments_are_printed(rt: HostRuntime) -> Result<(), Fail
     for words in distances() {
         let mut all = Vec::from_slice(alloc, words)?;
         all.push("-a")?;
-        let outcome = run(alloc, text, &all)?;
+        let outcome = run(&rt, alloc, text, &all)?;
         assert_eq!(rt; outcome.status, Status::Done);
         assert_eq!(rt; outcome.printed.len(), 1023 * 11 + 11);
     }

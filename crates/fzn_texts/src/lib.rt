@@ -3,6 +3,7 @@
 
 #[cfg(test)]
 mod complaints;
+#[cfg(test)]
 mod copies;
 #[cfg(test)]
 mod examples;
