@@ -70,6 +70,7 @@ fn unknown(item: &ConstraintItem<'_>) -> Fault
     )
 }
 
+/// The constraint of an item whose name stands in this row of the table, or the first rule that it breaks.
 fn call_of_row<'a>(
     alloc: Global,
     names: &Names<'a>,
@@ -111,6 +112,8 @@ fn signature_of(signatures: Signatures, arity: usize) -> Option<&'static [Asked]
     None
 }
 
+/// The constraint of an item whose arguments are as many as this signature asks, or the first rule that it breaks; floats among
+/// them are told first.
 fn signed<'a>(
     alloc: Global,
     names: &Names<'a>,
@@ -214,6 +217,7 @@ fn lengths_of(alloc: Global, arguments: &[Argument]) -> Result<Vec<usize>, Alloc
     Ok(lengths)
 }
 
+/// Adds the length of an argument that is a list.
 fn push_length(lengths: &mut Vec<usize>, argument: &Argument) -> Result<(), AllocError>
     ensures { OnOk result (lengths.new.items ≡ lengths.old.items
         ++ meaning.list_lengths (argument_of argument.now ∷ [])) }
@@ -237,6 +241,7 @@ fn have_lengths(asked: Lengths, lengths: &[usize]) -> bool
     }
 }
 
+/// Whether all lengths are this one.
 fn are_all(length: usize, lengths: &[usize]) -> bool
     ensures { result ≡ list_all (λ m. m == length) lengths.now }
 {

@@ -36,6 +36,7 @@ pub(crate) fn variable_fault<'a>(names: &Names<'a>, item: &VariableItem<'a>) -> 
     or_else(or_else(or_else(unsupported, unknown), wrong), twice)
 }
 
+/// The place of the first name in a value that nothing declares.
 fn unknown_in_value<'a>(names: &Names<'a>, value: &Option<Basic<'a>>) -> Option<u32>
     ensures { result ≡ slice_get (rules.unknown_of_value (environment_of names.now)
         (option_map trees.basic_of value.now)) 0 }
@@ -46,6 +47,7 @@ fn unknown_in_value<'a>(names: &Names<'a>, value: &Option<Basic<'a>>) -> Option<
     }
 }
 
+/// The place of the first thing at a variable that is of a wrong type: an annotation of arrays, or its value.
 fn wrong_at_variable<'a>(names: &Names<'a>, item: &VariableItem<'a>) -> Option<u32>
     ensures { let v = trees.variable_item_of item.now in
         result ≡ slice_get (rules.output_array_places v.annotations
@@ -55,6 +57,7 @@ fn wrong_at_variable<'a>(names: &Names<'a>, item: &VariableItem<'a>) -> Option<u
     first_place(misplaced, wrong_value(names, &item.value_type, &item.value))
 }
 
+/// The place of a value that its type does not allow.
 fn wrong_value<'a>(
     names: &Names<'a>,
     value_type: &ValueType,

@@ -91,6 +91,7 @@ impl<'a> Draft<'a> {
         }
     }
 
+    /// Adds a variable item, or tells the first rule that it breaks.
     fn variable(
         &mut self,
         alloc: Global,
@@ -115,6 +116,7 @@ impl<'a> Draft<'a> {
         }
     }
 
+    /// Adds a variable: with its name, the equation with its value, and its output.
     fn declare_variable(&mut self, alloc: Global, item: &VariableItem<'a>) -> Result<(), AllocError>
         requires few { length self.old.variables.items ≤ VARIABLE_LIMIT }
         requires fits { TypeFits (trees.type_of item.now.value_type) }
@@ -133,6 +135,7 @@ impl<'a> Draft<'a> {
             .declare(item.name, Entry::Variable { kind, number })
     }
 
+    /// Adds a parameter item, or tells the first rule that it breaks.
     fn parameter(
         &mut self,
         alloc: Global,
@@ -157,6 +160,7 @@ impl<'a> Draft<'a> {
         }
     }
 
+    /// Adds a parameter to the names.
     fn declare_parameter(&mut self, name: Name<'a>, entry: Option<Entry>) -> Result<(), AllocError>
         ensures { OnOk result ((p : lang.ParameterItem) → p.name ≡ trees.name_of name.entry
             → option_map meant entry
@@ -169,6 +173,7 @@ impl<'a> Draft<'a> {
         }
     }
 
+    /// Adds an array item, or tells the first rule that it breaks.
     fn array(
         &mut self,
         alloc: Global,
@@ -193,6 +198,7 @@ impl<'a> Draft<'a> {
         }
     }
 
+    /// Adds an array: with its name, what binds its elements to a set, and its output.
     fn declare_array(
         &mut self,
         alloc: Global,
@@ -217,6 +223,7 @@ impl<'a> Draft<'a> {
         Ok(())
     }
 
+    /// Adds a constraint item, or tells the first rule that it breaks.
     fn constraint(
         &mut self,
         alloc: Global,
@@ -236,6 +243,7 @@ impl<'a> Draft<'a> {
         }
     }
 
+    /// Adds a constraint, or tells the limit that its item goes over.
     fn push_constraint(
         &mut self,
         item: &Item<'a>,
@@ -269,6 +277,7 @@ fn place_of(entry: &Result<Entry, u32>) -> Option<u32>
     }
 }
 
+/// Adds a variable with the domain of its type.
 fn push_variable(
     alloc: Global,
     variables: &mut Vec<Variable>,

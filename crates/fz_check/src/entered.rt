@@ -35,6 +35,7 @@ pub(crate) fn parameter_entry<'a>(
     }
 }
 
+/// What a parameter of one number or Boolean stands for.
 fn one_value<'a>(names: &Names<'a>, kind: Kind, basic: &Basic<'a>) -> Option<Entry>
     ensures { option_map meant result
         ≡ value_entry kind (entries.term_in (environment_of names.now)
@@ -62,6 +63,7 @@ fn number_of(term: Term) -> i32
     }
 }
 
+/// What a parameter that is a set stands for.
 fn set_value<'a>(
     alloc: Global,
     names: &Names<'a>,
@@ -97,6 +99,7 @@ pub(crate) fn array_entry<'a>(
     }
 }
 
+/// What an array of variables stands for, or the place of its first element of a wrong type.
 fn term_list<'a>(
     alloc: Global,
     names: &Names<'a>,
@@ -125,6 +128,7 @@ fn terms_entry(alloc: Global, kind: Kind, terms: Vec<Term>) -> Result<Entry, All
     Ok(Entry::Terms(list))
 }
 
+/// What an array of numbers or Booleans stands for, or the place of its first element of a wrong type.
 fn number_list<'a>(
     alloc: Global,
     names: &Names<'a>,
@@ -149,6 +153,7 @@ fn numbers_entry(alloc: Global, kind: Kind, numbers: Vec<i32>) -> Result<Entry, 
     Ok(Entry::Numbers(list))
 }
 
+/// What an array of sets stands for, or the place of its first element of a wrong type.
 fn set_list<'a>(
     alloc: Global,
     names: &Names<'a>,
@@ -178,6 +183,7 @@ fn sets_of_integers(integers: &[Integer]) -> Result<Entry, u32>
     }
 }
 
+/// That all of these expressions are sets, or the place of the first that is none.
 fn sets_of_basics<'a>(
     alloc: Global,
     names: &Names<'a>,

@@ -59,6 +59,7 @@ pub(crate) fn room_behind(fault: Option<Fault>, room: Room, item: &Item<'_>) -> 
     }
 }
 
+/// The room behind an item that breaks no other rule, or the limit that it goes over.
 fn room_left(room: Room, item: &Item<'_>) -> Result<Room, Fault>
     ensures { (n : Counts) → IsRoom room n → MatchResult result
         (λ left. (over n (additions (item_of item.now)) ≡ [])

@@ -55,6 +55,7 @@ fn integer_set(alloc: Global) -> Result<Dom, AllocError>
     Ok(set)
 }
 
+/// The domain of a variable of a plain type: 0 and 1, all integers, or the written set.
 fn plain_set(alloc: Global, plain: &Plain) -> Result<Dom, AllocError>
     requires { PlainFits (trees.plain_of plain.now) }
     ensures { IfOk result (λ set. set ≡ models.plain_set (trees.plain_of plain.now)) }
@@ -112,6 +113,7 @@ pub(crate) fn push_value(
     Ok(())
 }
 
+/// The constraint that a variable equals a term.
 fn equal_to(alloc: Global, kind: Kind, number: u32, value: Term) -> Result<Constraint, AllocError>
     ensures { IfOk result (λ c. c ≡ models.equal_to kind (Var number) value) }
 {
@@ -145,6 +147,7 @@ pub(crate) fn push_scalar(
     Ok(())
 }
 
+/// The output of one variable.
 fn scalar(alloc: Global, name: Name<'_>, kind: Kind, number: u32) -> Result<Output, AllocError>
     ensures { IfOk result (λ o. o
         ≡ record {
@@ -191,6 +194,7 @@ pub(crate) fn push_bounds(
     }
 }
 
+/// Adds for each term the constraint that it lies in the set of its type.
 fn push_bound_terms(
     alloc: Global,
     constraints: &mut Vec<Constraint>,
@@ -209,6 +213,7 @@ fn push_bound_terms(
     Ok(())
 }
 
+/// The constraint that a term lies in the set of its type.
 fn bound_to(alloc: Global, value_type: &ValueType, term: Term) -> Result<Constraint, AllocError>
     requires { TypeFits (trees.type_of value_type.now) }
     ensures { IfOk result (λ c. c
@@ -247,6 +252,7 @@ pub(crate) fn push_array(
     }
 }
 
+/// The output of an array.
 fn array(
     alloc: Global,
     name: Name<'_>,

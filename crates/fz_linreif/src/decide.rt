@@ -4,7 +4,7 @@ ghost use Rattle.fz_strength.specs.ReifiedSums.{AllRelate, NoneRelate};
 
 use fz_strength::relation::Relation;
 
-/// Whether each number between two ends is so related to a number.
+/// Whether each number between two ends stands in this relation to a number.
 pub fn is_shown(relation: Relation, low: i128, high: i128, number: i32) -> bool
     requires rising { low ≤ℤ high }
     ensures { IsTrue result ↔ AllRelate relation low high number }
@@ -18,7 +18,7 @@ pub fn is_shown(relation: Relation, low: i128, high: i128, number: i32) -> bool
     }
 }
 
-/// Whether none is.
+/// Whether no number between two ends stands in this relation to a number.
 pub fn is_refuted(relation: Relation, low: i128, high: i128, number: i32) -> bool
     requires rising { low ≤ℤ high }
     ensures { IsTrue result ↔ NoneRelate relation low high number }

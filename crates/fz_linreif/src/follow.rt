@@ -26,7 +26,7 @@ use fz_spec::term::Term;
 use fz_strength::relation::Relation;
 use std::alloc::AllocError;
 
-/// Narrows a store so that a Boolean says whether a sum is so related to a number.
+/// Narrows a store so that a Boolean says whether a sum stands in this relation to a number.
 ///
 /// # Errors
 /// `AllocError` where there is no memory for a domain; the store is then narrower, and no assignment is lost.
@@ -124,8 +124,8 @@ fn keep_order(
     answer
 }
 
-/// Narrows a store so that a Boolean says whether a sum is so related to a number: by the ends of the sum, and where these decide
-/// nothing by the Boolean.
+/// Narrows a store so that a Boolean says whether a sum stands in this relation to a number: by the ends of the sum, and where these
+/// decide nothing by the Boolean.
 fn decide(
     store: &mut Store,
     sum: &Weighted<'_>,

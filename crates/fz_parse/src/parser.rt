@@ -23,7 +23,8 @@ pub struct ParseFault {
     pub at: u32,
 }
 
-/// Why a text is none of a program: the first fault of its tokens, or, of a text that has tokens, the fault of their syntax.
+/// What is wrong with a text that is no program: the first fault of its tokens, or, of a text that has tokens, the fault of their
+/// syntax.
 #[derive(Clone, Copy, Debug, PartialEq, Eq)]
 pub enum TextFault {
     Token(LexFault),

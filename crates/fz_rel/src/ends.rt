@@ -29,7 +29,7 @@ pub fn ends_of(store: &Store, term: Term) -> Ends
     }
 }
 
-/// Whether the ends of two terms show that all their numbers are so related.
+/// Whether the ends of two terms show that all their numbers stand in this relation.
 pub fn is_shown(relation: Relation, x: Ends, y: Ends) -> bool
     ensures { (d e : List (ℤ × ℤ)) → AreEnds x d → AreEnds y e
         → IsTrue result ↔ IsShown relation d e }

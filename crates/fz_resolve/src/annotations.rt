@@ -130,6 +130,7 @@ fn range_of(argument: &Argument<'_>) -> Option<(i32, i32)>
     }
 }
 
+/// The ends of a set that is written as a range.
 fn range_in(set: &SetLiteral) -> Option<(i32, i32)>
     ensures { result ≡ said.range_of (lang.Simple (lang.Literal (trees.set_of set.now))) }
 {
@@ -153,6 +154,7 @@ fn range_at(argument: &Argument<'_>) -> Option<u32>
     }
 }
 
+/// The place of a set that is written as a range.
 fn range_in_at(set: &SetLiteral) -> Option<u32>
     ensures { let tree = lang.Simple (lang.Literal (trees.set_of set.now)) in
         result ≡ option_map (λ r. said.place_of tree) (said.range_of tree) }

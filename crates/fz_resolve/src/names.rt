@@ -13,6 +13,7 @@ use std::collections::BTreeMap;
 /// A name as it is looked up: the number that its last eight bytes make, by which most names are told apart, and its bytes.
 type Key<'a> = (u64, &'a [u8]);
 
+/// A name as it is looked up.
 fn key_of(bytes: &[u8]) -> Key<'_>
     ensures tail { result.0 ≡ tail_from 0 bytes.now }
     ensures bytes { result.1.now ≡ bytes.now }

@@ -62,6 +62,7 @@ pub fn terms<'a>(
     }
 }
 
+/// The terms of a list of integers, or the place of the first that is no Boolean where those are asked.
 fn terms_of_integers(
     alloc: Global,
     asked: Element,
@@ -99,6 +100,7 @@ fn integer_terms(alloc: Global, integers: &[Integer]) -> Result<Vec<Term>, Alloc
     Ok(terms)
 }
 
+/// The terms of a list of expressions, or the place of the first of a wrong type.
 fn terms_of_basics<'a>(
     alloc: Global,
     names: &Names<'a>,
@@ -135,6 +137,7 @@ pub fn numbers_in<'a>(
     }
 }
 
+/// The numbers of a list of integers, or the place of the first that is no Boolean where those are asked.
 fn numbers_of_integers(
     alloc: Global,
     kind: Kind,
@@ -162,6 +165,7 @@ fn integer_values(alloc: Global, integers: &[Integer]) -> Result<Vec<i32>, Alloc
     Ok(values)
 }
 
+/// The numbers of a list of expressions, or the place of the first of a wrong type.
 fn numbers_of_basics<'a>(
     alloc: Global,
     names: &Names<'a>,

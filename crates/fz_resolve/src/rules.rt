@@ -37,6 +37,7 @@ fn lesser(first: Option<u32>, second: Option<u32>) -> Option<u32>
     }
 }
 
+/// The place of a value that is a float.
 fn first_float_of_value(value: &Option<Basic<'_>>) -> Option<u32>
     ensures { result ≡ slice_get (rules.floats_of_value (option_map trees.basic_of value.now)) 0 }
 {
@@ -72,6 +73,7 @@ pub fn unsupported_parameter(item: &ParameterItem<'_>) -> Option<u32>
     or_else(typed, first_float(&item.value))
 }
 
+/// The place of a type that the elements of no such array have.
 fn bad_element_type(variable: bool, value_type: &ValueType) -> Option<u32>
     ensures { result
         ≡ slice_get (rules.bad_element_type variable (trees.type_of value_type.now)) 0 }
@@ -121,6 +123,7 @@ fn malformed_at(annotations: &[Annotation<'_>], shape: &Option<Vec<(i32, i32)>>)
     }
 }
 
+/// The place of an `output_array` that hasn't its form, or that stands at an array of parameters.
 fn output_array_misplaced(item: &ArrayItem<'_>, shape: &Option<Vec<(i32, i32)>>) -> Option<u32>
     requires { option_map (λ ranges. ranges.items) shape.now
         ≡ shape_among (trees.annotations_of item.now.annotations.items) }

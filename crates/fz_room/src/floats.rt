@@ -6,6 +6,7 @@ ghost use Rattle.fz_syntax.specs.Trees.{number_of, set_of, basic_of, elements_of
 
 use fz_syntax::{Basic, Elements, Expression, Number, SetLiteral};
 
+/// The place of a number, if it is a float.
 fn first_float_of_number(number: Number) -> Option<u32>
     ensures { result ≡ slice_get (float_places (number_of number)) 0 }
 {
@@ -15,6 +16,7 @@ fn first_float_of_number(number: Number) -> Option<u32>
     }
 }
 
+/// The place of the first float among numbers.
 fn first_float_of_numbers(numbers: &[Number]) -> Option<u32>
     ensures { result ≡ slice_get (flat_map float_places (map number_of numbers.now)) 0 }
 {
@@ -50,6 +52,7 @@ pub fn first_float(basic: &Basic<'_>) -> Option<u32>
     }
 }
 
+/// The place of the first float in expressions.
 fn first_float_of_basics(basics: &[Basic<'_>]) -> Option<u32>
     ensures { result ≡ slice_get (flat_map floats_in (map basic_of basics.now)) 0 }
 {

@@ -48,6 +48,7 @@ impl Room {
         }
     }
 
+    /// A variable adds what its type does, itself, and what its value does.
     fn behind_variable_item(self, item: &VariableItem<'_>) -> Result<Room, u32>
         ensures { (n : Counts) → IsRoom self n → IsBehind n
             (rules.additions (lang.Variable (trees.variable_item_of item.now))) result }
@@ -58,6 +59,7 @@ impl Room {
         }
     }
 
+    /// A name adds a variable, at its place; then comes its value.
     fn behind_name_and_value(self, name: Name<'_>, value: &Option<Basic<'_>>) -> Result<Room, u32>
         ensures { (n : Counts) → IsRoom self n → IsBehind n
             (AVariable name.entry.at
@@ -69,6 +71,7 @@ impl Room {
         }
     }
 
+    /// A value that is not written adds nothing.
     fn behind_optional(self, value: &Option<Basic<'_>>) -> Result<Room, u32>
         ensures { (n : Counts) → IsRoom self n → IsBehind n
             (rules.value_additions (option_map trees.basic_of value.now)) result }
@@ -79,6 +82,7 @@ impl Room {
         }
     }
 
+    /// A value adds a constraint, and the members of its set.
     fn behind_value_and_members(self, basic: &Basic<'_>) -> Result<Room, u32>
         ensures { (n : Counts) → IsRoom self n → IsBehind n
             (rules.value_additions (Some (trees.basic_of basic.now))) result }
@@ -89,6 +93,7 @@ impl Room {
         }
     }
 
+    /// A parameter adds what its type does, and the members of its set.
     fn behind_parameter_item(self, item: &ParameterItem<'_>) -> Result<Room, u32>
         ensures { (n : Counts) → IsRoom self n → IsBehind n
             (rules.additions (lang.Parameter (trees.parameter_item_of item.now))) result }
@@ -99,6 +104,7 @@ impl Room {
         }
     }
 
+    /// An array adds what its type does, and its elements.
     fn behind_array_item(self, item: &ArrayItem<'_>) -> Result<Room, u32>
         ensures { (n : Counts) → IsRoom self n → IsBehind n
             (rules.additions (lang.Array (trees.array_item_of item.now))) result }
@@ -110,6 +116,7 @@ impl Room {
         }
     }
 
+    /// A constraint adds itself, and the elements of its arguments.
     fn behind_constraint_item(self, item: &ConstraintItem<'_>) -> Result<Room, u32>
         ensures { (n : Counts) → IsRoom self n → IsBehind n
             (rules.additions (lang.Constraint (trees.constraint_item_of item.now))) result }
@@ -120,6 +127,7 @@ impl Room {
         }
     }
 
+    /// One variable, at this place.
     fn behind_variable(self, at: u32) -> Result<Room, u32>
         ensures { (n : Counts) → IsRoom self n → IsBehind n (AVariable at ∷ []) result }
     {
@@ -132,6 +140,7 @@ impl Room {
         })
     }
 
+    /// One constraint, at this place.
     fn behind_constraint(self, at: u32) -> Result<Room, u32>
         ensures { (n : Counts) → IsRoom self n → IsBehind n (AConstraint at ∷ []) result }
     {
@@ -144,6 +153,7 @@ impl Room {
         })
     }
 
+    /// One element, at this place.
     fn behind_number(self, at: u32) -> Result<Room, u32>
         ensures { (n : Counts) → IsRoom self n → IsBehind n (AnElement at ∷ []) result }
     {
@@ -156,6 +166,7 @@ impl Room {
         })
     }
 
+    /// The members that a set lists; a range lists none.
     fn behind_set(self, set: &SetLiteral) -> Result<Room, u32>
         ensures { (n : Counts) → IsRoom self n → IsBehind n
             (rules.members_of (trees.set_of set.now)) result }
@@ -166,6 +177,7 @@ impl Room {
         }
     }
 
+    /// The members that an expression lists, where it is a set.
     fn behind_members(self, basic: &Basic<'_>) -> Result<Room, u32>
         ensures { (n : Counts) → IsRoom self n → IsBehind n
             (rules.members_in (trees.basic_of basic.now)) result }
@@ -176,6 +188,7 @@ impl Room {
         }
     }
 
+    /// An element of an array: itself, and the members that it lists.
     fn behind_element(self, basic: &Basic<'_>) -> Result<Room, u32>
         ensures { (n : Counts) → IsRoom self n → IsBehind n
             (rules.element_additions (trees.basic_of basic.now)) result }
@@ -186,6 +199,7 @@ impl Room {
         }
     }
 
+    /// The elements of an argument that is a list, or the members of one that is a set.
     fn behind_argument(self, argument: &Expression<'_>) -> Result<Room, u32>
         ensures { (n : Counts) → IsRoom self n → IsBehind n
             (rules.expression_additions (trees.expression_of argument.now)) result }
@@ -196,6 +210,7 @@ impl Room {
         }
     }
 
+    /// The members of the set that a type writes.
     fn behind_type(self, value_type: &ValueType) -> Result<Room, u32>
         ensures { (n : Counts) → IsRoom self n → IsBehind n
             (rules.type_additions (trees.type_of value_type.now)) result }
@@ -210,6 +225,7 @@ impl Room {
         }
     }
 
+    /// An element for each number.
     fn behind_numbers(self, members: &[Number]) -> Result<Room, u32>
         ensures { (n : Counts) → IsRoom self n → IsBehind n
             (flat_map (λ m. AnElement (number_at m) ∷ [])
@@ -225,6 +241,7 @@ impl Room {
         Ok(room)
     }
 
+    /// The elements of a list.
     fn behind_elements(self, elements: &Elements<'_>) -> Result<Room, u32>
         ensures { (n : Counts) → IsRoom self n → IsBehind n
             (flat_map rules.element_additions (trees.elements_of elements.now)) result }
@@ -249,6 +266,7 @@ impl Room {
         }
     }
 
+    /// The elements of a list of expressions.
     fn behind_basics(self, basics: &[Basic<'_>]) -> Result<Room, u32>
         ensures { (n : Counts) → IsRoom self n → IsBehind n
             (flat_map rules.element_additions (map trees.basic_of basics.now)) result }
@@ -263,6 +281,7 @@ impl Room {
         Ok(room)
     }
 
+    /// The elements of all arguments.
     fn behind_arguments(self, arguments: &[Expression<'_>]) -> Result<Room, u32>
         ensures { (n : Counts) → IsRoom self n → IsBehind n
             (flat_map rules.expression_additions (map trees.expression_of arguments.now)) result }
@@ -277,6 +296,7 @@ impl Room {
         Ok(room)
     }
 
+    /// The elements of an array; where its type binds them, a constraint for each.
     fn behind_array(self, is_bound: bool, elements: &Elements<'_>) -> Result<Room, u32>
         ensures { (n : Counts) → IsRoom self n → IsBehind n
             (flat_map (rules.array_element_additions is_bound)
@@ -301,6 +321,7 @@ impl Room {
         }
     }
 
+    /// An element and a constraint for each integer.
     fn behind_bound_integers(self, integers: &[Integer]) -> Result<Room, u32>
         ensures { (n : Counts) → IsRoom self n → IsBehind n
             (flat_map (rules.array_element_additions true)
@@ -316,6 +337,7 @@ impl Room {
         Ok(room)
     }
 
+    /// An element and a constraint, at the place of an integer.
     fn behind_bound_integer(self, integer: Integer) -> Result<Room, u32>
         ensures { (n : Counts) → IsRoom self n → IsBehind n
             (rules.array_element_additions true (trees.integer_basic_of integer)) result }
@@ -326,6 +348,7 @@ impl Room {
         }
     }
 
+    /// An element and a constraint for each expression.
     fn behind_bound_basics(self, basics: &[Basic<'_>]) -> Result<Room, u32>
         ensures { (n : Counts) → IsRoom self n → IsBehind n
             (flat_map (rules.array_element_additions true)
@@ -341,6 +364,7 @@ impl Room {
         Ok(room)
     }
 
+    /// An element and a constraint, at the place of an expression.
     fn behind_bound_element(self, element: &Basic<'_>) -> Result<Room, u32>
         ensures { (n : Counts) → IsRoom self n → IsBehind n
             (rules.array_element_additions true (trees.basic_of element.now)) result }
@@ -359,6 +383,7 @@ impl Room {
         self.behind_constraint(basic.at())
     }
 
+    /// An element, at the place of a member.
     fn behind_member(self, member: Number) -> Result<Room, u32>
         ensures { (n : Counts) → IsRoom self n → IsBehind n
             (AnElement (number_at (trees.number_of member)) ∷ []) result }
@@ -366,6 +391,7 @@ impl Room {
         self.behind_number(member.at())
     }
 
+    /// An element, at the place of an expression.
     fn behind_place(self, basic: &Basic<'_>) -> Result<Room, u32>
         ensures { (n : Counts) → IsRoom self n → IsBehind n
             (AnElement (basic_at (trees.basic_of basic.now)) ∷ []) result }

@@ -90,6 +90,7 @@ fn push_first<'a>(
     Ok(())
 }
 
+/// Adds the parts of a search that an annotation asks for; one that asks for none adds nothing.
 fn push_annotation<'a>(
     alloc: Global,
     names: &Names<'a>,
@@ -109,6 +110,7 @@ fn push_annotation<'a>(
     }
 }
 
+/// Adds the parts of a search annotation of this name: one, or those of each member of a sequence.
 #[cycle(calls)]
 fn push_call<'a>(
     alloc: Global,
@@ -146,6 +148,7 @@ fn push_call<'a>(
     }
 }
 
+/// Adds the part of a member of a sequence, where it is a basic search.
 #[cycle(calls)]
 fn push_member_call<'a>(
     alloc: Global,
@@ -211,6 +214,7 @@ fn named<'a>(argument: &Argument<'a>) -> Option<Name<'a>>
     }
 }
 
+/// Adds the part of a search over these variables, where its words for variable and value are names.
 fn push_words<'a>(
     alloc: Global,
     names: &Names<'a>,
@@ -229,6 +233,7 @@ fn push_words<'a>(
     }
 }
 
+/// Adds the part of a search over these variables by these words, where they are a list of variables and numbers, or an array.
 fn push_over<'a>(
     alloc: Global,
     names: &Names<'a>,
@@ -280,6 +285,7 @@ fn variables_of(alloc: Global, terms: &[Term]) -> Result<Vec<u32>, AllocError>
     Ok(variables)
 }
 
+/// Adds a variable; a number is passed over.
 fn push_term(variables: &mut Vec<u32>, term: Term) -> Result<(), AllocError>
     ensures { OnOk result (variables.new.items ≡ variables.old.items
         ++ searches.variables_of_terms (term ∷ [])) }
@@ -290,6 +296,7 @@ fn push_term(variables: &mut Vec<u32>, term: Term) -> Result<(), AllocError>
     Ok(())
 }
 
+/// The variables among the arguments of an annotation, or nothing where one of them is neither a variable nor a number.
 fn members<'a>(
     alloc: Global,
     names: &Names<'a>,
@@ -309,6 +316,7 @@ fn members<'a>(
     Ok(Some(variables))
 }
 
+/// Adds a variable that there is.
 fn push_member(variables: &mut Vec<u32>, variable: Option<u32>) -> Result<(), AllocError>
     ensures { OnOk result (variables.new.items ≡ variables.old.items ++ option_list variable) }
 {

@@ -48,6 +48,7 @@ fn is_cumulative(tasks: Tasks<'_>, bound: i32) -> bool
     are_tasks(tasks) && are_within(tasks, bound)
 }
 
+/// Whether all have lengths and usages of at least 0.
 fn are_tasks(tasks: Tasks<'_>) -> bool
     ensures { IsTrue result ↔ AllByRecursion IsTask (listed tasks.entry) }
 {
@@ -106,6 +107,7 @@ fn usage_at(time: i32, task: Task) -> i128
     i128::from(task.usage)
 }
 
+/// How many tasks there are.
 fn count(tasks: Tasks<'_>) -> usize
     ensures all { result ≡ length (listed tasks.entry) }
     ensures starts { result ≤ length tasks.entry.starts.now }
