@@ -1,5 +1,5 @@
 -- Blocks of a book that are printed one behind another.
-use Rattle.std.proofs.Common.{◌≡◌, ◌∙◌, ◌≤◌, ◌<◌, ◌+◌, ◌-◌, ◌⊎◌, inl, inr, ℕ, zero, suc, List, [], ◌∷◌, ◌++◌, length, take, drop, Option, Some, None, refl, sym, ap, subst, arith, min, Bool, true, false, append_assoc, append-nil, length-append}
+use Rattle.std.proofs.Common.{◌≡◌, ◌∙◌, ◌≤◌, ◌+◌, ◌-◌, ◌⊎◌, inl, inr, ℕ, zero, suc, List, [], ◌∷◌, ◌++◌, length, take, drop, Option, Some, None, refl, sym, ap, subst, arith, Bool, true, false, append-nil, length-append}
 use Rattle.std.specs.Prelude.{ℤ, slice_range}
 use Rattle.std.specs.List.{AllByRecursion}
 use Rattle.std.proofs.Math.Seq.{take-add}
@@ -102,16 +102,32 @@ still_below None old new middle after took keeps below = inr refl
 still_below (Some stop) old new middle after took keeps below =
     inl (subst (λ (w : Option ℕ). IsBelow w new.printed) (sym keeps.wanted) (subst (λ (n : ℕ). IsBelow old.wanted n) (sym took.0) below))
 
+-- what was due stays so
+pub still_due : (old new : Printer) → KeepsPrinting old new → KeepsBook old.book.book new.book.book → IsReady old → old.printed ≤ due_of new
+still_due old new keeps book ready =
+    let size : length new.book.book.recorded ≡ length old.book.book.recorded + length book.added = ap (λ (l : List (List ℤ)). length l) book.recorded ∙ length-append old.book.book.recorded book.added in
+    let grows = due_grows old.as_found old.wanted (length old.book.book.recorded) (length new.book.book.recorded) (omega (arith, size)) in
+    let same : due_among old.as_found old.wanted (length new.book.book.recorded) ≡ due_of new = λ i. due_among (sym keeps.as_found i) (sym keeps.wanted i) (length new.book.book.recorded) in
+    omega (arith, ready, grows, same)
+
+-- no more is printed than is due, where printing stopped too
+pub within_due : (old new : Printer) (before after : Option (List ℕ)) → Grew old new before after → IsReady old → (new.stopped ≡ None → IsReady new) → new.printed ≤ due_of new
+within_due old new before after g ready now = by new.stopped refl
+  where
+    by : (stopped : Option Stop) → new.stopped ≡ stopped → new.printed ≤ due_of new
+    by None is = (let all = now is in omega (arith, all))
+    by (Some stop) is =
+        let same : new.printed ≡ old.printed = (subst (λ (s : Option Stop). Took s old new before after) is g.took).0 in
+        let due = still_due old new g.keeps g.book ready in
+        omega (arith, same, due)
+
 -- what a printer has printed, behind a call more
 pub printed_on : (old new : Printer) (before middle after : Option (List ℕ)) → Grew old new middle after → old.stopped ≡ None → IsReady old → IsBelow old.wanted old.printed → HasPrinted old before middle → HasPrinted new before after
 printed_on old new before middle after g none ready below was =
     let here : middle ≡ with_more before (blocks old.book.book.model (take old.printed old.book.book.recorded)) = subst (λ (s : Option Stop). HasPrintedAt s old before middle) none was in
     let few = within_recorded old.as_found old.wanted (length old.book.book.recorded) in
     let within : old.printed ≤ length old.book.book.recorded = omega (arith, few, ready) in
-    let size : length new.book.book.recorded ≡ length old.book.book.recorded + length g.book.added = ap (λ (l : List (List ℤ)). length l) g.book.recorded ∙ length-append old.book.book.recorded g.book.added in
-    let grows = due_grows old.as_found old.wanted (length old.book.book.recorded) (length new.book.book.recorded) (omega (arith, size)) in
-    let same : due_among old.as_found old.wanted (length new.book.book.recorded) ≡ due_of new = λ i. due_among (sym g.keeps.as_found i) (sym g.keeps.wanted i) (length new.book.book.recorded) in
-    let due : old.printed ≤ due_of new = omega (arith, ready, grows, same) in
+    let due : old.printed ≤ due_of new = still_due old new g.keeps g.book ready in
     let kept = first_stay old.book.book.model old.book.book.recorded new.book.book.recorded g.book.added old.printed g.book.recorded within in
     let there : middle ≡ with_more before (blocks new.book.book.model (take old.printed new.book.book.recorded)) =
     here ∙ ap (with_more before) kept ∙ ap (λ (m : Instance). with_more before (blocks m (take old.printed new.book.book.recorded))) (sym g.book.model) in

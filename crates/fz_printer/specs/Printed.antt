@@ -1,12 +1,13 @@
 -- What a printer has printed, and how it grows.
-use Rattle.std.specs.Prelude.{◌≡◌, ◌⊎◌, ℕ, ℤ, ◌+◌, ◌<◌, ◌≤◌, min, Bool, true, false, Option, Some, None, List, ◌++◌, length, take, slice_range}
-use Rattle.fz_spec.specs.Instance.{Instance}
+use Rattle.std.specs.Prelude.{◌≡◌, ◌⊎◌, ℕ, ℤ, ◌<◌, ◌≤◌, min, Bool, true, false, Option, Some, None, List, ◌++◌, length, take, slice_range}
 use Rattle.fz_spec.specs.Run.{blocks}
 use Rattle.fz_tree.specs.Account.{Account}
 use Rattle.fz_tree.specs.Book.{Book, IsOpen, Takes}
+use Rattle.fz_book.specs.declared.offered.Offered.{Offered}
+use Rattle.fz_book.specs.Offering.{Offers}
 use Rattle.fz_io.specs.Outside.{with_more}
 use Rattle.fz_printing.specs.declared.printer.Stop.{Stop}
-use Rattle.fz_printing.specs.declared.printer.Stop.TheVariants.{Memory, Fault}
+use Rattle.fz_printing.specs.declared.printer.Stop.TheVariants.{Memory}
 use Rattle.fz_printing.specs.Texts.{TakesFront, CountsAtStop}
 use Rattle.fz_printer.specs.declared.printer.Printer.{Printer}
 
@@ -75,6 +76,10 @@ IsOther account b = (b.model ≡ account.model → ⊥) ⊎ (IsOpen b account.be
 -- The account is taken; or its book stays, since there was no memory or the account is of something else.
 abbrev pub AccountsTo : Account → Printer → Printer → Type 0
 AccountsTo account old new = Takes old.book.book account new.book.book ⊎ ((new.book.book ≡ old.book.book) × ((new.stopped ≡ Some Memory) ⊎ IsOther account old.book.book))
+
+-- Its book records the assignment where it is better than what is recorded; or there was no memory, and its book stays.
+abbrev pub OffersTo : List ℤ → Printer → Printer → Type 0
+OffersTo a old new = ((o : Offered) × Offers o old.book.book a new.book.book) ⊎ ((new.book.book ≡ old.book.book) × (new.stopped ≡ Some Memory))
 
 -- the count of faults rose exactly where a fault is marked
 abbrev pub CountsMark : ℕ → ℕ → Option Stop → Type 0

@@ -1,10 +1,11 @@
 //! Printers.
 ghost use Rattle.std.specs.Prelude.{◌≡◌, ◌<◌, ◌≤◌, ◌^◌, ◌-◌, None, Some, length};
-ghost use Rattle.fz_printer.specs.Printed.{book_of, printed_of, stopped_of, as_found_of, wanted_of, due_of, AccountsTo, CountsMark, Grew, IsReady, KeepsPrinting, MarksMemory};
+ghost use Rattle.fz_printer.specs.Printed.{book_of, printed_of, stopped_of, as_found_of, wanted_of, due_of, AccountsTo, CountsMark, Grew, IsReady, KeepsPrinting, MarksMemory, OffersTo};
 
 use fz_account::Account;
 use fz_book::{Book, Taken};
 use fz_io::outside::Sink;
+use fz_model::Assignment;
 use fz_printing::{Stop, print_blocks};
 use std::alloc::Global;
 
@@ -88,6 +89,23 @@ impl Printer {
             Taken::Stranger(_) => {}
             Taken::Foreign(_) => {}
             Taken::NoMemory(_) => self.stopped = Some(Stop::Memory),
+        }
+    }
+
+    /// Takes an assignment that is found, and not yet accounted for, into its book, and prints it. One that isn't better, or doesn't
+    /// satisfy, is dropped.
+    pub fn offer<S: Sink>(&mut self, alloc: Global, sink: &mut S, assignment: Assignment)
+        requires working { stopped_of self.old ≡ None }
+        requires ready { IsReady self.old }
+        requires faults { S.faults sink.old < 2 ^ 64 - 1 }
+        ensures offered { OffersTo assignment self.old self.new }
+        ensures grew { Grew self.old self.new (S.taken sink.old) (S.taken sink.new) }
+        ensures ready { stopped_of self.new ≡ None → IsReady self.new }
+        ensures cause { CountsMark (S.faults sink.old) (S.faults sink.new) (stopped_of self.new) }
+    {
+        match self.book.offer(assignment) {
+            Ok(_) => self.print_due(alloc, sink),
+            Err(_) => self.stopped = Some(Stop::Memory),
         }
     }
 
