@@ -1,30 +1,38 @@
 //! A stretch of a search: up to something that is found, or as long as nobody waits.
-ghost use Rattle.std.specs.Prelude.{◌≡◌, ◌≤◌, ◌<◌, ◌⊎◌, ◌↔◌, None, true, false, IsTrue, is_some, IsSomeAnd, IfOk, IfSome, OnOk, OnErr};
-ghost use Rattle.fz_tree.specs.declared.mode.Mode.TheVariants as modes;
-ghost use Rattle.fz_tree.specs.Frontier.{has_rest};
-ghost use Rattle.fz_tree.specs.Book as books;
-ghost use Rattle.fz_book.specs.Reports.{IsReportable};
+ghost use Rattle.std.specs.Prelude.{◌≡◌, ◌≢◌, ◌<◌, ◌⊎◌, true, IsTrue, IsFalse, is_some, IfOk};
 ghost use Rattle.fz_path.specs.Paths as paths;
-ghost use Rattle.fz_path.specs.Paths.{found_held, held_behind, is_spent, with_held};
+ghost use Rattle.fz_path.specs.Paths.{PathLaw};
 ghost use Rattle.fz_solo.specs.Walks.{weight_held};
-ghost use Rattle.fz_solo.specs.Stretches.{AlwaysKept, GoesOnWith, Reported, ReportsEach};
+ghost use Rattle.fz_solo.specs.Stretches.{AlwaysKept, Pauses};
 
-use fz_account::Account;
 use fz_io::outside::Sink;
 use fz_path::{Path, Step};
 use fz_search_space::SearchSpace;
 use std::alloc::AllocError;
 
-/// When a walk ends while something is left: at whatever is found, where so many are found, or never.
+/// How many solutions are found, at least, until they are reported, and how many edges a report may copy for each number of theirs.
+const BATCH: u64 = 256;
+
+const EDGES_A_NUMBER: u64 = 2;
+
+/// When a stretch ends while something is left: at whatever is found; where as many are found as are wanted or as pay for a report;
+/// or never.
 #[derive(Debug, Clone, Copy, PartialEq, Eq)]
 pub enum Halt {
     Each,
-    After(u64),
+    Batch(Option<u64>),
     Never,
 }
 
-/// Searches what the path holds, until nothing is left of it, as much is found as the halt says, or the sink is to hand on; and
-/// hands out the account of it. The path goes on with what is left.
+/// Why a stretch ended: something was found, the sink is to hand on, or nothing is left.
+#[derive(Debug, Clone, Copy, PartialEq, Eq)]
+pub enum Pause {
+    Found,
+    Due,
+    Closed,
+}
+
+/// Searches what the path holds, until nothing is left of it, as much is found as the halt says, or the sink is to hand on.
 ///
 /// # Errors
 /// `AllocError` where there is no memory.
@@ -32,69 +40,75 @@ pub fn stretch<S: SearchSpace, K: Sink>(
     path: &mut Path<S>,
     halt: Halt,
     sink: &K,
-) -> Result<Account, AllocError>
-    requires { IsTrue (is_some path.old.held) }
-    ensures account { IfOk result (λ c. (b : books.Book)
-        → IsSomeAnd path.old.held (IsReportable b) → IsReportable b c) }
-    ensures behind { IfOk result (λ c. path.new.held ≡ held_behind c) }
-    ensures whole { IfOk result (λ c. halt ≡ Halt.Never → has_rest c.after ≡ false) }
-    ensures falls { OnOk result ((path.new.held ≡ None)
-        ⊎ (weight_held path.new.held < weight_held path.old.held)) }
-    ensures reported { IfOk result (λ c. ReportsEach halt c path.old path.new) }
-    ensures path { path.new.model ≡ path.old.model }
-{
-    walk(path, halt, sink)?;
-    let Some(account) = path.report()? else {
-        unreachable!()
-    };
-    Ok(account)
-}
-
-/// Steps until nothing is left, as much is found as the halt says, or the sink is to hand on.
-fn walk<S: SearchSpace, K: Sink>(path: &mut Path<S>, halt: Halt, sink: &K) -> Result<(), AllocError>
+) -> Result<Pause, AllocError>
     requires { IsTrue (is_some path.old.held) }
     ensures held { IsTrue (is_some path.new.held) }
     ensures kept { AlwaysKept path.old.held path.new.held }
-    ensures whole { OnOk result (halt ≡ Halt.Never → is_spent path.new.held ≡ true) }
-    ensures falls { OnOk result ((is_spent path.new.held ≡ true)
+    ensures closed { IfOk result
+        (λ pause. pause ≡ Pause.Closed → paths.is_spent path.new.held ≡ true) }
+    ensures never { IfOk result (λ pause. halt ≡ Halt.Never → pause ≡ Pause.Closed) }
+    ensures falls { IfOk result (λ pause. (pause ≡ Pause.Closed)
         ⊎ (weight_held path.new.held < weight_held path.old.held)) }
-    ensures goes_on { OnOk result (GoesOnWith path.old path.new) }
+    ensures searched { IfOk result (λ pause. Pauses halt pause path.old path.new) }
     ensures path { path.new.model ≡ path.old.model }
 {
     'steps: loop {
-        match path.step()? {
-            Step::Closed => return Ok(()),
-            Step::Found => {
-                if is_reached(path, halt) {
-                    return Ok(());
-                }
-            }
-            Step::Expanded => {}
-            Step::Idle => unreachable!(),
+        let step = path.step()?;
+        if step == Step::Closed {
+            return Ok(Pause::Closed);
+        }
+        if is_reached(path, halt, step) {
+            return Ok(Pause::Found);
         }
         if is_time(halt, sink) {
-            return Ok(());
+            return Ok(Pause::Due);
         }
     }
 }
 
-/// Whether the walk is to end where something was found.
-fn is_reached<S: SearchSpace>(path: &Path<S>, halt: Halt) -> bool
-    ensures { IsTrue result → halt ≡ Halt.Never → ⊥ }
+/// Whether the stretch is to end behind a step that found something.
+fn is_reached<S: SearchSpace>(path: &Path<S>, halt: Halt, step: Step) -> bool
+    ensures found { IsTrue result → step ≡ Step.Found }
+    ensures each { IsFalse result → step ≡ Step.Found → halt ≢ Halt.Each }
+    ensures never { IsTrue result → halt ≢ Halt.Never }
+    ensures law { PathLaw path.now }
 {
-    match halt {
-        Halt::Each => true,
-        Halt::After(count) => count <= path.found_count(),
-        Halt::Never => false,
+    let _ = path.model();
+    match (step, halt) {
+        (Step::Found, Halt::Each) => true,
+        (Step::Found, Halt::Batch(wanted)) => is_batch(path, wanted),
+        _ => false,
     }
 }
 
-/// Whether the walk is to end since the sink is to hand on.
+/// Whether as many are found as are wanted, or as pay for a report.
+fn is_batch<S: SearchSpace>(path: &Path<S>, wanted: Option<u64>) -> bool {
+    let found = path.found_count();
+    if let Some(count) = wanted
+        && count <= found
+    {
+        return true;
+    }
+    BATCH <= found && pays_report(path, 0)
+}
+
+/// Whether something is found, and a report of it copies no more edges than is paid for by its numbers, or allowed beside them.
+pub fn pays_report<S: SearchSpace>(path: &Path<S>, allowed: u64) -> bool {
+    let numbers = path
+        .found_count()
+        .saturating_mul(path.model().variables().len() as u64);
+    let paid = numbers
+        .saturating_mul(EDGES_A_NUMBER)
+        .saturating_add(allowed);
+    path.found_count() > 0 && path.depth() <= paid
+}
+
+/// Whether the stretch is to end since the sink is to hand on.
 fn is_time<K: Sink>(halt: Halt, sink: &K) -> bool
-    ensures { IsTrue result → halt ≡ Halt.Never → ⊥ }
+    ensures { IsTrue result → halt ≢ Halt.Never }
 {
     match halt {
-        Halt::Each | Halt::After(_) => sink.is_due(),
+        Halt::Each | Halt::Batch(_) => sink.is_due(),
         Halt::Never => false,
     }
 }

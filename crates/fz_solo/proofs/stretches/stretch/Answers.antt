@@ -1,13 +1,37 @@
-use Rattle.std.proofs.Common.{◌≡◌, ◌∙◌, Option, Some, ap, sym}
-use Rattle.std.specs.Prelude.{option_and_then}
-use Rattle.fz_tree.specs.Account.{Account}
-use Rattle.fz_path.specs.Paths.{held_behind, with_held}
-use Rattle.fz_solo.proofs.Stretching.{reported_code, whole_code}
+use Rattle.std.proofs.Common.{◌∙◌, ap, arith, refl, rules}
+use Rattle.fz_path.specs.Paths.{Pathed}
+use Rattle.fz_solo.proofs.Stretching.{at_found, closed, due, on_step, passed, passes_none}
 use Rattle.fz_solo.proofs.stretches.stretch.Goals as goal
 
-pub returns-clause-reported : goal.returns-clause-reported
-returns-clause-reported g c =
-    let mid = c.walk.new.path in
-    let holds : mid.held ≡ Some c.in-Some.account = sym c.in_ok-account.ensures.account ∙ c.in-Some.is in
-    reported_code c.args.halt c.in-Some.account c.args.path.now mid c.report.new.self c.in_ok-walk.ensures.goes_on holds (whole_code c.args.halt mid.held c.in-Some.account (sym holds) c.in_ok-walk.ensures.whole)
-    (c.in_ok-account.ensures.rest ∙ ap (λ (o : Option Account). with_held mid (option_and_then held_behind o)) holds)
+pub steps-init : goal.steps-init
+steps-init g c = record {
+  held = c.requires;
+  model = refl;
+  mode = refl;
+  kept = λ b r. r;
+  less = omega arith;
+  passes = passes_none c.args.halt c.args.path.now;
+}
+
+pub returns-then-eq-clause-searched : goal.returns-then-eq-clause-searched
+returns-then-eq-clause-searched g c =
+    closed c.args.halt c.args.path.now c.step.new.self (on_step c.args.halt c.args.path.now c.steps.path c.step.new.self c.in_ok-step.step c.steps.invariant.passes (λ e. (let f = rw e at c.if-eq.ensures in cc)) c.in_ok-step.ensures.ok c.step.ensures.rest)
+
+pub returns-then-is_reached-clause-searched : goal.returns-then-is_reached-clause-searched
+returns-then-is_reached-clause-searched g c =
+    at_found c.args.halt c.args.path.now c.steps.path c.step.new.self c.in_ok-step.step c.steps.invariant.passes (c.if-is_reached.ensures.found refl) (ap (λ (p : Pathed). p.mode) c.step.ensures.rest ∙ c.steps.invariant.mode) c.is_reached.ensures.law c.in_ok-step.ensures.ok c.step.ensures.rest
+
+pub returns-then-is_time-clause-searched : goal.returns-then-is_time-clause-searched
+returns-then-is_time-clause-searched g c =
+    due c.args.halt c.args.path.now c.step.new.self
+    (passed c.args.halt c.args.path.now c.steps.path c.step.new.self c.in_ok-step.step c.steps.invariant.passes (c.if-is_reached.ensures.each refl) (ap (λ (p : Pathed). p.mode) c.step.ensures.rest ∙ c.steps.invariant.mode) c.is_reached.ensures.law c.in_ok-step.ensures.ok c.step.ensures.rest)
+
+pub steps-preserved : goal.steps-preserved
+steps-preserved g c = record {
+  held = search rules;
+  model = search rules;
+  mode = ap (λ (p : Pathed). p.mode) c.step.ensures.rest ∙ c.steps.invariant.mode;
+  kept = search rules;
+  less = search rules;
+  passes = passed c.args.halt c.args.path.now c.steps.path c.step.new.self c.in_ok-step.step c.steps.invariant.passes (c.if-is_reached.ensures.each refl) (ap (λ (p : Pathed). p.mode) c.step.ensures.rest ∙ c.steps.invariant.mode) c.is_reached.ensures.law c.in_ok-step.ensures.ok c.step.ensures.rest;
+}
