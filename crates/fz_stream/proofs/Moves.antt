@@ -1,20 +1,16 @@
 -- A search that prints on its way, call by call.
-use Rattle.std.proofs.Common.{◌≡◌, ◌≢◌, ◌∙◌, ◌≤◌, ◌<◌, ◌+◌, ◌⊎◌, inl, inr, ℕ, suc, List, [], length, Bool, true, false, Option, Some, None, IfSome, IsSomeAnd, refl, sym, ap, subst, arith}
+use Rattle.std.proofs.Common.{◌≡◌, ◌≢◌, ◌∙◌, ◌≤◌, ◌<◌, ◌⊎◌, inl, inr, ℕ, List, [], length, Bool, Option, Some, None, IfSome, refl, sym, ap, subst, arith}
 use Rattle.std.proofs.lemmas.Bool.{cases_lt}
-use Rattle.fz_tree.specs.Frontier.{Frontier}
 use Rattle.fz_tree.specs.Account.{Account}
-use Rattle.fz_tree.specs.Book.{Book, IsOpen, Takes}
-use Rattle.fz_tree.specs.declared.mode.Mode.TheVariants.{Best}
+use Rattle.fz_tree.specs.Book.{Book}
 use Rattle.fz_book.specs.Reports.{IsReportable}
-use Rattle.fz_path.specs.Paths.{Pathed, started, held_behind}
+use Rattle.fz_path.specs.Paths.{Pathed}
 use Rattle.fz_printing.specs.declared.printer.Stop.{Stop}
 use Rattle.fz_printing.specs.declared.printer.Stop.TheVariants.{Memory}
 use Rattle.fz_printer.specs.declared.printer.Printer.{Printer}
-use Rattle.fz_printer.specs.Printed.{book_of, wanted_of, as_found_of, printed_of, stopped_of, due_among, AccountsTo, CountsMark, Grew, HasPrinted, IsBelow, IsReady, KeepsPrinting, MarksMemory}
-use Rattle.fz_printer.proofs.Printing.{printed_on, marked, within_recorded}
-use Rattle.fz_solo.specs.declared.stretches.Halt.{Halt}
-use Rattle.fz_solo.specs.declared.stretches.Halt.TheVariants.{Never}
-use Rattle.fz_solo.specs.Stretches.{Reported, ReportsEach, Begins, Starts, Looks, Reports}
+use Rattle.fz_printer.specs.Printed.{book_of, wanted_of, as_found_of, printed_of, stopped_of, due_among, due_of, CountsMark, Grew, IsBelow, IsReady, KeepsPrinting, MarksMemory}
+use Rattle.fz_printer.proofs.Printing.{printed_on, marked, within_due, within_recorded}
+use Rattle.fz_solo.specs.Searches.{Searches, Begins, Starts, Steps, Finds, Reports}
 use Rattle.fz_stream.specs.Streamed.{HasTakenUp, IsFilled, IsFilledFor, NothingOpen, OnNoMemory, Streams}
 
 below_of : (wanted : Option ℕ) (printed count : ℕ) → (IsFilledFor wanted count → ⊥) → printed ≤ count → IsBelow wanted printed
@@ -30,34 +26,50 @@ pub is_below : (p : Printer) → IsReady p → (IsFilled p → ⊥) → IsBelow 
 is_below p ready not = below_of (wanted_of p) (printed_of p) (length (book_of p).recorded) not
     (let few = within_recorded (as_found_of p) (wanted_of p) (length (book_of p).recorded) in omega (arith, few, ready))
 
-pub begins : (p : Printer) (q : Pathed) (taken : Option (List ℕ)) → Streams p q taken p q taken
-begins p q taken = record {
+pub begins : (p : Printer) (q : Pathed) (taken : Option (List ℕ)) → IsReady p → Streams p q taken p q taken
+begins p q taken ready = record {
   keeps = record { as_found = refl; wanted = refl };
   model = refl;
   mode = refl;
   printed = λ before h. h;
-  reported = λ n. Begins;
+  within = omega (arith, ready);
+  searched = λ n. Begins;
+}
+
+-- the printer is told nothing
+pub silent : (p : Printer) (q r : Pathed) (taken : Option (List ℕ)) → IsReady p → Searches (as_found_of p) (book_of p) q (book_of p) r → Streams p q taken p r taken
+silent p q r taken ready h = record {
+  keeps = record { as_found = refl; wanted = refl };
+  model = refl;
+  mode = refl;
+  printed = λ before x. x;
+  within = omega (arith, ready);
+  searched = λ n. h;
 }
 
 both_keep : (old p new : Printer) → KeepsPrinting old p → KeepsPrinting p new → KeepsPrinting old new
 both_keep old p new first second = record { as_found = second.as_found ∙ first.as_found; wanted = second.wanted ∙ first.wanted }
 
-none_is_no_memory : (s : Option Stop) → s ≡ None → s ≢ Some Memory
+pub none_is_no_memory : (s : Option Stop) → s ≡ None → s ≢ Some Memory
 none_is_no_memory s none e = cc
 
--- the printer is handed the account of a stretch
-pub accounted : (old p new : Printer) (at q r : Pathed) (taken middle after : Option (List ℕ)) (c : Account) (halt : Halt) → Streams old at taken p q middle → stopped_of p ≡ None → IsReady p → (IsFilled p → ⊥) → IsReportable (book_of p) c
-    → (as_found_of p ≡ false → halt ≡ Never) → ReportsEach halt c q r → AccountsTo c p new → Grew p new middle after → Streams old at taken new r after
-accounted old p new at q r taken middle after c halt s none ready more reportable never reports to grew = record {
-  keeps = both_keep old p new s.keeps grew.keeps;
-  model = grew.book.model ∙ s.model;
-  mode = grew.book.mode ∙ s.mode;
-  printed = λ before h. printed_on p new before middle after grew none ready (is_below p ready more) (s.printed before h);
-  reported = λ n. elim to [
-    | inl takes ↦ reports (as_found_of old) (book_of old) (book_of p) (book_of new) at (λ best alone. never (s.keeps.as_found ∙ alone)) takes (s.reported (none_is_no_memory (stopped_of p) none))
-    | inr same ↦ elim same.1 [ inl memory ↦ absurd (n memory) | inr other ↦ elim other [ inl foreign ↦ absurd (foreign reportable.model) | inr stranger ↦ absurd (stranger reportable.is_open) ] ]
-  ];
+-- the printer takes what is told it
+pub advanced : (p new : Printer) (q r : Pathed) (middle after : Option (List ℕ)) → stopped_of p ≡ None → IsReady p → (IsFilled p → ⊥) → Grew p new middle after → (stopped_of new ≡ None → IsReady new)
+    → (stopped_of new ≢ Some Memory → Searches (as_found_of p) (book_of p) q (book_of new) r) → Streams p q middle new r after
+advanced p new q r middle after none ready more grew now searched = record {
+  keeps = grew.keeps;
+  model = grew.book.model;
+  mode = grew.book.mode;
+  printed = λ before h. printed_on p new before middle after grew none ready (is_below p ready more) h;
+  within = within_due p new middle after grew ready now;
+  searched = searched;
 }
+
+due_kept : (p new : Printer) → KeepsPrinting p new → book_of new ≡ book_of p → due_of p ≡ due_of new
+due_kept p new keeps book = λ i. due_among (sym keeps.as_found i) (sym keeps.wanted i) (length (sym book i).recorded)
+
+still_within : (p new : Printer) → KeepsPrinting p new → book_of new ≡ book_of p → printed_of new ≡ printed_of p → printed_of p ≤ due_of p → printed_of new ≤ due_of new
+still_within p new keeps book printed within = (let due = due_kept p new keeps book in omega (arith, due, printed, within))
 
 -- a mark is set, or nothing is
 pub handed_on : (old p new : Printer) (at q : Pathed) (taken middle after : Option (List ℕ)) → Streams old at taken p q middle → stopped_of p ≡ None → IsReady p → (IsFilled p → ⊥) → KeepsPrinting p new → book_of new ≡ book_of p → printed_of new ≡ printed_of p
@@ -67,7 +79,8 @@ handed_on old p new at q taken middle after s none ready more keeps book printed
   model = ap (λ (b : Book). b.model) book ∙ s.model;
   mode = ap (λ (b : Book). b.mode) book ∙ s.mode;
   printed = λ before h. marked p new before middle after none book keeps printed same (is_below p ready more) (s.printed before h);
-  reported = λ n. subst (λ (b : Book). Reported (as_found_of old) (book_of old) at b q) (sym book) (s.reported (none_is_no_memory (stopped_of p) none));
+  within = still_within p new keeps book printed s.within;
+  searched = λ n. subst (λ (b : Book). Searches (as_found_of old) (book_of old) at b q) (sym book) (s.searched (none_is_no_memory (stopped_of p) none));
 }
 
 -- memory was refused: then nothing is said of the search
@@ -77,7 +90,8 @@ refused old p new at q r taken middle s none ready more marks = record {
   model = ap (λ (b : Book). b.model) marks.book ∙ s.model;
   mode = ap (λ (b : Book). b.mode) marks.book ∙ s.mode;
   printed = λ before h. marked p new before middle middle none marks.book marks.keeps marks.printed refl (is_below p ready more) (s.printed before h);
-  reported = λ n. absurd (n marks.stopped);
+  within = still_within p new marks.keeps marks.book marks.printed s.within;
+  searched = λ n. absurd (n marks.stopped);
 }
 
 -- the path takes up a part
@@ -88,14 +102,16 @@ taken_up old p at q r taken middle s (inr begun) = record {
   model = s.model;
   mode = s.mode;
   printed = s.printed;
-  reported = λ n. subst (λ (x : Pathed). Reported (as_found_of old) (book_of old) at (book_of p) x) (sym begun.1.2) (Starts (book_of p) q begun.1.0 (s.reported n) begun.0 begun.1.1);
+  within = s.within;
+  searched = λ n. subst (λ (x : Pathed). Searches (as_found_of old) (book_of old) at (book_of p) x) (sym begun.1.2) (Starts (book_of p) q begun.1.0 (s.searched n) begun.0 begun.1.1);
 }
 
-behind : (i : Bool) (b : Book) (p : Pathed) (c : Book) (q : Pathed) → Reported i b p c q → (d : Book) (r : Pathed) → Reported i c q d r → Reported i b p d r
+behind : (i : Bool) (b : Book) (p : Pathed) (c : Book) (q : Pathed) → Searches i b p c q → (d : Book) (r : Pathed) → Searches i c q d r → Searches i b p d r
 behind i b p c q first d r Begins = first
 behind i b p c q first d r (Starts e s f h none is_open) = Starts e s f (behind i b p c q first e s h) none is_open
-behind i b p c q first d r (Looks e s step held h steps) = Looks e s step held (behind i b p c q first e s h) steps
-behind i b p c q first d r (Reports e new s a h holds alone takes) = Reports e new s a (behind i b p c q first e s h) holds alone takes
+behind i b p c q first d r (Steps e s step held h n steps) = Steps e s step held (behind i b p c q first e s h) n steps
+behind i b p c q first d r (Finds e new s held h steps told) = Finds e new s held (behind i b p c q first e s h) steps told
+behind i b p c q first d r (Reports e new s a h holds rest takes) = Reports e new s a (behind i b p c q first e s h) holds rest takes
 
 -- one part of a search behind another
 pub both_stream : (old p new : Printer) (at q r : Pathed) (taken middle after : Option (List ℕ)) → Streams old at taken p q middle → stopped_of p ≡ None → Streams p q middle new r after → Streams old at taken new r after
@@ -104,9 +120,10 @@ both_stream old p new at q r taken middle after first none second = record {
   model = second.model ∙ first.model;
   mode = second.mode ∙ first.mode;
   printed = λ before h. second.printed before (first.printed before h);
-  reported = λ n.
-      behind (as_found_of old) (book_of old) at (book_of p) q (first.reported (none_is_no_memory (stopped_of p) none)) (book_of new) r
-      (subst (λ (b : Bool). Reported b (book_of p) q (book_of new) r) first.keeps.as_found (second.reported n));
+  within = second.within;
+  searched = λ n.
+      behind (as_found_of old) (book_of old) at (book_of p) q (first.searched (none_is_no_memory (stopped_of p) none)) (book_of new) r
+      (subst (λ (b : Bool). Searches b (book_of p) q (book_of new) r) first.keeps.as_found (second.searched n));
 }
 
 -- ---- where nothing is taken up
@@ -132,16 +149,6 @@ counts_by s a b same (inr memory) = subst (λ (x : Option Stop). CountsMark a b 
 pub nothing_counts : (p new : Printer) (a b : ℕ) → NothingOpen p new → stopped_of p ≡ None → b ≡ a → CountsMark a b (stopped_of new)
 nothing_counts p new a b (inl nothing) none same = counts_by (stopped_of new) a b same (inl (ap stopped_of nothing.0 ∙ none))
 nothing_counts p new a b (inr marks) none same = counts_by (stopped_of new) a b same (inr marks.stopped)
-
--- ---- what a stretch leaves
-
--- what is taken, where printing goes on
-pub takes_of : (c : Account) (p new : Printer) → AccountsTo c p new → IsReportable (book_of p) c → stopped_of new ≡ None → Takes (book_of p) c (book_of new)
-takes_of c p new (inl takes) r none = takes
-takes_of c p new (inr same) r none = elim same.1 [
-  | inl memory ↦ absurd (none_is_no_memory (stopped_of new) none memory)
-  | inr other ↦ elim other [ inl foreign ↦ absurd (foreign r.model) | inr stranger ↦ absurd (stranger r.is_open) ]
-]
 
 pub counts_on : (s : Option Stop) (a b c : ℕ) → b ≡ a → CountsMark b c s → CountsMark a c s
 counts_on s a b c same counts = subst (λ n. CountsMark n c s) same counts

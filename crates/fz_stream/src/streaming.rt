@@ -1,21 +1,34 @@
 //! Searching and printing, by turns.
-ghost use Rattle.std.specs.Prelude.{◌≡◌, ◌≢◌, ◌↔◌, ◌<◌, ◌^◌, ◌-◌, ◌⊎◌, [], None, Some, false, length, IfSome, IsSomeAnd, IsTrue, IsFalse};
+ghost use Rattle.std.specs.Prelude.{◌≡◌, ◌≢◌, ◌↔◌, ◌<◌, ◌^◌, ◌-◌, ◌⊎◌, [], None, Some, true, false, length, IfSome, IsSomeAnd, IsTrue, IsFalse};
+ghost use Rattle.fz_tree.specs.declared.mode.Mode.TheVariants as modes;
+ghost use Rattle.fz_tree.specs.Book.{BookLaw, Takes};
 ghost use Rattle.fz_book.specs.Reports.{IsReportable};
+ghost use Rattle.fz_path.specs.Paths.{held_behind, with_held};
 ghost use Rattle.fz_printing.specs.declared.printer.Stop.TheVariants as stops;
-ghost use Rattle.fz_printer.specs.Printed.{as_found_of, book_of, printed_of, stopped_of, CountsMark, IsReady, KeepsPrinting};
+ghost use Rattle.fz_printer.specs.Printed.{as_found_of, book_of, printed_of, stopped_of, CountsMark, Grew, IsReady, KeepsPrinting};
 ghost use Rattle.fz_solo.specs.declared.stretches.Halt.TheVariants as halts;
-ghost use Rattle.fz_stream.specs.Streamed.{HasTakenUp, IsFilled, NothingOpen, OnNoMemory, Streams};
+ghost use Rattle.fz_solo.specs.declared.stretches.Pause.TheVariants as pauses;
+ghost use Rattle.fz_solo.specs.Searches.{IsTold};
+ghost use Rattle.fz_stream.specs.Streamed.{HasAdvanced, HasTakenUp, IsBatch, IsFilled, NothingOpen, OnNoMemory, Streams};
 
 use fz_io::outside::Sink;
 use fz_path::Path;
 use fz_printer::Printer;
 use fz_search_space::SearchSpace;
-use fz_solo::{Halt, stretch, take_up};
+use fz_solo::{Halt, Pause, pays_report, stretch, take_up};
 use fz_tree::mode::Mode;
 use std::alloc::Global;
 
-/// How many solutions are found, at most, until they are reported.
-const BATCH: u64 = 256;
+/// How many edges a report may copy for each time that its solutions have waited.
+const EDGES_A_WAIT: u64 = 20_000;
+
+/// What a printer is to know of a search.
+#[derive(Debug, Clone, Copy, PartialEq, Eq)]
+enum Message {
+    Better,
+    Account,
+    Nothing,
+}
 
 /// Searches what is open in the printer's book, and prints solutions as they are found, until nothing is open, as many are
 /// recorded as are wanted, the sink failed or memory was refused.
@@ -110,12 +123,9 @@ fn search_part<S: SearchSpace, K: Sink>(
     ensures cause { CountsMark (K.faults sink.old) (K.faults sink.new) (stopped_of printer.new) }
     ensures path { path.new.model ≡ path.old.model }
 {
+    let mut waited: u64 = 1;
     'stretches: loop {
-        let Ok(account) = stretch(path, halt_of(printer), sink) else {
-            printer.refuse();
-            return false;
-        };
-        printer.account(alloc, sink, account);
+        advance(alloc, printer, path, sink, waited);
         if has_stopped(printer) {
             return false;
         }
@@ -129,7 +139,146 @@ fn search_part<S: SearchSpace, K: Sink>(
         if has_stopped(printer) {
             return false;
         }
+        waited = waits(path, waited);
     }
+}
+
+/// How often solutions that are found will have waited for a report, with the next time.
+fn waits<S: SearchSpace>(path: &Path<S>, waited: u64) -> u64 {
+    if path.found_count() == 0 {
+        return 1;
+    }
+    waited.saturating_add(1)
+}
+
+/// A stretch of the search, and what the printer is to know of it.
+fn advance<S: SearchSpace, K: Sink>(
+    alloc: Global,
+    printer: &mut Printer,
+    path: &mut Path<S>,
+    sink: &mut K,
+    waited: u64,
+)
+    requires working { stopped_of printer.old ≡ None }
+    requires ready { IsReady printer.old }
+    requires faults { K.faults sink.old < 2 ^ 64 - 1 }
+    requires held { IsSomeAnd path.old.held (IsReportable (book_of printer.old)) }
+    requires model { path.old.model ≡ (book_of printer.old).model }
+    requires more { IsFilled printer.old → ⊥ }
+    ensures streams { Streams printer.old path.old (K.taken sink.old)
+        printer.new path.new (K.taken sink.new) }
+    ensures advanced { stopped_of printer.new ≡ None → HasAdvanced
+        (book_of printer.old) path.old.held (book_of printer.new) path.new.held }
+    ensures ready { stopped_of printer.new ≡ None → IsReady printer.new }
+    ensures cause { CountsMark (K.faults sink.old) (K.faults sink.new) (stopped_of printer.new) }
+    ensures path { path.new.model ≡ path.old.model }
+{
+    let _ = path.model();
+    let halt = halt_of(printer);
+    let Ok(pause) = stretch(path, halt, sink) else {
+        printer.refuse();
+        return;
+    };
+    let pays = pays_report(path, waited.saturating_mul(EDGES_A_WAIT));
+    match message_of(halt, pause, pays) {
+        Message::Better => tell(alloc, printer, path, sink),
+        Message::Account => report(alloc, printer, path, sink),
+        Message::Nothing => {}
+    }
+}
+
+/// When a stretch is to end: where solutions are printed as they are found, at each better one, or at so many as are still wanted.
+fn halt_of(printer: &Printer) -> Halt
+    ensures each { result ≡ halts.Each → as_found_of printer.now ≡ true }
+    ensures quiet { result ≢ halts.Each
+        → (as_found_of printer.now ≡ false) ⊎ ((book_of printer.now).mode ≡ modes.All) }
+    ensures batch { IsBatch result → (book_of printer.now).mode ≡ modes.All }
+    ensures law { BookLaw (book_of printer.now) }
+{
+    let _ = printer.book().mode();
+    if !printer.as_found() {
+        return Halt::Never;
+    }
+    match printer.book().mode() {
+        Mode::Best => Halt::Each,
+        Mode::All => Halt::Batch(still_wanted(printer)),
+    }
+}
+
+/// How many more are wanted.
+fn still_wanted(printer: &Printer) -> Option<u64> {
+    let recorded = printer.book().recorded().len() as u64;
+    match printer.wanted() {
+        Some(count) => Some((count as u64).saturating_sub(recorded)),
+        None => None,
+    }
+}
+
+/// What the printer is to know behind a stretch: the better solution that was found, or an account of what was done. Where only time
+/// has passed an account is handed out if it pays.
+fn message_of(halt: Halt, pause: Pause, pays: bool) -> Message
+    ensures better { result ≡ Message.Better → (halt ≡ halts.Each) × (pause ≡ pauses.Found) }
+    ensures told { result ≢ Message.Better → halt ≡ halts.Each → pause ≢ pauses.Found }
+    ensures account { result ≡ Message.Account → (pause ≡ pauses.Closed) ⊎ IsBatch halt }
+    ensures nothing { result ≡ Message.Nothing → pause ≢ pauses.Closed }
+{
+    match (halt, pause) {
+        (Halt::Each, Pause::Found) => Message::Better,
+        (_, Pause::Closed) => Message::Account,
+        (Halt::Batch(_), Pause::Found) => Message::Account,
+        (Halt::Batch(_), Pause::Due) if pays => Message::Account,
+        _ => Message::Nothing,
+    }
+}
+
+/// The printer takes the best that the path knows.
+fn tell<S: SearchSpace, K: Sink>(alloc: Global, printer: &mut Printer, path: &Path<S>, sink: &mut K)
+    requires working { stopped_of printer.old ≡ None }
+    requires ready { IsReady printer.old }
+    requires faults { K.faults sink.old < 2 ^ 64 - 1 }
+    ensures told { OnNoMemory printer.new
+        (IsTold true (book_of printer.old) path.now.known (book_of printer.new)) }
+    ensures grew { Grew printer.old printer.new (K.taken sink.old) (K.taken sink.new) }
+    ensures ready { stopped_of printer.new ≡ None → IsReady printer.new }
+    ensures cause { CountsMark (K.faults sink.old) (K.faults sink.new) (stopped_of printer.new) }
+{
+    let Some(known) = path.known() else {
+        return;
+    };
+    let Ok(found) = known.copy() else {
+        printer.refuse();
+        return;
+    };
+    printer.offer(alloc, sink, found);
+}
+
+/// The printer takes the account of what the path did.
+fn report<S: SearchSpace, K: Sink>(
+    alloc: Global,
+    printer: &mut Printer,
+    path: &mut Path<S>,
+    sink: &mut K,
+)
+    requires working { stopped_of printer.old ≡ None }
+    requires ready { IsReady printer.old }
+    requires faults { K.faults sink.old < 2 ^ 64 - 1 }
+    requires held { IsSomeAnd path.old.held (IsReportable (book_of printer.old)) }
+    ensures taken { OnNoMemory printer.new (IsSomeAnd path.old.held
+        (λ c. Takes (book_of printer.old) c (book_of printer.new)
+        × (path.new ≡ with_held path.old (held_behind c)))) }
+    ensures grew { Grew printer.old printer.new (K.taken sink.old) (K.taken sink.new) }
+    ensures ready { stopped_of printer.new ≡ None → IsReady printer.new }
+    ensures cause { CountsMark (K.faults sink.old) (K.faults sink.new) (stopped_of printer.new) }
+    ensures path { path.new.model ≡ path.old.model }
+{
+    let Ok(handed) = path.report() else {
+        printer.refuse();
+        return;
+    };
+    let Some(account) = handed else {
+        unreachable!()
+    };
+    printer.account(alloc, sink, account);
 }
 
 /// Has the sink hand on what it took, where it is due.
@@ -145,22 +294,5 @@ fn hand_on_if_due<K: Sink>(printer: &mut Printer, sink: &mut K)
 {
     if sink.is_due() {
         printer.hand_on(sink);
-    }
-}
-
-/// When a walk is to end: where solutions are printed as they are found, at each better one, or at so many as are still wanted.
-fn halt_of(printer: &Printer) -> Halt
-    ensures { as_found_of printer.now ≡ false → result ≡ halts.Never }
-{
-    if !printer.as_found() {
-        return Halt::Never;
-    }
-    match (printer.book().mode(), printer.wanted()) {
-        (Mode::Best, _) => Halt::Each,
-        (Mode::All, None) => Halt::After(BATCH),
-        (Mode::All, Some(count)) => {
-            let left = (count as u64).saturating_sub(printer.book().recorded().len() as u64);
-            Halt::After(left.min(BATCH))
-        }
     }
 }

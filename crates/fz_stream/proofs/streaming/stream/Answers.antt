@@ -11,7 +11,7 @@ parts-init g c = record {
   held = c.requires.held;
   model = c.requires.model;
   faults = refl;
-  streams = begins c.args.printer.now c.args.path.now (g.K.Sink.taken c.args.sink.now);
+  streams = begins c.args.printer.now c.args.path.now (g.K.Sink.taken c.args.sink.now) c.requires.ready;
 }
 
 pub returns-then-not-search_part-clause-streams : goal.returns-then-not-search_part-clause-streams
