@@ -1,12 +1,12 @@
 -- What a search's book says of the solutions that are shown.
-use Rattle.std.proofs.Common.{◌≡◌, ◌∙◌, append-nil, ℕ, zero, suc, ◌+◌, ◌-◌, drop, sym, ◌≤◌, ◌<◌, List, [], ◌∷◌, ◌++◌, Option, None, Some, length, take, ap, refl, subst, arith, inl, inr, cond, Bool, true, false}
+use Rattle.std.proofs.Common.{◌≡◌, ◌∙◌, ℕ, zero, suc, ◌+◌, ◌-◌, drop, sym, ◌≤◌, ◌<◌, ◌⊎◌, List, [], ◌∷◌, Option, None, Some, length, take, ap, refl, subst, arith, inl, inr, cond, Bool, true, false}
 use Rattle.std.specs.Prelude.{ℤ, ◌↔◌, IsSomeAnd, slice_get}
 use Rattle.std.specs.List.{AllByRecursion}
+use Rattle.std.proofs.Math.Seq.{take-length}
 use Rattle.std.proofs.lemmas.List.{length-take-le}
 use Rattle.std.proofs.lemmas.List.Sums.{sum_by-take-le}
-use Rattle.fz_spec.specs.Instance.{Instance, AreDeclared, Satisfies, IsBetter, AreImproving, occurrences, is_same}
+use Rattle.fz_spec.specs.Instance.{Instance, AreDeclared, Satisfies, AreImproving, occurrences, is_same}
 use Rattle.fz_spec.specs.Run.{blocks}
-use Rattle.fz_spec.specs.declared.term.Term.{Term}
 use Rattle.fz_spec.specs.declared.goal.Goal.{Goal}
 use Rattle.fz_spec.specs.declared.goal.Goal.TheVariants as goals
 use Rattle.fz_tree.specs.declared.mode.Mode.{Mode}
@@ -17,12 +17,17 @@ use Rattle.fz_book.specs.declared.end.End.{End}
 use Rattle.fz_book.specs.declared.end.End.TheVariants as ends
 use Rattle.fz_tree.proofs.Books.{closed_lists, closed_is_best}
 use Rattle.fz_cmd.specs.Meaning.{Options}
-use Rattle.fz_runs.specs.Runs.{AreSome, EndsBest, AreBest, PrintsWanted, PrintsBest, PrintsGoal, PrintsFor, wanted}
+use Rattle.fz_runs.specs.Runs.{AreSome, EndsBest, AreBest, wanted}
 use Rattle.fz_path.specs.Paths.{Pathed, idle_path}
 use Rattle.fz_solo.specs.Searches.{Searches}
 use Rattle.fz_core.specs.Cores.{Core, starting}
 use Rattle.fz_machine.specs.Schedule.{HasGone}
-use Rattle.fz_search.specs.Searched.{IsAlone, IsByTurns, enough_for, HasEnded, IsSearched, IsListing, IsShown, shows_all}
+use Rattle.fz_io.specs.Outside.{with_more, with_more-none}
+use Rattle.fz_printing.specs.declared.printer.Stop.{Stop}
+use Rattle.fz_printer.specs.declared.printer.Printer.{Printer}
+use Rattle.fz_printer.specs.Printed.{as_found_of, book_of, printed_of, stopped_of, wanted_of, due_among, due_of, HasPrinted, HasPrintedAt, IsReady}
+use Rattle.fz_stream.specs.Streamed.{IsFilled, IsFilledFor, Streams}
+use Rattle.fz_search.specs.Searched.{IsAlone, IsByTurns, IsPrinted, enough_for, HasEnded, IsSearched, IsListing, IsShown, shows_found}
 
 -- ---- the first so many of a list
 
@@ -63,13 +68,13 @@ searched m w v b end is law same enough closed = record {
 }
 
 -- by one worker, as the code says it
-pub alone : (m : Instance) (o : Options) (improving : Bool) (mode : Mode) (distance adaptive : ℕ) (old b : Book) (begun path : Pathed) → improving ≡ shows_all o.generate o.all → mode ≡ mode_of m.goal → distance ≡ o.commit_distance → adaptive ≡ o.adaptive_distance → old ≡ opening m mode
+pub alone : (m : Instance) (o : Options) (improving : Bool) (mode : Mode) (distance adaptive : ℕ) (old b : Book) (begun path : Pathed) → improving ≡ shows_found m.goal o → mode ≡ mode_of m.goal → distance ≡ o.commit_distance → adaptive ≡ o.adaptive_distance → old ≡ opening m mode
     → begun ≡ idle_path m mode distance adaptive → Searches improving old begun b path → IsAlone m o b
 alone m o improving mode distance adaptive old b begun path all own asked kept opened idle h =
     let told = subst (λ (i : Bool). Searches i old begun b path) all h in
-    let from = subst (λ (x : Book). Searches (shows_all o.generate o.all) x begun b path) (opened ∙ ap (opening m) own) told in
+    let from = subst (λ (x : Book). Searches (shows_found m.goal o) x begun b path) (opened ∙ ap (opening m) own) told in
     let same : begun ≡ idle_path m (mode_of m.goal) o.commit_distance o.adaptive_distance = idle ∙ (λ i. idle_path m (own i) (asked i) (kept i)) in
-    record { path = path; searched = subst (λ (x : Pathed). Searches (shows_all o.generate o.all) (opening m (mode_of m.goal)) x b path) same from }
+    record { path = path; searched = subst (λ (x : Pathed). Searches (shows_found m.goal o) (opening m (mode_of m.goal)) x b path) same from }
 
 -- by turns, as the code says it
 pub by_turns : (m : Instance) (o : Options) (seed : ℕ) (enough : Option ℕ) (mode : Mode) (old new : Core) (b : Book) → enough ≡ enough_for m.goal o → mode ≡ mode_of m.goal → old ≡ starting m mode o.workers o.commit_distance o.adaptive_distance
@@ -78,7 +83,62 @@ by_turns m o seed enough mode old new b asked own begun gone is =
     let wanted = subst (λ (e : Option ℕ). HasGone e seed old new) asked gone in
     record { core = new; gone = subst (λ (x : Core). HasGone (enough_for m.goal o) seed x new) (begun ∙ ap (λ (x : Mode). starting m x o.workers o.commit_distance o.adaptive_distance) own) wanted; is = is }
 
+-- ---- a search that printed on its way, or not at all
+
+begun_at : (s : Option Stop) (p : Printer) (taken : Option (List ℕ)) → s ≡ None → taken ≡ with_more taken (blocks p.book.book.model (take p.printed p.book.book.recorded)) → HasPrintedAt s p taken taken
+begun_at None p taken e is = is
+begun_at (Some stop) p taken e is = absurd (cc e)
+
+pub begun_printed : (p : Printer) (taken : Option (List ℕ)) → stopped_of p ≡ None → printed_of p ≡ 0 → HasPrinted p taken taken
+begun_printed p taken none nothing =
+    begun_at p.stopped p taken none (sym (with_more-none taken) ∙ ap (λ n. with_more taken (blocks p.book.book.model (take n p.book.book.recorded))) (sym nothing))
+
+filled_ended : (w : Option ℕ) (b : Book) → IsFilledFor w (length b.recorded) ⊎ (b.parts ≡ []) → HasEnded w b
+filled_ended None b (inl filled) = absurd filled
+filled_ended None b (inr closed) = closed
+filled_ended (Some n) b ended = ended
+
+-- by one worker
+pub printed_alone : (m : Instance) (o : Options) (old p : Printer) (q r : Pathed) (shows : Bool) (w : Option ℕ) (before after : Option (List ℕ)) → Streams old q before p r after → (book_of old).model ≡ m → BookLaw (book_of p)
+    → as_found_of old ≡ shows → shows ≡ shows_found m.goal o → wanted_of old ≡ w → w ≡ enough_for m.goal o → printed_of old ≡ 0 → stopped_of old ≡ None
+    → (stopped_of p ≡ None → IsReady p) → (stopped_of p ≡ None → IsFilled p ⊎ ((book_of p).parts ≡ [])) → IsPrinted m o p before after
+printed_alone m o old p q r shows w before after s model law as_found shown wanted asked nothing none ready ended =
+    let kept : wanted_of p ≡ enough_for m.goal o = s.keeps.wanted ∙ wanted ∙ asked in
+    record {
+      model = s.model ∙ model;
+      law = law;
+      prints = inr (s.keeps.as_found ∙ as_found ∙ shown, kept);
+      printed = s.printed before (begun_printed old before none nothing);
+      within = s.within;
+      ready = ready;
+      ended = λ n. subst (λ (x : Option ℕ). HasEnded x (book_of p)) kept (filled_ended (wanted_of p) (book_of p) (ended n));
+    }
+
+none_due : (p : Printer) → as_found_of p ≡ false → due_of p ≡ 0
+none_due p is = ap (λ (b : Bool). due_among b (wanted_of p) (length (book_of p).recorded)) is
+
+-- by several
+pub unprinted : (m : Instance) (o : Options) (p : Printer) (taken : Option (List ℕ)) → IsSearched m (enough_for m.goal o) (book_of p) → as_found_of p ≡ false → printed_of p ≡ 0 → stopped_of p ≡ None → IsPrinted m o p taken taken
+unprinted m o p taken s as_found nothing none = record {
+  model = s.model;
+  law = s.law;
+  prints = inl as_found;
+  printed = begun_printed p taken none nothing;
+  within = omega (arith, nothing);
+  ready = λ n. nothing ∙ sym (none_due p as_found);
+  ended = λ n. s.ended;
+}
+
 -- ---- what is shown
+
+pub all_due : (l : List (List ℤ)) → l ≡ take (due_among true None (length l)) l
+all_due l = sym (take-length l)
+
+pub few_due : (l : List (List ℤ)) (n : ℕ) → length l < n → l ≡ take (due_among true (Some n) (length l)) l
+few_due l n h = let e : due_among true (Some n) (length l) ≡ length l = omega (arith, h) in sym (ap (λ k. take k l) e ∙ take-length l)
+
+pub first_due : (l : List (List ℤ)) (n : ℕ) → n ≤ length l → take n l ≡ take (due_among true (Some n) (length l)) l
+first_due l n h = let e : n ≡ due_among true (Some n) (length l) = omega (arith, h) in ap (λ k. take k l) e
 
 pub all_shown : (b : Book) → IsSearched b.model None b → b.mode ≡ modes.All → IsListing b.model None b.recorded true
 all_shown b s all = closed_lists b s.law all s.ended

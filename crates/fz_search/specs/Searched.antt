@@ -1,13 +1,14 @@
 -- What a search leaves of its book, and what is shown of it.
 use Rattle.std.specs.Prelude.{◌≡◌, ℕ, ℤ, ◌<◌, ◌≤◌, ◌⊎◌, Bool, true, false, length, Option, Some, None, List, []}
 use Rattle.fz_spec.specs.Instance.{Instance, Lists}
-use Rattle.fz_spec.specs.Run.{closing}
 use Rattle.fz_spec.specs.declared.goal.Goal.{Goal}
 use Rattle.fz_spec.specs.declared.goal.Goal.TheVariants.{Satisfy, Minimize, Maximize}
 use Rattle.fz_tree.specs.Better.{mode_of}
 use Rattle.fz_tree.specs.Book.{Book, BookLaw, opening}
 use Rattle.fz_path.specs.Paths.{Pathed, idle_path}
 use Rattle.fz_solo.specs.Searches.{Searches}
+use Rattle.fz_printer.specs.declared.printer.Printer.{Printer}
+use Rattle.fz_printer.specs.Printed.{book_of, as_found_of, wanted_of, printed_of, stopped_of, due_of, HasPrinted, IsReady}
 use Rattle.fz_core.specs.Cores.{Core, starting}
 use Rattle.fz_machine.specs.Schedule.{HasGone}
 use Rattle.fz_cmd.specs.Meaning.{Options}
@@ -24,6 +25,12 @@ abbrev pub shows_all : Option ℕ → Bool → Bool
 shows_all None all = all
 shows_all (Some items) all = false
 
+-- whether each that the book records is shown: all that are found, and on the way to a best one where all better ones are to be shown
+abbrev pub shows_found : Goal → Options → Bool
+shows_found Satisfy o = true
+shows_found (Minimize term) o = shows_all o.generate o.all
+shows_found (Maximize term) o = shows_all o.generate o.all
+
 -- the book of a search that has ended: it is closed, or has as many as are asked for
 abbrev pub HasEnded : Option ℕ → Book → Type 0
 HasEnded None b = b.parts ≡ []
@@ -34,12 +41,27 @@ pub record IsSearched (m : Instance) (w : Option ℕ) (b : Book) : Type 0 where
   pub law : BookLaw b
   pub ended : HasEnded w b
 
+-- solutions are printed as they are found where each that is recorded is shown, up to as many as are asked for; or none is
+abbrev pub PrintsAsAsked : Instance → Options → Printer → Type 0
+PrintsAsAsked m o p = (as_found_of p ≡ false) ⊎ ((as_found_of p ≡ shows_found m.goal o) × (wanted_of p ≡ enough_for m.goal o))
+
+-- What a search leaves of its printer: a book of the model and its law, and what the sink took. Unless it stopped, all that is due is
+-- printed, and the search has ended.
+pub record IsPrinted (m : Instance) (o : Options) (p : Printer) (before after : Option (List ℕ)) : Type 0 where
+  pub model : (book_of p).model ≡ m
+  pub law : BookLaw (book_of p)
+  pub prints : PrintsAsAsked m o p
+  pub printed : HasPrinted p before after
+  pub within : printed_of p ≤ due_of p
+  pub ready : stopped_of p ≡ None → IsReady p
+  pub ended : stopped_of p ≡ None → HasEnded (enough_for m.goal o) (book_of p)
+
 -- ---- how a model is searched
 
 -- By one worker that keeps copies at the distances that are asked for; the book is told each better one where all are to be shown.
 pub record IsAlone (m : Instance) (o : Options) (b : Book) : Type 0 where
   pub path : Pathed
-  pub searched : Searches (shows_all o.generate o.all) (opening m (mode_of m.goal)) (idle_path m (mode_of m.goal) o.commit_distance o.adaptive_distance) b path
+  pub searched : Searches (shows_found m.goal o) (opening m (mode_of m.goal)) (idle_path m (mode_of m.goal) o.commit_distance o.adaptive_distance) b path
 
 -- By as many workers as are asked for, which keep copies at these distances and take turns by the schedule that the seed begins.
 pub record IsByTurns (m : Instance) (o : Options) (seed : ℕ) (b : Book) : Type 0 where

@@ -1,5 +1,5 @@
 //! The search of a model, and what is shown of it.
-ghost use Rattle.std.specs.Prelude.{◌≡◌, ◌-◌, None, true, drop, length, IfOk};
+ghost use Rattle.std.specs.Prelude.{◌≡◌, ◌≢◌, ◌-◌, ◌<◌, ◌^◌, ℕ, Option, List, None, Some, true, drop, take, length, IfOk, OnErr};
 ghost use Rattle.std.specs.Arc.{arc_value};
 ghost use Rattle.fz_tree.specs.declared.mode.Mode.TheVariants as modes;
 ghost use Rattle.fz_tree.specs.Better.{mode_of};
@@ -8,18 +8,22 @@ ghost use Rattle.fz_core.specs.Cores.{starting};
 ghost use Rattle.fz_runs.specs.Runs as runs;
 ghost use Rattle.fz_runs.specs.Runs.{AreBest};
 ghost use Rattle.fz_search.specs.Searched as searched;
-ghost use Rattle.fz_search.specs.Searched.{enough_for, IsAlone, IsByTurns, IsSearched, IsSearchedBy, IsListing, IsShown};
+ghost use Rattle.fz_printing.specs.declared.printer.Stop.TheVariants as stops;
+ghost use Rattle.fz_printer.specs.Printed.{book_of, stopped_of, due_among, CountsMark};
+ghost use Rattle.fz_search.specs.Searched.{enough_for, IsAlone, IsByTurns, IsPrinted, IsSearched, IsSearchedBy, IsListing, IsShown};
 
 use fz_account::Mode;
 use fz_book::Book;
 use fz_cmd::Options;
+use fz_io::outside::Sink;
 use fz_machine::Machine;
 use fz_model::assignment::Assignment;
 use fz_model::model::Model;
 use fz_path::Path;
+use fz_printer::Printer;
 use fz_search_space::SearchSpace;
-use fz_solo::finish;
 use fz_spec::goal::Goal;
+use fz_stream::stream;
 use std::alloc::{AllocError, Global};
 use std::sync::Arc;
 
@@ -30,65 +34,83 @@ pub struct Listing<'a> {
     pub complete: bool,
 }
 
-/// Searches a model for as many solutions as are asked for, or for a best one, over spaces of this kind.
+/// Searches a model for as many solutions as are asked for, or for a best one, over spaces of this kind. One worker prints
+/// solutions as they are found, where each that is found is shown; workers that take turns print none.
 ///
 /// # Errors
-/// `AllocError` where there is no memory.
-pub fn search<S: SearchSpace>(
+/// `AllocError` where there is no memory to begin with, or none for workers that take turns; nothing is printed.
+pub fn search<S: SearchSpace, K: Sink>(
     alloc: Global,
     model: &Arc<Model>,
     options: &Options,
-) -> Result<Book, AllocError>
+    sink: &mut K,
+) -> Result<Printer, AllocError>
     requires accepts { S.accepts (arc_value model.now) }
-    ensures searched { IfOk result (λ b. IsSearched (arc_value model.now)
-        (enough_for (arc_value model.now).goal options.now) b.book) }
-    ensures by { IfOk result (λ b.
-        IsSearchedBy options.now.interleave (arc_value model.now) options.now b.book) }
+    requires faults { K.faults sink.old < 2 ^ 64 - 1 }
+    ensures printed { IfOk result (λ p. IsPrinted (arc_value model.now) options.now p
+        (K.taken sink.old) (K.taken sink.new)) }
+    ensures cause { IfOk result
+        (λ p. CountsMark (K.faults sink.old) (K.faults sink.new) (stopped_of p)) }
+    ensures by { IfOk result (λ p. stopped_of p ≢ Some stops.Memory
+        → IsSearchedBy options.now.interleave (arc_value model.now) options.now (book_of p)) }
+    ensures untaken { OnErr result (K.taken sink.new ≡ K.taken sink.old) }
+    ensures no_fault { OnErr result (K.faults sink.new ≡ K.faults sink.old) }
 {
     match options.interleave() {
         Some(seed) => search_by_turns::<S>(alloc, model, options, seed),
-        None => search_alone::<S>(alloc, model, options),
+        None => search_alone::<S, K>(alloc, model, options, sink),
     }
 }
 
 /// By one worker.
-fn search_alone<S: SearchSpace>(
+fn search_alone<S: SearchSpace, K: Sink>(
     alloc: Global,
     model: &Arc<Model>,
     options: &Options,
-) -> Result<Book, AllocError>
+    sink: &mut K,
+) -> Result<Printer, AllocError>
     requires accepts { S.accepts (arc_value model.now) }
-    ensures searched { IfOk result (λ b. IsSearched (arc_value model.now)
-        (enough_for (arc_value model.now).goal options.now) b.book) }
-    ensures by { IfOk result (λ b. IsAlone (arc_value model.now) options.now b.book) }
+    requires faults { K.faults sink.old < 2 ^ 64 - 1 }
+    ensures printed { IfOk result (λ p. IsPrinted (arc_value model.now) options.now p
+        (K.taken sink.old) (K.taken sink.new)) }
+    ensures cause { IfOk result
+        (λ p. CountsMark (K.faults sink.old) (K.faults sink.new) (stopped_of p)) }
+    ensures by { IfOk result (λ p. stopped_of p ≢ Some stops.Memory
+        → IsAlone (arc_value model.now) options.now (book_of p)) }
+    ensures untaken { OnErr result (K.taken sink.new ≡ K.taken sink.old) }
+    ensures no_fault { OnErr result (K.faults sink.new ≡ K.faults sink.old) }
 {
     let distance = options.commit_distance();
     let mode = mode_of(model.goal());
-    let mut book = begin(alloc, model, mode)?;
+    let book = begin(alloc, model, mode)?;
     let adaptive = options.adaptive_distance();
     let mut path: Path<S> = Path::idle(alloc, model.clone()?, mode, distance, adaptive)?;
-    let enough = enough_for(model.goal(), options);
-    finish(&mut book, &mut path, enough, shows_all(options))?;
-    Ok(book)
+    let wanted = enough_for(model.goal(), options);
+    let mut printer = Printer::new(book, shows_found(model.goal(), options), wanted);
+    stream(alloc, &mut printer, &mut path, sink);
+    let _ = printer.book().model();
+    Ok(printer)
 }
 
-/// By as many workers as are asked for, that take turns on this thread, from this seed on.
+/// By as many workers as are asked for, that take turns on this thread, from this seed on. Nothing is printed on the way.
 fn search_by_turns<S: SearchSpace>(
     alloc: Global,
     model: &Arc<Model>,
     options: &Options,
     seed: u64,
-) -> Result<Book, AllocError>
+) -> Result<Printer, AllocError>
     requires accepts { S.accepts (arc_value model.now) }
-    ensures searched { IfOk result (λ b. IsSearched (arc_value model.now)
-        (enough_for (arc_value model.now).goal options.now) b.book) }
-    ensures by { IfOk result (λ b. IsByTurns (arc_value model.now) options.now seed b.book) }
+    ensures printed { IfOk result (λ p. (taken : Option (List ℕ))
+        → IsPrinted (arc_value model.now) options.now p taken taken) }
+    ensures by { IfOk result
+        (λ p. IsByTurns (arc_value model.now) options.now seed (book_of p)) }
+    ensures working { IfOk result (λ p. stopped_of p ≡ None) }
 {
     let mode = mode_of(model.goal());
     let mut machine = new_machine::<S>(alloc, model, mode, options)?;
     let enough = enough_for(model.goal(), options);
     machine.run(seed, enough)?;
-    Ok(machine.into_book())
+    Ok(Printer::new(machine.into_book(), false, None))
 }
 
 /// As many idle workers as are asked for.
@@ -164,12 +186,26 @@ pub(crate) fn shows_all(options: &Options) -> bool
     options.all() && options.generate().is_none()
 }
 
+/// Whether each that the book records is shown: all that are found, and on the way to a best one where all better ones are to be.
+fn shows_found(goal: &Goal, options: &Options) -> bool
+    ensures { result ≡ searched.shows_found goal.now options.now }
+{
+    match goal {
+        Goal::Satisfy => true,
+        Goal::Minimize(_) | Goal::Maximize(_) => shows_all(options),
+    }
+}
+
 /// What is shown of a search that has ended.
 pub fn listing_of<'a>(book: &'a Book, options: &Options) -> Listing<'a>
     requires { IsSearched book.now.book.model
         (enough_for book.now.book.model.goal options.now) book.now.book }
-    ensures { IsShown book.now.book.model.goal options.now book.now.book.model
+    ensures shown { IsShown book.now.book.model.goal options.now book.now.book.model
         result.found.now result.complete }
+    ensures found { searched.shows_found book.now.book.model.goal options.now ≡ true
+        → result.found.now ≡ take (due_among true
+        (enough_for book.now.book.model.goal options.now) (length book.now.book.recorded))
+        book.now.book.recorded }
 {
     match book.model().goal() {
         Goal::Satisfy => solutions_of(book, wanted(options)),
@@ -182,7 +218,9 @@ pub fn listing_of<'a>(book: &'a Book, options: &Options) -> Listing<'a>
 fn solutions_of(book: &Book, wanted: Option<u32>) -> Listing<'_>
     requires searched { IsSearched book.now.book.model wanted book.now.book }
     requires mode { book.now.book.mode ≡ modes.All }
-    ensures { IsListing book.now.book.model wanted result.found.now result.complete }
+    ensures listing { IsListing book.now.book.model wanted result.found.now result.complete }
+    ensures found { result.found.now ≡ take
+        (due_among true wanted (length book.now.book.recorded)) book.now.book.recorded }
 {
     let found = book.recorded();
     match wanted {
@@ -203,6 +241,7 @@ fn best_of(book: &Book, all: bool) -> Listing<'_>
     requires mode { book.now.book.mode ≡ modes.Best }
     ensures best { AreBest all book.now.book.model result.found.now }
     ensures complete { result.complete ≡ true }
+    ensures found { all ≡ true → result.found.now ≡ book.now.book.recorded }
 {
     let found = book.recorded();
     if all {

@@ -1,8 +1,9 @@
 //! The search of a model by several workers in threads.
-ghost use Rattle.std.specs.Prelude.{◌≡◌, ◌≤◌, IfOk, vec_len};
+ghost use Rattle.std.specs.Prelude.{◌≡◌, ◌≤◌, ℕ, Option, List, None, false, IfOk, vec_len};
 ghost use Rattle.std.specs.Arc.{arc_value};
 ghost use Rattle.fz_tree.specs.Better.{mode_of};
-ghost use Rattle.fz_search.specs.Searched.{enough_for, IsSearched};
+ghost use Rattle.fz_printer.specs.Printed.{as_found_of, stopped_of};
+ghost use Rattle.fz_search.specs.Searched.{enough_for, IsPrinted, IsSearched};
 
 use crate::searching::{begin, enough_for, mode_of, shows_all};
 use fz_account::Mode;
@@ -11,6 +12,7 @@ use fz_cmd::Options;
 use fz_io::gate::Gate;
 use fz_model::model::Model;
 use fz_path::Path;
+use fz_printer::Printer;
 use fz_search_space::SearchSpace;
 use fz_solo::finish;
 use fz_team::{End, TeamEnd};
@@ -19,7 +21,7 @@ use std::sync::{Arc, Wait};
 use std::thread::Threads;
 
 /// Searches a model as `search` does, by as many workers as are asked for, each in a thread of its own where one can be made.
-/// What the threads leave open, if anything, one worker searches at the end.
+/// What the threads leave open, if anything, one worker searches at the end. Nothing is printed on the way.
 ///
 /// # Errors
 /// `AllocError` where there is no memory.
@@ -29,13 +31,16 @@ pub fn search_in_threads<T: Threads + Wait + Sync, S: SearchSpace + Send, G: Gat
     model: &Arc<Model>,
     options: &Options,
     gate: &G,
-) -> Result<Book, AllocError>
+) -> Result<Printer, AllocError>
     requires accepts { S.accepts (arc_value model.now) }
-    ensures { IfOk result (λ b. IsSearched (arc_value model.now)
-        (enough_for (arc_value model.now).goal options.now) b.book) }
+    ensures printed { IfOk result (λ p. (taken : Option (List ℕ))
+        → IsPrinted (arc_value model.now) options.now p taken taken) }
+    ensures as_found { IfOk result (λ p. as_found_of p ≡ false) }
+    ensures working { IfOk result (λ p. stopped_of p ≡ None) }
 {
     let book = team_book::<T, S, G>(rt, alloc, model, options, gate)?;
-    finish_book::<S>(alloc, model, options, book)
+    let finished = finish_book::<S>(alloc, model, options, book)?;
+    Ok(Printer::new(finished, false, None))
 }
 
 /// The book that a team leaves, or a new one where that is of another model.

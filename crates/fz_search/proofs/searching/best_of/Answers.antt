@@ -1,4 +1,4 @@
-use Rattle.std.proofs.Common.{◌≡◌, List, length, drop, sym, subst, ◌-◌}
+use Rattle.std.proofs.Common.{List, sym, subst}
 use Rattle.std.specs.Prelude.{ℤ}
 use Rattle.fz_runs.specs.Runs.{AreBest}
 use Rattle.fz_search.proofs.Searches.{best_listed, best_alone}
