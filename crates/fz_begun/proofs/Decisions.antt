@@ -1,5 +1,5 @@
 -- Whether an assignment satisfies, and whether it is better, can be decided.
-use Rattle.std.proofs.Common.{◌≡◌, ◌≢◌, ◌∙◌, ◌<◌, ◌≤◌, ◌+◌, ◌-◌, ◌*◌, ◌⊎◌, inl, inr, ℕ, zero, suc, Bool, true, false, IsTrue, List, [], ◌∷◌, length, take, drop, Option, Some, None, refl, sym, ap, subst, arith, length-drop}
+use Rattle.std.proofs.Common.{◌≡◌, ◌≢◌, ◌∙◌, ◌<◌, ◌≤◌, ◌+◌, ◌*◌, ◌⊎◌, inl, inr, ℕ, zero, suc, List, [], ◌∷◌, length, Option, Some, None, refl, ap, subst, arith, length-drop}
 use Rattle.std.specs.Prelude.{◌↔◌, ◌%◌, ℤ, pos, negsuc, ◌≤ℤ◌, ◌<ℤ◌, ◌+ℤ◌, ◌-ℤ◌, ◌*ℤ◌, int_div, nat_abs, slice_get, slice_range, count_by}
 use Rattle.std.specs.Ordering.{int_eq}
 use Rattle.std.specs.Int.{int_min, int_max}
@@ -13,7 +13,7 @@ use Rattle.fz_spec.specs.declared.builtin.Builtin.TheVariants.{AllDifferentInt, 
 use Rattle.fz_spec.specs.declared.goal.Goal.{Goal}
 use Rattle.fz_spec.specs.declared.goal.Goal.TheVariants.{Satisfy, Minimize, Maximize}
 use Rattle.fz_sets.specs.Sets.{IsInSet}
-use Rattle.fz_spec.specs.Truth.{SomeByRecursion, IsOne, IsZero, IsReified, plain_of, IsReifiedOf, weighted_sum, Task, tasks_of, IsTask, load_at, IsCumulative, IsLeastOf, IsGreatestOf, IsElement, AreDifferent, is_one, IsRowOf, HoldsOfTwo, HoldsOfThree, HoldsOfSum, HoldsOfExtreme, HoldsOfElement, HoldsOfVarElement, HoldsOfSet, HoldsOfList, HoldsOfListAnd, HoldsOfClause, HoldsOfTable, HoldsOfTasks}
+use Rattle.fz_spec.specs.Truth.{SomeByRecursion, IsOne, IsZero, plain_of, IsReifiedOf, weighted_sum, Task, tasks_of, IsTask, load_at, IsElement, AreDifferent, is_one, IsRowOf, HoldsOfTwo, HoldsOfThree, HoldsOfSum, HoldsOfExtreme, HoldsOfElement, HoldsOfVarElement, HoldsOfSet, HoldsOfList, HoldsOfListAnd, HoldsOfClause, HoldsOfTable, HoldsOfTasks}
 use Rattle.fz_spec.specs.Constraints.{Argument, One, Numbers, Terms, Set, Constraint, Holds, IsTrueOf, term_value, term_values}
 use Rattle.fz_spec.specs.Instance.{Instance, Variable, AreDeclared, Satisfies, IsBetter, score}
 use Rattle.fz_language.proofs.Decisions.{Decided, by, both, from_test}

@@ -1,6 +1,6 @@
 -- What ends a run that is begun.
-use Rattle.std.proofs.Common.{◌≡◌, ◌∙◌, ◌<◌, ◌≤◌, ◌+◌, ◌-◌, ◌⊎◌, inl, inr, ℕ, zero, suc, List, [], ◌∷◌, ◌++◌, length, take, append_assoc, append-nil, refl, sym, ap, subst, arith, Bool, true, false, Option, Some, None, length-append}
-use Rattle.std.specs.Prelude.{ℤ, flat_map}
+use Rattle.std.proofs.Common.{◌≡◌, ◌∙◌, ◌<◌, ◌≤◌, ◌-◌, ◌⊎◌, inl, inr, ℕ, zero, suc, List, [], ◌∷◌, ◌++◌, length, take, append_assoc, refl, sym, ap, subst, arith, Bool, true, false, Option, Some, None, length-append}
+use Rattle.std.specs.Prelude.{ℤ}
 use Rattle.std.specs.List.{AllByRecursion}
 use Rattle.std.proofs.lemmas.Bool.{cases_lt}
 use Rattle.std.proofs.lemmas.List.{length-take-le}
@@ -9,24 +9,24 @@ use Rattle.std.proofs.lemmas.List.Concat.{flat_map-append}
 use Rattle.fz_spec.specs.declared.goal.Goal.{Goal}
 use Rattle.fz_spec.specs.declared.goal.Goal.TheVariants.{Satisfy, Minimize, Maximize}
 use Rattle.fz_spec.specs.declared.term.Term.{Term}
-use Rattle.fz_spec.specs.Instance.{Instance, Satisfies, Lists, occurrences, is_same}
+use Rattle.fz_spec.specs.Instance.{Instance, Satisfies, occurrences, is_same}
 use Rattle.fz_spec.specs.Run.{PrintsAll, block, blocks, closing}
 use Rattle.fz_tree.proofs.Counts.{one_if, count_append}
 use Rattle.fz_cmd.specs.Meaning.{Options}
 use Rattle.fz_print.specs.Ending.{statistics_text}
-use Rattle.fz_runs.specs.Runs.{AreSome, AreBest, PrintsWanted, PrintsGoal, PrintsFor, wanted, counted}
-use Rattle.fz_begun.specs.Begun.{IsWithin, IsBelow, AreFound, AreBettered, AreBegun, IsShort, CanEnd}
+use Rattle.fz_runs.specs.Runs.{AreSome, PrintsWanted, PrintsGoal, PrintsFor, wanted, counted}
+use Rattle.fz_begun.specs.Begun.{IsBelow, AreFound, AreBegun, IsShort, CanEnd}
 use Rattle.fz_begun.proofs.Extensions.{ListsAll, lists_all, GoesUp, goes_up_from}
 
 -- ---- pieces of a list
 
-all_front : (P : List ℤ → Type 0) (l k : List (List ℤ)) (n : ℕ) → AllByRecursion P (l ++ k) → AllByRecursion P (l ++ take n k)
+pub all_front : (P : List ℤ → Type 0) (l k : List (List ℤ)) (n : ℕ) → AllByRecursion P (l ++ k) → AllByRecursion P (l ++ take n k)
 all_front P [] k zero h = tt
 all_front P [] [] (suc n) h = tt
 all_front P [] (x ∷ k) (suc n) h = (h.0, all_front P [] k n h.1)
 all_front P (y ∷ l) k n h = (h.0, all_front P l k n h.1)
 
-fewer : (a : List ℤ) (l k : List (List ℤ)) (n : ℕ) → occurrences a (l ++ take n k) ≤ occurrences a (l ++ k)
+pub fewer : (a : List ℤ) (l k : List (List ℤ)) (n : ℕ) → occurrences a (l ++ take n k) ≤ occurrences a (l ++ k)
 fewer a l k n =
     let e = count_append (is_same a) l (take n k) in
     let f = count_append (is_same a) l k in

@@ -1,5 +1,5 @@
 -- Solutions that are found, and better ones, can be gone on with until nothing is missing.
-use Rattle.std.proofs.Common.{◌≡◌, ◌∙◌, ◌<◌, ◌≤◌, ◌+◌, ◌⊎◌, inl, inr, ℕ, zero, suc, List, [], ◌∷◌, ◌++◌, length, append_assoc, append-nil, refl, sym, ap, subst, arith, Bool, true, false}
+use Rattle.std.proofs.Common.{◌≡◌, ◌∙◌, ◌≤◌, ◌+◌, ◌⊎◌, inl, inr, ℕ, zero, suc, List, [], ◌∷◌, ◌++◌, append_assoc, append-nil, refl, sym, ap, subst, arith, Bool, true, false}
 use Rattle.std.specs.Prelude.{ℤ}
 use Rattle.std.specs.List.{AllByRecursion}
 use Rattle.std.proofs.lemmas.Int.{ints}
@@ -8,7 +8,6 @@ use Rattle.fz_tree.specs.Measure.{all_declared}
 use Rattle.fz_tree.proofs.Counts.{one_if, count_append, count_cons}
 use Rattle.fz_tree.proofs.Same.{same_means, same_self, all_push}
 use Rattle.fz_tree.proofs.Orders.{better_transitive}
-use Rattle.fz_language.proofs.Decisions.{Decided}
 use Rattle.fz_runs.specs.Runs.{EndsBest}
 use Rattle.fz_begun.proofs.Decisions.{satisfies, better}
 use Rattle.fz_begun.proofs.Among.{IsAmong, declared_among}

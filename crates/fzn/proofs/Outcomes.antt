@@ -1,6 +1,6 @@
 -- What the answers of a run say of its text.
 use Rattle.std.specs.Prelude.{ℤ, Bool}
-use Rattle.std.proofs.Common.{◌≡◌, ◌≤◌, ◌<◌, ◌∙◌, ◌≢◌, ℕ, ◌+◌, List, [], ◌++◌, Option, None, Some, IfSome, ap, sym, refl, subst, inl, inr, append_assoc, append-nil, arith, codes, decimal, ◌⊎◌, unwrap_or, take, length}
+use Rattle.std.proofs.Common.{◌≡◌, ◌≤◌, ◌∙◌, ◌≢◌, ℕ, ◌+◌, List, [], ◌++◌, Option, None, Some, IfSome, ap, sym, refl, subst, inl, inr, append_assoc, append-nil, arith, codes, decimal, ◌⊎◌, unwrap_or, take, length}
 use Rattle.std.specs.Fmt.{digits}
 use Rattle.fz_spec.specs.declared.code.Code.{Code}
 use Rattle.fz_spec.specs.declared.code.Code.TheVariants.{UnknownByte, LargeNumber, UnexpectedToken, DeclaredTwice, UnknownName, WrongType, WrongArity, UnknownConstraint, Unsupported, WrongLengths, OverLimit}
@@ -13,15 +13,15 @@ use Rattle.fz_spec.specs.Run.{refusal_text}
 use Rattle.fz_cmd.specs.Meaning.{Options}
 use Rattle.fz_language.proofs.ReadProofs.{reading_is_one}
 use Rattle.fz_gen.specs.Knapsack.{knapsack}
-use Rattle.fz_io.specs.Outside.{with_more}
+use Rattle.fz_io.specs.Outside.{with_more, AllFlushed}
 use Rattle.fz_print.specs.declared.refusal.Refusal.{Refusal}
 use Rattle.fz_print.specs.Refusal.{text_of, code_digits}
 use Rattle.fzn.specs.declared.status.Status.{Status}
 use Rattle.fzn.specs.declared.status.Status.TheVariants.{Done, Refused, Usage, SourceFault, SinkFault, NoMemory}
 use Rattle.fz_gen.specs.declared.text.TheConstants.{ITEMS_LEAST, ITEMS_MOST}
 use Rattle.fz_generated.proofs.Law.{each_is_accepted}
-use Rattle.fzn.specs.Promises.{AnswersAccepted, AnswersRefused, HasItsCause, HasReadAll, IsDoneOrShort, IsFront, IsRefusedOrShort, IsRefusedRun, IsUnrefused, IsRun, IsStrictFront, IsWholeRun, Prints, Runs, generated_or, text_for}
-use Rattle.fzn.specs.Steps.{Answers, AnswersShown, Flushes, HasSinkCause, IsReadOf, LeavesNothing, PrintsOf}
+use Rattle.fzn.specs.Promises.{AnswersAccepted, AnswersRefused, HasItsCause, HasReadAll, IsDoneOrShort, IsFlushed, IsFront, IsRefusedOrShort, IsRefusedRun, IsUnrefused, IsRun, IsStrictFront, IsWholeRun, Prints, Runs, generated_or, text_for}
+use Rattle.fzn.specs.Steps.{Answers, HasSinkCause, IsReadOf, LeavesNothing, PrintsOf}
 use Rattle.fz_search.specs.Searched.{IsShown}
 use Rattle.fz_reader.specs.Refusals.{IsRefusal}
 use Rattle.fz_printing.specs.Texts.{TakesFront, run_text, shown_text}
@@ -53,7 +53,7 @@ text_is r c e =
     ap (λ n. front ++ code_digits n ++ codes "\n=====ERROR=====\n") e ∙ ap (λ u. front ++ u ++ codes "\n=====ERROR=====\n") (code_digits_is c)
     ∙ ap (λ u. u ++ codes "\n=====ERROR=====\n") (sym (append_assoc front (codes ": ") (code_text c)))
 
-at_status : (s t : Status) (text : List ℕ) (o : Options) (before after : Option (List ℕ)) → s ≡ t → PrintsOf t text o before after → PrintsOf s text o before after
+pub at_status : (s t : Status) (text : List ℕ) (o : Options) (before after : Option (List ℕ)) → s ≡ t → PrintsOf t text o before after → PrintsOf s text o before after
 at_status s t text o before after e p = subst (λ (u : Status). PrintsOf u text o before after) (sym e) p
 
 -- a front of a whole text, where a fault or want of memory is answered
@@ -69,35 +69,25 @@ unflushed : (s : Status) (text whole : List ℕ) (o : Options) (before after : O
     → ((printed : List ℕ) → whole ≡ printed → IsWholeRun text o printed) → PrintsOf s text o before after
 unflushed s text whole o before after e t w = at_status s SinkFault text o before after e (whole, t, inr ([], w (whole ++ []) (sym (append-nil whole))))
 
-pub prints_wanted : (s : Status) (text : List ℕ) (m : Instance) (o : Options) (before after : Option (List ℕ)) → Reads text (reads.Accepted m) → AnswersShown s m o before after
-    → PrintsOf s text o before after
-prints_wanted s text m o before after r a = elim a [
-  | inl short ↦ at_status s NoMemory text o before after short.0 ([], short.1 ∙ no_more before, inl refl)
-  | inr found ↦
-      let l = found.0 in
-      let complete = found.1 in
-      let whole = run_text o m l complete in
-      let run : (u : List ℕ) → whole ≡ u → IsRun text o u =
-      λ u e. record {
-        model = m;
-        listed = l;
-        accepted = r;
-        run = record { shown = shown_text m.goal o.generate m l complete; prints = shown_prints m.goal m o l complete found.2; text = sym e };
-      } in
-      elim found.3 [
-        | inl all ↦ elim all.0 [
-          | inl done ↦ at_status s Done text o before after done (whole, all.1, run whole refl)
-          | inr fault ↦ unflushed s text whole o before after fault all.1 (λ u e. inl (run u e))
-        ]
-        | inr part ↦ stopped s text whole o before after part.0 part.1 (λ u e. inl (run u e))
+-- what is shown of a model's search is what is printed of its text
+pub prints_wanted : (s : Status) (text : List ℕ) (m : Instance) (o : Options) (l : List (List ℤ)) (complete : Bool) (before after : Option (List ℕ)) → Reads text (reads.Accepted m) → IsShown m.goal o m l complete
+    → Answers s Done (run_text o m l complete) before after → PrintsOf s text o before after
+prints_wanted s text m o l complete before after r shown a =
+    let whole = run_text o m l complete in
+    let run : (u : List ℕ) → whole ≡ u → IsRun text o u =
+    λ u e. record {
+      model = m;
+      listed = l;
+      accepted = r;
+      run = record { shown = shown_text m.goal o.generate m l complete; prints = shown_prints m.goal m o l complete shown; text = sym e };
+    } in
+    elim a [
+      | inl all ↦ elim all.0 [
+        | inl done ↦ at_status s Done text o before after done (whole, all.1, run whole refl)
+        | inr fault ↦ unflushed s text whole o before after fault all.1 (λ u e. inl (run u e))
       ]
-]
-
--- all that is shown was taken
-pub shown : (s : Status) (m : Instance) (o : Options) (l : List (List ℤ)) (complete : Bool) (before middle after : Option (List ℕ)) (flushed c d : ℕ) → IsShown m.goal o m l complete
-    → middle ≡ with_more before (run_text o m l complete) → after ≡ middle → Flushes Done s after flushed c d → AnswersShown s m o before after
-shown s m o l complete before middle after flushed c d listing taken same cases =
-    inr (l, complete, listing, inl (elim cases [ inl done ↦ inl done.0 | inr fault ↦ inr fault.0 ], same ∙ taken))
+      | inr part ↦ stopped s text whole o before after part.0 part.1 (λ u e. inl (run u e))
+    ]
 
 pub prints_refusal : (s : Status) (text : List ℕ) (r : Refusal) (o : Options) (before after : Option (List ℕ)) → IsRefusal text r → Answers s (Refused r) (text_of r) before after
     → PrintsOf s text o before after
@@ -252,3 +242,12 @@ pub made : (s : Status) (c d : ℕ) → IsUnrefused s → HasSinkCause s c d →
 made s c d (inl done) h e = inl done
 made s c d (inr (inl fault)) h e = absurd (let g : HasSinkCause SinkFault c d = subst (λ (t : Status). HasSinkCause t c d) fault h in omega (arith, e, g))
 made s c d (inr (inr short)) h e = inr short
+
+-- a call that answers something else than a fault has flushed all
+pub is_flushed : (s : Status) (before after : Option (List ℕ)) (flushed c d : ℕ) → HasSinkCause s c d → (s ≢ SinkFault → AllFlushed after flushed) → IsFlushed s before after flushed
+is_flushed Done before after flushed c d h all = all (λ e. absurd (cc e))
+is_flushed (Refused r) before after flushed c d h all = all (λ e. absurd (cc e))
+is_flushed Usage before after flushed c d h all = absurd h
+is_flushed SourceFault before after flushed c d h all = absurd h
+is_flushed SinkFault before after flushed c d h all = tt
+is_flushed NoMemory before after flushed c d h all = inl (all (λ e. absurd (cc e)))

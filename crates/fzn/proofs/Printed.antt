@@ -1,24 +1,14 @@
 -- The text of what is shown is what is printed.
-use Rattle.std.proofs.Common.{◌≡◌, ◌∙◌, append-nil, ℕ, zero, suc, ◌+◌, ◌-◌, drop, sym, ◌≤◌, ◌<◌, List, [], ◌∷◌, ◌++◌, Option, None, Some, length, take, ap, refl, subst, arith, inl, inr, cond, Bool, true, false}
-use Rattle.std.specs.Prelude.{ℤ, ◌↔◌, IsSomeAnd, slice_get}
-use Rattle.std.specs.List.{AllByRecursion}
-use Rattle.std.proofs.lemmas.List.{length-take-le}
-use Rattle.std.proofs.lemmas.List.Sums.{sum_by-take-le}
-use Rattle.fz_spec.specs.Instance.{Instance, AreDeclared, Satisfies, IsBetter, AreImproving, occurrences, is_same}
+use Rattle.std.proofs.Common.{◌≡◌, append-nil, ℕ, List, Option, None, Some, refl, inl, inr, Bool, true, false}
+use Rattle.std.specs.Prelude.{ℤ}
+use Rattle.fz_spec.specs.Instance.{Instance}
 use Rattle.fz_spec.specs.Run.{blocks}
 use Rattle.fz_spec.specs.declared.term.Term.{Term}
 use Rattle.fz_spec.specs.declared.goal.Goal.{Goal}
 use Rattle.fz_spec.specs.declared.goal.Goal.TheVariants as goals
-use Rattle.fz_tree.specs.declared.mode.Mode.{Mode}
-use Rattle.fz_tree.specs.declared.mode.Mode.TheVariants as modes
-use Rattle.fz_tree.specs.Book.{Book, BookLaw, Part, SuitsRecord, incumbent_of, times_recorded_in, times_open}
-use Rattle.fz_tree.specs.Better.{Betters, mode_of}
-use Rattle.fz_book.specs.declared.end.End.{End}
-use Rattle.fz_book.specs.declared.end.End.TheVariants as ends
-use Rattle.fz_tree.proofs.Books.{closed_lists, closed_is_best}
 use Rattle.fz_cmd.specs.Meaning.{Options}
-use Rattle.fz_runs.specs.Runs.{AreSome, EndsBest, AreBest, PrintsWanted, PrintsBest, PrintsGoal, PrintsFor, wanted}
-use Rattle.fz_search.specs.Searched.{HasEnded, IsSearched, IsListing, IsShown, shows_all}
+use Rattle.fz_runs.specs.Runs.{AreBest, PrintsWanted, PrintsBest, PrintsGoal, PrintsFor, wanted}
+use Rattle.fz_search.specs.Searched.{IsListing, IsShown, shows_all}
 use Rattle.fz_printing.specs.Texts.{best_text, listing_text, shown_text}
 
 listing_prints : (m : Instance) (w : Option ℕ) (l : List (List ℤ)) (complete : Bool) → IsListing m w l complete → PrintsWanted w m l (listing_text m l complete)

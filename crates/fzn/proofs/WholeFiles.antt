@@ -1,5 +1,5 @@
 -- What is read of a whole file.
-use Rattle.std.proofs.Common.{◌≡◌, ◌∙◌, ℕ, ◌+◌, ◌≤◌, List, Option, None, Some, ap, sym, length, take, arith}
+use Rattle.std.proofs.Common.{◌∙◌, ℕ, ◌+◌, ◌≤◌, List, Option, None, Some, ap, sym, length, arith}
 use Rattle.std.proofs.lemmas.List.{take_all}
 use Rattle.fz_io.specs.Whole.{AllRead}
 use Rattle.fz_spec.specs.declared.limits.TheConstants.{TEXT_LIMIT}

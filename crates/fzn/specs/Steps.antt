@@ -1,5 +1,5 @@
 -- What the steps of a run say, within this crate.
-use Rattle.std.specs.Prelude.{◌≡◌, ℕ, ℤ, ◌+◌, ◌<◌, ◌≤◌, ◌⊎◌, Bool, IsTrue, take, Option, IfSome, Result, MatchResult, List, []}
+use Rattle.std.specs.Prelude.{◌≡◌, ℕ, ℤ, ◌+◌, ◌<◌, ◌≤◌, ◌⊎◌, Bool, IsTrue, take, Option, None, IfSome, Result, MatchResult, List, []}
 use Rattle.fz_spec.specs.declared.limits.TheConstants.{TEXT_LIMIT}
 use Rattle.fz_spec.specs.Instance.{Instance}
 use Rattle.fz_cmd.specs.Meaning.{Options}
@@ -10,7 +10,10 @@ use Rattle.fz_printing.specs.declared.printer.Stop.{Stop}
 use Rattle.fz_printing.specs.declared.printer.Stop.TheVariants.{Memory, Fault}
 use Rattle.fzn.specs.Promises.{Prints}
 use Rattle.fz_printing.specs.Texts.{TakesFront, run_text}
-use Rattle.fz_search.specs.Searched.{IsShown}
+use Rattle.fz_language.specs.Reads.{Reads, Accepted}
+use Rattle.fz_printer.specs.declared.printer.Printer.{Printer}
+use Rattle.fz_printer.specs.Printed.{book_of, stopped_of, CountsMark, IsReady}
+use Rattle.fz_search.specs.Searched.{enough_for, IsPrinted, IsSearched, IsShown, PrintsAsAsked}
 
 -- the file is selected, unless the source failed
 abbrev pub SelectsAtStop : Bool → Stop → Type 0
@@ -47,11 +50,28 @@ abbrev pub Answers : Status → Status → List ℕ → Option (List ℕ) → Op
 Answers status whole_status whole before after =
     (((status ≡ whole_status) ⊎ (status ≡ SinkFault)) × (after ≡ with_more before whole)) ⊎ (((status ≡ SinkFault) ⊎ (status ≡ NoMemory)) × TakesFront whole before after)
 
--- the same of what is shown of a model's search, by its goal and the options
-abbrev pub AnswersShown : Status → Instance → Options → Option (List ℕ) → Option (List ℕ) → Type 0
-AnswersShown status m o before after =
-    ((status ≡ NoMemory) × (after ≡ before))
-    ⊎ ((l : List (List ℤ)) × (complete : Bool) × IsShown m.goal o m l complete × Answers status Done (run_text o m l complete) before after)
+-- ---- the search of a model
+
+-- what is printed of a model is what is printed of each text that is read so
+abbrev pub PrintsModel : Status → Instance → Options → Option (List ℕ) → Option (List ℕ) → Type 0
+PrintsModel status m o before after = (text : List ℕ) → Reads text (Accepted m) → PrintsOf status text o before after
+
+-- A search leaves a printer, and the sink took what that has printed; where there was no memory to begin with, the sink is as it was.
+abbrev pub HasSearched : {E : Type 0} → Instance → Options → Result Printer E → Option (List ℕ) → Option (List ℕ) → ℕ → ℕ → Type 0
+HasSearched m o result before after c d = MatchResult result (λ p. IsPrinted m o p before after × CountsMark c d (stopped_of p)) (λ _. (after ≡ before) × (d ≡ c))
+
+-- the search has ended, and all that was due on its way is printed
+pub record IsEnded (o : Options) (p : Printer) : Type 0 where
+  pub searched : IsSearched (book_of p).model (enough_for (book_of p).model.goal o) (book_of p)
+  pub prints : PrintsAsAsked (book_of p).model o p
+  pub stopped : stopped_of p ≡ None
+  pub ready : IsReady p
+
+-- The sink took all that is shown of a model's search; where printing stopped, a front of that.
+abbrev pub Shows : Result (Unit {0}) Stop → Instance → Options → Option (List ℕ) → Option (List ℕ) → Type 0
+Shows result m o before after =
+    (l : List (List ℤ)) × (complete : Bool) × IsShown m.goal o m l complete
+    × MatchResult result (λ _. after ≡ with_more before (run_text o m l complete)) (λ _. TakesFront (run_text o m l complete) before after)
 
 -- all is flushed and the answer is as it was to be, or the sink failed
 abbrev pub Flushes : Status → Status → Option (List ℕ) → ℕ → ℕ → ℕ → Type 0

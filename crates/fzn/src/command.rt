@@ -11,11 +11,13 @@ use fz_io::buffered::BufferedSink;
 use fz_io::file::FileSource;
 use fz_io::gate::NoGate;
 use fz_io::output::OutSink;
+use fz_io::paced::PacedSink;
 use std::alloc::AllocGlobal;
 use std::env::Env;
 use std::fs::Files;
 use std::io::{Eprint, ErrorKind, Input, Write};
 use std::process::ExitCode;
+use std::rt::Clock;
 use std::sync::Wait;
 use std::thread::Threads;
 use std::{env, io};
@@ -23,7 +25,7 @@ use std::{env, io};
 /// Runs the program with its arguments over a writer for what it prints, says on standard error what is wrong, and answers the exit
 /// status.
 pub fn program<
-    R: Env + Files + Input + Eprint + AllocGlobal + Threads + Wait + Sync + Copy,
+    R: Env + Files + Input + Eprint + AllocGlobal + Clock + Threads + Wait + Sync + Copy,
     W: Write + Drop,
 >(rt: R, out: W) -> ExitCode {
     let arguments = match env::args(&rt) {
@@ -48,16 +50,16 @@ fn untaken(fault: &io::Error) -> Status
     }
 }
 
-/// The run of these words over files, standard input and this writer.
-fn over_streams<R: Files + Input + AllocGlobal + Threads + Wait + Sync + Copy, W: Write + Drop>(
-    rt: &R,
-    out: W,
-    words: &[String],
-) -> Status {
+/// The run of these words over files, standard input and this writer, which is handed what is printed within a tenth of a second.
+fn over_streams<
+    R: Files + Input + AllocGlobal + Clock + Threads + Wait + Sync + Copy,
+    W: Write + Drop,
+>(rt: &R, out: W, words: &[String]) -> Status {
     let alloc = rt.alloc();
-    let Ok(mut sink) = BufferedSink::new(alloc, OutSink::new(out)) else {
+    let Ok(buffered) = BufferedSink::new(alloc, OutSink::new(out)) else {
         return Status::NoMemory;
     };
+    let mut sink = PacedSink::new(*rt, buffered);
     let mut source = FileSource::new(*rt);
     fzn(rt, alloc, words, &mut source, &mut sink, &NoGate)
 }

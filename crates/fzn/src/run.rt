@@ -1,17 +1,16 @@
 //! The top call.
 ghost use Rattle.std.specs.Arc.{arc_value};
-ghost use Rattle.std.specs.Prelude.{◌≡◌, ◌≢◌, ◌⊎◌, ℕ, ◌-◌, ◌^◌, ◌<◌, ◌≤◌, None, IfSome, IfOk, length, map, string_bytes};
-ghost use Rattle.fz_io.specs.Outside.{one_more};
+ghost use Rattle.std.specs.Prelude.{◌≡◌, ◌≢◌, ◌⊎◌, ℕ, ◌-◌, ◌^◌, ◌<◌, ◌≤◌, List, Option, None, IfSome, IfOk, length, map, string_bytes};
+ghost use Rattle.fz_io.specs.Outside.{one_more, AllFlushed};
 ghost use Rattle.fz_print.specs.Refusal.{text_of};
 ghost use Rattle.fz_cmd.specs.Meaning.{options_of};
 ghost use Rattle.fz_gen.specs.Knapsack as texts;
 ghost use Rattle.fzn.specs.Promises.{AnswersAccepted, AnswersRefused, HasItsCause, HasReadAll, HasSelected, IsDoneOrShort, IsFlushed, IsUnrefused, Runs, SelectsOnce, text_for};
-ghost use Rattle.fz_search.specs.Searched.{enough_for, IsSearched};
-ghost use Rattle.fzn.specs.Steps.{Answers, AnswersShown, Flushes, HasSinkCause, IsReadOf, LeavesNothing, PrintsOf, SelectsAt};
+ghost use Rattle.fzn.specs.Steps.{Answers, Flushes, HasSearched, HasSinkCause, IsEnded, IsReadOf, LeavesNothing, PrintsModel, PrintsOf, SelectsAt, Shows};
+ghost use Rattle.fz_printer.specs.Printed.{book_of, HasPrinted};
 ghost use Rattle.fz_printing.specs.Texts.{HasStopCause};
 
 use crate::status::Status;
-use fz_book::Book;
 use fz_cmd::Options;
 use fz_cmd::words::options;
 use fz_gen::knapsack;
@@ -21,7 +20,8 @@ use fz_io::outside::{Sink, Source};
 use fz_io::whole::{Whole, read_all};
 use fz_model::model::Model;
 use fz_print::refusal::Refusal;
-use fz_printing::{Stop, print_refusal, print_run};
+use fz_printer::Printer;
+use fz_printing::{Stop, print_end, print_refusal, print_run};
 use fz_reader::model_of;
 use fz_search::{listing_of, search, search_in_threads};
 use fz_space::Space;
@@ -43,6 +43,7 @@ use std::thread::Threads;
 /// place of both; where none satisfies, `=====UNSATISFIABLE=====` alone; of a text that is refused, the place, the code and
 /// `=====ERROR=====`. Behind all but a refusal `-s` prints how many assignments were listed. Each block, each last line, the two
 /// lines of statistics and each refusal is one piece for the sink, and one flush comes last, whenever something was written.
+/// One worker hands each block to the sink as the solution is found, and has it handed on where that is due.
 ///
 /// With `-p N` above 1 and without `--interleave` the workers search in threads of `rt`, and `gate` sees their events. Every other run
 /// takes no thread, waits for nobody and makes no call of the gate.
@@ -147,7 +148,9 @@ fn run_with<T: Threads + Wait + Sync, R: Source, S: Sink, G: Gate + Sync>(
     }
     run_options(
         alloc,
-        &|model: Arc<Model>| search_in_threads::<T, Space, G>(rt, alloc, &model, options, gate),
+        &|model: Arc<Model>, _sink: &mut S| {
+            search_in_threads::<T, Space, G>(rt, alloc, &model, options, gate)
+        },
         options,
         source,
         sink,
@@ -184,7 +187,7 @@ pub fn alone<R: Source, S: Sink>(
 {
     run_options(
         alloc,
-        &|model: Arc<Model>| search::<Space>(alloc, &model, options),
+        &|model: Arc<Model>, sink: &mut S| search::<Space, S>(alloc, &model, options, sink),
         options,
         source,
         sink,
@@ -192,16 +195,17 @@ pub fn alone<R: Source, S: Sink>(
 }
 
 /// The run of these options, with this search: of a generated text, or of one file's.
-fn run_options<F: Fn(Arc<Model>) -> Result<Book, AllocError>, R: Source, S: Sink>(
+fn run_options<F: Fn(Arc<Model>, &mut S) -> Result<Printer, AllocError>, R: Source, S: Sink>(
     alloc: Global,
     search_by: &F,
     options: &Options,
     source: &mut R,
     sink: &mut S,
 ) -> Status
-    requires callable { (m : _) → F.pre search_by.now m }
-    requires searches { (m : _) (r : _) → F.post search_by.now m r → IfOk r (λ b.
-        IsSearched (arc_value m) (enough_for (arc_value m).goal options.now) b.book) }
+    requires callable { (m : _) (s : _) → S.faults s.now < 2 ^ 64 - 1 → F.pre search_by.now m s }
+    requires searches { (m : _) (s : _) (r : _) (t : _) → F.post search_by.now m s r t
+        → HasSearched (arc_value m) options.now r
+        (S.taken s.now) (S.taken t.now) (S.faults s.now) (S.faults t.now) }
     requires source { R.faults source.old < 2 ^ 64 - 1 }
     requires sink { S.faults sink.old < 2 ^ 64 - 1 }
     ensures generated { IfSome options.now.generate (λ _. source.new ≡ source.old) }
@@ -230,16 +234,17 @@ fn run_options<F: Fn(Arc<Model>) -> Result<Book, AllocError>, R: Source, S: Sink
 }
 
 /// The run of a generated model of so many items.
-fn run_generated<F: Fn(Arc<Model>) -> Result<Book, AllocError>, S: Sink>(
+fn run_generated<F: Fn(Arc<Model>, &mut S) -> Result<Printer, AllocError>, S: Sink>(
     alloc: Global,
     search_by: &F,
     items: u32,
     options: &Options,
     sink: &mut S,
 ) -> Status
-    requires callable { (m : _) → F.pre search_by.now m }
-    requires searches { (m : _) (r : _) → F.post search_by.now m r → IfOk r (λ b.
-        IsSearched (arc_value m) (enough_for (arc_value m).goal options.now) b.book) }
+    requires callable { (m : _) (s : _) → S.faults s.now < 2 ^ 64 - 1 → F.pre search_by.now m s }
+    requires searches { (m : _) (s : _) (r : _) (t : _) → F.post search_by.now m s r t
+        → HasSearched (arc_value m) options.now r
+        (S.taken s.now) (S.taken t.now) (S.faults s.now) (S.faults t.now) }
     requires least { ITEMS_LEAST ≤ items }
     requires most { items ≤ ITEMS_MOST }
     requires faults { S.faults sink.old < 2 ^ 64 - 1 }
@@ -257,16 +262,17 @@ fn run_generated<F: Fn(Arc<Model>) -> Result<Book, AllocError>, S: Sink>(
 }
 
 /// The run of one file.
-fn run_file<F: Fn(Arc<Model>) -> Result<Book, AllocError>, R: Source, S: Sink>(
+fn run_file<F: Fn(Arc<Model>, &mut S) -> Result<Printer, AllocError>, R: Source, S: Sink>(
     alloc: Global,
     search_by: &F,
     options: &Options,
     source: &mut R,
     sink: &mut S,
 ) -> Status
-    requires callable { (m : _) → F.pre search_by.now m }
-    requires searches { (m : _) (r : _) → F.post search_by.now m r → IfOk r (λ b.
-        IsSearched (arc_value m) (enough_for (arc_value m).goal options.now) b.book) }
+    requires callable { (m : _) (s : _) → S.faults s.now < 2 ^ 64 - 1 → F.pre search_by.now m s }
+    requires searches { (m : _) (s : _) (r : _) (t : _) → F.post search_by.now m s r t
+        → HasSearched (arc_value m) options.now r
+        (S.taken s.now) (S.taken t.now) (S.faults s.now) (S.faults t.now) }
     requires source { R.faults source.old < 2 ^ 64 - 1 }
     requires sink { S.faults sink.old < 2 ^ 64 - 1 }
     ensures once { R.selections source.new ≡ one_more (R.selections source.old) }
@@ -330,16 +336,17 @@ fn read_selected<R: Source>(alloc: Global, source: &mut R) -> Result<Vec<u8>, St
 }
 
 /// The run of a text.
-fn run_text<F: Fn(Arc<Model>) -> Result<Book, AllocError>, S: Sink>(
+fn run_text<F: Fn(Arc<Model>, &mut S) -> Result<Printer, AllocError>, S: Sink>(
     alloc: Global,
     search_by: &F,
     text: &[u8],
     options: &Options,
     sink: &mut S,
 ) -> Status
-    requires callable { (m : _) → F.pre search_by.now m }
-    requires searches { (m : _) (r : _) → F.post search_by.now m r → IfOk r (λ b.
-        IsSearched (arc_value m) (enough_for (arc_value m).goal options.now) b.book) }
+    requires callable { (m : _) (s : _) → S.faults s.now < 2 ^ 64 - 1 → F.pre search_by.now m s }
+    requires searches { (m : _) (s : _) (r : _) (t : _) → F.post search_by.now m s r t
+        → HasSearched (arc_value m) options.now r
+        (S.taken s.now) (S.taken t.now) (S.faults s.now) (S.faults t.now) }
     requires faults { S.faults sink.old < 2 ^ 64 - 1 }
     ensures printed { PrintsOf result text.now options.now (S.taken sink.old) (S.taken sink.new) }
     ensures flushed { IsFlushed result (S.taken sink.old) (S.taken sink.new) (S.flushed sink.new) }
@@ -353,68 +360,97 @@ fn run_text<F: Fn(Arc<Model>) -> Result<Book, AllocError>, S: Sink>(
 }
 
 /// Searches a model, and prints what is asked for.
-fn run_model<F: Fn(Arc<Model>) -> Result<Book, AllocError>, S: Sink>(
+fn run_model<F: Fn(Arc<Model>, &mut S) -> Result<Printer, AllocError>, S: Sink>(
     alloc: Global,
     search_by: &F,
     model: Model,
     options: &Options,
     sink: &mut S,
 ) -> Status
-    requires callable { (m : _) → F.pre search_by.now m }
-    requires searches { (m : _) (r : _) → F.post search_by.now m r → IfOk r (λ b.
-        IsSearched (arc_value m) (enough_for (arc_value m).goal options.now) b.book) }
+    requires callable { (m : _) (s : _) → S.faults s.now < 2 ^ 64 - 1 → F.pre search_by.now m s }
+    requires searches { (m : _) (s : _) (r : _) (t : _) → F.post search_by.now m s r t
+        → HasSearched (arc_value m) options.now r
+        (S.taken s.now) (S.taken t.now) (S.faults s.now) (S.faults t.now) }
     requires faults { S.faults sink.old < 2 ^ 64 - 1 }
-    ensures printed { AnswersShown result model options.now (S.taken sink.old) (S.taken sink.new) }
+    ensures printed { PrintsModel result model options.now (S.taken sink.old) (S.taken sink.new) }
     ensures flushed { IsFlushed result (S.taken sink.old) (S.taken sink.new) (S.flushed sink.new) }
     ensures cause { HasSinkCause result (S.faults sink.old) (S.faults sink.new) }
 {
-    match searched(alloc, search_by, model, options) {
-        Ok(book) => show(alloc, &book, options, sink),
-        Err(_) => Status::NoMemory,
+    let Ok(printer) = searched(alloc, search_by, model, options, sink) else {
+        return Status::NoMemory;
+    };
+    match printer.stopped() {
+        None => conclude(alloc, &printer, options, sink),
+        Some(Stop::Memory) => flush(sink, Status::NoMemory),
+        Some(Stop::Fault) => Status::SinkFault,
     }
 }
 
-/// The book of a model's search.
-fn searched<F: Fn(Arc<Model>) -> Result<Book, AllocError>>(
+/// The printer of a model's search.
+fn searched<F: Fn(Arc<Model>, &mut S) -> Result<Printer, AllocError>, S: Sink>(
     alloc: Global,
     search_by: &F,
     model: Model,
     options: &Options,
-) -> Result<Book, AllocError>
-    requires callable { (m : _) → F.pre search_by.now m }
-    requires searches { (m : _) (r : _) → F.post search_by.now m r → IfOk r (λ b.
-        IsSearched (arc_value m) (enough_for (arc_value m).goal options.now) b.book) }
-    ensures { IfOk result (λ b. IsSearched model (enough_for model.goal options.now) b.book) }
+    sink: &mut S,
+) -> Result<Printer, AllocError>
+    requires callable { (m : _) (s : _) → S.faults s.now < 2 ^ 64 - 1 → F.pre search_by.now m s }
+    requires searches { (m : _) (s : _) (r : _) (t : _) → F.post search_by.now m s r t
+        → HasSearched (arc_value m) options.now r
+        (S.taken s.now) (S.taken t.now) (S.faults s.now) (S.faults t.now) }
+    requires faults { S.faults sink.old < 2 ^ 64 - 1 }
+    ensures { HasSearched model options.now result
+        (S.taken sink.old) (S.taken sink.new) (S.faults sink.old) (S.faults sink.new) }
 {
     match Arc::new(alloc, model) {
-        Ok(model) => search_by(model),
+        Ok(model) => search_by(model, sink),
         Err(_) => Err(AllocError),
     }
 }
 
-/// Prints what is asked for of a search.
-fn show<S: Sink>(alloc: Global, book: &Book, options: &Options, sink: &mut S) -> Status
-    requires searched { IsSearched book.now.book.model
-        (enough_for book.now.book.model.goal options.now) book.now.book }
+/// Prints what isn't printed yet of a search that has ended, and flushes.
+fn conclude<S: Sink>(alloc: Global, printer: &Printer, options: &Options, sink: &mut S) -> Status
+    requires ended { IsEnded options.now printer.now }
     requires faults { S.faults sink.old < 2 ^ 64 - 1 }
-    ensures printed { AnswersShown result book.now.book.model options.now
-        (S.taken sink.old) (S.taken sink.new) }
-    ensures flushed { IsFlushed result (S.taken sink.old) (S.taken sink.new) (S.flushed sink.new) }
+    ensures printed { (before : Option (List ℕ)) → HasPrinted printer.now before (S.taken sink.old)
+        → PrintsModel result (book_of printer.now).model options.now before (S.taken sink.new) }
+    ensures flushed { result ≢ Status.SinkFault
+        → AllFlushed (S.taken sink.new) (S.flushed sink.new) }
     ensures cause { HasSinkCause result (S.faults sink.old) (S.faults sink.new) }
 {
+    match print_rest(alloc, printer, options, sink) {
+        Ok(()) => flush(sink, Status::Done),
+        Err(Stop::Memory) => flush(sink, Status::NoMemory),
+        Err(Stop::Fault) => Status::SinkFault,
+    }
+}
+
+/// Prints what isn't printed yet: all that is shown, or what stands behind the blocks where these were printed as they were found.
+fn print_rest<S: Sink>(
+    alloc: Global,
+    printer: &Printer,
+    options: &Options,
+    sink: &mut S,
+) -> Result<(), Stop>
+    requires ended { IsEnded options.now printer.now }
+    requires faults { S.faults sink.old < 2 ^ 64 - 1 }
+    ensures shows { (before : Option (List ℕ)) → HasPrinted printer.now before (S.taken sink.old)
+        → Shows result (book_of printer.now).model options.now before (S.taken sink.new) }
+    ensures cause { HasStopCause (S.faults sink.old) (S.faults sink.new) result }
+{
+    let book = printer.book();
     let listing = listing_of(book, options);
-    match print_run(
+    if printer.as_found() {
+        return print_end(alloc, sink, options, listing.found, listing.complete);
+    }
+    print_run(
         alloc,
         sink,
         book.model(),
         options,
         listing.found,
         listing.complete,
-    ) {
-        Ok(()) => flush(sink, Status::Done),
-        Err(Stop::Memory) => flush(sink, Status::NoMemory),
-        Err(Stop::Fault) => Status::SinkFault,
-    }
+    )
 }
 
 /// Prints a refusal.

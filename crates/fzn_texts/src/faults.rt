@@ -5,23 +5,47 @@ use std::test::Fail;
 
 const THREE_VALUES: &[u8] = b"var 1..3: x :: output_var; solve satisfy;";
 
+/// 10^12 solutions, whose blocks begin with the same two: a run that didn't end at a stop would never end.
+const ENDLESS: &[u8] =
+    b"var 1..1000: x :: output_var; var 1..1000: y; var 1..1000: z; var 1..1000: w; solve satisfy;";
+
+/// A text, the call of the sink that fails, how many bytes were taken before, and how these end.
+type Failing = (&'static [u8], u64, usize, &'static [u8]);
+
+/// One block, and nothing behind it; the whole text, which isn't flushed; two blocks, and no more of the search.
+const FAILING: [Failing; 3] = [
+    (THREE_VALUES, 2, 18, b"----------\n"),
+    (THREE_VALUES, 5, 65, b"==========\n"),
+    (ENDLESS, 3, 36, b"----------\n"),
+];
+
+fn failing() -> &'static [Failing] {
+    &FAILING
+}
+
 #[test]
 fn a_failing_sink_has_taken_a_front(rt: HostRuntime) -> Result<(), Fail> {
     let alloc = rt.alloc();
-    // one block of 18 bytes, and nothing behind it; then the whole text of 65 bytes, which isn't flushed
-    for (fails, length) in [(2, 18), (5, 65)] {
-        let outcome = run_failing(&rt, alloc, THREE_VALUES, &["-a"], &[], &[fails])?;
+    for (text, fails, length, end) in failing() {
+        let outcome = run_failing(&rt, alloc, text, &["-a"], &[], &[*fails])?;
         assert_eq!(rt; outcome.status, Status::SinkFault);
-        assert_eq!(rt; outcome.printed.len(), length);
-        assert!(rt;
-            outcome.printed.ends_with(if fails == 2 {
-                b"----------\n"
-            } else {
-                b"==========\n"
-            })
-        );
+        assert_eq!(rt; outcome.printed.len(), *length);
+        assert!(rt; outcome.printed.ends_with(end));
         assert_eq!(rt; outcome.flushed, 0);
     }
+    Ok(())
+}
+
+/// Two writes and a flush are all the calls of the sink: the fourth would fail.
+#[test]
+fn as_many_as_are_asked_for_end_the_search(rt: HostRuntime) -> Result<(), Fail> {
+    let outcome = run_failing(&rt, rt.alloc(), ENDLESS, &["-n", "2"], &[], &[4])?;
+    assert_eq!(rt; outcome.status, Status::Done);
+    assert_eq!(rt;
+        outcome.printed.as_slice(),
+        b"x = 1;\n----------\nx = 1;\n----------\n"
+    );
+    assert_eq!(rt; outcome.flushed, 36);
     Ok(())
 }
 

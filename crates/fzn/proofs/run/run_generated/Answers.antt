@@ -1,4 +1,4 @@
-use Rattle.std.proofs.Common.{sym, ◌∙◌, inr, refl}
+use Rattle.std.proofs.Common.{◌∙◌}
 use Rattle.fzn.proofs.Outcomes.{unrefused, made}
 use Rattle.fzn.proofs.run.run_generated.Goals as goal
 
