@@ -10,10 +10,13 @@ use fz_path::{Path, Step};
 use fz_search_space::SearchSpace;
 use std::alloc::AllocError;
 
-/// How many solutions are found, at least, until they are reported, and how many edges a report may copy for each number of theirs.
+/// How many solutions are found, at least, until they are reported; and how many edges a report may copy for each number of theirs, and
+/// for each time that they have waited.
 const BATCH: u64 = 256;
 
 const EDGES_A_NUMBER: u64 = 2;
+
+const EDGES_A_WAIT: u64 = 20_000;
 
 /// When a stretch ends while something is left: at whatever is found; where as many are found as are wanted or as pay for a report;
 /// or never.
@@ -24,7 +27,7 @@ pub enum Halt {
     Never,
 }
 
-/// Why a stretch ended: something was found, the sink is to hand on, or nothing is left.
+/// Why a stretch ended: something was found, and is to be told by now; the sink is to hand on; or nothing is left.
 #[derive(Debug, Clone, Copy, PartialEq, Eq)]
 pub enum Pause {
     Found,
@@ -32,13 +35,15 @@ pub enum Pause {
     Closed,
 }
 
-/// Searches what the path holds, until nothing is left of it, as much is found as the halt says, or the sink is to hand on.
+/// Searches what the path holds, until nothing is left of it, as much is found as the halt says, or the sink is to hand on. What was
+/// found before has waited so many times.
 ///
 /// # Errors
 /// `AllocError` where there is no memory.
 pub fn stretch<S: SearchSpace, K: Sink>(
     path: &mut Path<S>,
     halt: Halt,
+    waited: u64,
     sink: &K,
 ) -> Result<Pause, AllocError>
     requires { IsTrue (is_some path.old.held) }
@@ -61,7 +66,7 @@ pub fn stretch<S: SearchSpace, K: Sink>(
             return Ok(Pause::Found);
         }
         if is_time(halt, sink) {
-            return Ok(Pause::Due);
+            return Ok(pause_in(path, halt, waited));
         }
     }
 }
@@ -92,15 +97,26 @@ fn is_batch<S: SearchSpace>(path: &Path<S>, wanted: Option<u64>) -> bool {
     BATCH <= found && pays_report(path, 0)
 }
 
-/// Whether something is found, and a report of it copies no more edges than is paid for by its numbers, or allowed beside them.
-pub fn pays_report<S: SearchSpace>(path: &Path<S>, allowed: u64) -> bool {
+/// Whether something is found, and a report copies no more edges than its numbers pay for, and so many times that they waited.
+fn pays_report<S: SearchSpace>(path: &Path<S>, waited: u64) -> bool {
     let numbers = path
         .found_count()
         .saturating_mul(path.model().variables().len() as u64);
-    let paid = numbers
+    let edges = numbers
         .saturating_mul(EDGES_A_NUMBER)
-        .saturating_add(allowed);
-    path.found_count() > 0 && path.depth() <= paid
+        .saturating_add(waited.saturating_mul(EDGES_A_WAIT));
+    path.found_count() > 0 && path.depth() <= edges
+}
+
+/// Why the stretch ends where the sink is to hand on: what is found is to be told, too, if that pays.
+fn pause_in<S: SearchSpace>(path: &Path<S>, halt: Halt, waited: u64) -> Pause
+    ensures each { halt ≡ Halt.Each → result ≡ Pause.Due }
+    ensures left { result ≢ Pause.Closed }
+{
+    match halt {
+        Halt::Batch(_) if pays_report(path, waited) => Pause::Found,
+        _ => Pause::Due,
+    }
 }
 
 /// Whether the stretch is to end since the sink is to hand on.

@@ -15,12 +15,9 @@ use fz_io::outside::Sink;
 use fz_path::Path;
 use fz_printer::Printer;
 use fz_search_space::SearchSpace;
-use fz_solo::{Halt, Pause, pays_report, stretch, take_up};
+use fz_solo::{Halt, Pause, stretch, take_up};
 use fz_tree::mode::Mode;
 use std::alloc::Global;
-
-/// How many edges a report may copy for each time that its solutions have waited.
-const EDGES_A_WAIT: u64 = 20_000;
 
 /// What a printer is to know of a search.
 #[derive(Debug, Clone, Copy, PartialEq, Eq)]
@@ -175,12 +172,11 @@ fn advance<S: SearchSpace, K: Sink>(
 {
     let _ = path.model();
     let halt = halt_of(printer);
-    let Ok(pause) = stretch(path, halt, sink) else {
+    let Ok(pause) = stretch(path, halt, waited, sink) else {
         printer.refuse();
         return;
     };
-    let pays = pays_report(path, waited.saturating_mul(EDGES_A_WAIT));
-    match message_of(halt, pause, pays) {
+    match message_of(halt, pause) {
         Message::Better => tell(alloc, printer, path, sink),
         Message::Account => report(alloc, printer, path, sink),
         Message::Nothing => {}
@@ -214,9 +210,8 @@ fn still_wanted(printer: &Printer) -> Option<u64> {
     }
 }
 
-/// What the printer is to know behind a stretch: the better solution that was found, or an account of what was done. Where only time
-/// has passed an account is handed out if it pays.
-fn message_of(halt: Halt, pause: Pause, pays: bool) -> Message
+/// What the printer is to know behind a stretch: the better solution that was found, or an account of what was done.
+fn message_of(halt: Halt, pause: Pause) -> Message
     ensures better { result ≡ Message.Better → (halt ≡ halts.Each) × (pause ≡ pauses.Found) }
     ensures told { result ≢ Message.Better → halt ≡ halts.Each → pause ≢ pauses.Found }
     ensures account { result ≡ Message.Account → (pause ≡ pauses.Closed) ⊎ IsBatch halt }
@@ -226,7 +221,6 @@ fn message_of(halt: Halt, pause: Pause, pays: bool) -> Message
         (Halt::Each, Pause::Found) => Message::Better,
         (_, Pause::Closed) => Message::Account,
         (Halt::Batch(_), Pause::Found) => Message::Account,
-        (Halt::Batch(_), Pause::Due) if pays => Message::Account,
         _ => Message::Nothing,
     }
 }

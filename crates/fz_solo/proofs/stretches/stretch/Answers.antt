@@ -1,6 +1,6 @@
 use Rattle.std.proofs.Common.{◌∙◌, ap, arith, refl, rules}
 use Rattle.fz_path.specs.Paths.{Pathed}
-use Rattle.fz_solo.proofs.Stretching.{at_found, closed, due, on_step, passed, passes_none}
+use Rattle.fz_solo.proofs.Stretching.{at_found, closed, on_step, passed, passes_none, paused}
 use Rattle.fz_solo.proofs.stretches.stretch.Goals as goal
 
 pub steps-init : goal.steps-init
@@ -23,8 +23,8 @@ returns-then-is_reached-clause-searched g c =
 
 pub returns-then-is_time-clause-searched : goal.returns-then-is_time-clause-searched
 returns-then-is_time-clause-searched g c =
-    due c.args.halt c.args.path.now c.step.new.self
-    (passed c.args.halt c.args.path.now c.steps.path c.step.new.self c.in_ok-step.step c.steps.invariant.passes (c.if-is_reached.ensures.each refl) (ap (λ (p : Pathed). p.mode) c.step.ensures.rest ∙ c.steps.invariant.mode) c.is_reached.ensures.law c.in_ok-step.ensures.ok c.step.ensures.rest)
+    paused c.args.halt c.pause_in.result c.args.path.now c.step.new.self
+    (passed c.args.halt c.args.path.now c.steps.path c.step.new.self c.in_ok-step.step c.steps.invariant.passes (c.if-is_reached.ensures.each refl) (ap (λ (p : Pathed). p.mode) c.step.ensures.rest ∙ c.steps.invariant.mode) c.is_reached.ensures.law c.in_ok-step.ensures.ok c.step.ensures.rest) c.pause_in.ensures.each
 
 pub steps-preserved : goal.steps-preserved
 steps-preserved g c = record {
