@@ -37,10 +37,10 @@ AllMayBe (known ∷ all) (task ∷ tasks) = MayBe known task × AllMayBe all tas
 
 -- ---- it uses at least what it is sure to use
 
-usage_here : (task : Task) (time : ℤ) → task.start ≤ℤ time → time <ℤ (task.start +ℤ task.duration) → usage_at time task ≡ task.usage
+pub usage_here : (task : Task) (time : ℤ) → task.start ≤ℤ time → time <ℤ (task.start +ℤ task.duration) → usage_at time task ≡ task.usage
 usage_here task time begun lasting = part_in (closed task) time (record { begun = begun; lasting = lasting })
 
-usage_sound : (task : Task) (time : ℤ) → IsTask task → pos 0 ≤ℤ usage_at time task
+pub usage_sound : (task : Task) (time : ℤ) → IsTask task → pos 0 ≤ℤ usage_at time task
 usage_sound task time is = part_sound (closed task) time is
 
 part_used : (known : OpenTask) (task : Task) (time : ℤ) → MayBe known task → IsTask task → part_at time known ≤ℤ usage_at time task
@@ -172,7 +172,7 @@ task_at a (x ∷ ss) (y ∷ dd) (z ∷ us) zero s d u at_s at_d at_u =
     let p = some_is x s at_s in let q = some_is y d at_d in let r = some_is z u at_u in λ i. Some (task_of a (p i) (q i) (r i))
 task_at a (x ∷ ss) (y ∷ dd) (z ∷ us) (suc place) s d u at_s at_d at_u = task_at a ss dd us place s d u at_s at_d at_u
 
-may_be_at : (all : List OpenTask) (tasks : List Task) (place : ℕ) (known : OpenTask) (task : Task) → AllMayBe all tasks → slice_get all place ≡ Some known → slice_get tasks place ≡ Some task
+pub may_be_at : (all : List OpenTask) (tasks : List Task) (place : ℕ) (known : OpenTask) (task : Task) → AllMayBe all tasks → slice_get all place ≡ Some known → slice_get tasks place ≡ Some task
     → MayBe known task
 may_be_at [] tasks place known task may at_all at = absurd (cc (at_all))
 may_be_at (first ∷ all) [] place known task may at_all at = absurd may

@@ -11,3 +11,5 @@ mod starting;
 mod tasks;
 
 pub use cumulative::Cumulative;
+pub use narrow::keep_shared;
+pub use tasks::open_tasks;

@@ -11,7 +11,7 @@ use fz_alldiff::AllDifferent;
 use fz_arith::Arithmetic;
 use fz_await::Awaiting;
 use fz_bool::{Clause, Parity};
-use fz_cumulative::Cumulative;
+use fz_disjunctive::Disjunctive;
 use fz_element::Element;
 use fz_linear::Linear;
 use fz_linreif::ReifiedLinear;
@@ -38,7 +38,7 @@ pub enum AnyPropagator {
     VariableElement(VariableElement),
     Table(Table),
     AllDifferent(AllDifferent),
-    Cumulative(Cumulative),
+    Disjunctive(Disjunctive),
     Awaiting(Awaiting),
 }
 
@@ -115,8 +115,8 @@ impl AnyPropagator {
                 Ok(AnyPropagator::AllDifferent(different))
             }
             Saying::Share(starts, durations, usages, bound) => {
-                let cumulative = Cumulative::new(alloc, starts, durations, usages, *bound)?;
-                Ok(AnyPropagator::Cumulative(cumulative))
+                let disjunctive = Disjunctive::new(alloc, starts, durations, usages, *bound)?;
+                Ok(AnyPropagator::Disjunctive(disjunctive))
             }
             Saying::Nothing(constraint) => {
                 let awaiting = Awaiting::new(alloc, constraint)?;
@@ -144,7 +144,7 @@ impl Propagator for AnyPropagator {
             AnyPropagator::VariableElement(element) => element.propagate(store),
             AnyPropagator::Table(table) => table.propagate(store),
             AnyPropagator::AllDifferent(different) => different.propagate(store),
-            AnyPropagator::Cumulative(cumulative) => cumulative.propagate(store),
+            AnyPropagator::Disjunctive(disjunctive) => disjunctive.propagate(store),
             AnyPropagator::Awaiting(awaiting) => awaiting.propagate(store),
         }
     }

@@ -1,0 +1,7 @@
+pub mod Windows
+pub mod Choosing
+pub mod Ordering
+pub mod Places
+pub mod Pairs
+pub mod Keeping
+pub mod Shared

@@ -1,0 +1,108 @@
+//! In which order jobs can run (Vilím: "Global constraints in scheduling").
+ghost use Rattle.std.specs.Prelude.{◌≡◌, ◌+◌, ◌*◌, ◌^◌, ◌≤◌, ◌<◌, ◌+ℤ◌, IsTrue, IfOk, length, unsigned_abs};
+ghost use Rattle.fz_disjunctive.specs.declared.job.Choice.TheVariants.{EndingBy};
+ghost use Rattle.fz_disjunctive.specs.Schedules.{IsSoonestEnd, IsBehind, IsEarliest, IsOfJob, HasNoSchedule};
+
+use crate::job::{Choice, Job};
+use std::alloc::{AllocError, Global};
+
+/// What so many jobs need, and one more.
+fn add(total: i128, duration: i32, count: usize) -> i128
+    requires { unsigned_abs total ≤ count * 2 ^ 32 }
+    ensures sum { result ≡ total +ℤ duration }
+    ensures near { unsigned_abs result ≤ (count + 1) * 2 ^ 32 }
+{
+    total + i128::from(duration)
+}
+
+/// A time, and what jobs need from then on.
+fn plus(since: i64, total: i128) -> i128
+    requires { unsigned_abs total ≤ 2 ^ 100 }
+    ensures { result ≡ since +ℤ total }
+{
+    i128::from(since) + total
+}
+
+/// How soon all jobs that are chosen can have ended, from a floor on: those that start no sooner than some time last from then on,
+/// one after the other.
+pub fn soonest_end(jobs: &[Job], choice: Choice, floor: i128) -> i128
+    ensures { IsSoonestEnd jobs.now choice floor result }
+{
+    let mut end = floor;
+    let mut since = i64::MAX;
+    let mut total = 0;
+    for index in 0..jobs.len() {
+        let job = jobs[index];
+        if !choice.takes(job) {
+            continue;
+        }
+        since = since.min(job.earliest);
+        total = add(total, job.duration, index);
+        end = end.max(plus(since, total));
+    }
+    end
+}
+
+/// Whether jobs that have to end by some time can't.
+pub fn is_overloaded(jobs: &[Job]) -> bool
+    ensures { IsTrue result → HasNoSchedule jobs.now }
+{
+    for index in 0..jobs.len() {
+        let time = jobs[index].latest_end();
+        if soonest_end(jobs, Choice::EndingBy(time), time) > time {
+            return true;
+        }
+    }
+    false
+}
+
+/// For each job how soon all can have ended that end by its latest end at the latest.
+///
+/// # Errors
+/// `AllocError` where there is no memory.
+pub fn soonest_ends(alloc: Global, jobs: &[Job]) -> Result<Vec<i128>, AllocError>
+    ensures { IfOk result (λ v. length v.items ≡ length jobs.now) }
+{
+    let mut ends = Vec::new(alloc);
+    for index in 0..jobs.len() {
+        let job = jobs[index];
+        let choice = Choice::EndingBy(job.latest_end());
+        ends.push(soonest_end(jobs, choice, i128::from(job.earliest)))?;
+    }
+    Ok(ends)
+}
+
+/// When the job at an index can start: once all have ended that come before it. `ends` are the soonest ends of the jobs; where these
+/// tell that nothing is to be found, nothing is looked for.
+pub fn earliest_start(jobs: &[Job], ends: &[i128], index: usize) -> i128
+    requires index { index < length jobs.now }
+    requires ends { length ends.now ≡ length jobs.now }
+    ensures { IsOfJob jobs.now index (IsEarliest jobs.now result) }
+{
+    let job = jobs[index];
+    let mut earliest = soonest_end(jobs, Choice::Before(job), i128::from(job.earliest));
+    for other in 0..jobs.len() {
+        let time = jobs[other].latest_end();
+        let end = ends[other];
+        if end <= earliest || end.saturating_add(i128::from(job.duration)) <= time {
+            continue;
+        }
+        if !is_behind(jobs, index, time) {
+            continue;
+        }
+        earliest = soonest_end(jobs, Choice::EndingBy(time), earliest);
+    }
+    earliest
+}
+
+/// Whether the job at an index comes after all that have ended by a time at the latest, since it can't end by then beside them.
+fn is_behind(jobs: &[Job], index: usize, time: i128) -> bool
+    requires { index < length jobs.now }
+    ensures { IsTrue result → IsOfJob jobs.now index (IsBehind jobs.now (EndingBy time)) }
+{
+    let job = jobs[index];
+    if job.latest_end() <= time {
+        return false;
+    }
+    soonest_end(jobs, Choice::EndingByOrAt(time, job.place), time) > time
+}
