@@ -43,7 +43,7 @@ fn as_many_as_are_asked_for_end_the_search(rt: HostRuntime) -> Result<(), Fail> 
     assert_eq!(rt; outcome.status, Status::Done);
     assert_eq!(rt;
         outcome.printed.as_slice(),
-        b"x = 1;\n----------\nx = 1;\n----------\n"
+        b"x = 1;\n----------\nx = 1;\n----------\n".as_slice()
     );
     assert_eq!(rt; outcome.flushed, 36);
     Ok(())
