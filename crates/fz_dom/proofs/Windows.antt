@@ -116,46 +116,34 @@ word_some_leave h d e base word k p q n f is =
     rw is (as_word Changed base word d (bit_ranges base word)
     (some_leave h d (bit_ranges base word) k r.ranges (word_some base word p q) (λ s. n (sym (bits_count base word q) ∙ s)) (λ x i. f x (r.to x i))))
 
--- ---- a word of both
+-- ---- a word of some of them
 
--- d's numbers from b on, and o's from c on, where c lies the shift below b
-pub record IsBoth (d o : List (ℤ × ℤ)) (b c shift : ℤ) (word : ℕ) : Type 0 where
-  pub bits : (i : ℕ) → i < 64 → (bit_at word i ≡ 1) ↔ (IsInSet d (b +ℤ pos i) × IsInSet o (c +ℤ pos i))
-  pub below : c ≡ (b -ℤ shift)
+-- where the ones of a word are those of another that are members too, its numbers are those of the other that are members
+pub own_in : (d : List (ℤ × ℤ)) (b c : ℤ) (mine word own : ℕ) → c ≡ b → ((i : ℕ) → i < 64 → (bit_at mine i ≡ 1) ↔ IsInSet d (c +ℤ pos i))
+    → ((i : ℕ) → i < 64 → (bit_at own i ≡ 1) ↔ ((bit_at mine i ≡ 1) × (bit_at word i ≡ 1))) → (x : ℤ) → IsBit b own x → IsInSet d x × IsBit b word x
+own_in d b c mine word own p f g x m =
+    let t = (g m.0 m.1).0 m.3 in
+    let e = m.2 in
+    let s : (c +ℤ pos m.0) ≡ x = omega (arith, ints) in
+    (subst (λ (y : ℤ). IsInSet d y) s ((f m.0 m.1).0 t.0), (m.0, m.1, m.2, t.1))
 
-pub both_word : (d o : List (ℤ × ℤ)) (b c b' c' shift : ℤ) (mine theirs word : ℕ) → b' ≡ b → c' ≡ c → c ≡ (b -ℤ shift)
-    → ((i : ℕ) → i < 64 → (bit_at mine i ≡ 1) ↔ IsInSet d (b' +ℤ pos i)) → ((i : ℕ) → i < 64 → (bit_at theirs i ≡ 1) ↔ IsInSet o (c' +ℤ pos i))
-    → ((i : ℕ) → i < 64 → (bit_at word i ≡ 1) ↔ ((bit_at mine i ≡ 1) × (bit_at theirs i ≡ 1))) → IsBoth d o b c shift word
-both_word d o b c b' c' shift mine theirs word p q s f g h = record {
-  bits = λ i l. (
-    λ e. (let m = (h i l).0 e in (subst (λ (y : ℤ). IsInSet d (y +ℤ pos i)) p ((f i l).0 m.0), subst (λ (y : ℤ). IsInSet o (y +ℤ pos i)) q ((g i l).0 m.1))),
-    λ m. (h i l).1 ((f i l).1 (subst (λ (y : ℤ). IsInSet d (y +ℤ pos i)) (sym p) m.0), (g i l).1 (subst (λ (y : ℤ). IsInSet o (y +ℤ pos i)) (sym q) m.1)),
-  );
-  below = s;
-}
+pub in_own : (d : List (ℤ × ℤ)) (b c : ℤ) (mine word own : ℕ) → c ≡ b → ((i : ℕ) → i < 64 → (bit_at mine i ≡ 1) ↔ IsInSet d (c +ℤ pos i))
+    → ((i : ℕ) → i < 64 → (bit_at own i ≡ 1) ↔ ((bit_at mine i ≡ 1) × (bit_at word i ≡ 1))) → (x : ℤ) → IsInSet d x → IsBit b word x → IsBit b own x
+in_own d b c mine word own p f g x i m =
+    let e = m.2 in
+    let s : x ≡ (c +ℤ pos m.0) = omega (arith, ints) in
+    (m.0, m.1, m.2, (g m.0 m.1).1 ((f m.0 m.1).1 (subst (λ (y : ℤ). IsInSet d y) s i), m.3))
 
-pub both_in : (d o : List (ℤ × ℤ)) (b c shift : ℤ) (word : ℕ) → IsBoth d o b c shift word → (x : ℤ) → IsBit b word x → IsInSet d x × IsInSet o (x -ℤ shift)
-both_in d o b c shift word k x m =
-    let t = (k.bits m.0 m.1).0 m.3 in
-    let e = m.2 in let f = k.below in
-    let s : (c +ℤ pos m.0) ≡ (x -ℤ shift) = omega (arith, ints) in
-    (subst (λ (y : ℤ). IsInSet d y) (sym m.2) t.0, subst (λ (y : ℤ). IsInSet o y) s t.1)
-
-pub in_both : (d o : List (ℤ × ℤ)) (b c shift : ℤ) (word : ℕ) → IsBoth d o b c shift word → (x : ℤ) → b ≤ℤ x → x ≤ℤ (b +ℤ pos 63)
-    → IsInSet d x → IsInSet o (x -ℤ shift) → IsBit b word x
-in_both d o b c shift word k x low high i j =
-    let t = offset_in b x low in
-    let e = t.1 in let f = k.below in
-    let l : t.0 < 64 = omega (arith, ints) in
-    let s : (x -ℤ shift) ≡ (c +ℤ pos t.0) = omega (arith, ints) in
-    (t.0, l, t.1, (k.bits t.0 l).1 (subst (λ (y : ℤ). IsInSet d y) t.1 i, subst (λ (y : ℤ). IsInSet o y) s j))
-
-pub both_change : (change : Change) (d o e : List (ℤ × ℤ)) (b c shift : ℤ) (word : ℕ) → IsBoth d o b c shift word
-    → ((x : ℤ) → IsInSet d x → IsInSet o (x -ℤ shift) → (b ≤ℤ x) × (x ≤ℤ (b +ℤ pos 63)))
-    → IsChange change (λ x. IsBit b word x) d e → IsChange change (λ x. IsInSet o (x -ℤ shift)) d e
-both_change change d o e b c shift word k f h =
-    change_as change (λ x. IsBit b word x) (λ x. IsInSet o (x -ℤ shift)) d e
-    (λ x i. (λ m. (both_in d o b c shift word k x m).1, λ m. let t = f x i m in in_both d o b c shift word k x t.0 t.1 i m)) h
+-- the numbers of a word whose ones stand for members of a set below its base are these, moved up by the shift
+pub moved_word : (o : List (ℤ × ℤ)) (b c shift x : ℤ) (word : ℕ) → c ≡ (b -ℤ shift) → ((i : ℕ) → i < 64 → (bit_at word i ≡ 1) ↔ IsInSet o (c +ℤ pos i))
+    → (IsInSet o (x -ℤ shift) → (b ≤ℤ x) × (x ≤ℤ (b +ℤ pos 63))) → IsBit b word x ↔ IsInSet o (x -ℤ shift)
+moved_word o b c shift x word p f inside = (
+  λ m. (let e = m.2 in let s : (c +ℤ pos m.0) ≡ (x -ℤ shift) = omega (arith, ints) in subst (λ (y : ℤ). IsInSet o y) s ((f m.0 m.1).0 m.3)),
+  λ i. (let r = inside i in let low = r.0 in let high = r.1 in let t = offset_in b x low in let e = t.1 in
+      let l : t.0 < 64 = omega (arith, ints) in
+      let s : (x -ℤ shift) ≡ (c +ℤ pos t.0) = omega (arith, ints) in
+      (t.0, l, t.1, (f t.0 l).1 (subst (λ (y : ℤ). IsInSet o y) s i))),
+)
 
 -- ---- which form it is
 

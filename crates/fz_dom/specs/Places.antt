@@ -2,14 +2,11 @@
 use Rattle.std.specs.Prelude.{◌≡◌, ℕ, zero, suc, ◌<◌, ◌%◌, ◌/◌, ℤ, pos, ◌+ℤ◌, List, [], ◌∷◌, nat_eq, if◌then◌else◌}
 use Rattle.std.specs.Ordering.{int_eq}
 use Rattle.std.specs.Int.{bit_at}
+pub use Rattle.fz_bits.specs.Windows.{IsBit}
 
 -- x is one of the numbers at the first n bits
 abbrev pub IsPlace : ℕ → ℤ → ℕ → ℤ → Type 0
 IsPlace n base bits x = (i : ℕ) × (i < n) × (x ≡ base +ℤ pos i) × (bit_at bits i ≡ 1)
-
--- one of the numbers of a word
-abbrev pub IsBit : ℤ → ℕ → ℤ → Type 0
-IsBit base bits x = (i : ℕ) × (i < 64) × (x ≡ base +ℤ pos i) × (bit_at bits i ≡ 1)
 
 -- rising ranges with one number more, which is below them
 abbrev pub join : ℤ → List (ℤ × ℤ) → List (ℤ × ℤ)

@@ -7,17 +7,11 @@ ghost use Rattle.fz_dom.specs.Places.{IsBit};
 use crate::head::HIGHEST_BASE;
 use crate::meet::LOWEST;
 use crate::window::window_of;
+use fz_bits::Window;
 use fz_bits::word::either;
 
-/// A word, and the number that its first bit stands for.
-#[derive(Clone, Copy)]
-pub struct Close {
-    pub base: i32,
-    pub bits: u64,
-}
-
 /// The numbers of ranges as a word, where these lie within 64 numbers and there are some.
-pub fn close_word(ranges: &[(i32, i32)]) -> Option<Close>
+pub fn close_word(ranges: &[(i32, i32)]) -> Option<Window>
     ensures floor { IfSome result (λ w. LEAST ≤ℤ w.base) }
     ensures ceiling { IfSome result (λ w. (w.base +ℤ pos 63) ≤ℤ GREATEST) }
     ensures some { IfSome result (λ w. 0 < w.bits) }
@@ -29,7 +23,7 @@ pub fn close_word(ranges: &[(i32, i32)]) -> Option<Close>
     if bits == 0 {
         return None;
     }
-    Some(Close { base, bits })
+    Some(Window { base, bits })
 }
 
 /// A base that is above no low.

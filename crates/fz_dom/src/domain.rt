@@ -9,12 +9,13 @@ ghost use Rattle.fz_dom.specs.Wide.{IsPart};
 ghost use Rattle.fz_dom.specs.Places.{IsBit, bit_ranges};
 
 use crate::change::Change;
-use crate::close::{Close, close_word};
+use crate::close::close_word;
 use crate::head::Head;
 use crate::meet::{base_of, moved, shared};
 use crate::range_iter::RangeIter;
 use crate::rising::{cut, has_between, keep_between, next_in, size_of, word_of};
 use crate::union::union_of;
+use fz_bits::Window;
 use fz_bits::word::common;
 use smallvec::SmallVec;
 use std::alloc::{AllocError, Global};
@@ -61,21 +62,21 @@ impl Dom {
             [] => Ok(Dom::empty(alloc)),
             [(low, high)] => Ok(Dom::interval(alloc, *low, *high)),
             _ => match close_word(ranges) {
-                Some(close) => Ok(Dom::close(alloc, close)),
+                Some(window) => Ok(Dom::close(alloc, window)),
                 None => Dom::far(alloc, ranges),
             },
         }
     }
 
-    /// The numbers of a word.
-    fn close(alloc: Global, close: Close) -> Dom
-        requires floor { LEAST ≤ℤ close.base }
-        requires ceiling { (close.base +ℤ pos 63) ≤ℤ GREATEST }
-        requires some { 0 < close.bits }
-        ensures { result ≡ bit_ranges close.base close.bits }
+    /// The numbers of a window.
+    fn close(alloc: Global, window: Window) -> Dom
+        requires floor { LEAST ≤ℤ window.base }
+        requires ceiling { (window.base +ℤ pos 63) ≤ℤ GREATEST }
+        requires some { 0 < window.bits }
+        ensures { result ≡ bit_ranges window.base window.bits }
     {
         Dom {
-            head: Head::from_word(close.base, close.bits),
+            head: Head::from_word(window.base, window.bits),
             rest: SmallVec::new(alloc),
         }
     }
@@ -278,6 +279,24 @@ impl Dom {
             }
         }
         true
+    }
+
+    /// Its numbers, each moved up by a shift, as a window, as far as they are within the limits; `None` exactly where it is more
+    /// than 64 wide.
+    pub fn window(&self, shift: i32) -> Option<Window>
+        ensures none { IsNone result ↔ ((least self.now +ℤ pos 63) <ℤ greatest self.now) }
+        ensures floor { IfSome result (λ w. LEAST ≤ℤ w.base) }
+        ensures ceiling { IfSome result (λ w. (w.base +ℤ pos 63) ≤ℤ GREATEST) }
+        ensures numbers { IfSome result (λ w. (x : ℤ) → IsWithinLimits x
+            → IsBit w.base w.bits x ↔ IsInSet self.now (x -ℤ shift)) }
+        ensures domain { IsDomain self.now }
+    {
+        if !self.is_narrow() {
+            return None;
+        }
+        let base = self.window_base(shift);
+        let bits = self.word_at(i64::from(base) - i64::from(shift));
+        Some(Window { base, bits })
     }
 
     /// Whether a number is in the set.
@@ -500,11 +519,12 @@ impl Dom {
         if other.is_interval() {
             return Ok(self.keep_interval(other, shift));
         }
-        if self.is_narrow() {
-            return Ok(self.keep_narrow(other, shift));
+        let narrow = self.is_narrow();
+        if let Some(window) = other.window(shift) {
+            return Ok(self.keep_window(window));
         }
-        if other.is_narrow() {
-            return Ok(self.keep_narrow_other(other, shift));
+        if narrow {
+            return Ok(self.keep_narrow(other, shift));
         }
         self.keep_wide(other, shift)
     }
@@ -528,18 +548,8 @@ impl Dom {
         ensures domain { IsDomain self.new }
     {
         let base = self.window_base(0);
-        self.keep_window(base, other, shift)
-    }
-
-    /// Keeps the numbers that lie a shift above those of another domain, which is at most 64 wide.
-    fn keep_narrow_other(&mut self, other: &Dom, shift: i32) -> Change
-        requires narrow { greatest other.now ≤ℤ (least other.now +ℤ pos 63) }
-        ensures change { IsChange result (λ x. IsInSet other.now (x -ℤ shift)) self.old self.new }
-        ensures domain { IsDomain self.new }
-    {
-        let _ = self.is_narrow();
-        let base = other.window_base(shift);
-        self.keep_window(base, other, shift)
+        let bits = other.word_at(i64::from(base) - i64::from(shift));
+        self.keep_window(Window { base, bits })
     }
 
     /// Whether it is kept by its ends alone, and has numbers.
@@ -588,22 +598,19 @@ impl Dom {
         word_of(self.rest.as_slice(), base)
     }
 
-    /// Keeps the numbers that lie a shift above those of another domain, where all that do stand for bits of a word.
-    fn keep_window(&mut self, base: i32, other: &Dom, shift: i32) -> Change
-        requires floor { LEAST ≤ℤ base }
-        requires ceiling { (base +ℤ pos 63) ≤ℤ GREATEST }
-        requires window { (x : ℤ) → IsInSet self.old x → IsInSet other.now (x -ℤ shift)
-            → (base ≤ℤ x) × (x ≤ℤ (base +ℤ pos 63)) }
-        ensures change { IsChange result (λ x. IsInSet other.now (x -ℤ shift)) self.old self.new }
+    /// Keeps the numbers of a window.
+    pub fn keep_window(&mut self, window: Window) -> Change
+        requires floor { LEAST ≤ℤ window.base }
+        requires ceiling { (window.base +ℤ pos 63) ≤ℤ GREATEST }
+        ensures change { IsChange result (λ x. IsBit window.base window.bits x) self.old self.new }
         ensures domain { IsDomain self.new }
     {
-        let mine = self.word_at(i64::from(base));
-        let theirs = other.word_at(i64::from(base) - i64::from(shift));
-        self.keep_word(base, common(mine, theirs))
+        let mine = self.word_at(i64::from(window.base));
+        self.keep_own(window.base, common(mine, window.bits))
     }
 
     /// Keeps the numbers of a word, all of which it has.
-    fn keep_word(&mut self, base: i32, word: u64) -> Change
+    fn keep_own(&mut self, base: i32, word: u64) -> Change
         requires floor { LEAST ≤ℤ base }
         requires ceiling { (base +ℤ pos 63) ≤ℤ GREATEST }
         requires among { (x : ℤ) → IsBit base word x → IsInSet self.old x }

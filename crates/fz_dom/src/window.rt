@@ -1,8 +1,11 @@
 //! Numbers as bits of a word whose first bit stands for a base.
-ghost use Rattle.std.specs.Prelude.{◌≡◌, ◌<◌, ◌↔◌, ◌≤ℤ◌, ◌+ℤ◌, ◌^◌, pos, neg_ℤ, ℕ};
+ghost use Rattle.std.specs.Prelude.{◌≡◌, ◌<◌, ◌↔◌, ◌≤ℤ◌, ◌+ℤ◌, ◌^◌, pos, neg_ℤ, ℕ, ℤ};
+ghost use Rattle.fz_sets.specs.Sets.{IsWithinLimits, LEAST, GREATEST};
 ghost use Rattle.fz_bits.specs.Words.{AreOnes};
 ghost use Rattle.fz_dom.specs.Places.{IsBit};
 
+use crate::head::HIGHEST_BASE;
+use fz_bits::Window;
 use fz_bits::word::{lowered, raised, run_of};
 
 /// The bits of the same numbers, where bit 0 stood for one base and is to stand for another; those that leave the word are
@@ -45,4 +48,15 @@ fn place_of(number: i64) -> u32
     ensures high { pos 63 ≤ℤ number → result ≡ 63 }
 {
     number.clamp(0, 63) as u32
+}
+
+/// A number as a window that lies within the limits.
+pub fn single(number: i32) -> Window
+    requires { IsWithinLimits number }
+    ensures floor { LEAST ≤ℤ result.base }
+    ensures ceiling { (result.base +ℤ pos 63) ≤ℤ GREATEST }
+    ensures numbers { (x : ℤ) → IsBit result.base result.bits x ↔ (x ≡ number) }
+{
+    let base = number.min(HIGHEST_BASE);
+    Window::none(base).with(number)
 }

@@ -34,11 +34,11 @@ returns-in-len1-clause-unique c =
     rw c.interval.ensures (λ s h one. unique (interval l u) s rs (interval_ranges l u) (interval_one_set rs l u e) h one)
 
 pub returns-in-Some-clause-one_set : goal.returns-in-Some-clause-one_set
-returns-in-Some-clause-one_set c = rw c.close.ensures (close_one_set c.in-Some.close.base c.in-Some.close.bits c.args.ranges.now c.in-Some.ensures.one_set)
+returns-in-Some-clause-one_set c = rw c.close.ensures (close_one_set c.in-Some.window.base c.in-Some.window.bits c.args.ranges.now c.in-Some.ensures.one_set)
 
 pub returns-in-Some-clause-unique : goal.returns-in-Some-clause-unique
 returns-in-Some-clause-unique c =
-    let w = c.in-Some.close in
+    let w = c.in-Some.window in
     rw c.close.ensures (λ s h one. unique (bit_ranges w.base w.bits) s c.args.ranges.now (close_ranges w.base w.bits) (close_one_set w.base w.bits c.args.ranges.now c.in-Some.ensures.one_set) h one)
 
 pub returns-in-None-clause-unique : goal.returns-in-None-clause-unique

@@ -5,7 +5,7 @@ use Rattle.fz_dom.specs.Shape.{IsDomain}
 use Rattle.fz_dom.specs.Places.{bit_ranges}
 use Rattle.fz_dom.proofs.Kept.{seen, small_kept, small_ranges, domain_of}
 use Rattle.fz_dom.proofs.Windows.{word_none, word_all, word_some_leave}
-use Rattle.fz_dom.proofs.domain.Dom.keep_word.Goals as goal
+use Rattle.fz_dom.proofs.domain.Dom.keep_own.Goals as goal
 
 pub returns-then-word-eq0-clause-change : goal.returns-then-word-eq0-clause-change
 returns-then-word-eq0-clause-change c = word_none c.args.base c.args.word c.args.self.now (let t = c.if-word-eq0.true in omega arith)
