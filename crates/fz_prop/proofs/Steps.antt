@@ -172,12 +172,13 @@ kept_change Wiped ds ms ns cs bs gs h v n e P is head within cut domain same_bs 
       is = (same, cut.0.1);
     }
 
--- a change by another property that says the same
-pub change_at_as : (change : Change) (v : ℕ) (P Q : ℤ → Type 0) (s t : Stored) → ((x : ℤ) → P x ↔ Q x) → IsChangeAt change v P s t → IsChangeAt change v Q s t
-change_at_as Same v P Q s t f h = (h.0, λ x i. (f x).0 (h.1 x i))
-change_at_as Wiped v P Q s t f h = (h.0, λ x i q. h.1 x i ((f x).1 q))
+-- a change by another property that says the same of all numbers that were left
+pub change_at_as : (change : Change) (v : ℕ) (P Q : ℤ → Type 0) (s t : Stored) → ((x : ℤ) → IsInSet (dom_at s.doms v) x → P x ↔ Q x) → IsChangeAt change v P s t
+    → IsChangeAt change v Q s t
+change_at_as Same v P Q s t f h = (h.0, λ x i. (f x i).0 (h.1 x i))
+change_at_as Wiped v P Q s t f h = (h.0, λ x i q. h.1 x i ((f x i).1 q))
 change_at_as Changed v P Q s t f h = record {
-  kept = λ x. ((λ i. let k = (h.kept x).0 i in (k.0, (f x).0 k.1)), (λ k. (h.kept x).1 (k.0, (f x).1 k.1)));
+  kept = λ x. ((λ i. let k = (h.kept x).0 i in (k.0, (f x k.0).0 k.1)), (λ k. (h.kept x).1 (k.0, (f x k.0).1 k.1)));
   others = h.others;
   whole = h.whole;
   smaller = h.smaller;
@@ -192,4 +193,4 @@ unmoved d c x z =
 
 pub change_unmoved : (change : Change) (v : ℕ) (d : List (ℤ × ℤ)) (c : ℤ) (s t : Stored) → c ≡ pos 0 → IsChangeAt change v (λ x. IsInSet d (x -ℤ c)) s t
     → IsChangeAt change v (λ x. IsInSet d x) s t
-change_unmoved change v d c s t z h = change_at_as change v (λ x. IsInSet d (x -ℤ c)) (λ x. IsInSet d x) s t (λ x. unmoved d c x z) h
+change_unmoved change v d c s t z h = change_at_as change v (λ x. IsInSet d (x -ℤ c)) (λ x. IsInSet d x) s t (λ x i. unmoved d c x z) h

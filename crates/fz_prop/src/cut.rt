@@ -1,11 +1,13 @@
 //! Changes of one domain.
-ghost use Rattle.std.specs.Prelude.{◌≡◌, ◌<◌, ◌-ℤ◌, List, length, IfOk, OnErr};
-ghost use Rattle.fz_sets.specs.Sets.{IsInSet};
+ghost use Rattle.std.specs.Prelude.{◌≡◌, ◌<◌, ◌-ℤ◌, ◌+ℤ◌, ◌≤ℤ◌, pos, List, length, IfOk, OnErr};
+ghost use Rattle.fz_bits.specs.Windows.{IsBit};
+ghost use Rattle.fz_sets.specs.Sets.{IsInSet, LEAST, GREATEST};
 ghost use Rattle.fz_dom.specs.Changes.{IsChange};
 ghost use Rattle.fz_dom.specs.Shape.{IsDomain, least, greatest};
 ghost use Rattle.fz_prop.specs.Cuts.{Keeps, change_level};
 ghost use Rattle.fz_prop.specs.Stores.{IsCut};
 
+use fz_bits::Window;
 use fz_dom::{Change, Dom};
 use std::alloc::AllocError;
 
@@ -81,5 +83,22 @@ pub fn cut_to(dom: &mut Dom, other: &Dom, shift: i32) -> Result<(Change, u8), Al
     match dom.keep_shifted(other, shift)? {
         Change::Changed => Ok((Change::Changed, level_since(low, high, dom))),
         change => Ok((change, 0)),
+    }
+}
+
+/// Keeps the numbers of a domain that are those of a window: what became of it, and how much of a change it was, 0 where nothing
+/// left.
+pub fn cut_window(dom: &mut Dom, window: Window) -> (Change, u8)
+    requires some { 0 < length dom.old }
+    requires floor { LEAST ≤ℤ window.base }
+    requires ceiling { (window.base +ℤ pos 63) ≤ℤ GREATEST }
+    ensures cut { IsCut result.0 result.1 (λ x. IsBit window.base window.bits x) dom.old dom.new }
+    ensures domain { IsDomain dom.new }
+    ensures old_domain { IsDomain dom.old }
+{
+    let (low, high) = (dom.min(), dom.max());
+    match dom.keep_window(window) {
+        Change::Changed => (Change::Changed, level_since(low, high, dom)),
+        change => (change, 0),
     }
 }

@@ -1,12 +1,14 @@
 //! Stores.
-ghost use Rattle.std.specs.Prelude.{◌≡◌, ◌≢◌, ◌⊎◌, ℕ, ◌+◌, ◌<◌, ◌≤◌, max, ℤ, ◌≤ℤ◌, ◌-ℤ◌, List, [], ◌∷◌, ◌++◌, length, slice_index, slice_index_or, slice_set, drop, IfOk, OnOk, OnErr, IfSome, IsNone, MatchOption, replicate, vec_capacity, vec_len};
-ghost use Rattle.fz_sets.specs.Sets.{IsInSet};
+ghost use Rattle.std.specs.Prelude.{◌≡◌, ◌≢◌, ◌⊎◌, ℕ, ◌+◌, ◌<◌, ◌≤◌, max, ℤ, ◌≤ℤ◌, ◌+ℤ◌, ◌-ℤ◌, pos, List, [], ◌∷◌, ◌++◌, length, slice_index, slice_index_or, slice_set, drop, IfOk, OnOk, OnErr, IfSome, IsNone, MatchOption, replicate, vec_capacity, vec_len};
+ghost use Rattle.fz_bits.specs.Windows.{IsBit};
+ghost use Rattle.fz_sets.specs.Sets.{IsInSet, LEAST, GREATEST};
 ghost use Rattle.fz_dom.specs.Changes.{IsFromTo};
 ghost use Rattle.fz_strength.specs.Domains.{dom_at, AreDomains};
 ghost use Rattle.fz_prop.specs.Cuts.{Keeps, change_level};
 ghost use Rattle.fz_prop.specs.Stores.{Stored, IsStore, Shrinks, IsChangeAt, IsCut, IsNoted, mark_at, with_listed, without_first, declared_sets, IsTaken, HasEmpty, fresh};
 
-use crate::cut::{Cut, cut_one, cut_to};
+use crate::cut::{Cut, cut_one, cut_to, cut_window};
+use fz_bits::Window;
 use fz_dom::{Change, Dom};
 use fz_model::Variable;
 use std::alloc::{AllocError, Global};
@@ -228,6 +230,46 @@ impl Store {
         let (change, level) = cut_to(&mut self.doms[place], other, shift)?;
         note(&mut self.marks, &mut self.changed, variable, change, level);
         Ok(change)
+    }
+
+    /// Keeps the numbers of a variable that are those of a window.
+    pub fn keep_window(&mut self, variable: u32, window: Window) -> Result<Change, AllocError>
+        requires variable { variable < length self.old.doms }
+        requires floor { LEAST ≤ℤ window.base }
+        requires ceiling { (window.base +ℤ pos 63) ≤ℤ GREATEST }
+        ensures shrinks { Shrinks self.old self.new }
+        ensures err { OnErr result (self.new ≡ self.old) }
+        ensures change { IfOk result
+            (λ r. IsChangeAt r variable (λ x. IsBit window.base window.bits x) self.old self.new) }
+    {
+        let place = variable as usize;
+        self.changed.reserve(1)?;
+        let (change, level) = cut_window(&mut self.doms[place], window);
+        note(&mut self.marks, &mut self.changed, variable, change, level);
+        Ok(change)
+    }
+
+    /// Keeps the numbers of a variable that lie a shift above those of another, or of itself.
+    pub fn keep_partners(
+        &mut self,
+        variable: u32,
+        other: u32,
+        shift: i32,
+    ) -> Result<Change, AllocError>
+        requires variable { variable < length self.old.doms }
+        requires other { other < length self.old.doms }
+        ensures shrinks { Shrinks self.old self.new }
+        ensures err { OnErr result (self.new ≡ self.old) }
+        ensures change { IfOk result (λ r. IsChangeAt r variable
+            (λ x. IsInSet (dom_at self.old.doms other) (x -ℤ shift)) self.old self.new) }
+        ensures store { IsStore self.old }
+    {
+        let others = self.dom(other);
+        if let Some(window) = others.window(shift) {
+            return self.keep_window(variable, window);
+        }
+        let others = others.copy()?;
+        self.keep_shifted(variable, &others, shift)
     }
 
     /// The first of the changed variables, if one changed.

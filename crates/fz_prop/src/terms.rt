@@ -1,7 +1,8 @@
 //! Terms over a store: a variable has its domain, a number itself alone.
-ghost use Rattle.std.specs.Prelude.{◌≡◌, ◌≢◌, ◌↔◌, ℤ, ◌≤ℤ◌, List, length, IfOk, OnErr, IsTrue, MatchOption};
+ghost use Rattle.std.specs.Prelude.{◌≡◌, ◌≢◌, ◌↔◌, ℤ, pos, ◌+ℤ◌, ◌≤ℤ◌, ◌<ℤ◌, List, length, IfOk, OnErr, IsTrue, IsNone, IfSome, MatchOption};
 ghost use Rattle.std.specs.List.{AllByRecursion};
-ghost use Rattle.fz_sets.specs.Sets.{IsInSet, IsWithinLimits};
+ghost use Rattle.fz_bits.specs.Windows.{IsBit};
+ghost use Rattle.fz_sets.specs.Sets.{IsInSet, IsWithinLimits, LEAST, GREATEST};
 ghost use Rattle.fz_dom.specs.Changes.{IsFromTo};
 ghost use Rattle.fz_dom.specs.Shape.{least, greatest};
 ghost use Rattle.fz_strength.specs.Domains.{term_set};
@@ -9,7 +10,8 @@ ghost use Rattle.fz_strength.specs.Events.{IsOnly, AllFixed};
 ghost use Rattle.fz_prop.specs.Stores.{Shrinks, IsTermOf, FitsTerm, IsTermChange};
 
 use crate::store::Store;
-use fz_dom::{Change, Dom};
+use fz_bits::Window;
+use fz_dom::{Change, Dom, single};
 use fz_spec::term::Term;
 use std::alloc::AllocError;
 
@@ -68,6 +70,23 @@ pub fn has(store: &Store, term: Term, number: i32) -> bool
     match term {
         Term::Var(variable) => store.dom(variable).contains(number),
         Term::Num(only) => number == only,
+    }
+}
+
+/// What is left of a term as a window; `None` exactly where it is more than 64 wide.
+pub fn window_of(store: &Store, term: Term) -> Option<Window>
+    requires term { IsTermOf (length store.now.doms) term }
+    requires fits { FitsTerm term }
+    ensures none { IsNone result ↔ ((least (term_set store.now.doms term) +ℤ pos 63)
+        <ℤ greatest (term_set store.now.doms term)) }
+    ensures floor { IfSome result (λ w. LEAST ≤ℤ w.base) }
+    ensures ceiling { IfSome result (λ w. (w.base +ℤ pos 63) ≤ℤ GREATEST) }
+    ensures numbers { IfSome result (λ w. (x : ℤ) → IsBit w.base w.bits x
+        ↔ IsInSet (term_set store.now.doms term) x) }
+{
+    match term {
+        Term::Var(variable) => store.dom(variable).window(0),
+        Term::Num(number) => Some(single(number)),
     }
 }
 
@@ -171,6 +190,23 @@ pub fn keep_in(store: &mut Store, term: Term, set: &Dom) -> Result<Change, Alloc
     match term {
         Term::Var(variable) => store.keep(variable, set),
         Term::Num(number) if set.contains(number) => Ok(Change::Same),
+        Term::Num(_) => Ok(Change::Wiped),
+    }
+}
+
+/// Keeps the numbers of a term that are those of a window.
+pub fn keep_window(store: &mut Store, term: Term, window: Window) -> Result<Change, AllocError>
+    requires term { IsTermOf (length store.old.doms) term }
+    requires floor { LEAST ≤ℤ window.base }
+    requires ceiling { (window.base +ℤ pos 63) ≤ℤ GREATEST }
+    ensures shrinks { Shrinks store.old store.new }
+    ensures err { OnErr result (store.new ≡ store.old) }
+    ensures change { IfOk result
+        (λ r. IsTermChange r term (λ x. IsBit window.base window.bits x) store.old store.new) }
+{
+    match term {
+        Term::Var(variable) => store.keep_window(variable, window),
+        Term::Num(number) if window.has(number) => Ok(Change::Same),
         Term::Num(_) => Ok(Change::Wiped),
     }
 }
