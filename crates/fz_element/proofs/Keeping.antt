@@ -42,38 +42,38 @@ left_term Changed (Var v) P r s h x is holds = (h.kept x).1 (is, holds)
 -- ---- no assignment is lost
 
 the_pair : (k c : Term) (xs : List ℤ) (ds : List (List (ℤ × ℤ))) (a : List ℤ) → IsTermOf (length ds) k → IsTermOf (length ds) c → IsSelected k xs c a → Within ds a
-    → IsPair xs (term_set ds k) (term_set ds c) (term_value a k) (term_value a c)
+    → IsPair xs (λ x. IsInSet (term_set ds k) x) (λ x. IsInSet (term_set ds c) x) (term_value a k) (term_value a c)
 the_pair k c xs ds a is_k is_c holds within = record { stands = holds; index = term_within ds a k is_k within; number = term_within ds a c is_c within }
 
-pub correct_once : (first : Change) (k c : Term) (xs : List ℤ) (indices numbers : List (ℤ × ℤ)) (r s : Stored) → IsTermOf (length r.doms) k → IsTermOf (length r.doms) c
-    → ArePairs xs (term_set r.doms k) (term_set r.doms c) indices numbers → IsTermChange first k (λ x. IsInSet indices x) r s → Shrinks r s
+pub correct_once : (first : Change) (k c : Term) (xs : List ℤ) (P Q : ℤ → Type 0) (r s : Stored) → IsTermOf (length r.doms) k → IsTermOf (length r.doms) c
+    → ArePairs xs (λ x. IsInSet (term_set r.doms k) x) (λ x. IsInSet (term_set r.doms c) x) P Q → IsTermChange first k P r s → Shrinks r s
     → IsCorrectOf (IsSelected k xs c) r.doms s.doms
-correct_once first k c xs indices numbers r s is_k is_c pairs h shrinks = λ a holds within.
-    within_kept first k (λ x. IsInSet indices x) r s a h shrinks within
+correct_once first k c xs P Q r s is_k is_c pairs h shrinks = λ a holds within.
+    within_kept first k P r s a h shrinks within
     ((pairs.indices_are (term_value a k)).1 (term_value a c, the_pair k c xs r.doms a is_k is_c holds within))
 
-pub correct_twice : (first second : Change) (k c : Term) (xs : List ℤ) (indices numbers : List (ℤ × ℤ)) (r s t : Stored) → IsTermOf (length r.doms) k → IsTermOf (length r.doms) c
-    → ArePairs xs (term_set r.doms k) (term_set r.doms c) indices numbers → IsTermChange first k (λ x. IsInSet indices x) r s → Shrinks r s
-    → IsTermChange second c (λ x. IsInSet numbers x) s t → Shrinks s t → IsCorrectOf (IsSelected k xs c) r.doms t.doms
-correct_twice first second k c xs indices numbers r s t is_k is_c pairs h shrinks g narrows = λ a holds within.
-    within_kept second c (λ x. IsInSet numbers x) s t a g narrows (correct_once first k c xs indices numbers r s is_k is_c pairs h shrinks a holds within)
+pub correct_twice : (first second : Change) (k c : Term) (xs : List ℤ) (P Q : ℤ → Type 0) (r s t : Stored) → IsTermOf (length r.doms) k → IsTermOf (length r.doms) c
+    → ArePairs xs (λ x. IsInSet (term_set r.doms k) x) (λ x. IsInSet (term_set r.doms c) x) P Q → IsTermChange first k P r s → Shrinks r s
+    → IsTermChange second c Q s t → Shrinks s t → IsCorrectOf (IsSelected k xs c) r.doms t.doms
+correct_twice first second k c xs P Q r s t is_k is_c pairs h shrinks g narrows = λ a holds within.
+    within_kept second c Q s t a g narrows (correct_once first k c xs P Q r s is_k is_c pairs h shrinks a holds within)
     ((pairs.numbers_are (term_value a c)).1 (term_value a k, the_pair k c xs r.doms a is_k is_c holds within))
 
 -- no index is left
-pub fails_at_index : (k c : Term) (xs : List ℤ) (indices numbers : List (ℤ × ℤ)) (r s : Stored) → IsTermOf (length r.doms) k → IsTermOf (length r.doms) c
-    → ArePairs xs (term_set r.doms k) (term_set r.doms c) indices numbers → IsTermChange Wiped k (λ x. IsInSet indices x) r s
+pub fails_at_index : (k c : Term) (xs : List ℤ) (P Q : ℤ → Type 0) (r s : Stored) → IsTermOf (length r.doms) k → IsTermOf (length r.doms) c
+    → ArePairs xs (λ x. IsInSet (term_set r.doms k) x) (λ x. IsInSet (term_set r.doms c) x) P Q → IsTermChange Wiped k P r s
     → (a : List ℤ) → Within r.doms a → IsSelected k xs c a → ⊥
-fails_at_index k c xs indices numbers r s is_k is_c pairs h = λ a within holds.
-    none_kept k (λ x. IsInSet indices x) r s h (term_value a k) (term_within r.doms a k is_k within)
+fails_at_index k c xs P Q r s is_k is_c pairs h = λ a within holds.
+    none_kept k P r s h (term_value a k) (term_within r.doms a k is_k within)
     ((pairs.indices_are (term_value a k)).1 (term_value a c, the_pair k c xs r.doms a is_k is_c holds within))
 
 -- no number is left
-pub fails_at_number : (first : Change) (k c : Term) (xs : List ℤ) (indices numbers : List (ℤ × ℤ)) (r s t : Stored) → IsTermOf (length r.doms) k → IsTermOf (length r.doms) c
-    → ArePairs xs (term_set r.doms k) (term_set r.doms c) indices numbers → IsTermChange first k (λ x. IsInSet indices x) r s → Shrinks r s
-    → IsTermChange Wiped c (λ x. IsInSet numbers x) s t → (a : List ℤ) → Within r.doms a → IsSelected k xs c a → ⊥
-fails_at_number first k c xs indices numbers r s t is_k is_c pairs h shrinks g = λ a within holds.
+pub fails_at_number : (first : Change) (k c : Term) (xs : List ℤ) (P Q : ℤ → Type 0) (r s t : Stored) → IsTermOf (length r.doms) k → IsTermOf (length r.doms) c
+    → ArePairs xs (λ x. IsInSet (term_set r.doms k) x) (λ x. IsInSet (term_set r.doms c) x) P Q → IsTermChange first k P r s → Shrinks r s
+    → IsTermChange Wiped c Q s t → (a : List ℤ) → Within r.doms a → IsSelected k xs c a → ⊥
+fails_at_number first k c xs P Q r s t is_k is_c pairs h shrinks g = λ a within holds.
     let is_still : IsTermOf (length s.doms) c = subst (λ (n : ℕ). IsTermOf n c) (sym shrinks.narrower.size) is_c in
-    none_kept c (λ x. IsInSet numbers x) s t g (term_value a c) (term_within s.doms a c is_still (correct_once first k c xs indices numbers r s is_k is_c pairs h shrinks a holds within))
+    none_kept c Q s t g (term_value a c) (term_within s.doms a c is_still (correct_once first k c xs P Q r s is_k is_c pairs h shrinks a holds within))
     ((pairs.numbers_are (term_value a c)).1 (term_value a k, the_pair k c xs r.doms a is_k is_c holds within))
 
 -- ---- the line
@@ -96,21 +96,21 @@ apart Changed Changed k c P Q r s t not_first not_second shared h g =
 apart Same Changed k c P Q r s t not_first not_second shared h g =
     let other : k ≢ c = λ e. shared (e, inr refl) in (other_term Same c k P r s (λ e. other (sym e)) h, other_term Changed k c Q s t other g)
 
-pub matched_now : (first second : Change) (k c : Term) (xs : List ℤ) (indices numbers : List (ℤ × ℤ)) (r s t : Stored) → (first ≡ Wiped → ⊥) → (second ≡ Wiped → ⊥)
-    → ((k ≡ c) × ((first ≡ Changed) ⊎ (second ≡ Changed)) → ⊥) → ArePairs xs (term_set r.doms k) (term_set r.doms c) indices numbers
-    → IsTermChange first k (λ x. IsInSet indices x) r s → IsTermChange second c (λ x. IsInSet numbers x) s t → SelectionLine k xs c t.doms
-matched_now first second k c xs indices numbers r s t not_first not_second shared pairs h g =
-    let alone = apart first second k c (λ x. IsInSet indices x) (λ x. IsInSet numbers x) r s t not_first not_second shared h g in
+pub matched_now : (first second : Change) (k c : Term) (xs : List ℤ) (P Q : ℤ → Type 0) (r s t : Stored) → (first ≡ Wiped → ⊥) → (second ≡ Wiped → ⊥)
+    → ((k ≡ c) × ((first ≡ Changed) ⊎ (second ≡ Changed)) → ⊥) → ArePairs xs (λ x. IsInSet (term_set r.doms k) x) (λ x. IsInSet (term_set r.doms c) x) P Q
+    → IsTermChange first k P r s → IsTermChange second c Q s t → SelectionLine k xs c t.doms
+matched_now first second k c xs P Q r s t not_first not_second shared pairs h g =
+    let alone = apart first second k c P Q r s t not_first not_second shared h g in
     record {
       index = λ i is.
-          let kept = kept_term first k (λ x. IsInSet indices x) r s h not_first i (subst (λ (d : List (ℤ × ℤ)). IsInSet d i) alone.1 is) in
+          let kept = kept_term first k P r s h not_first i (subst (λ (d : List (ℤ × ℤ)). IsInSet d i) alone.1 is) in
           let p = (pairs.indices_are i).0 kept.1 in
           let here = subst (λ (d : List (ℤ × ℤ)). IsInSet d p.0) (sym alone.0) p.1.number in
-          (p.0, p.1.stands, left_term second c (λ x. IsInSet numbers x) s t g p.0 here ((pairs.numbers_are p.0).1 (i, p.1)));
+          (p.0, p.1.stands, left_term second c Q s t g p.0 here ((pairs.numbers_are p.0).1 (i, p.1)));
       number = λ n is.
-          let kept = kept_term second c (λ x. IsInSet numbers x) s t g not_second n is in
+          let kept = kept_term second c Q s t g not_second n is in
           let p = (pairs.numbers_are n).0 kept.1 in
-          let here = left_term first k (λ x. IsInSet indices x) r s h p.0 p.1.index ((pairs.indices_are p.0).1 (n, p.1)) in
+          let here = left_term first k P r s h p.0 p.1.index ((pairs.indices_are p.0).1 (n, p.1)) in
           (p.0, p.1.stands, subst (λ (d : List (ℤ × ℤ)). IsInSet d p.0) (sym alone.1) here);
     }
 

@@ -1,11 +1,14 @@
 -- An index into a list of numbers: when an assignment makes it true, its line, and what its propagator makes.
-use Rattle.std.specs.Prelude.{◌↔◌, ℤ, List}
-use Rattle.fz_sets.specs.Sets.{IsInSet}
+use Rattle.std.specs.Prelude.{◌≡◌, ◌↔◌, ◌⊎◌, ℤ, pos, ◌+ℤ◌, ◌≤ℤ◌, List}
+use Rattle.fz_sets.specs.Sets.{IsInSet, LEAST, GREATEST}
+use Rattle.fz_bits.specs.Windows.{IsBit}
 use Rattle.fz_spec.specs.declared.term.Term.{Term}
 use Rattle.fz_spec.specs.Constraints.{term_value}
 use Rattle.fz_spec.specs.Truth.{IsElement}
 use Rattle.fz_strength.specs.Domains.{term_set}
 use Rattle.fz_strength.specs.Elements.{AreMatched}
+use Rattle.fz_element.specs.declared.numbers.Numbers.{Numbers}
+use Rattle.fz_element.specs.declared.numbers.Numbers.TheVariants.{Near, Far}
 
 abbrev pub IsSelected : Term → List ℤ → Term → List ℤ → Type 0
 IsSelected k xs c a = IsElement (term_value a k) xs (term_value a c)
@@ -13,13 +16,33 @@ IsSelected k xs c a = IsElement (term_value a k) xs (term_value a c)
 abbrev pub SelectionLine : Term → List ℤ → Term → List (List (ℤ × ℤ)) → Type 0
 SelectionLine k xs c ds = AreMatched xs (term_set ds k) (term_set ds c)
 
--- an index in d whose number is in e
-pub record IsPair (xs : List ℤ) (d e : List (ℤ × ℤ)) (k n : ℤ) : Type 0 where
+-- an index with one property whose number has another
+pub record IsPair (xs : List ℤ) (D E : ℤ → Type 0) (k n : ℤ) : Type 0 where
   pub stands : IsElement k xs n
-  pub index : IsInSet d k
-  pub number : IsInSet e n
+  pub index : D k
+  pub number : E n
 
 -- the indices of all such pairs, and their numbers
-pub record ArePairs (xs : List ℤ) (d e indices numbers : List (ℤ × ℤ)) : Type 0 where
-  pub indices_are : (k : ℤ) → IsInSet indices k ↔ ((n : ℤ) × IsPair xs d e k n)
-  pub numbers_are : (n : ℤ) → IsInSet numbers n ↔ ((k : ℤ) × IsPair xs d e k n)
+pub record ArePairs (xs : List ℤ) (D E P Q : ℤ → Type 0) : Type 0 where
+  pub indices_are : (k : ℤ) → P k ↔ ((n : ℤ) × IsPair xs D E k n)
+  pub numbers_are : (n : ℤ) → Q n ↔ ((k : ℤ) × IsPair xs D E k n)
+
+-- indices and numbers, and the pair of one more index, if its number has the property
+pub record IsJoined (xs : List ℤ) (j : ℤ) (E P Q R S : ℤ → Type 0) : Type 0 where
+  pub indices_are : (k : ℤ) → R k ↔ (P k ⊎ ((k ≡ j) × ((n : ℤ) × IsElement j xs n × E n)))
+  pub numbers_are : (n : ℤ) → S n ↔ (Q n ⊎ (IsElement j xs n × E n))
+
+-- ---- what a term is to keep
+
+-- a number is one of these
+abbrev pub Has : Numbers → ℤ → Type 0
+Has (Near w) x = IsBit w.base w.bits x
+Has (Far d) x = IsInSet d x
+
+-- the 64 numbers from a base on lie within the limits
+abbrev pub HasRoom : ℤ → Type 0
+HasRoom base = (LEAST ≤ℤ base) × ((base +ℤ pos 63) ≤ℤ GREATEST)
+
+abbrev pub AreWithin : Numbers → Type 0
+AreWithin (Near w) = HasRoom w.base
+AreWithin (Far d) = Unit {0}

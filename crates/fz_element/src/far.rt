@@ -1,10 +1,11 @@
-//! The indices whose number is left.
+//! The indices whose number is left, one by one.
 ghost use Rattle.std.specs.Prelude.{ℤ, length, IfOk, MatchOption};
-ghost use Rattle.fz_spec.specs.Truth.{IsElement};
+ghost use Rattle.fz_sets.specs.Sets.{IsInSet};
 ghost use Rattle.fz_strength.specs.Domains.{term_set};
 ghost use Rattle.fz_prop.specs.Stores.{IsTermOf, FitsTerm};
-ghost use Rattle.fz_element.specs.Selecting.{IsPair, ArePairs};
+ghost use Rattle.fz_element.specs.Selecting.{IsPair, ArePairs, Has, AreWithin};
 
+use crate::numbers::{Numbers, Pairs, number_at};
 use fz_dom::Dom;
 use fz_prop::Store;
 use fz_prop::indices::{first_index, index_end};
@@ -13,19 +14,23 @@ use fz_spec::term::Term;
 use std::alloc::{AllocError, Global};
 
 /// The indices that are left and whose number is left, and these numbers.
-pub fn pairs_of(
+pub fn far_pairs(
     alloc: Global,
     store: &Store,
     index: Term,
     numbers: &[i32],
     value: Term,
-) -> Result<(Dom, Dom), AllocError>
+) -> Result<Pairs, AllocError>
     requires index { IsTermOf (length store.now.doms) index }
     requires value { IsTermOf (length store.now.doms) value }
     requires fits_index { FitsTerm index }
     requires fits_value { FitsTerm value }
-    ensures { IfOk result (λ r. ArePairs numbers.now
-        (term_set store.now.doms index) (term_set store.now.doms value) r.0 r.1) }
+    ensures pairs { IfOk result (λ p. ArePairs numbers.now
+        (λ k. IsInSet (term_set store.now.doms index) k)
+        (λ n. IsInSet (term_set store.now.doms value) n)
+        (λ k. Has p.indices k) (λ n. Has p.values n)) }
+    ensures indices { IfOk result (λ p. AreWithin p.indices) }
+    ensures values { IfOk result (λ p. AreWithin p.values) }
 {
     let _ = store.doms();
     let (first, end) = (
@@ -43,7 +48,10 @@ pub fn pairs_of(
     }
     let indices = Dom::from_ranges(alloc, &places)?;
     let values = Dom::from_ranges(alloc, &found)?;
-    Ok((indices, values))
+    Ok(Pairs {
+        indices: Numbers::Far(indices),
+        values: Numbers::Far(values),
+    })
 }
 
 /// The number at an index, if both are left.
@@ -51,10 +59,10 @@ fn paired(store: &Store, index: Term, numbers: &[i32], value: Term, place: i32) 
     requires index { IsTermOf (length store.now.doms) index }
     requires value { IsTermOf (length store.now.doms) value }
     ensures { MatchOption result
-        ((n : ℤ) → IsPair numbers.now (term_set store.now.doms index)
-        (term_set store.now.doms value) place n → ⊥)
-        (λ n. IsPair numbers.now (term_set store.now.doms index)
-        (term_set store.now.doms value) place n) }
+        ((n : ℤ) → IsPair numbers.now (λ k. IsInSet (term_set store.now.doms index) k)
+        (λ m. IsInSet (term_set store.now.doms value) m) place n → ⊥)
+        (λ n. IsPair numbers.now (λ k. IsInSet (term_set store.now.doms index) k)
+        (λ m. IsInSet (term_set store.now.doms value) m) place n) }
 {
     let Some(number) = number_at(numbers, place) else {
         return None;
@@ -64,15 +72,4 @@ fn paired(store: &Store, index: Term, numbers: &[i32], value: Term, place: i32) 
     } else {
         None
     }
-}
-
-/// The number at an index, counted from 1, if there is one.
-fn number_at(numbers: &[i32], index: i32) -> Option<i32>
-    ensures { MatchOption result
-        ((n : ℤ) → IsElement index numbers.now n → ⊥) (λ n. IsElement index numbers.now n) }
-{
-    if index < 1 {
-        return None;
-    }
-    numbers.get((index - 1) as usize).copied()
 }

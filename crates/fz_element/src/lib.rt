@@ -2,6 +2,9 @@
 #![tactic(auto)]
 
 pub mod element;
+mod far;
+mod near;
+mod numbers;
 mod pairs;
 mod select;
 

@@ -1,14 +1,15 @@
 //! Keeping the indices whose number is left, and the numbers at these.
 ghost use Rattle.std.specs.Prelude.{◌≡◌, ◌↔◌, ◌⊎◌, length, IfOk, IsTrue};
+ghost use Rattle.fz_sets.specs.Sets.{IsInSet};
 ghost use Rattle.fz_dom.specs.declared.change.Change.TheVariants as changes;
 ghost use Rattle.fz_strength.specs.Domains.{term_set};
 ghost use Rattle.fz_prop.specs.Answers.{IsAnswerOf, IsCorrectOf, Narrows};
 ghost use Rattle.fz_prop.specs.Stores.{Shrinks, IsTermOf, FitsTerm};
-ghost use Rattle.fz_element.specs.Selecting.{ArePairs, IsSelected, SelectionLine};
+ghost use Rattle.fz_element.specs.Selecting.{ArePairs, IsSelected, SelectionLine, Has, AreWithin};
 
+use crate::numbers::{Pairs, keep};
 use crate::pairs::pairs_of;
-use fz_dom::Dom;
-use fz_prop::terms::{are_fixed, keep_in};
+use fz_prop::terms::are_fixed;
 use fz_prop::{Answer, Change, Store};
 use fz_spec::term::Term;
 use std::alloc::{AllocError, Global};
@@ -28,8 +29,8 @@ pub fn keep_element(
     ensures { Narrows (IsSelected index numbers.now value) (SelectionLine index numbers.now value)
         result store.old store.new }
 {
-    let (indices, values) = pairs_of(alloc, store, index, numbers, value)?;
-    keep_pairs(store, index, numbers, value, &indices, &values)
+    let pairs = pairs_of(alloc, store, index, numbers, value)?;
+    keep_pairs(store, index, numbers, value, &pairs)
 }
 
 /// Keeps the indices and the numbers of all pairs that are left.
@@ -38,13 +39,15 @@ fn keep_pairs(
     index: Term,
     numbers: &[i32],
     value: Term,
-    indices: &Dom,
-    values: &Dom,
+    pairs: &Pairs,
 ) -> Result<Answer, AllocError>
     requires index { IsTermOf (length store.old.doms) index }
     requires value { IsTermOf (length store.old.doms) value }
-    requires pairs { ArePairs numbers.now (term_set store.old.doms index)
-        (term_set store.old.doms value) indices.now values.now }
+    requires pairs { ArePairs numbers.now (λ k. IsInSet (term_set store.old.doms index) k)
+        (λ n. IsInSet (term_set store.old.doms value) n)
+        (λ k. Has pairs.now.indices k) (λ n. Has pairs.now.values n) }
+    requires indices { AreWithin pairs.now.indices }
+    requires values { AreWithin pairs.now.values }
     ensures shrinks { Shrinks store.old store.new }
     ensures correct { IsCorrectOf (IsSelected index numbers.now value)
         store.old.doms store.new.doms }
@@ -53,11 +56,11 @@ fn keep_pairs(
         (SelectionLine index numbers.now value) store.old.doms store.new.doms) }
 {
     let _ = numbers;
-    let first = keep_in(store, index, indices)?;
+    let first = keep(store, index, &pairs.indices)?;
     if let Change::Wiped = first {
         return Ok(Answer::Failed);
     }
-    let second = keep_in(store, value, values)?;
+    let second = keep(store, value, &pairs.values)?;
     if let Change::Wiped = second {
         return Ok(Answer::Failed);
     }

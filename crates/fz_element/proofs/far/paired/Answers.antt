@@ -4,7 +4,7 @@ use Rattle.std.proofs.Math.Facts.{to_z-of_z}
 use mir.Val.{SFits}
 use mir.Syntax.{w32}
 use Rattle.fz_spec.specs.Truth.{IsElement}
-use Rattle.fz_element.proofs.pairs.paired.Goals as goal
+use Rattle.fz_element.proofs.far.paired.Goals as goal
 
 pub returns-in_default : goal.returns-in_default
 returns-in_default c = λ n pair.
