@@ -40,24 +40,24 @@ none_new (Var v) P s t h open_ (Var u) n only = elim (cases_eq u v) [
   | inr ne ↦ sym (h.others u ne) ∙ only
 ]
 
-pub kept_changed : (kept : Kept) (x : Term) (free left : List (ℤ × ℤ)) (s t : Stored) → IsTermChange Changed x (λ n. IsInSet free n) s t → IsLast kept x t.doms free left
+pub kept_changed : (kept : Kept) (x : Term) (free left : ℤ → Type 0) (s t : Stored) → IsTermChange Changed x free s t → IsLast kept x t.doms free left
     → IsKept kept x free left s t
 kept_changed Rest x free left s t h last = (
   record {
-    inside = λ was n is. (kept_term Changed x (λ m. IsInSet free m) s t h (λ e. cc) n is).1;
-    fewer = λ n is. subst (λ (f : List (ℤ × ℤ)). IsInSet f n) last.0 is;
-    taken = λ n is. inl (subst (λ (f : List (ℤ × ℤ)). IsInSet f n) (sym last.0) is);
+    inside = λ was n is. (kept_term Changed x free s t h (λ e. cc) n is).1;
+    fewer = λ n is. (last.0 n).0 is;
+    taken = λ n is. inl ((last.0 n).1 is);
   },
-  none_new x (λ n. IsInSet free n) s t h last.1,
+  none_new x free s t h last.1,
 )
 kept_changed Fixed x free left s t h last = (
   record {
-    inside = λ was n is. (kept_term Changed x (λ m. IsInSet free m) s t h (λ e. cc) n is).1;
+    inside = λ was n is. (kept_term Changed x free s t h (λ e. cc) n is).1;
     fewer = last.0;
     taken = last.1;
   },
-  (λ fixed. fixed_stays x (λ n. IsInSet free n) s t fixed.0 fixed.1 h),
-  falls_of x (λ n. IsInSet free n) s t h,
+  (λ fixed. fixed_stays x free s t fixed.0 fixed.1 h),
+  falls_of x free s t h,
 )
 kept_changed Wiped x free left s t h last = absurd last
 
@@ -68,19 +68,19 @@ abbrev pub IsOpenAt : List Term → List (List (ℤ × ℤ)) → ℕ → ℕ →
 IsOpenAt xs ds i k = (i < k) × ((x : Term) × (slice_get xs i ≡ Some x) × (IsFixedIn ds x → ⊥))
 
 -- Before place k: what is left of a place that isn't fixed was free at first.
-pub record IsFilling (xs : List Term) (first : List (ℤ × ℤ)) (r s : Stored) (free : List (ℤ × ℤ)) (has_fixed : Bool) (k : ℕ) : Type 0 where
+pub record IsFilling (xs : List Term) (first : ℤ → Type 0) (r s : Stored) (free : ℤ → Type 0) (has_fixed : Bool) (k : ℕ) : Type 0 where
   pub domains : AreDomains s.doms
   pub shrinks : Shrinks r s
   pub correct : IsCorrectOf (IsDifferent xs) r.doms s.doms
-  pub all : (i : ℕ) (x : Term) (n : ℤ) → slice_get xs i ≡ Some x → IsInSet (term_set s.doms x) n → IsInSet free n ⊎ ((j : ℕ) × IsOnlyAt xs s.doms j n)
-  pub fewer : (n : ℤ) → IsInSet free n → IsInSet first n
-  pub inside : (i : ℕ) (x : Term) → i < k → slice_get xs i ≡ Some x → (IsFixedIn s.doms x → ⊥) → (n : ℤ) → IsInSet (term_set s.doms x) n → IsInSet first n
-  pub last : AreFixedButOne xs r.doms → (i : ℕ) (x : Term) → i < k → slice_get xs i ≡ Some x → (IsFixedIn r.doms x → ⊥) → (n : ℤ) → IsInSet (term_set s.doms x) n → IsInSet first n
+  pub all : (i : ℕ) (x : Term) (n : ℤ) → slice_get xs i ≡ Some x → IsInSet (term_set s.doms x) n → free n ⊎ ((j : ℕ) × IsOnlyAt xs s.doms j n)
+  pub fewer : (n : ℤ) → free n → first n
+  pub inside : (i : ℕ) (x : Term) → i < k → slice_get xs i ≡ Some x → (IsFixedIn s.doms x → ⊥) → (n : ℤ) → IsInSet (term_set s.doms x) n → first n
+  pub last : AreFixedButOne xs r.doms → (i : ℕ) (x : Term) → i < k → slice_get xs i ≡ Some x → (IsFixedIn r.doms x → ⊥) → (n : ℤ) → IsInSet (term_set s.doms x) n → first n
   pub some_new : has_fixed ≡ true → (i : ℕ) × IsOpenAt xs r.doms i k
   pub none_new : has_fixed ≡ false → IsNoneNew r s
   pub falls : has_fixed ≡ true → room s.doms < room r.doms
 
-pub filling_none : (xs : List Term) (free : List (ℤ × ℤ)) (s : Stored) → AreDomains s.doms → AreFree xs s.doms free → IsFilling xs free s s free false 0
+pub filling_none : (xs : List Term) (free : ℤ → Type 0) (s : Stored) → AreDomains s.doms → AreFree xs s.doms free → IsFilling xs free s s free false 0
 filling_none xs free s domains h = record {
   domains = domains;
   shrinks = same_shrinks s;
@@ -95,8 +95,8 @@ filling_none xs free s domains h = record {
 }
 
 -- a different assignment has a free number at a place that isn't fixed
-needs_free : (xs : List Term) (ds : List (List (ℤ × ℤ))) (free : List (ℤ × ℤ)) (k : ℕ) (x : Term) (a : List ℤ) → AllByRecursion (IsTermOf (length ds)) xs → slice_get xs k ≡ Some x
-    → (IsFixedIn ds x → ⊥) → ((n : ℤ) → IsInSet (term_set ds x) n → IsInSet free n ⊎ ((j : ℕ) × IsOnlyAt xs ds j n)) → Within ds a → IsDifferent xs a → IsInSet free (term_value a x)
+needs_free : (xs : List Term) (ds : List (List (ℤ × ℤ))) (free : ℤ → Type 0) (k : ℕ) (x : Term) (a : List ℤ) → AllByRecursion (IsTermOf (length ds)) xs → slice_get xs k ≡ Some x
+    → (IsFixedIn ds x → ⊥) → ((n : ℤ) → IsInSet (term_set ds x) n → free n ⊎ ((j : ℕ) × IsOnlyAt xs ds j n)) → Within ds a → IsDifferent xs a → free (term_value a x)
 needs_free xs ds free k x a terms at open_ all within different =
     elim (all (term_value a x) (term_within ds a x (all_at (IsTermOf (length ds)) xs k x terms at) within)) [
       | inl is ↦ is
@@ -117,15 +117,15 @@ open_before : (xs : List Term) (ds es : List (List (ℤ × ℤ))) (i : ℕ) (x :
 open_before xs ds es i x terms at domains narrower open_ fixed =
     open_ (fixed.0, still_only ds es x fixed.0 (all_at (IsTermOf (length ds)) xs i x terms at) fixed.1 domains narrower)
 
-pub correct_more : (xs : List Term) (first : List (ℤ × ℤ)) (r s t : Stored) (free : List (ℤ × ℤ)) (before : Bool) (k : ℕ) (x : Term) → AllByRecursion (IsTermOf (length r.doms)) xs
-    → slice_get xs k ≡ Some x → ((a : List ℤ) → Within s.doms a → ((IsFixedIn s.doms x → ⊥) → IsInSet free (term_value a x)) → Within t.doms a)
+pub correct_more : (xs : List Term) (first : ℤ → Type 0) (r s t : Stored) (free : ℤ → Type 0) (before : Bool) (k : ℕ) (x : Term) → AllByRecursion (IsTermOf (length r.doms)) xs
+    → slice_get xs k ≡ Some x → ((a : List ℤ) → Within s.doms a → ((IsFixedIn s.doms x → ⊥) → free (term_value a x)) → Within t.doms a)
     → IsFilling xs first r s free before k → IsCorrectOf (IsDifferent xs) r.doms t.doms
 correct_more xs first r s t free before k x terms at within h = λ a different inside.
     let so_far = h.correct a different inside in
     within a so_far (λ open_. needs_free xs s.doms free k x a (terms_still xs r.doms s.doms h.shrinks.narrower terms) at open_ (λ n. h.all k x n at) so_far different)
 
 -- the one place that wasn't fixed isn't before it is looked at
-still_open : (xs : List Term) (first : List (ℤ × ℤ)) (r s : Stored) (free : List (ℤ × ℤ)) (has_fixed : Bool) (k : ℕ) (x : Term) → slice_get xs k ≡ Some x
+still_open : (xs : List Term) (first : ℤ → Type 0) (r s : Stored) (free : ℤ → Type 0) (has_fixed : Bool) (k : ℕ) (x : Term) → slice_get xs k ≡ Some x
     → IsFilling xs first r s free has_fixed k → AreFixedButOne xs r.doms → (IsFixedIn r.doms x → ⊥) → IsFixedIn s.doms x → ⊥
 still_open xs first r s free false k x at h one open_ fixed = open_ (fixed.0, h.none_new refl x fixed.0 fixed.1)
 still_open xs first r s free true k x at h one open_ fixed =
@@ -133,9 +133,9 @@ still_open xs first r s free true k x at h one open_ fixed =
     let below = p.1.0 in
     elim (one p.0 k p.1.1.0 x (omega (arith, below)) p.1.1.1 at) [ inl f ↦ p.1.1.2 f | inr f ↦ open_ f ]
 
-filling_more : (xs : List Term) (first : List (ℤ × ℤ)) (r s t : Stored) (free left : List (ℤ × ℤ)) (before after : Bool) (k : ℕ) (x : Term) → AllByRecursion (IsTermOf (length r.doms)) xs
+filling_more : (xs : List Term) (first : ℤ → Type 0) (r s t : Stored) (free left : ℤ → Type 0) (before after : Bool) (k : ℕ) (x : Term) → AllByRecursion (IsTermOf (length r.doms)) xs
     → slice_get xs k ≡ Some x → AreDomains t.doms → Shrinks s t
-    → ((a : List ℤ) → Within s.doms a → ((IsFixedIn s.doms x → ⊥) → IsInSet free (term_value a x)) → Within t.doms a) → IsKeptTo x free left s t
+    → ((a : List ℤ) → Within s.doms a → ((IsFixedIn s.doms x → ⊥) → free (term_value a x)) → Within t.doms a) → IsKeptTo x free left s t
     → (after ≡ true → (i : ℕ) × IsOpenAt xs r.doms i (k + 1)) → (after ≡ false → IsNoneNew r t) → (after ≡ true → room t.doms < room r.doms) → IsFilling xs first r s free before k
     → IsFilling xs first r t left after (k + 1)
 filling_more xs first r s t free left before after k x terms at domains shrinks within kept some_new none_new falls h =
@@ -169,18 +169,18 @@ filling_more xs first r s t free left before after k x terms at domains shrinks 
       falls = falls;
     }
 
-pub filling_rest : (xs : List Term) (first : List (ℤ × ℤ)) (r s t : Stored) (free left : List (ℤ × ℤ)) (before : Bool) (k : ℕ) (x : Term) → AllByRecursion (IsTermOf (length r.doms)) xs
+pub filling_rest : (xs : List Term) (first : ℤ → Type 0) (r s t : Stored) (free left : ℤ → Type 0) (before : Bool) (k : ℕ) (x : Term) → AllByRecursion (IsTermOf (length r.doms)) xs
     → slice_get xs k ≡ Some x → AreDomains t.doms → Shrinks s t
-    → ((a : List ℤ) → Within s.doms a → ((IsFixedIn s.doms x → ⊥) → IsInSet free (term_value a x)) → Within t.doms a) → IsKept Rest x free left s t
+    → ((a : List ℤ) → Within s.doms a → ((IsFixedIn s.doms x → ⊥) → free (term_value a x)) → Within t.doms a) → IsKept Rest x free left s t
     → IsFilling xs first r s free before k → IsFilling xs first r t left before (k + 1)
 filling_rest xs first r s t free left before k x terms at domains shrinks within kept h =
     filling_more xs first r s t free left before before k x terms at domains shrinks within kept.0
     (λ e. let p = h.some_new e in let below = p.1.0 in (p.0, (omega (arith, below), p.1.1))) (λ e y n only. h.none_new e y n (kept.1 y n only))
     (λ e. let fallen = h.falls e in let after = room_after s t shrinks in omega (arith, fallen, after)) h
 
-pub filling_fixed : (xs : List Term) (first : List (ℤ × ℤ)) (r s t : Stored) (free left : List (ℤ × ℤ)) (before : Bool) (k : ℕ) (x : Term) → AllByRecursion (IsTermOf (length r.doms)) xs
+pub filling_fixed : (xs : List Term) (first : ℤ → Type 0) (r s t : Stored) (free left : ℤ → Type 0) (before : Bool) (k : ℕ) (x : Term) → AllByRecursion (IsTermOf (length r.doms)) xs
     → slice_get xs k ≡ Some x → AreDomains t.doms → Shrinks s t
-    → ((a : List ℤ) → Within s.doms a → ((IsFixedIn s.doms x → ⊥) → IsInSet free (term_value a x)) → Within t.doms a) → IsKept Fixed x free left s t
+    → ((a : List ℤ) → Within s.doms a → ((IsFixedIn s.doms x → ⊥) → free (term_value a x)) → Within t.doms a) → IsKept Fixed x free left s t
     → IsFilling xs first r s free before k → IsFilling xs first r t left true (k + 1)
 filling_fixed xs first r s t free left before k x terms at domains shrinks within kept h =
     filling_more xs first r s t free left before true k x terms at domains shrinks within kept.0
@@ -189,7 +189,7 @@ filling_fixed xs first r s t free left before k x terms at domains shrinks withi
     (λ e. let fallen = kept.2 in let before = room_after r s h.shrinks in omega (arith, fallen, before)) h
 
 -- a place that has no free number
-pub never_filled : (xs : List Term) (first : List (ℤ × ℤ)) (r s t : Stored) (free left : List (ℤ × ℤ)) (before : Bool) (k : ℕ) (x : Term) → AllByRecursion (IsTermOf (length r.doms)) xs
+pub never_filled : (xs : List Term) (first : ℤ → Type 0) (r s t : Stored) (free left : ℤ → Type 0) (before : Bool) (k : ℕ) (x : Term) → AllByRecursion (IsTermOf (length r.doms)) xs
     → slice_get xs k ≡ Some x → IsKept Wiped x free left s t → IsFilling xs first r s free before k → AreNeverDifferent xs r.doms
 never_filled xs first r s t free left before k x terms at kept h = λ a inside different.
     let here = terms_still xs r.doms s.doms h.shrinks.narrower terms in
@@ -200,7 +200,7 @@ never_filled xs first r s t free left before k x terms at kept h = λ a inside d
 -- ---- the line
 
 -- no place is fixed that wasn't
-pub apart_now : (xs : List Term) (first : List (ℤ × ℤ)) (r s : Stored) (free : List (ℤ × ℤ)) (has_fixed : Bool) (k : ℕ) → length xs ≤ k → has_fixed ≡ false → AreFree xs r.doms first
+pub apart_now : (xs : List Term) (first : ℤ → Type 0) (r s : Stored) (free : ℤ → Type 0) (has_fixed : Bool) (k : ℕ) → length xs ≤ k → has_fixed ≡ false → AreFree xs r.doms first
     → IsFilling xs first r s free has_fixed k → AreApart xs s.doms
 apart_now xs first r s free has_fixed k end none frees h = λ i j x y other at_i at_j n only is.
     let was : IsOnlyAt xs r.doms i n = (x, at_i, h.none_new none x n only) in
@@ -212,7 +212,7 @@ apart_now xs first r s free has_fixed k end none frees h = λ i j x y other at_i
     n is)
 
 -- one place at most wasn't fixed
-pub apart_last : (xs : List Term) (first : List (ℤ × ℤ)) (r s : Stored) (free : List (ℤ × ℤ)) (has_fixed : Bool) (k : ℕ) → length xs ≤ k → AllByRecursion (IsTermOf (length r.doms)) xs
+pub apart_last : (xs : List Term) (first : ℤ → Type 0) (r s : Stored) (free : ℤ → Type 0) (has_fixed : Bool) (k : ℕ) → length xs ≤ k → AllByRecursion (IsTermOf (length r.doms)) xs
     → AreFree xs r.doms first → IsFilling xs first r s free has_fixed k → AreFixedButOne xs r.doms → AreApart xs s.doms
 apart_last xs first r s free has_fixed k end terms frees h one = λ i j x y other at_i at_j n only is.
     let below_i = slice_get_within xs i x at_i in
@@ -231,7 +231,7 @@ apart_last xs first r s free has_fixed k end terms frees h one = λ i j x y othe
     ]
 
 -- all places are fixed
-pub apart_fixed : (xs : List Term) (ds : List (List (ℤ × ℤ))) (free : List (ℤ × ℤ)) → AreFree xs ds free → AllFixed ds xs → AreApart xs ds
+pub apart_fixed : (xs : List Term) (ds : List (List (ℤ × ℤ))) (free : ℤ → Type 0) → AreFree xs ds free → AllFixed ds xs → AreApart xs ds
 apart_fixed xs ds free h fixed = λ i j x y other at_i at_j n only is.
     let at_y = all_at (IsFixedIn ds) xs j y fixed at_j in
     let same : n ≡ at_y.0 = only_in (term_set ds y) at_y.0 n at_y.1 is in

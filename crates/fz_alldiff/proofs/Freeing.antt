@@ -1,18 +1,15 @@
 -- Taking the numbers of fixed places from those that are free.
-use Rattle.std.proofs.Common.{◌≡◌, ◌≢◌, ◌<◌, ◌≤◌, ℕ, ◌+◌, suc, List, [], ◌∷◌, refl, sym, subst, ◌∙◌, ap, arith, length, ◌⊎◌, inl, inr, true, false}
+use Rattle.std.proofs.Common.{◌≡◌, ◌≢◌, ◌<◌, ◌≤◌, ℕ, ◌+◌, suc, List, [], ◌∷◌, refl, sym, subst, ◌∙◌, arith, length, ◌⊎◌, inl, inr, true, false}
 use Rattle.std.specs.Ordering.{int_eq}
 use Rattle.std.proofs.lemmas.Bool.Decides.{Decides-int_eq}
-use Rattle.std.specs.Prelude.{ℤ, pos, ◌+ℤ◌, ◌≤ℤ◌, slice_get, Some}
+use Rattle.std.specs.Prelude.{ℤ, pos, ◌+ℤ◌, ◌≤ℤ◌, ◌↔◌, slice_get, Some}
 use Rattle.std.specs.List.{AllByRecursion}
 use Rattle.std.proofs.lemmas.Bool.{cases_eq}
 use Rattle.std.proofs.lemmas.Int.{ints}
 use Rattle.std.proofs.lemmas.Option.{slice_get_within}
-use Rattle.fz_sets.specs.Sets.{IsInSet, AreOneSet, AreRanges, set_size}
+use Rattle.fz_sets.specs.Sets.{IsInSet}
 use Rattle.fz_sets.proofs.Lists.{all_at}
-use Rattle.fz_dom.specs.Changes.{IsChange, IsFromTo}
-use Rattle.fz_dom.specs.Shape.{IsDomain}
-use Rattle.fz_dom.specs.declared.change.Change.TheVariants.{Changed}
-use Rattle.fz_dom.proofs.Ranges.{same_ranges}
+use Rattle.fz_dom.specs.Changes.{IsFromTo}
 use Rattle.fz_spec.specs.declared.term.Term.{Term}
 use Rattle.fz_spec.specs.Constraints.{term_value}
 use Rattle.fz_strength.specs.Domains.{term_set}
@@ -32,45 +29,30 @@ same_number x y = elim (int_eq x y) as (λ b. int_eq x y ≡ b → (x ≡ y) ⊎
   | false ↦ λ e. inr (λ same. let yes = (Decides-int_eq x y).1 same in absurd (cc (yes, e)))
 ] refl
 
-pub taken_of : (n : ℤ) (free left : List (ℤ × ℤ)) → AreRanges free → AreRanges left → IsChange Changed (λ x. x ≢ n) free left → IsTaken n free left
-taken_of n free left before after h = (
-  (λ none.
-      let one : AreOneSet left free = λ x. ((λ is. ((h.0 x).0 is).0), (λ is. (h.0 x).1 (is, λ same. none (subst (IsInSet free) same is)))) in
-      let same : set_size left ≡ set_size free = ap set_size (same_ranges left free after before one) in
-      omega (arith, same, h.1)),
-  h.0,
-)
-
 -- ---- the loop
 
 -- Before place k: the only number of a place isn't free, and that of no other.
-pub record AreFreeBelow (xs : List Term) (ds : List (List (ℤ × ℤ))) (low high : ℤ) (free : List (ℤ × ℤ)) (k : ℕ) : Type 0 where
-  pub domain : IsDomain free
-  pub all : (n : ℤ) → IsFromTo low high n → IsInSet free n ⊎ ((j : ℕ) × (j < k) × IsOnlyAt xs ds j n)
-  pub taken : (i : ℕ) (n : ℤ) → i < k → IsOnlyAt xs ds i n → IsInSet free n → ⊥
+pub record AreFreeBelow (xs : List Term) (ds : List (List (ℤ × ℤ))) (low high : ℤ) (free : ℤ → Type 0) (k : ℕ) : Type 0 where
+  pub all : (n : ℤ) → IsFromTo low high n → free n ⊎ ((j : ℕ) × (j < k) × IsOnlyAt xs ds j n)
+  pub taken : (i : ℕ) (n : ℤ) → i < k → IsOnlyAt xs ds i n → free n → ⊥
   pub once : (i j : ℕ) (n : ℤ) → i < k → j < k → i ≢ j → IsOnlyAt xs ds i n → IsOnlyAt xs ds j n → ⊥
-  pub spare : IsInSet free (high +ℤ pos 1)
 
-pub free_first : (xs : List Term) (ds : List (List (ℤ × ℤ))) (low high above : ℤ) (free : List (ℤ × ℤ)) → low ≤ℤ high → above ≡ high +ℤ pos 1 → IsDomain free
-    → AreOneSet free ((low, above) ∷ []) → AreFreeBelow xs ds low high free 0
-free_first xs ds low high above free order is domain one = record {
-  domain = domain;
-  all = λ n between. (let from = between.0 in let to = between.1 in inl ((one n).1 (inl (from, omega (arith, ints, to, is)))));
+pub free_first : (xs : List Term) (ds : List (List (ℤ × ℤ))) (low high : ℤ) (free : ℤ → Type 0) → high ≤ℤ (low +ℤ pos 63)
+    → ((n : ℤ) → free n ↔ ((low ≤ℤ n) × (n ≤ℤ (low +ℤ pos 63)))) → AreFreeBelow xs ds low high free 0
+free_first xs ds low high free near is = record {
+  all = λ n between. (let from = between.0 in let to = between.1 in inl ((is n).1 (from, omega (arith, ints, to, near))));
   taken = λ i n below. absurd (omega (arith, below));
   once = λ i j n below. absurd (omega (arith, below));
-  spare = (one (high +ℤ pos 1)).1 (inl (omega (arith, ints, order), omega (arith, ints, is)));
 }
 
 -- a place that is fixed
-pub free_more : (xs : List Term) (ds : List (List (ℤ × ℤ))) (low high n : ℤ) (free left : List (ℤ × ℤ)) (k : ℕ) → AreBetween xs ds low high → IsOnlyAt xs ds k n → IsDomain left
+pub free_more : (xs : List Term) (ds : List (List (ℤ × ℤ))) (low high n : ℤ) (free left : ℤ → Type 0) (k : ℕ) → IsOnlyAt xs ds k n
     → IsTaken n free left → AreFreeBelow xs ds low high free k → AreFreeBelow xs ds low high left (k + 1)
-free_more xs ds low high n free left k between only domain now h =
+free_more xs ds low high n free left k only now h =
     let here : (m : ℤ) → IsOnlyAt xs ds k m → m ≡ n = λ m at.
     only_in (term_set ds only.0) n m only.2 (subst (λ (t : Term). IsInSet (term_set ds t) m) (same_term xs k at.0 only.0 at.1 only.1) (has_only (term_set ds at.0) m at.2)) in
-    let to = (between k only.0 n only.1 (has_only (term_set ds only.0) n only.2)).1 in
-    let before : (i : ℕ) → IsOnlyAt xs ds i n → i < k → ⊥ = λ i at below. now.0 (λ is. h.taken i n below at is) in
+    let before : (i : ℕ) → IsOnlyAt xs ds i n → i < k → ⊥ = λ i at below. h.taken i n below at now.0 in
     record {
-      domain = domain;
       all = λ m within. elim (h.all m within) [
         | inl is ↦ elim (same_number m n) [
           | inl same ↦ inr (k, omega arith, subst (IsOnlyAt xs ds k) (sym same) only)
@@ -93,11 +75,10 @@ free_more xs ds low high n free left k between only domain now h =
           | inr nf ↦ h.once i j m (omega (arith, below_i, ne)) (omega (arith, below_j, nf)) other at_i at_j
         ]
       ];
-      spare = (now.1 (high +ℤ pos 1)).1 (h.spare, λ same. omega (arith, ints, to, same));
     }
 
 -- a place that isn't fixed
-pub free_passed : (xs : List Term) (ds : List (List (ℤ × ℤ))) (low high : ℤ) (free : List (ℤ × ℤ)) (k : ℕ) → ((n : ℤ) → IsOnlyAt xs ds k n → ⊥) → AreFreeBelow xs ds low high free k
+pub free_passed : (xs : List Term) (ds : List (List (ℤ × ℤ))) (low high : ℤ) (free : ℤ → Type 0) (k : ℕ) → ((n : ℤ) → IsOnlyAt xs ds k n → ⊥) → AreFreeBelow xs ds low high free k
     → AreFreeBelow xs ds low high free (k + 1)
 free_passed xs ds low high free k none h =
     let before : (i : ℕ) (n : ℤ) → IsOnlyAt xs ds i n → i < k + 1 → i < k = λ i n at below. elim (cases_eq i k) [
@@ -105,14 +86,12 @@ free_passed xs ds low high free k none h =
       | inr ne ↦ omega (arith, below, ne)
     ] in
     record {
-      domain = h.domain;
       all = λ n within. elim (h.all n within) [ inl is ↦ inl is | inr p ↦ inr (p.0, (let below = p.1 in omega (arith, below)), p.2) ];
       taken = λ i n below at. h.taken i n (before i n at below) at;
       once = λ i j n below_i below_j other at_i at_j. h.once i j n (before i n at_i below_i) (before j n at_j below_j) other at_i at_j;
-      spare = h.spare;
     }
 
-pub free_all : (xs : List Term) (ds : List (List (ℤ × ℤ))) (low high : ℤ) (free : List (ℤ × ℤ)) (k : ℕ) → AreBetween xs ds low high → length xs ≤ k → AreFreeBelow xs ds low high free k
+pub free_all : (xs : List Term) (ds : List (List (ℤ × ℤ))) (low high : ℤ) (free : ℤ → Type 0) (k : ℕ) → AreBetween xs ds low high → length xs ≤ k → AreFreeBelow xs ds low high free k
     → AreFree xs ds free
 free_all xs ds low high free k between end h =
     let below : (i : ℕ) (n : ℤ) → IsOnlyAt xs ds i n → i < k = λ i n at. (let inside = slice_get_within xs i at.0 at.1 in omega (arith, end, inside)) in
@@ -123,8 +102,8 @@ free_all xs ds low high free k between end h =
     }
 
 -- two places have one number
-pub never_free : (xs : List Term) (ds : List (List (ℤ × ℤ))) (low high n : ℤ) (free : List (ℤ × ℤ)) (k : ℕ) → AllByRecursion (IsTermOf (length ds)) xs → AreBetween xs ds low high
-    → IsOnlyAt xs ds k n → (IsInSet free n → ⊥) → AreFreeBelow xs ds low high free k → AreNeverDifferent xs ds
+pub never_free : (xs : List Term) (ds : List (List (ℤ × ℤ))) (low high n : ℤ) (free : ℤ → Type 0) (k : ℕ) → AllByRecursion (IsTermOf (length ds)) xs → AreBetween xs ds low high
+    → IsOnlyAt xs ds k n → (free n → ⊥) → AreFreeBelow xs ds low high free k → AreNeverDifferent xs ds
 never_free xs ds low high n free k terms between only missing h = λ a within all.
     elim (h.all n (between k only.0 n only.1 (has_only (term_set ds only.0) n only.2))) [
       | inl is ↦ missing is
@@ -195,11 +174,6 @@ open_all xs ds unfixed k end h =
       one = λ e i j x y other at_i at_j. h.one e i j x y (below i x at_i) (below j y at_j) other at_i at_j;
       some = h.some;
     }
-
-pub spare_other : (xs : List Term) (ds : List (List (ℤ × ℤ))) (low high n : ℤ) (free : List (ℤ × ℤ)) (k : ℕ) (z : Term) → AreBetween xs ds low high → slice_get xs k ≡ Some z
-    → IsOnly (term_set ds z) n → AreFreeBelow xs ds low high free k → (x : ℤ) × IsInSet free x × (x ≢ n)
-spare_other xs ds low high n free k z between at only h =
-    let to = (between k z n at (has_only (term_set ds z) n only)).1 in (high +ℤ pos 1, h.spare, λ same. omega (arith, ints, to, same))
 
 pub none_here : (xs : List Term) (ds : List (List (ℤ × ℤ))) (k : ℕ) (z : Term) → slice_get xs k ≡ Some z → ((n : ℤ) → IsOnly (term_set ds z) n → ⊥) → (n : ℤ) → IsOnlyAt xs ds k n → ⊥
 none_here xs ds k z at none n only = none n (subst (λ (t : Term). IsOnly (term_set ds t) n) (same_term xs k only.0 z only.1 at) only.2)

@@ -8,7 +8,8 @@ use Rattle.std.proofs.lemmas.Option.{slice_get_within}
 use Rattle.fz_sets.specs.Sets.{IsInSet}
 use Rattle.fz_dom.specs.Changes.{IsFromTo}
 use Rattle.fz_spec.specs.declared.term.Term.{Term}
-use Rattle.fz_strength.specs.Domains.{term_set}
+use Rattle.fz_strength.specs.Domains.{term_set, IsNarrower}
+use Rattle.fz_prop.proofs.TermChanges.{narrower_term}
 use Rattle.fz_alldiff.specs.Freeing.{AreBetween}
 use Rattle.fz_alldiff.specs.declared.span.Span.{Span}
 use Rattle.fz_alldiff.proofs.Clearing.{same_term}
@@ -40,3 +41,6 @@ pub spanned : (o : Option Span) (xs : List Term) (ds : List (List (ℤ × ℤ)))
     → IfSome o (λ s. AreBetween xs ds s.low s.high)
 spanned None xs ds low high from to h = tt
 spanned (Some s) xs ds low high from to h = rw (from, to) h
+
+pub between_still : (xs : List Term) (ds es : List (List (ℤ × ℤ))) (low high : ℤ) → IsNarrower ds es → AreBetween xs ds low high → AreBetween xs es low high
+between_still xs ds es low high narrower h = λ i x n at is. h i x n at (narrower_term ds es x narrower n is)

@@ -1,11 +1,11 @@
-//! Terms whose numbers lie close together: those that no fixed place has are one domain, and all other places keep to it.
-ghost use Rattle.std.specs.Prelude.{◌≡◌, ◌≢◌, ◌<◌, ℤ, true, false, List, length, IfOk, IsNone, IfSome};
+//! Terms whose numbers lie close together: those that no fixed place has are a window, and all other places keep to it.
+ghost use Rattle.std.specs.Prelude.{◌≡◌, ◌≢◌, ◌≤ℤ◌, ◌+ℤ◌, ℤ, pos, true, false, List, length, IfOk, IsNone, IfSome};
 ghost use Rattle.std.specs.List.{AllByRecursion};
-ghost use Rattle.fz_sets.specs.Sets.{IsInSet};
-ghost use Rattle.fz_dom.specs.Shape.{IsDomain};
+ghost use Rattle.fz_bits.specs.Windows.{IsBit};
+ghost use Rattle.fz_sets.specs.Sets.{IsInSet, LEAST, GREATEST};
 ghost use Rattle.fz_spec.specs.Constraints.{term_value};
 ghost use Rattle.fz_strength.specs.Differences.{AreApart};
-ghost use Rattle.fz_strength.specs.Domains.{Within};
+ghost use Rattle.fz_strength.specs.Domains.{term_set, Within};
 ghost use Rattle.fz_strength.specs.Events.{IsFixedIn};
 ghost use Rattle.fz_prop.specs.declared.answer.Answer.TheVariants as answers;
 ghost use Rattle.fz_prop.specs.Answers.{IsAnswerOf, IsCorrectOf};
@@ -14,16 +14,16 @@ ghost use Rattle.fz_alldiff.specs.Differing.{IsDifferent, AreNeverDifferent};
 ghost use Rattle.fz_alldiff.specs.Freeing.{AreBetween, IsSpan, AreFree, AreFixedButOne, AreOpen, IsKept, IsLast, IsTaken};
 
 use crate::span::Span;
-use fz_dom::Dom;
-use fz_prop::terms::{keep_in, value_of};
+use fz_bits::Window;
+use fz_prop::terms::{keep_window, value_of};
 use fz_prop::{Answer, Change, Store};
 use fz_spec::term::Term;
-use std::alloc::{AllocError, Global};
+use std::alloc::AllocError;
 
 /// The numbers that no fixed place has, and how many places aren't fixed.
-#[derive(Drop)]
-pub struct Free {
-    numbers: Dom,
+#[derive(Clone, Copy)]
+struct Free {
+    numbers: Window,
     unfixed: usize,
 }
 
@@ -38,13 +38,8 @@ pub enum Kept {
     Wiped,
 }
 
-/// Narrows a store so that terms are all different whose numbers lie within a span. It answers NoFix where a place got fixed.
-pub fn keep_close(
-    alloc: Global,
-    store: &mut Store,
-    terms: &[Term],
-    span: Span,
-) -> Result<Answer, AllocError>
+/// Narrows a store so that terms are all different whose numbers lie within a span, until no place gets fixed anew.
+pub fn keep_close(store: &mut Store, terms: &[Term], span: Span) -> Result<Answer, AllocError>
     requires terms { AllByRecursion (IsTermOf (length store.old.doms)) terms.now }
     requires between { AreBetween terms.now store.old.doms span.low span.high }
     requires span { IsSpan span.low span.high }
@@ -54,14 +49,34 @@ pub fn keep_close(
         (λ r. IsAnswerOf r (IsDifferent terms.now) (AreApart terms.now)
         store.old.doms store.new.doms) }
 {
-    let Some(free) = free_of(alloc, store, terms, span)? else {
+    'rounds: loop {
+        match keep_once(store, terms, span)? {
+            Answer::NoFix => {}
+            Answer::Fix => return Ok(Answer::Fix),
+            Answer::Subsumed => return Ok(Answer::Subsumed),
+            Answer::Failed => return Ok(Answer::Failed),
+        }
+    }
+}
+
+/// Keeps all places that aren't fixed to the numbers of none that is. It answers NoFix where a place got fixed.
+fn keep_once(store: &mut Store, terms: &[Term], span: Span) -> Result<Answer, AllocError>
+    requires terms { AllByRecursion (IsTermOf (length store.old.doms)) terms.now }
+    requires between { AreBetween terms.now store.old.doms span.low span.high }
+    requires span { IsSpan span.low span.high }
+    ensures shrinks { Shrinks store.old store.new }
+    ensures correct { IsCorrectOf (IsDifferent terms.now) store.old.doms store.new.doms }
+    ensures answer { IfOk result
+        (λ r. IsAnswerOf r (IsDifferent terms.now) (AreApart terms.now)
+        store.old.doms store.new.doms) }
+{
+    let Some(free) = free_of(store, terms, span) else {
         return Ok(Answer::Failed);
     };
     if free.unfixed == 0 {
         return Ok(Answer::Subsumed);
     }
-    let mut numbers = free.numbers;
-    let answer = keep_free(store, terms, &mut numbers)?;
+    let answer = keep_free(store, terms, free.numbers)?;
     let _ = store.doms();
     match answer {
         Answer::Failed => Ok(Answer::Failed),
@@ -70,54 +85,49 @@ pub fn keep_close(
     }
 }
 
-/// The numbers of a span, and one above it, that no fixed place has; `None` where two places have one number.
-fn free_of(
-    alloc: Global,
-    store: &Store,
-    terms: &[Term],
-    span: Span,
-) -> Result<Option<Free>, AllocError>
+/// Of 64 numbers from the span's low one on those that no fixed place has; `None` where two places have one number.
+fn free_of(store: &Store, terms: &[Term], span: Span) -> Option<Free>
     requires terms { AllByRecursion (IsTermOf (length store.now.doms)) terms.now }
     requires between { AreBetween terms.now store.now.doms span.low span.high }
     requires span { IsSpan span.low span.high }
-    ensures none { IfOk result (λ o. IsNone o → AreNeverDifferent terms.now store.now.doms) }
-    ensures free { IfOk result
-        (λ o. IfSome o (λ f. AreFree terms.now store.now.doms f.numbers)) }
-    ensures unfixed { IfOk result (λ o. IfSome o (λ f. AreOpen terms.now store.now.doms f.unfixed)) }
+    ensures none { IsNone result → AreNeverDifferent terms.now store.now.doms }
+    ensures base { IfSome result (λ f. f.numbers.base ≡ span.low) }
+    ensures free { IfSome result (λ f. AreFree terms.now store.now.doms
+        (λ n. IsBit span.low f.numbers.bits n)) }
+    ensures unfixed { IfSome result (λ f. AreOpen terms.now store.now.doms f.unfixed) }
 {
-    let mut numbers = Dom::from_ranges(alloc, &[(span.low, span.high + 1)])?;
+    let mut numbers = Window::all(span.low);
     let mut unfixed = 0;
     for term in terms {
         match value_of(store, *term) {
-            Some(value) => {
-                if !take(&mut numbers, value)? {
-                    return Ok(None);
-                }
-            }
+            Some(value) => numbers = taken(numbers, value)?,
             None => unfixed += 1,
         }
     }
-    Ok(Some(Free { numbers, unfixed }))
+    Some(Free { numbers, unfixed })
 }
 
-/// Takes a number from free ones, of which there are others; false where it isn't one of them.
-fn take(free: &mut Dom, value: i32) -> Result<bool, AllocError>
-    requires domain { IsDomain free.old }
-    requires other { (x : ℤ) × IsInSet free.old x × (x ≢ value) }
-    ensures domain { IsDomain free.new }
-    ensures taken { IfOk result (λ b. b ≡ true → IsTaken value free.old free.new) }
-    ensures missing { IfOk result (λ b. b ≡ false → IsInSet free.old value → ⊥) }
+/// Free numbers without one of 64; `None` where it isn't one of them.
+fn taken(free: Window, value: i32) -> Option<Window>
+    requires low { free.base ≤ℤ value }
+    requires high { value ≤ℤ (free.base +ℤ pos 63) }
+    ensures base { IfSome result (λ w. w.base ≡ free.base) }
+    ensures taken { IfSome result (λ w. IsTaken value (λ n. IsBit free.base free.bits n)
+        (λ n. IsBit free.base w.bits n)) }
+    ensures missing { IsNone result → IsBit free.base free.bits value → ⊥ }
 {
-    match free.remove(value)? {
-        Change::Changed => Ok(true),
-        Change::Same | Change::Wiped => Ok(false),
+    if !free.has(value) {
+        return None;
     }
+    Some(free.without(value))
 }
 
 /// Keeps all places that aren't fixed to free numbers.
-fn keep_free(store: &mut Store, terms: &[Term], free: &mut Dom) -> Result<Answer, AllocError>
+fn keep_free(store: &mut Store, terms: &[Term], free: Window) -> Result<Answer, AllocError>
     requires terms { AllByRecursion (IsTermOf (length store.old.doms)) terms.now }
-    requires free { AreFree terms.now store.old.doms free.old }
+    requires floor { LEAST ≤ℤ free.base }
+    requires ceiling { (free.base +ℤ pos 63) ≤ℤ GREATEST }
+    requires free { AreFree terms.now store.old.doms (λ n. IsBit free.base free.bits n) }
     ensures shrinks { Shrinks store.old store.new }
     ensures correct { IsCorrectOf (IsDifferent terms.now) store.old.doms store.new.doms }
     ensures answer { IfOk result
@@ -127,9 +137,10 @@ fn keep_free(store: &mut Store, terms: &[Term], free: &mut Dom) -> Result<Answer
         → AreFixedButOne terms.now store.old.doms → AreApart terms.now store.new.doms) }
 {
     let _ = store.doms();
+    let mut left = free;
     let mut has_fixed = false;
     for term in terms {
-        match keep_one(store, *term, free)? {
+        match keep_one(store, *term, &mut left)? {
             Kept::Wiped => return Ok(Answer::Failed),
             Kept::Fixed => has_fixed = true,
             Kept::Rest => {}
@@ -144,35 +155,41 @@ fn keep_free(store: &mut Store, terms: &[Term], free: &mut Dom) -> Result<Answer
 }
 
 /// Keeps a term that isn't fixed to free numbers, and takes its number from these where it gets fixed.
-fn keep_one(store: &mut Store, term: Term, free: &mut Dom) -> Result<Kept, AllocError>
-    requires { IsTermOf (length store.old.doms) term }
+fn keep_one(store: &mut Store, term: Term, free: &mut Window) -> Result<Kept, AllocError>
+    requires term { IsTermOf (length store.old.doms) term }
+    requires floor { LEAST ≤ℤ free.old.base }
+    requires ceiling { (free.old.base +ℤ pos 63) ≤ℤ GREATEST }
     ensures shrinks { Shrinks store.old store.new }
+    ensures base { free.new.base ≡ free.old.base }
     ensures within { (a : List ℤ) → Within store.old.doms a
-        → ((IsFixedIn store.old.doms term → ⊥) → IsInSet free.old (term_value a term))
+        → ((IsFixedIn store.old.doms term → ⊥)
+        → IsBit free.old.base free.old.bits (term_value a term))
         → Within store.new.doms a }
-    ensures kept { IfOk result (λ r. IsKept r term free.old free.new store.old store.new) }
+    ensures kept { IfOk result (λ r. IsKept r term (λ n. IsBit free.old.base free.old.bits n)
+        (λ n. IsBit free.old.base free.new.bits n) store.old store.new) }
 {
     if value_of(store, term).is_some() {
         return Ok(Kept::Rest);
     }
-    match keep_in(store, term, free)? {
+    match keep_window(store, term, *free)? {
         Change::Wiped => Ok(Kept::Wiped),
         Change::Same => Ok(Kept::Rest),
-        Change::Changed => {
-            let kept = take_last(store, term, free)?;
-            Ok(kept)
-        }
+        Change::Changed => Ok(take_last(store, term, free)),
     }
 }
 
 /// Takes the number of a term from free ones, if it is fixed.
-fn take_last(store: &Store, term: Term, free: &mut Dom) -> Result<Kept, AllocError>
-    requires { IsTermOf (length store.now.doms) term }
-    ensures { IfOk result (λ r. IsLast r term store.now.doms free.old free.new) }
+fn take_last(store: &Store, term: Term, free: &mut Window) -> Kept
+    requires term { IsTermOf (length store.now.doms) term }
+    requires free { (n : ℤ) → IsInSet (term_set store.now.doms term) n
+        → IsBit free.old.base free.old.bits n }
+    ensures base { free.new.base ≡ free.old.base }
+    ensures last { IsLast result term store.now.doms (λ n. IsBit free.old.base free.old.bits n)
+        (λ n. IsBit free.old.base free.new.bits n) }
 {
     let Some(value) = value_of(store, term) else {
-        return Ok(Kept::Rest);
+        return Kept::Rest;
     };
-    free.remove(value)?;
-    Ok(Kept::Fixed)
+    *free = free.without(value);
+    Kept::Fixed
 }

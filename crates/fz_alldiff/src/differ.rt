@@ -14,7 +14,7 @@ use fz_spec::term::Term;
 use std::alloc::{AllocError, Global};
 
 /// Narrows a store so that terms are all different: no number of a place that is fixed stays at another. Where the numbers of
-/// all places lie close together, those that are free are one word; else the number of each place leaves the others.
+/// all places lie close together, those that are free are one window; else the number of each place leaves the others.
 pub fn keep_different(
     alloc: Global,
     store: &mut Store,
@@ -24,7 +24,7 @@ pub fn keep_different(
     ensures { Narrows (IsDifferent terms.now) (AreApart terms.now) result store.old store.new }
 {
     match close_span(store, terms) {
-        Some(span) => keep_close(alloc, store, terms, span),
+        Some(span) => keep_close(store, terms, span),
         None => keep_each(alloc, store, terms),
     }
 }

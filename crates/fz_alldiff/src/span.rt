@@ -15,7 +15,7 @@ pub struct Span {
     pub high: i32,
 }
 
-/// The ends of all that is left of terms, where these, and one number above them, lie within 64 numbers of the language.
+/// The ends of all that is left of terms, where the 64 numbers from the lower one on, all within the limits, have the higher one.
 pub fn close_span(store: &Store, terms: &[Term]) -> Option<Span>
     requires { AllByRecursion (IsTermOf (length store.now.doms)) terms.now }
     ensures between { IfSome result (λ s. AreBetween terms.now store.now.doms s.low s.high) }
@@ -25,20 +25,20 @@ pub fn close_span(store: &Store, terms: &[Term]) -> Option<Span>
     for term in terms {
         low = low.min(least_of(store, *term));
         high = high.max(greatest_of(store, *term));
-        if high.abs_diff(low) > 62 {
+        if high.abs_diff(low) > 63 {
             return None;
         }
     }
     span_between(low, high)
 }
 
-/// The span of two ends within the limits of the language, if they are in order.
+/// The span of two ends, if 64 numbers from the lower one on, all within the limits, have the higher one.
 fn span_between(low: i32, high: i32) -> Option<Span>
     ensures limits { IfSome result (λ s. IsSpan s.low s.high) }
     ensures low { IfSome result (λ s. s.low ≡ low) }
     ensures high { IfSome result (λ s. s.high ≡ high) }
 {
-    if low <= high && -2147483646 <= low && high < 2147483646 {
+    if low <= high && high.abs_diff(low) < 64 && -2147483646 <= low && low <= 2147483583 {
         Some(Span { low, high })
     } else {
         None
