@@ -1,5 +1,5 @@
 -- An equation that says how far one variable is above another keeps the difference that it is.
-use Rattle.std.proofs.Common.{◌≡◌, ◌≢◌, ℕ, List, [], ◌∷◌, refl, sym, subst, inl, inr}
+use Rattle.std.proofs.Common.{◌≡◌, ◌≢◌, ℕ, List, refl, sym, subst, inl, inr}
 use Rattle.std.specs.Prelude.{ℤ, negsuc, ◌≤ℤ◌, Option, Some, None, IfSome, IsNone}
 use Rattle.fz_spec.specs.declared.term.Term.{Term}
 use Rattle.fz_strength.specs.declared.relation.Relation.{Relation}

@@ -129,7 +129,7 @@ fn keep_first(store: &mut Store, d: Difference) -> Result<Answer, AllocError>
     ensures partners { IfOk result (λ r. r ≢ Failed
         → ArePartners store.new.doms d.first d.second d.above) }
 {
-    match keep_partners(store, d.first, d.second, d.above)? {
+    match store.keep_partners(d.first, d.second, d.above)? {
         Change::Wiped => Ok(Answer::Failed),
         _ => keep_second(store, d),
     }
@@ -156,30 +156,10 @@ fn keep_second(store: &mut Store, d: Difference) -> Result<Answer, AllocError>
     if first == second {
         return Ok(partnered(store, d));
     }
-    match keep_partners(store, d.second, d.first, d.below)? {
+    match store.keep_partners(d.second, d.first, d.below)? {
         Change::Wiped => Ok(Answer::Failed),
         _ => Ok(partnered(store, d)),
     }
-}
-
-/// Keeps the numbers of a variable that lie so far above those of another.
-fn keep_partners(
-    store: &mut Store,
-    variable: u32,
-    other: u32,
-    above: i32,
-) -> Result<Change, AllocError>
-    requires variable { variable < length store.old.doms }
-    requires other { other < length store.old.doms }
-    ensures shrinks { Shrinks store.old store.new }
-    ensures change { IfOk result (λ r. IsChangeAt r variable
-        (λ z. IsInSet (dom_at store.old.doms other) (z -ℤ above)) store.old store.new) }
-    ensures err { OnErr result (store.new ≡ store.old) }
-    ensures old_store { IsStore store.old }
-{
-    let others = store.dom(other).copy()?;
-    let change = store.keep_shifted(variable, &others, above)?;
-    Ok(change)
 }
 
 /// What is known of two variables each of whose numbers has its partner in the other.

@@ -1,5 +1,5 @@
 -- A term in a set, and a Boolean that says whether it is.
-use Rattle.std.proofs.Common.{◌≡◌, ◌<◌, List, ap, length, arith}
+use Rattle.std.proofs.Common.{◌≡◌, List, ap, length, arith}
 use Rattle.std.specs.Prelude.{ℤ, pos}
 use Rattle.fz_sets.specs.Sets.{IsInSet, IsWithinLimits, set_size}
 use Rattle.fz_dom.specs.Shape.{IsDomain, least}

@@ -110,8 +110,7 @@ fn keep_among(store: &mut Store, variable: u32, other: u32) -> Result<Change, Al
     ensures err { OnErr result (store.new ≡ store.old) }
     ensures old_store { IsStore store.old }
 {
-    let others = store.dom(other).copy()?;
-    store.keep(variable, &others)
+    store.keep_partners(variable, other, 0)
 }
 
 /// What is known of two variables with the same numbers.

@@ -4,7 +4,7 @@ use Rattle.std.proofs.Math.Facts.{to_z-of_z}
 use mir.Val.{SFits}
 use mir.Syntax.{w128}
 use Rattle.fz_linear.proofs.Slacks.{near_negated}
-use Rattle.fz_linear.proofs.Above.{too_low, high_enough, above_correct, above_rests, above_open}
+use Rattle.fz_linear.proofs.Above.{too_low, high_enough, above_correct, above_rests}
 use Rattle.fz_linear.proofs.bounded.keep_above.Goals as goal
 
 pub returns-then-greatest-bound-clause-answer : goal.returns-then-greatest-bound-clause-answer

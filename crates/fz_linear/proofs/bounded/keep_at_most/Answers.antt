@@ -3,7 +3,7 @@ use Rattle.std.proofs.lemmas.Int.{ints}
 use Rattle.std.proofs.Math.Facts.{to_z-of_z}
 use mir.Val.{SFits}
 use mir.Syntax.{w128}
-use Rattle.fz_linear.proofs.Bounds.{too_high, low_enough, at_most_correct, at_most_rests, not_fixed}
+use Rattle.fz_linear.proofs.Bounds.{too_high, low_enough, at_most_correct, at_most_rests}
 use Rattle.fz_linear.proofs.bounded.keep_at_most.Goals as goal
 
 pub returns-then-number-least-clause-answer : goal.returns-then-number-least-clause-answer

@@ -4,7 +4,7 @@ use Rattle.std.proofs.Math.Facts.{to_z-of_z}
 use mir.Val.{SFits}
 use mir.Syntax.{w128}
 use Rattle.fz_linear.proofs.Slacks.{near_negated}
-use Rattle.fz_linear.proofs.Bounds.{over, under, one_sum, equal_correct, equal_rests, not_one}
+use Rattle.fz_linear.proofs.Bounds.{over, under, one_sum, equal_correct, equal_rests}
 use Rattle.fz_linear.proofs.bounded.keep_equal.Goals as goal
 
 pub returns-then-number-least-clause-answer : goal.returns-then-number-least-clause-answer

@@ -9,7 +9,7 @@ use Rattle.fz_spec.specs.declared.term.Term.TheVariants.{Var}
 use Rattle.fz_strength.specs.Domains.{dom_at, number_at}
 use Rattle.fz_prop.specs.Answers.{IsCorrectOf}
 use Rattle.fz_prop.proofs.Answering.{answer_twice}
-use Rattle.fz_prop.proofs.Filled.{still_only, term_ranges}
+use Rattle.fz_prop.proofs.Filled.{term_ranges}
 use Rattle.fz_linear.specs.Differences.{DifferenceTruth, DifferenceLine}
 use Rattle.fz_linear.proofs.Differences.{partners_after, partners_still, correct_partners, failed_partners, as_many}
 use Rattle.fz_linear.proofs.difference.keep_second.Goals as goal
@@ -18,18 +18,18 @@ use Rattle.fz_linear.proofs.difference.keep_second.Goals as goal
 turned : (x y c d : ℤ) → d ≡ neg_ℤ c → (x -ℤ y) ≡ c → (y -ℤ d) ≡ x
 turned x y c d is e = omega (arith, ints, is, e)
 
-corrected : (c : goal.After-partnered-in_default) → IsCorrectOf (DifferenceTruth Equal c.args.d.first c.args.d.second c.args.d.above) c.args.store.now.doms c.keep_partners.new.store.doms
+corrected : (c : goal.After-partnered-in_default) → IsCorrectOf (DifferenceTruth Equal c.args.d.first c.args.d.second c.args.d.above) c.args.store.now.doms c.keep_partners.new.self.doms
 corrected c =
     let d = c.args.d in
     let fits : SFits w32 d.below = search rules in
-    correct_partners c.in_ok-keep_partners.field-0 d.second d.first d.below (DifferenceTruth Equal d.first d.second d.above) c.args.store.now c.keep_partners.new.store c.requires.first
+    correct_partners c.in_ok-keep_partners.field-0 d.second d.first d.below (DifferenceTruth Equal d.first d.second d.above) c.args.store.now c.keep_partners.new.self c.requires.first
     (rw (to_z-of_z fits) at c.in_ok-keep_partners.ensures.change) c.in_ok-keep_partners.ensures.shrinks (λ a e. turned (number_at a d.first) (number_at a d.second) d.above d.below c.requires.turned e)
 
 pub partnered-requires-in_default-clause-partners : goal.partnered-requires-in_default-clause-partners
 partnered-requires-in_default-clause-partners c =
     let d = c.args.d in
     let fits : SFits w32 d.below = search rules in
-    partners_still c.in_ok-keep_partners.field-0 d.second d.first d.above d.below c.args.store.now c.keep_partners.new.store (λ e. c.requires.apart (sym e)) c.requires.turned
+    partners_still c.in_ok-keep_partners.field-0 d.second d.first d.above d.below c.args.store.now c.keep_partners.new.self (λ e. c.requires.apart (sym e)) c.requires.turned
     (rw (to_z-of_z fits) at c.in_ok-keep_partners.ensures.change) c.requires.partners
 
 pub partnered-requires-clause-back : goal.partnered-requires-clause-back
@@ -47,14 +47,14 @@ partnered-requires-in_default-clause-back c =
     λ z i.
     let same : (z -ℤ d.below) ≡ (z +ℤ d.above) = (let t = c.requires.turned in omega (arith, ints, t)) in
     rw (← same)
-    (partners_after c.in_ok-keep_partners.field-0 d.second d.first d.below c.args.store.now c.keep_partners.new.store (λ e. c.requires.apart (sym e))
+    (partners_after c.in_ok-keep_partners.field-0 d.second d.first d.below c.args.store.now c.keep_partners.new.self (λ e. c.requires.apart (sym e))
     (rw (to_z-of_z fits) at c.in_ok-keep_partners.ensures.change) c.in_default.not-Wiped z i)
 
 pub returns-in-Wiped-clause-answer : goal.returns-in-Wiped-clause-answer
 returns-in-Wiped-clause-answer c =
     let d = c.args.d in
     let fits : SFits w32 d.below = search rules in
-    failed_partners d.second d.first d.below (DifferenceTruth Equal d.first d.second d.above) (DifferenceLine Equal d.first d.second d.above) c.args.store.now c.keep_partners.new.store c.requires.second c.requires.first
+    failed_partners d.second d.first d.below (DifferenceTruth Equal d.first d.second d.above) (DifferenceLine Equal d.first d.second d.above) c.args.store.now c.keep_partners.new.self c.requires.second c.requires.first
     (rw (to_z-of_z fits, c.in-Wiped.is) at c.in_ok-keep_partners.ensures.change) (λ a e. turned (number_at a d.first) (number_at a d.second) d.above d.below c.requires.turned e)
 
 pub returns-in_default-clause-correct : goal.returns-in_default-clause-correct
@@ -63,5 +63,5 @@ returns-in_default-clause-correct c = corrected c
 pub returns-in_default-clause-answer : goal.returns-in_default-clause-answer
 returns-in_default-clause-answer c =
     let d = c.args.d in
-    answer_twice c.partnered-in_default.result (DifferenceTruth Equal d.first d.second d.above) (DifferenceLine Equal d.first d.second d.above) c.args.store.now c.keep_partners.new.store c.keep_partners.new.store
+    answer_twice c.partnered-in_default.result (DifferenceTruth Equal d.first d.second d.above) (DifferenceLine Equal d.first d.second d.above) c.args.store.now c.keep_partners.new.self c.keep_partners.new.self
     c.in_ok-keep_partners.ensures.shrinks (corrected c) c.partnered-in_default.ensures.answer

@@ -4,7 +4,6 @@ use Rattle.fz_strength.specs.declared.relation.Relation.TheVariants.{Equal}
 use Rattle.fz_strength.specs.Domains.{dom_at}
 use Rattle.fz_prop.specs.Answers.{IsCorrectOf}
 use Rattle.fz_prop.proofs.Answering.{answer_twice}
-use Rattle.fz_prop.proofs.Filled.{still_only}
 use Rattle.fz_rel.specs.Truths.{TruthOf, LineOf}
 use Rattle.fz_rel.proofs.Equality.{correct_same, correct_turned}
 use Rattle.fz_rel.proofs.equal.keep_rest.Goals as goal

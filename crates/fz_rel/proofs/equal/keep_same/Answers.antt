@@ -3,11 +3,9 @@ use Rattle.std.proofs.lemmas.Result.{IfOk-weaker}
 use Rattle.fz_spec.specs.declared.term.Term.TheVariants.{Var}
 use Rattle.fz_strength.specs.declared.relation.Relation.TheVariants.{Equal}
 use Rattle.fz_strength.specs.Domains.{dom_at}
-use Rattle.fz_strength.specs.Events.{IsFixedIn}
 use Rattle.fz_prop.specs.declared.answer.Answer.{Answer}
 use Rattle.fz_prop.specs.Answers.{IsCorrectOf}
 use Rattle.fz_prop.proofs.Answering.{answer_twice, correct_twice}
-use Rattle.fz_prop.proofs.Filled.{still_only}
 use Rattle.fz_prop.proofs.Twice.{shrinks_twice}
 use Rattle.fz_rel.specs.Truths.{TruthOf, LineOf, IsAnswerAs}
 use Rattle.fz_rel.proofs.Equality.{correct_same}
