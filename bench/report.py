@@ -117,3 +117,13 @@ def write(path, tables, commit):
     parts = [INTRODUCTION, surroundings(commit)] + [table(title, rows) for title, rows in tables.items() if rows]
     with open(path, "w", encoding="utf-8") as file:
         file.write("\n".join(parts) + "\n" + head + notes)
+
+
+def write_section(path, title, body):
+    """Writes a section of a file that stands behind the notes: over the one of this title, or as the last."""
+    with open(path, encoding="utf-8") as file:
+        before, _, behind = file.read().partition(title + "\n")
+    place = behind.find("\n## ")
+    rest = behind[place:] if place >= 0 else ""
+    with open(path, "w", encoding="utf-8") as file:
+        file.write(f"{before.rstrip()}\n\n{title}\n\n{body.rstrip()}\n{rest}")

@@ -1,5 +1,5 @@
 -- What a source and a sink in memory tell.
-use Rattle.std.specs.Prelude.{ℕ, Bool, min, ◌≤◌, List, length, Option, Some}
+use Rattle.std.specs.Prelude.{ℕ, Bool, min, max, ◌≤◌, List, length, Option, Some}
 use Rattle.std.proofs.Common.{arith}
 use Rattle.fz_io.specs.declared.calls.Calls.{Calls}
 use Rattle.fz_io.specs.declared.memory_source.MemSource.{MemSource}
@@ -30,6 +30,10 @@ source_faults s = s.calls.faults
 abbrev pub source_calls : MemSource → Calls
 source_calls s = s.calls
 
+-- the most bytes that a read gives
+abbrev pub source_step : MemSource → ℕ
+source_step s = max 1 s.step
+
 -- the bytes that the sink took
 abbrev pub sink_taken : MemSink → Option (List ℕ)
 sink_taken s = Some s.bytes.items
@@ -45,6 +49,10 @@ sink_faults s = s.calls.faults
 -- the calls that were made of the sink, and those that fail
 abbrev pub sink_calls : MemSink → Calls
 sink_calls s = s.calls
+
+-- the most bytes that a write takes
+abbrev pub sink_step : MemSink → ℕ
+sink_step s = max 1 s.step
 
 pub min-le : (a b : ℕ) → min a b ≤ b
 min-le a b = omega arith

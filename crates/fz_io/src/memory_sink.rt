@@ -1,19 +1,20 @@
 //! A sink in memory, some of whose calls fail.
-ghost use Rattle.std.specs.Prelude.{◌≡◌, ℕ, ◌-◌, ◌^◌, ◌<◌, ◌≤◌, ◌↔◌, [], Some, IsErr, IfOk, OnOk, OnErr, length, take, min};
+ghost use Rattle.std.specs.Prelude.{◌≡◌, ℕ, ◌-◌, ◌^◌, ◌<◌, ◌≤◌, ◌↔◌, [], Some, IsErr, IfOk, OnOk, OnErr, length, take, min, max};
 ghost use Rattle.fz_io.specs.Outside.{HasCause, AllFlushed, FlushedWithin, with_more};
 ghost use Rattle.fz_io.specs.Calls.{FailsNext, Counts};
-ghost use Rattle.fz_io.specs.Memory.{sink_taken, sink_flushed, sink_faults, sink_calls, min-le};
+ghost use Rattle.fz_io.specs.Memory.{sink_taken, sink_flushed, sink_faults, sink_calls, sink_step, min-le};
 
 use crate::calls::Calls;
 use crate::outside::{Failed, Sink};
 use std::alloc::Global;
 
-/// Takes whole pieces, into memory. The listed calls fail, and so does a write for which there is no memory.
+/// Takes pieces, into memory. The listed calls fail, and so does a write for which there is no memory.
 #[derive(Drop)]
 pub struct MemSink {
     bytes: Vec<u8>,
     flushed: usize,
     calls: Calls,
+    step: usize,
 }
 
 impl MemSink {
@@ -24,12 +25,24 @@ impl MemSink {
         ensures faults { sink_faults result ≡ 0 }
         ensures made { (sink_calls result).made ≡ 0 }
         ensures fails { (sink_calls result).fails ≡ fails }
+        ensures step { sink_step result ≡ 2 ^ 64 - 1 }
     {
         MemSink {
             bytes: Vec::new(alloc),
             flushed: 0,
             calls: Calls::new(fails),
+            step: usize::MAX,
         }
+    }
+
+    /// The same sink, which takes at most so many bytes a write; at least one, also where 0 is asked for.
+    pub fn with_step(self, step: usize) -> MemSink
+        ensures taken { sink_taken result ≡ sink_taken self }
+        ensures flushed { sink_flushed result ≡ sink_flushed self }
+        ensures calls { sink_calls result ≡ sink_calls self }
+        ensures step { sink_step result ≡ max 1 step }
+    {
+        MemSink { step, ..self }
     }
 
     /// The bytes taken so far.
@@ -72,13 +85,14 @@ impl Sink for MemSink {
         ensures stays { OnErr result (sink_taken self.new ≡ sink_taken self.old) }
         ensures flushed { sink_flushed self.old ≤ sink_flushed self.new }
         ensures cause { HasCause (sink_faults self.old) (sink_faults self.new) result }
-        ensures whole { IfOk result (λ n. n ≡ length piece.now) }
+        ensures step { IfOk result (λ n. n ≡ min (sink_step self.old) (length piece.now)) }
         ensures fails { FailsNext (sink_calls self.old) → IsErr result }
         ensures counts { Counts (sink_calls self.old) (sink_calls self.new) }
     {
         self.calls.begin()?;
-        match self.bytes.extend_from_slice(piece) {
-            Ok(()) => Ok(piece.len()),
+        let count = piece.len().min(self.step.max(1));
+        match self.bytes.extend_from_slice(&piece[..count]) {
+            Ok(()) => Ok(count),
             Err(_) => Err(self.calls.fault()),
         }
     }

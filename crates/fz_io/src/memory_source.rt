@@ -1,9 +1,9 @@
 //! A source in memory, some of whose calls fail.
-ghost use Rattle.std.specs.Prelude.{◌≡◌, ℕ, ◌-◌, ◌^◌, ◌<◌, ◌≤◌, ◌↔◌, ◌⊎◌, [], None, Some, IsTrue, IsErr, IfOk, OnOk, OnErr, length};
+ghost use Rattle.std.specs.Prelude.{◌≡◌, ℕ, ◌-◌, ◌^◌, ◌<◌, ◌≤◌, ◌↔◌, ◌⊎◌, [], None, Some, IsTrue, IsErr, IfOk, OnOk, OnErr, length, max};
 ghost use Rattle.fz_io.specs.Outside.{HasCause, Reads, one_more};
 ghost use Rattle.fz_io.specs.Texts.{text_of};
 ghost use Rattle.fz_io.specs.Calls.{FailsNext, Counts};
-ghost use Rattle.fz_io.specs.Memory.{source_texts, source_left, source_selected, source_selections, source_faults, source_calls};
+ghost use Rattle.fz_io.specs.Memory.{source_texts, source_left, source_selected, source_selections, source_faults, source_calls, source_step};
 
 use crate::calls::Calls;
 use crate::outside::{Failed, Source};
@@ -15,6 +15,7 @@ pub struct MemSource {
     texts: Texts,
     selections: u64,
     calls: Calls,
+    step: usize,
 }
 
 impl MemSource {
@@ -27,12 +28,26 @@ impl MemSource {
         ensures faults { source_faults result ≡ 0 }
         ensures made { (source_calls result).made ≡ 0 }
         ensures fails { (source_calls result).fails ≡ fails }
+        ensures step { source_step result ≡ 2 ^ 64 - 1 }
     {
         MemSource {
             texts: Texts::new(texts),
             selections: 0,
             calls: Calls::new(fails),
+            step: usize::MAX,
         }
+    }
+
+    /// The same source, which gives at most so many bytes a read; at least one, also where 0 is asked for.
+    pub fn with_step(self, step: usize) -> MemSource
+        ensures texts { source_texts result ≡ source_texts self }
+        ensures left { source_left result ≡ source_left self }
+        ensures selected { source_selected result ≡ source_selected self }
+        ensures selections { source_selections result ≡ source_selections self }
+        ensures calls { source_calls result ≡ source_calls self }
+        ensures step { source_step result ≡ max 1 step }
+    {
+        MemSource { step, ..self }
     }
 
     /// How often a call has failed.
@@ -88,8 +103,9 @@ impl Source for MemSource {
         ensures cause { HasCause (source_faults self.old) (source_faults self.new) result }
         ensures fails { IsErr result ↔ FailsNext (source_calls self.old) }
         ensures counts { Counts (source_calls self.old) (source_calls self.new) }
+        ensures step { IfOk result (λ n. n ≤ source_step self.old) }
     {
         self.calls.begin()?;
-        Ok(self.texts.read(buf))
+        Ok(self.texts.read(buf, self.step.max(1)))
     }
 }

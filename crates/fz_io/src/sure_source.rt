@@ -45,6 +45,6 @@ impl Source for SureSource {
     }
 
     fn read(&mut self, buf: &mut [u8]) -> Result<usize, Failed> {
-        Ok(self.texts.read(buf))
+        Ok(self.texts.read(buf, usize::MAX))
     }
 }

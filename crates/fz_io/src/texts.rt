@@ -97,16 +97,18 @@ impl Texts {
         &text[at..]
     }
 
-    /// Moves the first bytes left into the front of the buffer, as many as have room, and says how many.
-    pub(crate) fn read(&mut self, buffer: &mut [u8]) -> usize
-        requires { 0 < length buffer.old }
+    /// Moves the first bytes left into the front of the buffer, as many as have room and at most so many, and says how many.
+    pub(crate) fn read(&mut self, buffer: &mut [u8], most: usize) -> usize
+        requires room { 0 < length buffer.old }
+        requires some { 0 < most }
         ensures within { result ≤ length buffer.old }
+        ensures most { result ≤ most }
         ensures moves { Moves result (bytes_left self.old) buffer.new (Some (bytes_left self.new)) }
         ensures selected { self.new.selected ≡ self.old.selected }
         ensures texts { self.new.all ≡ self.old.all }
     {
         let rest = self.rest();
-        let count = rest.len().min(buffer.len());
+        let count = rest.len().min(buffer.len()).min(most);
         buffer[..count].copy_from_slice(&rest[..count]);
         self.at += count;
         count

@@ -1,7 +1,11 @@
 //! Calls of the source or the sink that fail, and words that are refused before any call.
-use crate::running::{run, run_failing};
+use crate::running::{blocks_of, run, run_by_bytes, run_failing};
 use fzn::Status;
+use std::alloc::Global;
+use std::process::Abort;
+use std::sync::Wait;
 use std::test::Fail;
+use std::thread::Threads;
 
 const THREE_VALUES: &[u8] = b"var 1..3: x :: output_var; solve satisfy;";
 
@@ -9,30 +13,83 @@ const THREE_VALUES: &[u8] = b"var 1..3: x :: output_var; solve satisfy;";
 const ENDLESS: &[u8] =
     b"var 1..1000: x :: output_var; var 1..1000: y; var 1..1000: z; var 1..1000: w; solve satisfy;";
 
-/// A text, the call of the sink that fails, how many bytes were taken before, and how these end.
-type Failing = (&'static [u8], u64, usize, &'static [u8]);
-
-/// One block, and nothing behind it; the whole text, which isn't flushed; two blocks, and no more of the search.
-const FAILING: [Failing; 3] = [
-    (THREE_VALUES, 2, 18, b"----------\n"),
-    (THREE_VALUES, 5, 65, b"==========\n"),
-    (ENDLESS, 3, 36, b"----------\n"),
+/// One worker, two threads, and two workers that take turns.
+const WORKERS: [&[&str]; 3] = [
+    &["-a"],
+    &["-a", "-p", "2"],
+    &["-a", "-p", "2", "--interleave", "1"],
 ];
 
-fn failing() -> &'static [Failing] {
+fn workers() -> &'static [&'static [&'static str]] {
+    &WORKERS
+}
+
+/// A call of the sink that fails, and how many bytes were taken before: whole blocks, the whole text where the flush fails.
+const FAILING: [(u64, usize); 5] = [(1, 0), (2, 18), (3, 36), (4, 54), (5, 65)];
+
+fn failing() -> &'static [(u64, usize)] {
     &FAILING
 }
 
-#[test]
-fn a_failing_sink_has_taken_a_front(rt: HostRuntime) -> Result<(), Fail> {
-    let alloc = rt.alloc();
-    for (text, fails, length, end) in failing() {
-        let outcome = run_failing(&rt, alloc, text, &["-a"], &[], &[*fails])?;
-        assert_eq!(rt; outcome.status, Status::SinkFault);
-        assert_eq!(rt; outcome.printed.len(), *length);
-        assert!(rt; outcome.printed.ends_with(end));
-        assert_eq!(rt; outcome.flushed, 0);
+/// Whether no block stands twice.
+fn are_different(blocks: &[String]) -> bool {
+    for i in 1..blocks.len() {
+        if blocks[i - 1] == blocks[i] {
+            return false;
+        }
     }
+    true
+}
+
+/// Runs three values with one call of the sink failing: what was taken are whole blocks, each once.
+fn expect_front<R: Abort + Threads + Wait + Sync>(
+    rt: &R,
+    alloc: Global,
+    words: &[&str],
+    call: u64,
+    length: usize,
+) -> Result<(), Fail> {
+    let outcome = run_failing(rt, alloc, THREE_VALUES, words, &[], &[call])?;
+    assert_eq!(rt; outcome.status, Status::SinkFault);
+    assert_eq!(rt; outcome.printed.len(), length);
+    assert_eq!(rt; outcome.flushed, 0);
+    let blocks = blocks_of(alloc, &outcome.printed)?;
+    assert!(rt; are_different(&blocks));
+    Ok(())
+}
+
+#[test]
+fn a_failing_sink_has_taken_whole_blocks(rt: HostRuntime) -> Result<(), Fail> {
+    for words in workers() {
+        for (call, length) in failing() {
+            expect_front(&rt, rt.alloc(), words, *call, *length)?;
+        }
+    }
+    Ok(())
+}
+
+/// The search is not gone on with.
+#[test]
+fn a_failing_sink_ends_a_search_without_an_end(rt: HostRuntime) -> Result<(), Fail> {
+    let outcome = run_failing(&rt, rt.alloc(), ENDLESS, &["-a"], &[], &[3])?;
+    assert_eq!(rt; outcome.status, Status::SinkFault);
+    assert_eq!(rt; outcome.printed.len(), 36);
+    assert!(rt; outcome.printed.ends_with(b"----------\n"));
+    Ok(())
+}
+
+/// A byte a call: the same text, and where the thirteenth write fails the twelve bytes before it.
+#[test]
+fn a_byte_at_a_time_is_the_same_text(rt: HostRuntime) -> Result<(), Fail> {
+    let alloc = rt.alloc();
+    let whole = run(&rt, alloc, THREE_VALUES, &["-a"])?;
+    let by_bytes = run_by_bytes(&rt, alloc, THREE_VALUES, &["-a"], &[])?;
+    assert_eq!(rt; by_bytes.status, Status::Done);
+    assert_eq!(rt; by_bytes.printed.as_slice(), whole.printed.as_slice());
+    assert_eq!(rt; by_bytes.flushed, 65);
+    let failing = run_by_bytes(&rt, alloc, THREE_VALUES, &["-a"], &[13])?;
+    assert_eq!(rt; failing.status, Status::SinkFault);
+    assert_eq!(rt; failing.printed.as_slice(), b"x = 1;\n-----".as_slice());
     Ok(())
 }
 
@@ -49,15 +106,29 @@ fn as_many_as_are_asked_for_end_the_search(rt: HostRuntime) -> Result<(), Fail> 
     Ok(())
 }
 
+/// Each call of the source in turn fails, until a run meets no fault.
 #[test]
 fn a_failing_source_prints_nothing(rt: HostRuntime) -> Result<(), Fail> {
     let alloc = rt.alloc();
-    let first_read = run_failing(&rt, alloc, THREE_VALUES, &["-a"], &[2], &[])?;
-    assert_eq!(rt; first_read.status, Status::SourceFault);
-    assert!(rt; first_read.printed.is_empty());
-    let no_such_file = run(&rt, alloc, THREE_VALUES, &["-a", "none.fzn"])?;
-    assert_eq!(rt; no_such_file.status, Status::SourceFault);
-    assert!(rt; no_such_file.printed.is_empty());
+    let mut failed = 0u64;
+    for call in 1..10u64 {
+        let outcome = run_failing(&rt, alloc, THREE_VALUES, &["-a"], &[call], &[])?;
+        if outcome.source_faults == 0 {
+            break;
+        }
+        assert_eq!(rt; outcome.status, Status::SourceFault);
+        assert!(rt; outcome.printed.is_empty());
+        failed = call;
+    }
+    assert!(rt; 1 < failed, "it is selected, and then read");
+    Ok(())
+}
+
+#[test]
+fn a_file_that_is_not_there_is_a_fault(rt: HostRuntime) -> Result<(), Fail> {
+    let outcome = run(&rt, rt.alloc(), THREE_VALUES, &["-a", "none.fzn"])?;
+    assert_eq!(rt; outcome.status, Status::SourceFault);
+    assert!(rt; outcome.printed.is_empty());
     Ok(())
 }
 

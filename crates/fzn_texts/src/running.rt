@@ -20,6 +20,14 @@ pub(crate) struct Outcome {
     pub source_faults: u64,
 }
 
+/// The numbers of the calls that fail, from 1, and how many bytes a read gives and a write takes at most.
+#[derive(Clone, Copy)]
+pub(crate) struct Faults<'a> {
+    pub source: &'a [u64],
+    pub sink: &'a [u64],
+    pub step: usize,
+}
+
 pub(crate) fn strings(alloc: Global, words: &[&str]) -> Result<Vec<String>, AllocError> {
     let mut strings = Vec::new(alloc);
     for word in words {
@@ -37,7 +45,28 @@ pub(crate) fn run_failing<R: Threads + Wait + Sync>(
     source_fails: &[u64],
     sink_fails: &[u64],
 ) -> Result<Outcome, AllocError> {
-    run_all(rt, alloc, text, words, source_fails, sink_fails, &NoGate)
+    let faults = Faults {
+        source: source_fails,
+        sink: sink_fails,
+        step: usize::MAX,
+    };
+    run_all(rt, alloc, text, words, faults, &NoGate)
+}
+
+/// A run that reads and writes a byte at a time, with the calls of the sink of these numbers failing.
+pub(crate) fn run_by_bytes<R: Threads + Wait + Sync>(
+    rt: &R,
+    alloc: Global,
+    text: &[u8],
+    words: &[&str],
+    sink_fails: &[u64],
+) -> Result<Outcome, AllocError> {
+    let faults = Faults {
+        source: &[],
+        sink: sink_fails,
+        step: 1,
+    };
+    run_all(rt, alloc, text, words, faults, &NoGate)
 }
 
 /// A run with these words that a gate watches, in which no call fails.
@@ -48,7 +77,12 @@ pub(crate) fn run_watched<R: Threads + Wait + Sync, G: Gate + Sync>(
     words: &[&str],
     gate: &G,
 ) -> Result<Outcome, AllocError> {
-    run_all(rt, alloc, text, words, &[], &[], gate)
+    let faults = Faults {
+        source: &[],
+        sink: &[],
+        step: usize::MAX,
+    };
+    run_all(rt, alloc, text, words, faults, gate)
 }
 
 fn run_all<R: Threads + Wait + Sync, G: Gate + Sync>(
@@ -56,8 +90,7 @@ fn run_all<R: Threads + Wait + Sync, G: Gate + Sync>(
     alloc: Global,
     text: &[u8],
     words: &[&str],
-    source_fails: &[u64],
-    sink_fails: &[u64],
+    faults: Faults,
     gate: &G,
 ) -> Result<Outcome, AllocError> {
     let mut texts = Vec::new(alloc);
@@ -68,8 +101,10 @@ fn run_all<R: Threads + Wait + Sync, G: Gate + Sync>(
         })?;
     }
     let words = strings(alloc, words)?;
-    let mut source = MemSource::new(texts, Vec::from_slice(alloc, source_fails)?);
-    let mut sink = MemSink::new(alloc, Vec::from_slice(alloc, sink_fails)?);
+    let source = MemSource::new(texts, Vec::from_slice(alloc, faults.source)?);
+    let sink = MemSink::new(alloc, Vec::from_slice(alloc, faults.sink)?);
+    let mut source = source.with_step(faults.step);
+    let mut sink = sink.with_step(faults.step);
     let status = fzn(rt, alloc, &words, &mut source, &mut sink, gate);
     Ok(Outcome {
         status,
