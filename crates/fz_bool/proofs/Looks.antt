@@ -2,7 +2,7 @@
 use Rattle.std.proofs.Common.{◌≡◌, ◌≢◌, ◌⊎◌, ℕ, zero, suc, ◌<◌, ◌≤◌, ◌+◌, List, [], ◌∷◌, ◌∙◌, refl, sym, ap, subst, arith, length, get_or, inl, inr}
 use Rattle.std.specs.Prelude.{ℤ, pos, false, Option, Some, None, slice_get}
 use Rattle.std.specs.List.{AllByRecursion}
-use Rattle.std.proofs.lemmas.Bool.{cases_eq}
+use Rattle.std.proofs.lemmas.Bool.{cases_eq, cases_lt}
 use Rattle.fz_sets.proofs.Lists.{all_of, some_is, all_at}
 use Rattle.fz_spec.specs.declared.term.Term.TheVariants.{Num}
 use Rattle.fz_spec.specs.Truth.{SomeByRecursion}
@@ -11,6 +11,7 @@ use Rattle.fz_strength.specs.Domains.{term_set}
 use Rattle.fz_strength.specs.Events.{IsFixedIn}
 use Rattle.fz_strength.specs.Clauses.{IsTrueIn, IsUntrueIn, true_number}
 use Rattle.fz_strength.proofs.Terms.{only_number}
+use Rattle.fz_kept.specs.Told.{AreUntrueBelow, AreUntrueBehind, AreEndsUntrue}
 use Rattle.fz_bool.specs.declared.literals.State.{State}
 use Rattle.fz_bool.specs.declared.literals.State.TheVariants.{True, False, Open}
 use Rattle.fz_bool.specs.Looks.{IsOpen, IsLastOf, HasTwoOpen, IsTruthAmong}
@@ -43,10 +44,6 @@ none_of P (x ∷ xs) each (inr there) = none_of P xs (λ i y at. each (suc i) y 
 
 -- ---- the first so many
 
--- all are untrue
-abbrev pub AreUntrueBelow : List (List (ℤ × ℤ)) → List Literal → ℕ → Type 0
-AreUntrueBelow ds ls n = (j : ℕ) (k : Literal) → j < n → slice_get ls j ≡ Some k → IsUntrueIn ds k
-
 -- one is open, and the others are untrue
 pub record IsLastBelow (ds : List (List (ℤ × ℤ))) (ls : List Literal) (n : ℕ) (l : Literal) : Type 0 where
   pub place : ℕ
@@ -63,7 +60,7 @@ LastSoFar (Some l) ds ls n = IsLastBelow ds ls n l
 pub split : (j n : ℕ) → j < n + 1 → (j ≡ n) ⊎ (j < n)
 split j n below = elim (cases_eq j n) [ inl e ↦ inl e | inr ne ↦ inr (omega (arith, below, ne)) ]
 
-untrue_more : (ds : List (List (ℤ × ℤ))) (ls : List Literal) (n : ℕ) (l : Literal) → slice_get ls n ≡ Some l → IsUntrueIn ds l → AreUntrueBelow ds ls n → AreUntrueBelow ds ls (n + 1)
+pub untrue_more : (ds : List (List (ℤ × ℤ))) (ls : List Literal) (n : ℕ) (l : Literal) → slice_get ls n ≡ Some l → IsUntrueIn ds l → AreUntrueBelow ds ls n → AreUntrueBelow ds ls (n + 1)
 untrue_more ds ls n l here untrue before = λ j k below at. elim (split j n below) [
   | inl e ↦ subst (IsUntrueIn ds) (some_is l k (sym here ∙ ap (slice_get ls) (sym e) ∙ at)) untrue
   | inr less ↦ before j k less at
@@ -167,3 +164,28 @@ truth_of Open ds ls n whole before = (
   (λ some. none_of (IsTrueIn ds) ls (λ i l at. let inside = inside_of ls i l at in before.0 i l (omega (arith, inside, whole)) at) some),
   (λ all. before.1.unfixed (all_at (λ (l : Literal). IsFixedIn ds l.term) ls before.1.place before.1.literal all before.1.at)),
 )
+
+-- ---- the ends
+
+-- one more at the back
+pub untrue_behind : (ds : List (List (ℤ × ℤ))) (ls : List Literal) (n place : ℕ) (l : Literal) → place + n + 1 ≡ length ls → slice_get ls place ≡ Some l → IsUntrueIn ds l → AreUntrueBehind ds ls n
+    → AreUntrueBehind ds ls (n + 1)
+untrue_behind ds ls n place l is here untrue before = λ j k behind at. elim (cases_eq j place) [
+  | inl e ↦ subst (IsUntrueIn ds) (some_is l k (sym here ∙ ap (slice_get ls) (sym e) ∙ at)) untrue
+  | inr ne ↦ before j k (omega (arith, is, behind, ne)) at
+]
+
+-- the ends meet
+pub ends_none : (ds : List (List (ℤ × ℤ))) (ls : List Literal) (front back : ℕ) → length ls ≤ front + back → AreEndsUntrue ls front back ds → AllByRecursion (IsUntrueIn ds) ls
+ends_none ds ls front back whole told = all_of (IsUntrueIn ds) ls
+    (λ i l at. elim (cases_lt i front) [ inl below ↦ told.before i l below at | inr above ↦ told.behind i l (omega (arith, whole, above)) at ])
+
+-- one literal lies between them
+pub ends_one : (ds : List (List (ℤ × ℤ))) (ls : List Literal) (front back : ℕ) (l : Literal) → front + 1 + back ≡ length ls → slice_get ls front ≡ Some l → IsOpen ds l → AreEndsUntrue ls front back ds
+    → IsLastOf ds ls l
+ends_one ds ls front back l is here unfixed told = record {
+  place = front;
+  at = here;
+  unfixed = unfixed;
+  others = λ j k at ne. elim (cases_lt j front) [ inl below ↦ told.before j k below at | inr above ↦ told.behind j k (omega (arith, is, above, ne)) at ];
+}

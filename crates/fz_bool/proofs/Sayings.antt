@@ -1,5 +1,5 @@
 -- What the propagator of a clause narrows by is what it says.
-use Rattle.std.proofs.Common.{List, [], ◌∷◌, length, map, inl, inr}
+use Rattle.std.proofs.Common.{List, length, inl, inr}
 use Rattle.std.specs.Prelude.{ℤ, Bool, true, false, ◌↔◌, Result, IfOk}
 use Rattle.std.specs.List.{AllByRecursion}
 use Rattle.std.proofs.lemmas.Result.{IfOk-weaker}

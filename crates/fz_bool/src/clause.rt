@@ -1,15 +1,20 @@
 //! Clauses.
-ghost use Rattle.std.specs.Prelude.{◌≡◌, ◌++◌, map, true, false, IfOk, OnOk};
+ghost use Rattle.std.specs.Prelude.{◌≡◌, ◌↔◌, ◌++◌, map, true, false, length, IfOk, IsTrue, OnOk};
+ghost use Rattle.std.specs.List.{AllByRecursion};
 ghost use Rattle.fz_strength.specs.Clauses.{clause, conjunction, disjunction, negative, positive, IsTrueIn, IsUntrueIn};
-ghost use Rattle.fz_strength.specs.Sayings.{Says};
-ghost use Rattle.fz_prop.specs.Answers.{IsAnswerOf, IsCorrectOf};
-ghost use Rattle.fz_prop.specs.Stores.{Shrinks};
+ghost use Rattle.fz_strength.specs.Domains.{AreDomains};
+ghost use Rattle.fz_strength.specs.Promises.{Suits};
+ghost use Rattle.fz_strength.specs.Sayings.{Says, line_of, said_terms, truth_of};
+ghost use Rattle.fz_kept.specs.Told.{AreEndsUntrue, IsLong, IsTold};
+ghost use Rattle.fz_prop.specs.Answers.{IsAnswerOf, IsCorrectOf, Narrows};
+ghost use Rattle.fz_prop.specs.Stores.{IsTermOf, Shrinks};
 ghost use Rattle.fz_bool.specs.Looks.{IsLiteralOf, AreLiteralsOf, IsOpen};
 ghost use Rattle.fz_bool.specs.Clausal.{TruthOf, LineOf};
 
 use crate::literals::{
-    Left, State, keep_false, left_of, make_false, make_true, state_of, truth_among,
+    Left, State, is_long, keep_false, left_between, make_false, make_true, state_of, truth_among,
 };
+use fz_kept::Kept;
 use fz_prop::{Answer, Propagator, Store};
 use fz_spec::term::Term;
 use fz_strength::literal::Literal;
@@ -127,32 +132,48 @@ fn add_negative(literals: &mut Vec<Literal>, terms: &[Term]) -> Result<(), Alloc
 }
 
 /// Narrows a store so that a literal says whether one of these literals is true.
-fn keep_clause(store: &mut Store, literals: &[Literal], r: Literal) -> Result<Answer, AllocError>
+fn keep_clause(
+    store: &mut Store,
+    literals: &[Literal],
+    r: Literal,
+    kept: &mut Kept,
+) -> Result<Answer, AllocError>
     requires literals { AreLiteralsOf store.old.doms literals.now }
     requires result { IsLiteralOf store.old.doms r }
+    requires told { AreEndsUntrue literals.now kept.old.front kept.old.back store.old.doms }
+    ensures told { AreDomains store.new.doms
+        → AreEndsUntrue literals.now kept.new.front kept.new.back store.new.doms }
     ensures shrinks { Shrinks store.old store.new }
     ensures correct { IsCorrectOf (TruthOf literals.now r) store.old.doms store.new.doms }
     ensures answer { IfOk result (λ a. IsAnswerOf a (TruthOf literals.now r)
         (LineOf literals.now r) store.old.doms store.new.doms) }
 {
     match state_of(store, r) {
-        State::True => keep_some(store, literals, r),
+        State::True => keep_some(store, literals, r, kept),
         State::False => keep_none(store, literals, r),
         State::Open => decide(store, literals, r),
     }
 }
 
 /// Narrows a store where the result is true: the last literal that may still get true does.
-fn keep_some(store: &mut Store, literals: &[Literal], r: Literal) -> Result<Answer, AllocError>
+fn keep_some(
+    store: &mut Store,
+    literals: &[Literal],
+    r: Literal,
+    kept: &mut Kept,
+) -> Result<Answer, AllocError>
     requires literals { AreLiteralsOf store.old.doms literals.now }
     requires result { IsLiteralOf store.old.doms r }
     requires holds { IsTrueIn store.old.doms r }
+    requires told { AreEndsUntrue literals.now kept.old.front kept.old.back store.old.doms }
+    ensures told { AreDomains store.new.doms
+        → AreEndsUntrue literals.now kept.new.front kept.new.back store.new.doms }
     ensures shrinks { Shrinks store.old store.new }
     ensures correct { IsCorrectOf (TruthOf literals.now r) store.old.doms store.new.doms }
     ensures answer { IfOk result (λ a. IsAnswerOf a (TruthOf literals.now r)
         (LineOf literals.now r) store.old.doms store.new.doms) }
 {
-    match left_of(store, literals) {
+    match left_between(store, literals, kept) {
         Left::Held => Ok(Answer::Subsumed),
         Left::Nothing => Ok(Answer::Failed),
         Left::More => Ok(Answer::Fix),
@@ -201,13 +222,38 @@ fn decide(store: &mut Store, literals: &[Literal], r: Literal) -> Result<Answer,
     }
 }
 
+impl Clause {
+    /// Whether it has so many literals that it serves to keep something.
+    pub fn keeps(&self) -> bool
+        ensures { IsTrue result ↔ IsLong self.now }
+    {
+        is_long(&self.literals)
+    }
+
+    /// Narrows a store, as `propagate` does. Of how many literals at the front and at the back none may still get true is kept.
+    ///
+    /// # Errors
+    /// `AllocError` where there is no memory for a domain; the store is then narrower, and no assignment is lost.
+    #[tactic(auto, using(crate::proofs::Sayings::result_of))]
+    pub fn run(&self, store: &mut Store, kept: &mut Kept) -> Result<Answer, AllocError>
+        requires terms { AllByRecursion (IsTermOf (length store.old.doms)) (said_terms self.now) }
+        requires suits { Suits self.now store.old.doms }
+        requires told { IsTold self.now kept.old store.old.doms }
+        ensures told { AreDomains store.new.doms → IsTold self.now kept.new store.new.doms }
+        ensures narrows { Narrows (truth_of self.now) (line_of self.now) result
+            store.old store.new }
+    {
+        let answer = keep_clause(store, &self.literals, self.r, kept);
+        let _ = store.doms();
+        answer
+    }
+}
+
 impl Propagator for Clause {
     ghost saying = { λ p. p };
 
-    #[tactic(auto, using(crate::proofs::Sayings::result_of))]
     fn propagate(&self, store: &mut Store) -> Result<Answer, AllocError> {
-        let answer = keep_clause(store, &self.literals, self.r);
-        let _ = store.doms();
-        answer
+        let mut kept = Kept::none();
+        self.run(store, &mut kept)
     }
 }

@@ -1,11 +1,13 @@
 //! What is left of literals, and making them false.
-ghost use Rattle.std.specs.Prelude.{◌≡◌, length, IfOk, OnErr};
+ghost use Rattle.std.specs.Prelude.{◌≡◌, ◌↔◌, ◌<◌, ◌≤◌, length, IfOk, IsTrue, OnErr};
 ghost use Rattle.fz_strength.specs.Clauses.{true_number, false_number};
 ghost use Rattle.fz_prop.specs.Answers.{IsAnswerOf, IsCorrectOf};
 ghost use Rattle.fz_prop.specs.Stores.{Shrinks, IsStore, IsTermOf, IsTermChange};
+ghost use Rattle.fz_kept.specs.Told.{AreUntrueBelow, AreUntrueBehind, AreEndsUntrue};
 ghost use Rattle.fz_bool.specs.Looks.{AreTermsOf, IsStateOf, IsLeft, IsTruthAmong};
 ghost use Rattle.fz_bool.specs.Clausal.{AreMadeFalse, AreFalseIn};
 
+use fz_kept::Kept;
 use fz_prop::terms::{keep_only, value_of};
 use fz_prop::{Answer, Change, Store};
 use fz_strength::literal::Literal;
@@ -44,8 +46,103 @@ pub fn state_of(store: &Store, literal: Literal) -> State
     }
 }
 
+/// Whether there are so many literals that it serves to keep of which ones none may still get true.
+pub fn is_long(literals: &[Literal]) -> bool
+    ensures { IsTrue result ↔ (8 < length literals.now) }
+{
+    literals.len() > 8
+}
+
+/// What is left of literals of which one is to be true, where of so many at each end none may still get true; more of these are
+/// found first.
+pub fn left_between(store: &Store, literals: &[Literal], kept: &mut Kept) -> Left
+    requires terms { AreTermsOf store.now.doms literals.now }
+    requires told { AreEndsUntrue literals.now kept.old.front kept.old.back store.now.doms }
+    ensures left { IsLeft result store.now.doms literals.now }
+    ensures told { AreEndsUntrue literals.now kept.new.front kept.new.back store.now.doms }
+{
+    if !is_long(literals) {
+        return left_of(store, literals);
+    }
+    let front = front_from(store, literals, kept.front);
+    let back = back_from(store, literals, kept.back);
+    kept.front = front;
+    kept.back = back;
+    left_at(store, literals, front as usize, back as usize)
+}
+
+/// How many literals there are, as far as 32 bits count them.
+fn count_of(literals: &[Literal]) -> u32
+    ensures { result ≤ length literals.now }
+{
+    match u32::try_from(literals.len()) {
+        Ok(count) => count,
+        Err(_) => 0,
+    }
+}
+
+/// Of how many literals at the front none may still get true, where it is none of so many.
+fn front_from(store: &Store, literals: &[Literal], front: u32) -> u32
+    requires terms { AreTermsOf store.now.doms literals.now }
+    requires told { AreUntrueBelow store.now.doms literals.now front }
+    ensures { AreUntrueBelow store.now.doms literals.now result }
+{
+    let count = count_of(literals);
+    for place in front..count {
+        match state_of(store, literals[place as usize]) {
+            State::False => {}
+            State::True | State::Open => return place,
+        }
+    }
+    front.max(count)
+}
+
+/// Of how many literals at the back none may still get true, where it is none of so many.
+fn back_from(store: &Store, literals: &[Literal], back: u32) -> u32
+    requires terms { AreTermsOf store.now.doms literals.now }
+    requires told { AreUntrueBehind store.now.doms literals.now back }
+    ensures { AreUntrueBehind store.now.doms literals.now result }
+{
+    let count = count_of(literals);
+    for passed in back..count {
+        match state_of(store, literals[literals.len() - 1 - passed as usize]) {
+            State::False => {}
+            State::True | State::Open => return passed,
+        }
+    }
+    back.max(count)
+}
+
+/// What is left of literals of which one is to be true, where of so many at each end none may still get true.
+fn left_at(store: &Store, literals: &[Literal], front: usize, back: usize) -> Left
+    requires terms { AreTermsOf store.now.doms literals.now }
+    requires told { AreEndsUntrue literals.now front back store.now.doms }
+    ensures { IsLeft result store.now.doms literals.now }
+{
+    let count = literals.len();
+    if front >= count || back >= count - front {
+        return Left::Nothing;
+    }
+    let last = count - 1 - back;
+    match (
+        state_of(store, literals[front]),
+        state_of(store, literals[last]),
+    ) {
+        (State::True, _) => Left::Held,
+        (_, State::True) => Left::Held,
+        (State::Open, State::Open) => {
+            if front == last {
+                Left::Last(literals[front])
+            } else {
+                Left::More
+            }
+        }
+        _ => left_of(store, literals),
+    }
+}
+
 /// What is left of literals of which one is to be true, as far as the first true one or the second open one.
-pub fn left_of(store: &Store, literals: &[Literal]) -> Left
+fn left_of(store: &Store, literals: &[Literal]) -> Left
     requires { AreTermsOf store.now.doms literals.now }
     ensures { IsLeft result store.now.doms literals.now }
 {

@@ -7,7 +7,7 @@ use Rattle.fz_prop.specs.Stores.{IsTermOf}
 use Rattle.fz_prop.specs.Truths.{IsAbout}
 use Rattle.fz_prop.proofs.Settling.{settled_correct, settled_answer}
 use Rattle.fz_bool.specs.Parity.{OddTruth, OddLine, missing_number}
-use Rattle.fz_bool.proofs.Odd.{last_odd, two_not_all}
+use Rattle.fz_bool.proofs.Odd.{last_odd}
 use Rattle.fz_bool.proofs.parity.keep_odd.Goals as goal
 
 about : (c : goal.After-settled) → IsAbout c.in-Last.term (λ u. u ≡ missing_number c.in-Last.odd true) (OddTruth c.args.terms.now true) (OddLine c.args.terms.now true) c.args.store.now.doms
