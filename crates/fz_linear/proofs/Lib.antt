@@ -10,3 +10,4 @@ pub mod Factors
 pub mod Gaps
 pub mod Differences
 pub mod Pruning
+pub mod Told

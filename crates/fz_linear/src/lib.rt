@@ -5,6 +5,7 @@
 mod apart;
 mod bounded;
 mod difference;
+pub mod front;
 pub mod linear;
 pub mod narrow;
 mod pass;

@@ -1,18 +1,22 @@
 //! Linear constraints.
-ghost use Rattle.std.specs.Prelude.{◌≡◌, ◌≢◌, ◌≤◌, ◌+◌, length, IfOk};
+ghost use Rattle.std.specs.Prelude.{◌≡◌, ◌≢◌, ◌↔◌, ◌≤◌, ◌+◌, length, IfOk, IsTrue};
 ghost use Rattle.std.specs.List.{AllByRecursion};
 ghost use Rattle.fz_spec.specs.declared.limits.TheConstants.{ELEMENT_LIMIT};
 ghost use Rattle.fz_strength.specs.declared.relation.Relation.TheVariants.{Below};
+ghost use Rattle.fz_strength.specs.Domains.{AreDomains};
 ghost use Rattle.fz_strength.specs.Promises.{Suits};
 ghost use Rattle.fz_strength.specs.Sayings.{Sum, line_of, said_terms, truth_of};
 ghost use Rattle.fz_strength.specs.Sums.{left_factors, left_terms, right_number};
+ghost use Rattle.fz_kept.specs.Told.{IsLong, IsTold};
 ghost use Rattle.fz_prop.specs.Answers.{Narrows};
 ghost use Rattle.fz_prop.specs.Stores.{FitsTerm, IsTermOf};
 ghost use Rattle.fz_linear.specs.Linears.{IsPrunedOf};
 
 use crate::difference::{Difference, difference_of};
+use crate::front::is_long;
 use crate::narrow::{Precision, Weighted, precision_of};
 use crate::relate::relate_whole;
+use fz_kept::Kept;
 use fz_prop::{Answer, Propagator, Store};
 use fz_spec::term::Term;
 use fz_strength::relation::Relation;
@@ -115,6 +119,43 @@ fn number_right(last: Term) -> i32
     }
 }
 
+impl Linear {
+    /// Whether it has so many terms that it serves to keep something.
+    pub fn keeps(&self) -> bool
+        ensures { IsTrue result ↔ IsLong self.now }
+    {
+        is_long(&self.terms)
+    }
+
+    /// Narrows a store, as `propagate` does. How many terms at the front are fixed is kept, and what they add up to.
+    ///
+    /// # Errors
+    /// `AllocError` where there is no memory for a domain; the store is then narrower, and no assignment is lost.
+    pub fn run(&self, store: &mut Store, kept: &mut Kept) -> Result<Answer, AllocError>
+        requires terms { AllByRecursion (IsTermOf (length store.old.doms)) (said_terms self.now) }
+        requires suits { Suits self.now store.old.doms }
+        requires told { IsTold self.now kept.old store.old.doms }
+        ensures told { AreDomains store.new.doms → IsTold self.now kept.new store.new.doms }
+        ensures narrows { Narrows (truth_of self.now) (line_of self.now) result
+            store.old store.new }
+        ensures pruned { IfOk result (λ r. IsPrunedOf self.now r store.new.doms) }
+    {
+        let sum = Weighted {
+            factors: &self.factors,
+            terms: &self.terms,
+            precision: self.precision,
+        };
+        relate_whole(
+            store,
+            self.difference,
+            &sum,
+            self.relation,
+            self.number,
+            kept,
+        )
+    }
+}
+
 impl Propagator for Linear {
     ghost saying = { λ p. p };
 
@@ -125,11 +166,7 @@ impl Propagator for Linear {
             store.old store.new }
         ensures pruned { IfOk result (λ r. IsPrunedOf self.now r store.new.doms) }
     {
-        let sum = Weighted {
-            factors: &self.factors,
-            terms: &self.terms,
-            precision: self.precision,
-        };
-        relate_whole(store, self.difference, &sum, self.relation, self.number)
+        let mut kept = Kept::none();
+        self.run(store, &mut kept)
     }
 }

@@ -3,7 +3,9 @@ ghost use Rattle.std.specs.Prelude.{◌≡◌, ◌≢◌, ◌+◌, ◌≤◌, Li
 ghost use Rattle.std.specs.List.{AllByRecursion};
 ghost use Rattle.fz_spec.specs.declared.limits.TheConstants.{ELEMENT_LIMIT};
 ghost use Rattle.fz_strength.specs.declared.relation.Relation.TheVariants.{Below};
+ghost use Rattle.fz_strength.specs.Domains.{AreDomains};
 ghost use Rattle.fz_strength.specs.Events.{AllFixed};
+ghost use Rattle.fz_kept.specs.Told.{IsToldSum};
 ghost use Rattle.fz_prop.specs.declared.answer.Answer.TheVariants.{Fix, NoFix};
 ghost use Rattle.fz_prop.specs.Answers.{IsCorrectOf};
 ghost use Rattle.fz_prop.specs.Stores.{Shrinks, FitsTerm};
@@ -15,7 +17,9 @@ ghost use Rattle.fz_linear.specs.Sums.{SumTruth, SumFalse, IsAnswerSum, IsAnswer
 use crate::apart::keep_apart;
 use crate::bounded::{keep_above, keep_at_most, keep_equal};
 use crate::difference::{Difference, keep_above_by, keep_apart_by};
+use crate::front::relate_rest;
 use crate::narrow::Weighted;
+use fz_kept::Kept;
 use fz_prop::{Answer, Store};
 use fz_spec::term::Term;
 use fz_strength::relation::Relation;
@@ -50,7 +54,7 @@ pub fn relate(
 }
 
 /// Narrows a store by how a sum relates to a number, as `relate` does, again and again until that changes nothing more.
-fn relate_to_rest(
+pub fn relate_to_rest(
     store: &mut Store,
     sum: &Weighted<'_>,
     relation: Relation,
@@ -78,7 +82,8 @@ fn relate_to_rest(
 }
 
 /// Narrows a store by how a sum relates to a number until it rests; where the sum is known to be the difference of two
-/// variables, which is to be the number or isn't, on whole domains.
+/// variables, which is to be the number or isn't, on whole domains. Of a long sum the terms at the front that are fixed are kept,
+/// and passed by.
 ///
 /// # Errors
 /// As `relate`.
@@ -88,12 +93,17 @@ pub fn relate_whole(
     sum: &Weighted<'_>,
     relation: Relation,
     number: i32,
+    kept: &mut Kept,
 ) -> Result<Answer, AllocError>
     requires bounded { relation ≢ Below }
     requires law { IsWeighted sum.now }
     requires inside { AreTermsOf (length store.old.doms) sum.now.terms.now }
     requires fits { AllByRecursion FitsTerm sum.now.terms.now }
     requires differs { IfSome difference (λ d. IsDifferenceIn d sum.now.factors.now sum.now.terms.now number) }
+    requires told { IsToldSum sum.now.factors.now sum.now.terms.now kept.old.front kept.old.number
+        store.old.doms }
+    ensures told { AreDomains store.new.doms
+        → IsToldSum sum.now.factors.now sum.now.terms.now kept.new.front kept.new.number store.new.doms }
     ensures shrinks { Shrinks store.old store.new }
     ensures correct { IsCorrectOf (SumTruth relation sum.now.factors.now sum.now.terms.now number)
         store.old.doms store.new.doms }
@@ -104,7 +114,7 @@ pub fn relate_whole(
     match (relation, difference) {
         (Relation::Equal, Some(difference)) => keep_above_by(store, difference),
         (Relation::NotEqual, Some(difference)) => keep_apart_by(store, difference),
-        _ => relate_to_rest(store, sum, relation, number),
+        _ => relate_rest(store, sum, relation, number, kept),
     }
 }
 

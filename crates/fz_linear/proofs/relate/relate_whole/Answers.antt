@@ -2,6 +2,7 @@ use Rattle.std.proofs.lemmas.Result.{IfOk-weaker}
 use Rattle.fz_strength.specs.declared.relation.Relation.TheVariants.{Equal, NotEqual}
 use Rattle.fz_prop.specs.declared.answer.Answer.{Answer}
 use Rattle.fz_prop.proofs.Answering.{same_answer, same_correct}
+use Rattle.fz_kept.proofs.Lasting.{sum_lasts}
 use Rattle.fz_linear.specs.Differences.{DifferenceTruth, DifferenceLine, IsAnswerDifference, IsDifferenceIn}
 use Rattle.fz_linear.specs.Sums.{SumTruth, SumLine, IsAnswerSum}
 use Rattle.fz_linear.proofs.Differences.{equal_sum, apart_sum}
@@ -58,3 +59,11 @@ returns-in-NotEqual-Some-clause-answer c =
     (λ r h. same_answer r (DifferenceTruth NotEqual d.first d.second d.above) (SumTruth NotEqual ks ts d.above) (DifferenceLine NotEqual d.first d.second d.above) (SumLine NotEqual ks ts d.above)
     before after (apart_sum d.first d.second d.above ks ts differs.sum) h)
     c.keep_apart_by.ensures.answer)
+
+pub returns-in-Equal-Some-clause-told : goal.returns-in-Equal-Some-clause-told
+returns-in-Equal-Some-clause-told c = λ domains.
+    sum_lasts c.args.sum.now.factors.now c.args.sum.now.terms.now c.args.kept.now.front c.args.kept.now.number c.args.store.now.doms c.keep_above_by.new.store.doms domains c.keep_above_by.ensures.shrinks.narrower c.requires.told
+
+pub returns-in-NotEqual-Some-clause-told : goal.returns-in-NotEqual-Some-clause-told
+returns-in-NotEqual-Some-clause-told c = λ domains.
+    sum_lasts c.args.sum.now.factors.now c.args.sum.now.terms.now c.args.kept.now.front c.args.kept.now.number c.args.store.now.doms c.keep_apart_by.new.store.doms domains c.keep_apart_by.ensures.shrinks.narrower c.requires.told
