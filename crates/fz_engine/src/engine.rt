@@ -1,6 +1,7 @@
 //! Running propagators until all rest.
-ghost use Rattle.std.specs.Prelude.{◌≡◌, ◌⊎◌, ◌<◌, true, false, IfOk, slice_index};
+ghost use Rattle.std.specs.Prelude.{◌≡◌, ◌⊎◌, ℕ, ◌<◌, true, false, IfOk, slice_index, slice_index_or};
 ghost use Rattle.fz_strength.specs.Domains.{room};
+ghost use Rattle.fz_kept.specs.Told.{nothing, owned, AreTold};
 ghost use Rattle.fz_agenda.specs.Queues.{IsFirst};
 ghost use Rattle.fz_agenda.specs.Wakes.{IsDrained};
 ghost use Rattle.fz_engine.specs.Runs.{IsAlive, IsRun, AreNeverTrue, AllRest};
@@ -8,7 +9,8 @@ ghost use Rattle.fz_engine.specs.Steps.{IsAnswerAt, IsProgress};
 
 use crate::network::Network;
 use fz_agenda::{Agenda, drain, drain_but};
-use fz_prop::{Answer, Propagator, Store};
+use fz_kept::Kept;
+use fz_prop::{Answer, Store};
 use std::alloc::AllocError;
 
 /// What a step did.
@@ -26,9 +28,16 @@ pub enum Progress {
 ///
 /// # Errors
 /// `AllocError` where there is no memory; what ran is kept, and no assignment is lost.
-pub fn settle(network: &Network, store: &mut Store, agenda: &mut Agenda) -> Result<bool, AllocError>
-    requires { IsAlive network.now agenda.old.states store.old }
+pub fn settle(
+    network: &Network,
+    store: &mut Store,
+    kept: &mut [Kept],
+    agenda: &mut Agenda,
+) -> Result<bool, AllocError>
+    requires alive { IsAlive network.now agenda.old.states store.old }
+    requires told { AreTold network.now.sayings kept.old store.old.doms }
     ensures run { IsRun network.now store.old store.new agenda.new.states }
+    ensures told { AreTold network.now.sayings kept.new store.new.doms }
     ensures rests { IfOk result
         (λ b. b ≡ true → AllRest network.now.model.constraints store.new.doms) }
     ensures failed { IfOk result
@@ -36,14 +45,21 @@ pub fn settle(network: &Network, store: &mut Store, agenda: &mut Agenda) -> Resu
 {
     let _ = store.doms();
     drain(network.wakes(), store, agenda)?;
-    run_all(network, store, agenda)
+    run_all(network, store, kept, agenda)
 }
 
 /// Runs propagators until all rest, from a store that lists no change.
-fn run_all(network: &Network, store: &mut Store, agenda: &mut Agenda) -> Result<bool, AllocError>
+fn run_all(
+    network: &Network,
+    store: &mut Store,
+    kept: &mut [Kept],
+    agenda: &mut Agenda,
+) -> Result<bool, AllocError>
     requires alive { IsAlive network.now agenda.old.states store.old }
+    requires told { AreTold network.now.sayings kept.old store.old.doms }
     requires drained { IsDrained store.old }
     ensures run { IsRun network.now store.old store.new agenda.new.states }
+    ensures told { AreTold network.now.sayings kept.new store.new.doms }
     ensures rests { IfOk result
         (λ b. b ≡ true → AllRest network.now.model.constraints store.new.doms) }
     ensures failed { IfOk result
@@ -51,7 +67,7 @@ fn run_all(network: &Network, store: &mut Store, agenda: &mut Agenda) -> Result<
 {
     let _ = store.doms();
     'steps: loop {
-        let progress = step(network, store, agenda)?;
+        let progress = step(network, store, kept, agenda)?;
         match progress {
             Progress::Rested => return Ok(true),
             Progress::Failed => return Ok(false),
@@ -61,10 +77,17 @@ fn run_all(network: &Network, store: &mut Store, agenda: &mut Agenda) -> Result<
 }
 
 /// Runs the next propagator, and wakes those that wait for its changes.
-fn step(network: &Network, store: &mut Store, agenda: &mut Agenda) -> Result<Progress, AllocError>
+fn step(
+    network: &Network,
+    store: &mut Store,
+    kept: &mut [Kept],
+    agenda: &mut Agenda,
+) -> Result<Progress, AllocError>
     requires alive { IsAlive network.now agenda.old.states store.old }
+    requires told { AreTold network.now.sayings kept.old store.old.doms }
     requires drained { IsDrained store.old }
     ensures run { IsRun network.now store.old store.new agenda.new.states }
+    ensures told { AreTold network.now.sayings kept.new store.new.doms }
     ensures progress { IfOk result (λ p. IsProgress p network.now.model.constraints
         store.old agenda.old.states store.new agenda.new.states) }
 {
@@ -72,7 +95,7 @@ fn step(network: &Network, store: &mut Store, agenda: &mut Agenda) -> Result<Pro
     let _ = network.wakes();
     match agenda.next() {
         None => Ok(Progress::Rested),
-        Some(place) => run_next(network, place, store, agenda),
+        Some(place) => run_next(network, place, store, kept, agenda),
     }
 }
 
@@ -82,17 +105,20 @@ fn run_next(
     network: &Network,
     place: u32,
     store: &mut Store,
+    kept: &mut [Kept],
     agenda: &mut Agenda,
 ) -> Result<Progress, AllocError>
     requires first { IsFirst agenda.old place }
     requires queued { slice_index agenda.old.states place ≡ 1 }
     requires alive { IsAlive network.now agenda.old.states store.old }
+    requires told { AreTold network.now.sayings kept.old store.old.doms }
     requires drained { IsDrained store.old }
     ensures run { IsRun network.now store.old store.new agenda.new.states }
+    ensures told { AreTold network.now.sayings kept.new store.new.doms }
     ensures progress { IfOk result (λ p. IsProgress p network.now.model.constraints
         store.old agenda.old.states store.new agenda.new.states) }
 {
-    match run(network, place, store, agenda)? {
+    match run(network, place, store, kept, agenda)? {
         Answer::Fix => {
             drain_but(network.wakes(), place, store, agenda)?;
             Ok(Progress::Going)
@@ -115,16 +141,44 @@ fn run(
     network: &Network,
     place: u32,
     store: &mut Store,
+    kept: &mut [Kept],
     agenda: &Agenda,
 ) -> Result<Answer, AllocError>
     requires queued { slice_index agenda.now.states place ≡ 1 }
     requires alive { IsAlive network.now agenda.now.states store.old }
+    requires told { AreTold network.now.sayings kept.old store.old.doms }
     ensures run { IsRun network.now store.old store.new agenda.now.states }
+    ensures told { AreTold network.now.sayings kept.new store.new.doms }
     ensures falls { (store.new ≡ store.old) ⊎ (room store.new.doms < room store.old.doms) }
     ensures answer { IfOk result (λ r. IsAnswerAt r network.now place store.old store.new) }
 {
     let _ = network.wakes();
-    let answer = network.propagator(place).propagate(store);
+    let slot = network.slot(place);
+    let mut own = own_at(kept, slot, place);
+    let answer = network.propagator(place).run(store, &mut own);
     let _ = store.doms();
+    keep_at(kept, slot, place, own);
     answer
+}
+
+/// What the propagator at a place finds in a cell: nothing where that is another's.
+fn own_at(kept: &[Kept], slot: u32, place: u32) -> Kept
+    ensures { (result ≡ nothing)
+        ⊎ ((result.owner ≡ place) × (result ≡ slice_index_or kept.now slot nothing)) }
+{
+    match kept.get(slot as usize) {
+        Some(own) if own.owner == place => *own,
+        _ => Kept::none(),
+    }
+}
+
+/// Puts what the propagator at a place keeps into a cell, where that is there.
+fn keep_at(kept: &mut [Kept], slot: u32, place: u32, own: Kept)
+    ensures { (k : ℕ)
+        → (slice_index_or kept.new k nothing ≡ slice_index_or kept.old k nothing)
+        ⊎ (slice_index_or kept.new k nothing ≡ owned place own) }
+{
+    if (slot as usize) < kept.len() {
+        kept[slot as usize] = own.owned(place);
+    }
 }

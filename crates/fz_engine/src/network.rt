@@ -1,5 +1,5 @@
 //! What the spaces of a model share.
-ghost use Rattle.std.specs.Prelude.{◌≡◌, ◌<◌, ◌≤◌, ◌^◌, List, ◌∷◌, [], ◌++◌, length, map, IfOk, OnOk, slice_get, Some};
+ghost use Rattle.std.specs.Prelude.{◌≡◌, ◌<◌, ◌≤◌, ◌^◌, List, ◌∷◌, [], ◌++◌, length, map, IfOk, OnOk, slice_get, slice_index_or, ℕ, Some};
 ghost use Rattle.std.specs.List.{AllByRecursion};
 ghost use Rattle.std.specs.Arc.{arc_value};
 ghost use Rattle.fz_model.specs.Kept.{IsModel};
@@ -7,6 +7,7 @@ ghost use Rattle.fz_strength.specs.Costs.{cost_of};
 ghost use Rattle.fz_strength.specs.Events.{AreBelow};
 ghost use Rattle.fz_strength.specs.Sayings as said;
 ghost use Rattle.fz_strength.specs.Sayings.{said_terms, saying_of, waits_of};
+ghost use Rattle.fz_kept.specs.Told.{nothing};
 ghost use Rattle.fz_prop.specs.Stores.{FitsTerm, Stored};
 ghost use Rattle.fz_says.specs.Fits.{FitsSum};
 ghost use Rattle.fz_says.specs.Said.{said_by, waits_in};
@@ -16,6 +17,7 @@ ghost use Rattle.fz_agenda.specs.Wakes.{IsListedAt, HaveSize, Extends};
 ghost use Rattle.fz_engine.specs.Networks.{IsFull, IsListing, IsNetwork, sayings_of};
 
 use fz_agenda::{Agenda, Wakes};
+use fz_kept::Kept;
 use fz_prop::Cost;
 use fz_propagators::AnyPropagator;
 use fz_says::{Saying, Wait};
@@ -28,6 +30,8 @@ use std::sync::Arc;
 pub struct Network {
     model: Arc<fz_model::Model>,
     propagators: Vec<AnyPropagator>,
+    /// For each propagator the cell in which it keeps something between runs; beyond all cells where it keeps nothing.
+    slots: Vec<u32>,
     wakes: Wakes,
 }
 
@@ -59,9 +63,11 @@ impl Network {
         ensures { IfOk result (λ n. n.model ≡ arc_value model) }
     {
         let Posted { propagators, wakes } = post_all(alloc, &model)?;
+        let slots = slots_of(alloc, &propagators)?;
         Ok(Network {
             model,
             propagators,
+            slots,
             wakes,
         })
     }
@@ -85,6 +91,26 @@ impl Network {
         &self.propagators[place as usize]
     }
 
+    /// The cell in which the propagator at a place keeps something between runs, beyond all cells where it keeps nothing. It is a
+    /// hint: the cell itself names its owner.
+    pub fn slot(&self, place: u32) -> u32 {
+        match self.slots.get(place as usize) {
+            Some(slot) => *slot,
+            None => u32::MAX,
+        }
+    }
+
+    /// Cells in which nothing is kept, one for each propagator that has a use for it.
+    ///
+    /// # Errors
+    /// `AllocError` where there is no memory.
+    pub fn cells(&self, alloc: Global) -> Result<Vec<Kept>, AllocError>
+        ensures { IfOk result (λ cells. (k : ℕ) → slice_index_or cells.items k nothing ≡ nothing) }
+    {
+        let count = self.slots.iter().filter(|slot| **slot != u32::MAX).count();
+        Vec::from_elem(alloc, Kept::none(), count)
+    }
+
     /// Who waits for which change.
     pub fn wakes(&self) -> &Wakes
         ensures wakes { result.now ≡ self.now.wakes }
@@ -104,6 +130,21 @@ impl Network {
     {
         full_agenda(alloc, self.wakes.costs())
     }
+}
+
+/// A cell for each propagator that has a use for it.
+fn slots_of(alloc: Global, propagators: &[AnyPropagator]) -> Result<Vec<u32>, AllocError> {
+    let mut slots = Vec::with_capacity(alloc, propagators.len())?;
+    let mut next = 0u32;
+    for propagator in propagators {
+        if propagator.keeps() {
+            slots.push(next)?;
+            next = next.wrapping_add(1);
+        } else {
+            slots.push(u32::MAX)?;
+        }
+    }
+    Ok(slots)
 }
 
 /// Propagators, and who of them waits for which change.

@@ -1,8 +1,12 @@
 //! Propagators of any shape.
-ghost use Rattle.std.specs.Prelude.{◌≡◌, IfOk};
+ghost use Rattle.std.specs.Prelude.{◌≡◌, length, IfOk, IsTrue};
 ghost use Rattle.std.specs.List.{AllByRecursion};
-ghost use Rattle.fz_strength.specs.Sayings.{said_terms};
-ghost use Rattle.fz_prop.specs.Stores.{FitsTerm};
+ghost use Rattle.fz_strength.specs.Domains.{AreDomains};
+ghost use Rattle.fz_strength.specs.Promises.{Suits};
+ghost use Rattle.fz_strength.specs.Sayings.{line_of, said_terms, truth_of};
+ghost use Rattle.fz_kept.specs.Told.{IsLong, IsTold};
+ghost use Rattle.fz_prop.specs.Answers.{Narrows};
+ghost use Rattle.fz_prop.specs.Stores.{FitsTerm, IsTermOf};
 ghost use Rattle.fz_says.specs.Fits.{FitsSum};
 ghost use Rattle.fz_says.specs.Said.{said_by};
 ghost use Rattle.fz_propagators.specs.Forms.{said_of};
@@ -13,6 +17,7 @@ use fz_await::Awaiting;
 use fz_bool::{Clause, Parity};
 use fz_disjunctive::Disjunctive;
 use fz_element::Element;
+use fz_kept::Kept;
 use fz_linear::Linear;
 use fz_linreif::ReifiedLinear;
 use fz_prop::{Answer, Propagator, Store};
@@ -122,6 +127,40 @@ impl AnyPropagator {
                 let awaiting = Awaiting::new(alloc, constraint)?;
                 Ok(AnyPropagator::Awaiting(awaiting))
             }
+        }
+    }
+}
+
+impl AnyPropagator {
+    /// Whether it serves that it keeps something between runs: that it has many terms or literals, of which it passes some by.
+    pub fn keeps(&self) -> bool
+        ensures { IsTrue result → IsLong (said_of self.now) }
+    {
+        match self {
+            AnyPropagator::Linear(linear) => linear.keeps(),
+            AnyPropagator::Clause(clause) => clause.keeps(),
+            _ => false,
+        }
+    }
+
+    /// Narrows a store, as `propagate` does, with what the propagator keeps between runs.
+    ///
+    /// # Errors
+    /// `AllocError` where there is no memory for a domain; the store is then narrower, and no assignment is lost.
+    pub fn run(&self, store: &mut Store, kept: &mut Kept) -> Result<Answer, AllocError>
+        requires terms { AllByRecursion (IsTermOf (length store.old.doms))
+            (said_terms (said_of self.now)) }
+        requires suits { Suits (said_of self.now) store.old.doms }
+        requires told { IsTold (said_of self.now) kept.old store.old.doms }
+        ensures told { AreDomains store.new.doms
+            → IsTold (said_of self.now) kept.new store.new.doms }
+        ensures narrows { Narrows (truth_of (said_of self.now)) (line_of (said_of self.now)) result
+            store.old store.new }
+    {
+        match self {
+            AnyPropagator::Linear(linear) => linear.run(store, kept),
+            AnyPropagator::Clause(clause) => clause.run(store, kept),
+            _ => self.propagate(store),
         }
     }
 }

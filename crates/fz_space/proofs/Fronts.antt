@@ -60,6 +60,11 @@ at_some [] i d e at is = cc
 at_some (x ∷ xs) zero d e at is = let same : x ≡ d = cc in is ∙ same
 at_some (x ∷ xs) (suc i) d e at is = at_some xs i d e at is
 
+-- what hasn't failed had not failed before
+pub was_alive : (failed after : Bool) → (failed ≡ true → after ≡ true) → after ≡ false → failed ≡ false
+was_alive true after stays alive = absurd (cc (stays refl, alive))
+was_alive false after stays alive = refl
+
 lacking_by : (b : Bool) (n : Networked) (states : List ℕ) (s : Stored) (failed after : Bool) (d : Decision) → failed ≡ b → (failed ≡ false → IsAlive n states s) → (failed ≡ true → after ≡ true)
     → (length s.doms ≤ d.variable → after ≡ true) → length n.model.variables ≤ d.variable → after ≡ true
 lacking_by true n states s failed after d is alive stays lacking beyond = stays is

@@ -3,6 +3,9 @@ ghost use Rattle.std.specs.Prelude.{◌≡◌, ℕ, ℤ, pos, ◌-ℤ◌, List, 
 ghost use Rattle.fz_sets.specs.Sets.{IsWithinLimits};
 ghost use Rattle.fz_spec.specs.Constraints.{term_value};
 ghost use Rattle.fz_spec.specs.Instance.{IsWhole};
+ghost use Rattle.fz_strength.specs.Sayings.{Saying};
+ghost use Rattle.fz_kept.specs.declared.kept.Kept.{Kept};
+ghost use Rattle.fz_kept.specs.Told.{AreTold};
 ghost use Rattle.fz_tree.specs.declared.decision.Decision as tree;
 ghost use Rattle.fz_engine.specs.Runs.{IsAlive};
 ghost use Rattle.fz_search_space.specs.Spaces.{AllBetter, Covers, IsNarrower};
@@ -28,6 +31,8 @@ pub fn keep_better(
     requires { IsWhole network.now.model known.now }
     ensures alive { (states : List ℕ) → (failed.old ≡ false → IsAlive network.now states store.old)
         → failed.new ≡ false → IsAlive network.now states store.new }
+    ensures told { (sayings : List Saying) (kept : List Kept)
+        → AreTold sayings kept store.old.doms → AreTold sayings kept store.new.doms }
     ensures front { (n : ℕ) → (failed.old ≡ false → FrontFixed n store.old.doms)
         → failed.new ≡ false → FrontFixed n store.new.doms }
     ensures covers { OnOk result ((ds : List tree.Decision)

@@ -5,6 +5,9 @@ ghost use Rattle.fz_tree.specs.declared.decision.Decision as tree;
 ghost use Rattle.fz_tree.specs.Choice.{meets};
 ghost use Rattle.fz_sets.specs.Sets.{IsInSet, IsWithinLimits};
 ghost use Rattle.fz_strength.specs.Domains.{Within, dom_at};
+ghost use Rattle.fz_strength.specs.Sayings.{Saying};
+ghost use Rattle.fz_kept.specs.declared.kept.Kept.{Kept};
+ghost use Rattle.fz_kept.specs.Told.{AreTold};
 ghost use Rattle.fz_prop.specs.Stores.{IsStore, Shrinks, IsChangeAt};
 ghost use Rattle.fz_engine.specs.Networks.{Networked};
 ghost use Rattle.fz_engine.specs.Runs.{IsAlive};
@@ -24,6 +27,8 @@ pub fn take(store: &mut Store, failed: &mut bool, decision: Decision) -> Result<
     ensures alive { (n : Networked) (states : List ℕ)
         → (failed.old ≡ false → IsAlive n states store.old)
         → failed.new ≡ false → IsAlive n states store.new }
+    ensures told { (sayings : List Saying) (kept : List Kept)
+        → AreTold sayings kept store.old.doms → AreTold sayings kept store.new.doms }
     ensures front { (n : ℕ) → (failed.old ≡ false → FrontFixed n store.old.doms)
         → failed.new ≡ false → FrontFixed n store.new.doms }
     ensures covers { OnOk result ((m : Instance) (known : Option (List ℤ)) (ds : List tree.Decision)

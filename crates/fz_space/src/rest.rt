@@ -2,6 +2,7 @@
 ghost use Rattle.std.specs.Prelude.{◌≡◌, ◌<◌, ℤ, List, Option, length, true, false, IfOk, OnOk};
 ghost use Rattle.fz_sets.specs.Sets.{set_size};
 ghost use Rattle.fz_strength.specs.Domains.{AreDomains, dom_at};
+ghost use Rattle.fz_kept.specs.Told.{AreTold};
 ghost use Rattle.fz_tree.specs.declared.decision.Decision.{Decision};
 ghost use Rattle.fz_engine.specs.Runs.{IsAlive};
 ghost use Rattle.fz_search_space.specs.Spaces.{Covers, IsNarrower, IsStatus};
@@ -11,6 +12,7 @@ use fz_agenda::Agenda;
 use fz_dom::Dom;
 use fz_engine::Network;
 use fz_engine::engine::settle;
+use fz_kept::Kept;
 use fz_prop::Store;
 use fz_search_space::Status;
 use std::alloc::AllocError;
@@ -22,13 +24,18 @@ use std::alloc::AllocError;
 pub fn rest(
     network: &Network,
     store: &mut Store,
+    kept: &mut [Kept],
     agenda: &mut Agenda,
     failed: &mut bool,
     front: &mut usize,
 ) -> Result<Status, AllocError>
     requires alive { failed.old ≡ false → IsAlive network.now agenda.old.states store.old }
+    requires told { failed.old ≡ false
+        → AreTold network.now.sayings kept.old store.old.doms }
     requires front { failed.old ≡ false → FrontFixed front.old store.old.doms }
     ensures alive { failed.new ≡ false → IsAlive network.now agenda.new.states store.new }
+    ensures told { failed.new ≡ false
+        → AreTold network.now.sayings kept.new store.new.doms }
     ensures front { failed.new ≡ false → FrontFixed front.new store.new.doms }
     ensures covers { (known : Option (List ℤ)) (ds : List Decision)
         → Covers known ds (spaced network.now.model store.old failed.old)
@@ -44,7 +51,7 @@ pub fn rest(
         return Ok(Status::Failed);
     }
     let _ = network.model();
-    let rests = settle(network, store, agenda)?;
+    let rests = settle(network, store, kept, agenda)?;
     if !rests {
         *failed = true;
         return Ok(Status::Failed);

@@ -14,6 +14,7 @@ use crate::root::{Parts, parts_of};
 use fz_agenda::Agenda;
 use fz_dom::Dom;
 use fz_engine::Network;
+use fz_kept::Kept;
 use fz_model::Assignment;
 use fz_prop::Store;
 use fz_region::Choice;
@@ -28,6 +29,8 @@ pub struct Space {
     network: Arc<Network>,
     store: Store,
     agenda: Agenda,
+    /// What propagators keep between runs.
+    kept: Vec<Kept>,
     failed: bool,
     /// Of so many variables at the front one number is left.
     front: usize,
@@ -36,6 +39,7 @@ pub struct Space {
 impl Model for Space {
     ghost use Rattle.std.specs.Prelude.{◌≡◌, false};
     ghost use Rattle.std.specs.Arc.{arc_value};
+    ghost use Rattle.fz_kept.specs.Told.{AreTold};
     ghost use Rattle.fz_engine.specs.Runs.{IsAlive};
     ghost use Rattle.fz_search_space.specs.Spaces.{Spaced};
     ghost use Rattle.fz_space.specs.Alive.{spaced, FrontFixed};
@@ -46,7 +50,8 @@ impl Model for Space {
 
     ghost invariant = { λ s. s.failed ≡ false
         → IsAlive (arc_value s.network) s.agenda.states s.store
-        × FrontFixed s.front s.store.doms };
+        × FrontFixed s.front s.store.doms
+        × AreTold (arc_value s.network).sayings s.kept.items s.store.doms };
 }
 
 impl Space {
@@ -130,6 +135,7 @@ impl fz_search_space::SearchSpace for Space {
         rest(
             &self.network,
             &mut self.store,
+            &mut self.kept,
             &mut self.agenda,
             &mut self.failed,
             &mut self.front,
@@ -148,10 +154,12 @@ impl fz_search_space::SearchSpace for Space {
         let network = self.network.clone()?;
         let store = self.store.copy()?;
         let agenda = self.agenda.copy()?;
+        let kept = Vec::from_slice(*self.kept.allocator(), &self.kept)?;
         Ok(Space {
             network,
             store,
             agenda,
+            kept,
             failed: self.failed,
             front: self.front,
         })
@@ -162,6 +170,7 @@ impl fz_search_space::SearchSpace for Space {
         self.network = other.network.clone()?;
         write_store(&mut self.store, &other.store)?;
         write_agenda(&mut self.agenda, &other.agenda)?;
+        write_kept(&mut self.kept, &other.kept)?;
         self.front = other.front;
         self.failed = other.failed;
         Ok(())
@@ -177,12 +186,14 @@ fn space_of(alloc: Global, model: &Arc<fz_model::Model>) -> Result<Space, AllocE
     let Parts {
         store,
         agenda,
+        kept,
         failed,
     } = parts_of(alloc, &network)?;
     Ok(Space {
         network,
         store,
         agenda,
+        kept,
         failed,
         front: 0,
     })
@@ -218,5 +229,17 @@ fn write_agenda(agenda: &mut Agenda, other: &Agenda) -> Result<(), AllocError>
         return agenda.copy_from(other);
     }
     *agenda = other.copy()?;
+    Ok(())
+}
+
+/// Writes what propagators keep over what others keep, in its room where both are as many.
+fn write_kept(kept: &mut Vec<Kept>, other: &Vec<Kept>) -> Result<(), AllocError>
+    ensures { OnOk result (kept.new.items ≡ other.now.items) }
+{
+    if kept.len() == other.len() {
+        kept.copy_from_slice(other);
+        return Ok(());
+    }
+    *kept = Vec::from_slice(*other.allocator(), other)?;
     Ok(())
 }

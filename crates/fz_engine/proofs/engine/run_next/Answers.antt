@@ -1,5 +1,6 @@
-use Rattle.std.proofs.Common.{◌≡◌, ◌<◌, ◌∙◌, refl, sym, subst, length, inl}
-use Rattle.std.specs.Prelude.{slice_get, Some}
+use Rattle.std.proofs.Common.{List, ◌≡◌, ◌<◌, ◌∙◌, refl, sym, subst, length, inl}
+use Rattle.std.specs.Prelude.{ℤ, slice_get, Some}
+use Rattle.fz_kept.specs.Told.{AreTold}
 use Rattle.fz_strength.specs.Domains.{room}
 use Rattle.fz_strength.specs.Promises.{RestsForGood}
 use Rattle.fz_strength.specs.Sayings.{Saying, line_of}
@@ -80,3 +81,21 @@ returns-in_ok-drain-in-Subsumed-clause-progress c =
     moved_set c.args.store.now c.run.new.store c.args.agenda.now.states c.retire.new.self.states c.args.place 2 c.run.ensures.falls c.requires.queued refl c.retire.ensures.states in
     let size : length c.retire.new.self.states ≡ length c.args.agenda.now.states = gone.alive.settled.size ∙ sym c.requires.alive.settled.size in
     (c.in_ok-drain-in-Subsumed.ensures.drained, work_falls c.args.network.now.wakes c.args.store.now c.run.new.store c.drain-in-Subsumed.new.store c.args.agenda.now.states c.retire.new.self c.drain-in-Subsumed.new.agenda moved size c.requires.drained draining)
+
+pub returns-in_err-drain_but-in-Fix-clause-told : goal.returns-in_err-drain_but-in-Fix-clause-told
+returns-in_err-drain_but-in-Fix-clause-told c = subst (λ (ds : List (List (ℤ × ℤ))). AreTold c.args.network.now.sayings c.run.new.kept ds) (sym c.drain_but.ensures.draining.doms) c.run.ensures.told
+
+pub returns-in_ok-drain_but-in-Fix-clause-told : goal.returns-in_ok-drain_but-in-Fix-clause-told
+returns-in_ok-drain_but-in-Fix-clause-told c = subst (λ (ds : List (List (ℤ × ℤ))). AreTold c.args.network.now.sayings c.run.new.kept ds) (sym c.drain_but.ensures.draining.doms) c.run.ensures.told
+
+pub returns-in_err-drain-in-NoFix-clause-told : goal.returns-in_err-drain-in-NoFix-clause-told
+returns-in_err-drain-in-NoFix-clause-told c = subst (λ (ds : List (List (ℤ × ℤ))). AreTold c.args.network.now.sayings c.run.new.kept ds) (sym c.drain.ensures.draining.doms) c.run.ensures.told
+
+pub returns-in_ok-drain-in-NoFix-clause-told : goal.returns-in_ok-drain-in-NoFix-clause-told
+returns-in_ok-drain-in-NoFix-clause-told c = subst (λ (ds : List (List (ℤ × ℤ))). AreTold c.args.network.now.sayings c.run.new.kept ds) (sym c.drain.ensures.draining.doms) c.run.ensures.told
+
+pub returns-in_err-drain-in-Subsumed-clause-told : goal.returns-in_err-drain-in-Subsumed-clause-told
+returns-in_err-drain-in-Subsumed-clause-told c = subst (λ (ds : List (List (ℤ × ℤ))). AreTold c.args.network.now.sayings c.run.new.kept ds) (sym c.drain-in-Subsumed.ensures.draining.doms) c.run.ensures.told
+
+pub returns-in_ok-drain-in-Subsumed-clause-told : goal.returns-in_ok-drain-in-Subsumed-clause-told
+returns-in_ok-drain-in-Subsumed-clause-told c = subst (λ (ds : List (List (ℤ × ℤ))). AreTold c.args.network.now.sayings c.run.new.kept ds) (sym c.drain-in-Subsumed.ensures.draining.doms) c.run.ensures.told

@@ -1,3 +1,4 @@
+use Rattle.fz_kept.proofs.Lasting.{all_last}
 use Rattle.fz_space.proofs.Deciding.{alive_lasts, covers_failed, covers_taken, met_left}
 use Rattle.fz_space.proofs.Fronts.{front_lasts}
 use Rattle.fz_space.proofs.commit.take.Goals as goal
@@ -16,3 +17,9 @@ returns-clause-front c = λ n front not_failed. front_lasts n c.args.store.now.d
 
 pub returns-clause-met : goal.returns-clause-met
 returns-clause-met c = met_left c.args.decision c.in_ok-left.left c.args.store.now.doms c.decide.new.store.doms c.in_ok-left.ensures.decided
+
+pub returns-clause-told : goal.returns-clause-told
+returns-clause-told c = λ sayings kept told. all_last sayings kept c.args.store.now.doms c.decide.new.store.doms c.decide.ensures.store.domains c.decide.ensures.shrinks.narrower told
+
+pub returns-in_err-left-clause-told : goal.returns-in_err-left-clause-told
+returns-in_err-left-clause-told c = λ sayings kept told. all_last sayings kept c.args.store.now.doms c.decide.new.store.doms c.decide.ensures.store.domains c.decide.ensures.shrinks.narrower told

@@ -1,5 +1,6 @@
 use Rattle.std.proofs.Common.{ap}
 use Rattle.fz_prop.specs.Stores.{Stored}
+use Rattle.fz_kept.proofs.Lasting.{none_told}
 use Rattle.fz_space.proofs.Living.{covers_root, alive_root}
 use Rattle.fz_space.proofs.root.live_parts.Goals as goal
 
@@ -9,3 +10,6 @@ returns-clause-alive c = λ _.
 
 pub returns-clause-covers : goal.returns-clause-covers
 returns-clause-covers c = covers_root c.args.network.now.model c.args.store (ap (λ (s : Stored). s.doms) c.requires)
+
+pub returns-clause-told : goal.returns-clause-told
+returns-clause-told c = none_told c.args.network.now.sayings c.in_ok-kept.kept.items c.args.store.doms c.in_ok-kept.ensures

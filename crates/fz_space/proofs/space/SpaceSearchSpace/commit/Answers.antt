@@ -4,13 +4,14 @@ use Rattle.std.specs.Arc.{arc_value}
 use Rattle.fz_tree.specs.declared.decision.Decision.{Decision}
 use Rattle.fz_search_space.specs.Spaces.{Spaced, Covers}
 use Rattle.fz_space.specs.Alive.{spaced}
-use Rattle.fz_space.proofs.Fronts.{at_some, lacking_now}
+use Rattle.fz_space.proofs.Fronts.{at_some, lacking_now, was_alive}
 use Rattle.fz_space.proofs.space.SpaceSearchSpace.commit.Goals as goal
 
 pub invariant_of-self : goal.invariant_of-self
 invariant_of-self c = λ alive. (
   c.take.ensures.alive (arc_value c.self.inside.network) c.self.inside.agenda.states (λ before. (c.self.invariant before).0) alive,
   c.take.ensures.front c.self.inside.front (λ before. (c.self.invariant before).1) alive,
+  c.take.ensures.told (arc_value c.self.inside.network).sayings c.self.inside.kept.items (c.self.invariant (was_alive c.self.inside.failed c.take.new.failed c.take.ensures.stays alive)).2,
 )
 
 pub returns-clause-covers : goal.returns-clause-covers
