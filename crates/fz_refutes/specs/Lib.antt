@@ -1,0 +1,5 @@
+pub mod Boxes
+pub mod Refuted
+pub mod Trees
+pub mod Texts
+pub mod Laws
