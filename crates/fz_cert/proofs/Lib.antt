@@ -1,0 +1,10 @@
+mod Parts
+mod Walking
+mod Summing
+mod Calls
+mod Reading
+mod Proving
+mod Trying
+mod Agreeing
+mod Opening
+mod Fixing
