@@ -1,7 +1,10 @@
 //! Runs over a text in memory.
+ghost use Rattle.std.specs.Prelude.{◌<◌, ◌-◌, ◌^◌};
+
 use fz_io::gate::{Gate, NoGate};
 use fz_io::memory_sink::MemSink;
 use fz_io::memory_source::MemSource;
+use fz_io::outside::Sink;
 use fz_io::texts::NamedText;
 use fz_print::refusal::Refusal;
 use fzn::{Status, fzn};
@@ -60,6 +63,28 @@ fn run_all<R: Threads + Wait + Sync, G: Gate + Sync>(
     sink_fails: &[u64],
     gate: &G,
 ) -> Result<Outcome, AllocError> {
+    let mut sink = MemSink::new(alloc, Vec::from_slice(alloc, sink_fails)?);
+    let (status, source_faults) = run_into(rt, alloc, text, words, source_fails, &mut sink, gate)?;
+    Ok(Outcome {
+        status,
+        printed: Vec::from_slice(alloc, sink.bytes())?,
+        flushed: sink.flushed_count(),
+        source_faults,
+    })
+}
+
+/// A run with these words into a sink, and how often the source failed.
+pub(crate) fn run_into<R: Threads + Wait + Sync, S: Sink + Send, G: Gate + Sync>(
+    rt: &R,
+    alloc: Global,
+    text: &[u8],
+    words: &[&str],
+    source_fails: &[u64],
+    sink: &mut S,
+    gate: &G,
+) -> Result<(Status, u64), AllocError>
+    requires { S.faults sink.old < 2 ^ 64 - 1 }
+{
     let mut texts = Vec::new(alloc);
     for name in ["-", "m.fzn"] {
         texts.push(NamedText {
@@ -69,14 +94,8 @@ fn run_all<R: Threads + Wait + Sync, G: Gate + Sync>(
     }
     let words = strings(alloc, words)?;
     let mut source = MemSource::new(texts, Vec::from_slice(alloc, source_fails)?);
-    let mut sink = MemSink::new(alloc, Vec::from_slice(alloc, sink_fails)?);
-    let status = fzn(rt, alloc, &words, &mut source, &mut sink, gate);
-    Ok(Outcome {
-        status,
-        printed: Vec::from_slice(alloc, sink.bytes())?,
-        flushed: sink.flushed_count(),
-        source_faults: source.fault_count(),
-    })
+    let status = fzn(rt, alloc, &words, &mut source, sink, gate);
+    Ok((status, source.fault_count()))
 }
 
 /// A run with these words, in which no call fails.
