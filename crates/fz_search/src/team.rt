@@ -55,18 +55,22 @@ pub fn search_in_threads<
     let mut path: Path<S> = Path::idle(alloc, model.clone()?, mode, distance, adaptive)?;
     let wanted = enough_for(model.goal(), options);
     let mut printer = Printer::new(book, shows_found(model.goal(), options), wanted);
-    search_all::<T, S, K, G>(rt, alloc, model, options, &mut printer, &mut path, sink, gate);
+    search_all::<T, S, K, G>(
+        rt,
+        alloc,
+        model,
+        options,
+        &mut printer,
+        &mut path,
+        sink,
+        gate,
+    );
     let _ = printer.book().model();
     Ok(printer)
 }
 
 /// Several workers search, and one behind them what the printer wasn't told of.
-fn search_all<
-    T: Threads + Wait + Sync,
-    S: SearchSpace + Send,
-    K: Sink + Send,
-    G: Gate + Sync,
->(
+fn search_all<T: Threads + Wait + Sync, S: SearchSpace + Send, K: Sink + Send, G: Gate + Sync>(
     rt: &T,
     alloc: Global,
     model: &Arc<Model>,
@@ -95,12 +99,7 @@ fn search_all<
 }
 
 /// The workers search, and what they tell is printed in the meantime; where no more thread can be made, behind it.
-fn search_together<
-    T: Threads + Wait + Sync,
-    S: SearchSpace + Send,
-    K: Sink + Send,
-    G: Gate + Sync,
->(
+fn search_together<T: Threads + Wait + Sync, S: SearchSpace + Send, K: Sink + Send, G: Gate + Sync>(
     rt: &T,
     alloc: Global,
     model: &Arc<Model>,

@@ -90,8 +90,10 @@ pub fn report<S: SearchSpace>(
         return Ok(None);
     };
     let copy = copy_of(&account);
-    let handed = hand_in(book, account);
-    Ok(Some(Reported { handed, copy }))
+    Ok(Some(Reported {
+        handed: hand_in(book, account),
+        copy,
+    }))
 }
 
 /// Cuts a part off what the path holds and hands it out, if there is one. The book takes the account that names it as given, and the
