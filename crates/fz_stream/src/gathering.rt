@@ -94,7 +94,7 @@ fn print_told<K: Sink>(alloc: Global, printer: &mut Printer, sink: &mut K, told:
         printer.new (K.taken sink.new) (K.faults sink.new) }
     ensures goes_on { IsTrue result → stopped_of printer.new ≡ None }
 {
-    'told: for one in told {
+    'each: for one in told {
         if !print_one(alloc, printer, sink, one) {
             return false;
         }
@@ -144,7 +144,7 @@ fn take_in<K: Sink>(alloc: Global, printer: &mut Printer, sink: &mut K, told: To
     ensures cause { CountsMark (K.faults sink.old) (K.faults sink.new) (stopped_of printer.new) }
 {
     match told {
-        Told::Account(account) => printer.account(alloc, sink, account),
+        Told::Taken(account) => printer.account(alloc, sink, account),
         Told::Better(assignment) => printer.offer(alloc, sink, assignment),
     }
 }

@@ -22,7 +22,7 @@ const NUMBERS_AN_EDGE: u64 = 8;
 #[derive(Drop)]
 pub enum Told {
     /// The workers' book took this account.
-    Account(Account),
+    Taken(Account),
     /// The workers' book recorded this assignment.
     Better(Assignment),
 }
@@ -118,7 +118,7 @@ impl Outbox {
 /// How many numbers are told, about.
 fn weight_of(told: &Told) -> u64 {
     match told {
-        Told::Account(account) => weight_of_account(account),
+        Told::Taken(account) => weight_of_account(account),
         Told::Better(assignment) => assignment.values().len() as u64,
     }
 }

@@ -238,7 +238,7 @@ fn tell_account<R: Wait, S: SearchSpace, G: Gate>(
     copy: Option<Account>,
 ) -> Result<(), AllocError> {
     match copy {
-        Some(account) => crew.outbox.tell(rt, Told::Account(account)),
+        Some(account) => crew.outbox.tell(rt, Told::Taken(account)),
         None => Err(AllocError),
     }
 }
