@@ -52,7 +52,8 @@ fn take_turns<R: Wait, K: Sink>(
     unreachable!()
 }
 
-/// Takes what is told, prints it, and rests where that is nothing. It says whether more may come.
+/// Takes what is told, prints it, and rests where that is nothing. Workers are asked for what they found where the sink is to hand on,
+/// and behind each rest. It says whether more may come.
 fn turn<R: Wait, K: Sink>(
     rt: &R,
     alloc: Global,
@@ -70,6 +71,9 @@ fn turn<R: Wait, K: Sink>(
     let has_ended = outbox.has_ended();
     let told = outbox.take(rt, alloc);
     let is_idle = told.is_empty();
+    if sink.is_due() {
+        outbox.ask();
+    }
     print_told(alloc, printer, sink, told) && rest(rt, outbox, is_idle, has_ended)
 }
 
@@ -82,6 +86,7 @@ fn rest<R: Wait>(rt: &R, outbox: &Outbox, is_idle: bool, has_ended: bool) -> boo
         return false;
     }
     outbox.rest(rt);
+    outbox.ask();
     true
 }
 

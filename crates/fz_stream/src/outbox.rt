@@ -108,9 +108,13 @@ impl Outbox {
         mem::replace(&mut *told, Vec::new(alloc))
     }
 
-    /// Waits a little, or until the workers have ended, and asks them for what they found.
+    /// Waits a little, or until the workers have ended.
     pub(crate) fn rest<R: Wait>(&self, rt: &R) {
         self.parker.park_timeout(rt, Duration::from_millis(TICK));
+    }
+
+    /// Asks each worker for what it found.
+    pub(crate) fn ask(&self) {
         self.asks.fetch_add(1, Ordering::SeqCst);
     }
 }
