@@ -119,16 +119,8 @@ fn search_together<T: Threads + Wait + Sync, S: SearchSpace + Send, K: Sink + Se
     let told = &outbox;
     join_mut(
         rt,
-        &mut ||
-            requires { (stopped_of printer.now ≡ None) × IsReady printer.now
-                × (K.faults sink.now < 2 ^ 64 - 1) }
-            ensures { Gathers
-                printer.entry.now (K.taken sink.entry.now) (K.faults sink.entry.now)
-                printer.exit.now (K.taken sink.exit.now) (K.faults sink.exit.now) }
-        { gather(rt, alloc, told, printer, sink) },
-        &mut ||
-            requires { S.accepts (arc_value model.now) }
-        { work_through::<T, S, G>(rt, alloc, model, options, gate, told) },
+        &mut || gather(rt, alloc, told, printer, sink),
+        &mut || work_through::<T, S, G>(rt, alloc, model, options, gate, told),
     );
 }
 
