@@ -60,7 +60,8 @@ impl Outbox {
     /// `AllocError` where there is no memory; then nothing is told.
     pub fn tell<R: Wait>(&self, rt: &R, told: Told) -> Result<(), AllocError> {
         let weight = weight_of(&told);
-        self.told.lock(rt).push(told)?;
+        let mut waiting = self.told.lock(rt);
+        waiting.push(told)?;
         self.waiting.fetch_add(weight, Ordering::SeqCst);
         Ok(())
     }
