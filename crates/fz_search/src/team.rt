@@ -120,7 +120,9 @@ fn search_together<T: Threads + Wait + Sync, S: SearchSpace + Send, K: Sink + Se
     join_mut(
         rt,
         &mut || gather(rt, alloc, told, printer, sink),
-        &mut || work_through::<T, S, G>(rt, alloc, model, options, gate, told),
+        &mut ||
+            requires { S.accepts (arc_value model.now) }
+        { work_through::<T, S, G>(rt, alloc, model, options, gate, told) },
     );
 }
 
