@@ -17,7 +17,7 @@ use fz_model::Assignment;
 use fz_region::{Choice, Frontier};
 use fz_tree::mode::Mode;
 use fz_truth::holds;
-use std::alloc::{AllocError, AllocFailed};
+use std::alloc::{AllocError, AllocFailed, Global};
 use std::marker::Model;
 use std::mem;
 use std::sync::Arc;
@@ -320,6 +320,28 @@ impl Account {
         }
     }
 
+    /// Another account that is the same.
+    ///
+    /// # Errors
+    /// `AllocError` where there is no memory.
+    pub fn copy(&self) -> Result<Account, AllocError>
+        ensures { IfOk result (λ c. c ≡ self.now) }
+    {
+        let model = self.model.clone()?;
+        let found = found_copies(*self.found.allocator(), &self.found)?;
+        let witness = copy_of(&self.witness)?;
+        let given = given_copies(*self.given.allocator(), &self.given)?;
+        Ok(Account {
+            model,
+            mode: self.mode,
+            before: self.before.copy()?,
+            found,
+            witness,
+            given,
+            after: self.after.copy()?,
+        })
+    }
+
     /// What it found, what it knows, what it gave and what is left. It takes no memory.
     pub fn into_parts(self) -> Parts
         ensures parts { AreParts self result }
@@ -378,4 +400,24 @@ fn copy_of(witness: &Option<Assignment>) -> Result<Option<Assignment>, AllocErro
         Some(assignment) => Ok(Some(assignment.copy()?)),
         None => Ok(None),
     }
+}
+
+fn found_copies(alloc: Global, found: &[Assignment]) -> Result<Vec<Assignment>, AllocError>
+    ensures { IfOk result (λ v. v.items ≡ found.now) }
+{
+    let mut copies = Vec::with_capacity(alloc, found.len())?;
+    for assignment in found {
+        copies.push(assignment.copy()?)?;
+    }
+    Ok(copies)
+}
+
+fn given_copies(alloc: Global, given: &[Frontier]) -> Result<Vec<Frontier>, AllocError>
+    ensures { IfOk result (λ v. v.items ≡ given.now) }
+{
+    let mut copies = Vec::with_capacity(alloc, given.len())?;
+    for frontier in given {
+        copies.push(frontier.copy()?)?;
+    }
+    Ok(copies)
 }

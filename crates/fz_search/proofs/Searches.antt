@@ -25,8 +25,9 @@ use Rattle.fz_machine.specs.Schedule.{HasGone}
 use Rattle.fz_io.specs.Outside.{with_more, with_more-none}
 use Rattle.fz_printing.specs.declared.printer.Stop.{Stop}
 use Rattle.fz_printer.specs.declared.printer.Printer.{Printer}
-use Rattle.fz_printer.specs.Printed.{as_found_of, book_of, printed_of, stopped_of, wanted_of, due_among, due_of, HasPrinted, HasPrintedAt, IsReady}
-use Rattle.fz_stream.specs.Streamed.{IsFilled, IsFilledFor, Streams}
+use Rattle.fz_printer.specs.Printed.{as_found_of, book_of, printed_of, stopped_of, wanted_of, due_among, due_of, CountsMark, HasPrinted, HasPrintedAt, IsReady}
+use Rattle.fz_stream.specs.Streamed.{Gathers, IsFilled, IsFilledFor, Streams}
+use Rattle.fz_stream.proofs.Gatherings.{gathers_both}
 use Rattle.fz_search.specs.Searched.{IsAlone, IsByTurns, IsPrinted, enough_for, HasEnded, IsSearched, IsListing, IsShown, shows_found}
 
 -- ---- the first so many of a list
@@ -113,6 +114,27 @@ printed_alone m o old p q r shows w before after s model law as_found shown want
       ready = ready;
       ended = λ n. subst (λ (x : Option ℕ). HasEnded x (book_of p)) kept (filled_ended (wanted_of p) (book_of p) (ended n));
     }
+
+-- by several, that printed on their way, and by one behind them
+pub printed_together : (m : Instance) (o : Options) (old p : Printer) (shows : Bool) (w : Option ℕ) (before after : Option (List ℕ)) (n k : ℕ) → Gathers old before n p after k → (book_of old).model ≡ m → BookLaw (book_of p)
+    → as_found_of old ≡ shows → shows ≡ shows_found m.goal o → wanted_of old ≡ w → w ≡ enough_for m.goal o → printed_of old ≡ 0 → stopped_of old ≡ None
+    → (stopped_of p ≡ None → IsFilled p ⊎ ((book_of p).parts ≡ [])) → IsPrinted m o p before after
+printed_together m o old p shows w before after n k s model law as_found shown wanted asked nothing none ended =
+    let kept : wanted_of p ≡ enough_for m.goal o = s.keeps.wanted ∙ wanted ∙ asked in
+    record {
+      model = s.model ∙ model;
+      law = law;
+      prints = inr (s.keeps.as_found ∙ as_found ∙ shown, kept);
+      printed = s.printed before (begun_printed old before none nothing);
+      within = s.within;
+      ready = s.ready;
+      ended = λ still. subst (λ (x : Option ℕ). HasEnded x (book_of p)) kept (filled_ended (wanted_of p) (book_of p) (ended still));
+    }
+
+-- one worker's search behind what was printed
+pub streamed_behind : (old p new : Printer) (q r : Pathed) (taken middle after : Option (List ℕ)) (n j k : ℕ) → Gathers old taken n p middle j → stopped_of p ≡ None → Streams p q middle new r after → (stopped_of new ≡ None → IsReady new) → CountsMark j k (stopped_of new) → Gathers old taken n new after k
+streamed_behind old p new q r taken middle after n j k first none second ready cause =
+    gathers_both old p new taken middle after n j k first none (record { keeps = second.keeps; model = second.model; mode = second.mode; printed = second.printed; within = second.within; ready = ready; cause = cause })
 
 none_due : (p : Printer) → as_found_of p ≡ false → due_of p ≡ 0
 none_due p is = ap (λ (b : Bool). due_among b (wanted_of p) (length (book_of p).recorded)) is

@@ -180,14 +180,14 @@ pub fn wanted(options: &Options) -> Option<u32>
 }
 
 /// Whether all better ones are shown on the way to a best one: where `-a` asks for them, and never of a generated model.
-pub(crate) fn shows_all(options: &Options) -> bool
+fn shows_all(options: &Options) -> bool
     ensures { result ≡ searched.shows_all options.now.generate options.now.all }
 {
     options.all() && options.generate().is_none()
 }
 
 /// Whether each that the book records is shown: all that are found, and on the way to a best one where all better ones are to be.
-fn shows_found(goal: &Goal, options: &Options) -> bool
+pub(crate) fn shows_found(goal: &Goal, options: &Options) -> bool
     ensures { result ≡ searched.shows_found goal.now options.now }
 {
     match goal {

@@ -1,71 +1,163 @@
 //! The search of a model by several workers in threads.
-ghost use Rattle.std.specs.Prelude.{◌≡◌, ◌≤◌, ℕ, Option, List, None, false, IfOk, vec_len};
+ghost use Rattle.std.specs.Prelude.{◌≡◌, ◌-◌, ◌<◌, ◌≤◌, ◌^◌, ◌⊎◌, [], None, IfOk, OnErr, vec_len};
 ghost use Rattle.std.specs.Arc.{arc_value};
 ghost use Rattle.fz_tree.specs.Better.{mode_of};
-ghost use Rattle.fz_printer.specs.Printed.{as_found_of, stopped_of};
-ghost use Rattle.fz_search.specs.Searched.{enough_for, IsPrinted, IsSearched};
+ghost use Rattle.fz_printer.specs.Printed.{book_of, stopped_of, CountsMark, IsReady};
+ghost use Rattle.fz_stream.specs.Streamed.{Gathers, IsFilled};
+ghost use Rattle.fz_search.specs.Searched.{IsPrinted};
 
-use crate::searching::{begin, enough_for, mode_of, shows_all};
+use crate::searching::{begin, enough_for, mode_of, shows_found};
 use fz_account::Mode;
-use fz_book::Book;
 use fz_cmd::Options;
 use fz_io::gate::Gate;
+use fz_io::outside::Sink;
 use fz_model::model::Model;
 use fz_path::Path;
 use fz_printer::Printer;
 use fz_search_space::SearchSpace;
-use fz_solo::finish;
-use fz_team::{End, TeamEnd};
+use fz_stream::{Outbox, gather, stream};
 use std::alloc::{AllocError, Global};
 use std::sync::{Arc, Wait};
-use std::thread::Threads;
+use std::thread::{Threads, join_mut};
 
-/// Searches a model as `search` does, by as many workers as are asked for, each in a thread of its own where one can be made.
-/// What the threads leave open, if anything, one worker searches at the end. Nothing is printed on the way.
+/// Searches a model as `search` does, by as many workers as are asked for, each in a thread of its own where one can be made, and
+/// prints solutions as they are found, where each that is found is shown. What the printer wasn't told of, if anything, one worker
+/// searches at the end.
 ///
 /// # Errors
-/// `AllocError` where there is no memory.
-pub fn search_in_threads<T: Threads + Wait + Sync, S: SearchSpace + Send, G: Gate + Sync>(
+/// `AllocError` where there is no memory to begin with; nothing is printed.
+pub fn search_in_threads<
+    T: Threads + Wait + Sync,
+    S: SearchSpace + Send,
+    K: Sink + Send,
+    G: Gate + Sync,
+>(
     rt: &T,
     alloc: Global,
     model: &Arc<Model>,
     options: &Options,
+    sink: &mut K,
     gate: &G,
 ) -> Result<Printer, AllocError>
     requires accepts { S.accepts (arc_value model.now) }
-    ensures printed { IfOk result (λ p. (taken : Option (List ℕ))
-        → IsPrinted (arc_value model.now) options.now p taken taken) }
-    ensures as_found { IfOk result (λ p. as_found_of p ≡ false) }
-    ensures working { IfOk result (λ p. stopped_of p ≡ None) }
+    requires faults { K.faults sink.old < 2 ^ 64 - 1 }
+    ensures printed { IfOk result (λ p. IsPrinted (arc_value model.now) options.now p
+        (K.taken sink.old) (K.taken sink.new)) }
+    ensures cause { IfOk result
+        (λ p. CountsMark (K.faults sink.old) (K.faults sink.new) (stopped_of p)) }
+    ensures untaken { OnErr result (K.taken sink.new ≡ K.taken sink.old) }
+    ensures no_fault { OnErr result (K.faults sink.new ≡ K.faults sink.old) }
 {
-    let book = team_book::<T, S, G>(rt, alloc, model, options, gate)?;
-    let finished = finish_book::<S>(alloc, model, options, book)?;
-    Ok(Printer::new(finished, false, None))
+    let distance = options.commit_distance();
+    let mode = mode_of(model.goal());
+    let book = begin(alloc, model, mode)?;
+    let adaptive = options.adaptive_distance();
+    let mut path: Path<S> = Path::idle(alloc, model.clone()?, mode, distance, adaptive)?;
+    let wanted = enough_for(model.goal(), options);
+    let mut printer = Printer::new(book, shows_found(model.goal(), options), wanted);
+    search_all::<T, S, K, G>(
+        rt,
+        alloc,
+        model,
+        options,
+        &mut printer,
+        &mut path,
+        sink,
+        gate,
+    );
+    let _ = printer.book().model();
+    Ok(printer)
 }
 
-/// The book that a team leaves, or a new one where that is of another model.
-fn team_book<T: Threads + Wait + Sync, S: SearchSpace + Send, G: Gate + Sync>(
+/// Several workers search, and one behind them what the printer wasn't told of.
+fn search_all<T: Threads + Wait + Sync, S: SearchSpace + Send, K: Sink + Send, G: Gate + Sync>(
+    rt: &T,
+    alloc: Global,
+    model: &Arc<Model>,
+    options: &Options,
+    printer: &mut Printer,
+    path: &mut Path<S>,
+    sink: &mut K,
+    gate: &G,
+)
+    requires accepts { S.accepts (arc_value model.now) }
+    requires working { stopped_of printer.old ≡ None }
+    requires ready { IsReady printer.old }
+    requires faults { K.faults sink.old < 2 ^ 64 - 1 }
+    requires idle { path.old.held ≡ None }
+    requires model { path.old.model ≡ (book_of printer.old).model }
+    ensures gathers { Gathers printer.old (K.taken sink.old) (K.faults sink.old)
+        printer.new (K.taken sink.new) (K.faults sink.new) }
+    ensures ended { stopped_of printer.new ≡ None
+        → IsFilled printer.new ⊎ ((book_of printer.new).parts ≡ []) }
+{
+    search_together::<T, S, K, G>(rt, alloc, model, options, printer, sink, gate);
+    if printer.stopped().is_some() {
+        return;
+    }
+    stream(alloc, printer, path, sink);
+}
+
+/// The workers search, and what they tell is printed in the meantime; where no more thread can be made, behind it.
+fn search_together<T: Threads + Wait + Sync, S: SearchSpace + Send, K: Sink + Send, G: Gate + Sync>(
+    rt: &T,
+    alloc: Global,
+    model: &Arc<Model>,
+    options: &Options,
+    printer: &mut Printer,
+    sink: &mut K,
+    gate: &G,
+)
+    requires accepts { S.accepts (arc_value model.now) }
+    requires working { stopped_of printer.old ≡ None }
+    requires ready { IsReady printer.old }
+    requires faults { K.faults sink.old < 2 ^ 64 - 1 }
+    ensures { Gathers printer.old (K.taken sink.old) (K.faults sink.old)
+        printer.new (K.taken sink.new) (K.faults sink.new) }
+{
+    let outbox = Outbox::new(alloc);
+    let told = &outbox;
+    join_mut(
+        rt,
+        &mut || gather(rt, alloc, told, printer, sink),
+        &mut ||
+            requires { S.accepts (arc_value model.now) }
+        { work_through::<T, S, G>(rt, alloc, model, options, gate, told) },
+    );
+}
+
+/// The workers search, and end what they tell.
+fn work_through<T: Threads + Wait + Sync, S: SearchSpace + Send, G: Gate + Sync>(
     rt: &T,
     alloc: Global,
     model: &Arc<Model>,
     options: &Options,
     gate: &G,
-) -> Result<Book, AllocError>
-    requires accepts { S.accepts (arc_value model.now) }
-    ensures { IfOk result (λ b. b.book.model ≡ arc_value model.now) }
+    outbox: &Outbox,
+)
+    requires { S.accepts (arc_value model.now) }
+{
+    let _whether_there_was_memory = work::<T, S, G>(rt, alloc, model, options, gate, outbox);
+    outbox.end();
+}
+
+/// The workers search, with a book of their own.
+fn work<T: Threads + Wait + Sync, S: SearchSpace + Send, G: Gate + Sync>(
+    rt: &T,
+    alloc: Global,
+    model: &Arc<Model>,
+    options: &Options,
+    gate: &G,
+    outbox: &Outbox,
+) -> Result<(), AllocError>
+    requires { S.accepts (arc_value model.now) }
 {
     let mode = mode_of(model.goal());
     let book = begin(alloc, model, mode)?;
     let paths = paths_of::<S>(alloc, model, mode, options)?;
     let enough = enough_for(model.goal(), options);
-    let TeamEnd { book, end, .. } = fz_team::run(rt, alloc, book, paths, enough, gate);
-    if matches!(end, End::Short) {
-        return Err(AllocError);
-    }
-    if book.model().same(model) {
-        return Ok(book);
-    }
-    begin(alloc, model, mode)
+    let _end = fz_team::run(rt, alloc, book, paths, enough, gate, outbox);
+    Ok(())
 }
 
 /// As many idle paths as workers are asked for.
@@ -86,26 +178,4 @@ fn paths_of<S: SearchSpace>(
         paths.push(Path::idle(alloc, model.clone()?, mode, distance, adaptive)?)?;
     }
     Ok(paths)
-}
-
-/// Searches what is still open in a book, on this thread.
-fn finish_book<S: SearchSpace>(
-    alloc: Global,
-    model: &Arc<Model>,
-    options: &Options,
-    book: Book,
-) -> Result<Book, AllocError>
-    requires accepts { S.accepts (arc_value model.now) }
-    requires model { book.book.model ≡ arc_value model.now }
-    ensures { IfOk result (λ b. IsSearched (arc_value model.now)
-        (enough_for (arc_value model.now).goal options.now) b.book) }
-{
-    let mut book = book;
-    let distance = options.commit_distance();
-    let adaptive = options.adaptive_distance();
-    let mode = mode_of(model.goal());
-    let mut path: Path<S> = Path::idle(alloc, model.clone()?, mode, distance, adaptive)?;
-    let enough = enough_for(model.goal(), options);
-    finish(&mut book, &mut path, enough, shows_all(options))?;
-    Ok(book)
 }

@@ -88,13 +88,17 @@ fn is_reached<S: SearchSpace>(path: &Path<S>, halt: Halt, step: Step) -> bool
 
 /// Whether as many are found as are wanted, or as pay for a report.
 fn is_batch<S: SearchSpace>(path: &Path<S>, wanted: Option<u64>) -> bool {
-    let found = path.found_count();
     if let Some(count) = wanted
-        && count <= found
+        && count <= path.found_count()
     {
         return true;
     }
-    BATCH <= found && pays_report(path, 0)
+    is_report_due(path, 0)
+}
+
+/// Whether what is found is to be reported: it waited, or it is as much as pays for a report.
+pub fn is_report_due<S: SearchSpace>(path: &Path<S>, waited: u64) -> bool {
+    (0 < waited || BATCH <= path.found_count()) && pays_report(path, waited)
 }
 
 /// Whether something is found, and a report copies no more edges than its numbers pay for, and so many times that they waited.

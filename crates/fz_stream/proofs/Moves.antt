@@ -47,7 +47,7 @@ silent p q r taken ready h = record {
   searched = λ n. h;
 }
 
-both_keep : (old p new : Printer) → KeepsPrinting old p → KeepsPrinting p new → KeepsPrinting old new
+pub both_keep : (old p new : Printer) → KeepsPrinting old p → KeepsPrinting p new → KeepsPrinting old new
 both_keep old p new first second = record { as_found = second.as_found ∙ first.as_found; wanted = second.wanted ∙ first.wanted }
 
 pub none_is_no_memory : (s : Option Stop) → s ≡ None → s ≢ Some Memory
@@ -68,7 +68,7 @@ advanced p new q r middle after none ready more grew now searched = record {
 due_kept : (p new : Printer) → KeepsPrinting p new → book_of new ≡ book_of p → due_of p ≡ due_of new
 due_kept p new keeps book = λ i. due_among (sym keeps.as_found i) (sym keeps.wanted i) (length (sym book i).recorded)
 
-still_within : (p new : Printer) → KeepsPrinting p new → book_of new ≡ book_of p → printed_of new ≡ printed_of p → printed_of p ≤ due_of p → printed_of new ≤ due_of new
+pub still_within : (p new : Printer) → KeepsPrinting p new → book_of new ≡ book_of p → printed_of new ≡ printed_of p → printed_of p ≤ due_of p → printed_of new ≤ due_of new
 still_within p new keeps book printed within = (let due = due_kept p new keeps book in omega (arith, due, printed, within))
 
 -- a mark is set, or nothing is

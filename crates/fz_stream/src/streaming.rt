@@ -61,7 +61,7 @@ pub fn stream<S: SearchSpace, K: Sink>(
 }
 
 /// Whether as many are recorded as are wanted.
-fn is_filled(printer: &Printer) -> bool
+pub(crate) fn is_filled(printer: &Printer) -> bool
     ensures { IsTrue result ↔ IsFilled printer.now }
 {
     match printer.wanted() {
@@ -71,7 +71,7 @@ fn is_filled(printer: &Printer) -> bool
 }
 
 /// Whether the sink failed, or memory was refused.
-fn has_stopped(printer: &Printer) -> bool
+pub(crate) fn has_stopped(printer: &Printer) -> bool
     ensures { IsFalse result ↔ (stopped_of printer.now ≡ None) }
 {
     printer.stopped().is_some()
@@ -276,7 +276,7 @@ fn report<S: SearchSpace, K: Sink>(
 }
 
 /// Has the sink hand on what it took, where it is due.
-fn hand_on_if_due<K: Sink>(printer: &mut Printer, sink: &mut K)
+pub(crate) fn hand_on_if_due<K: Sink>(printer: &mut Printer, sink: &mut K)
     requires working { stopped_of printer.old ≡ None }
     requires faults { K.faults sink.old < 2 ^ 64 - 1 }
     ensures keeps { KeepsPrinting printer.old printer.new }

@@ -7,7 +7,7 @@ use Rattle.atomic_table.specs.Seated.{TableId}
 use Rattle.fz_bound.specs.Rule.{UNSET, PARTS}
 use Rattle.fz_bound.specs.Seats.{Seated}
 use Rattle.fz_team.specs.declared.end.End.{End}
-use Rattle.fz_team.specs.declared.end.End.TheVariants.{Enough, Closed, Short}
+use Rattle.fz_team.specs.declared.end.End.TheVariants.{Enough, Closed, Short, Stopped}
 use Rattle.fz_team.specs.declared.member.Member.{Member}
 use Rattle.fz_team.specs.Members.{IsMember, least_score}
 
@@ -21,6 +21,7 @@ abbrev pub Ends : End → Option ℕ → Instance → Book → Type 0
 Ends Enough enough m b = (b.model ≡ m) × IsSomeAnd enough (λ n. n ≤ length b.recorded)
 Ends Closed enough m b = (b.model ≡ m) × (b.parts ≡ [])
 Ends Short enough m b = Unit {0}
+Ends Stopped enough m b = Unit {0}
 
 -- each of them satisfies, and the word is the least of their scores
 pub record IsWordOf (m : Instance) (bests : List (List ℤ)) (word : ℕ) : Type 0 where
@@ -31,6 +32,7 @@ abbrev pub HasBests : End → Instance → List (List ℤ) → ℕ → Type 0
 HasBests Enough m bests word = IsWordOf m bests word
 HasBests Closed m bests word = IsWordOf m bests word
 HasBests Short m bests word = Unit {0}
+HasBests Stopped m bests word = Unit {0}
 
 -- its workers are of this model and word, and together with the seat that is left they have all parts
 pub record IsTeam (m : Instance) (word : TableId) (workers : ℕ) (left : Seated) (all : List Member) : Type 0 where

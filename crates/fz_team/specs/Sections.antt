@@ -1,5 +1,5 @@
 -- What critical sections make of the values behind the locks that they hold.
-use Rattle.std.specs.Prelude.{◌≡◌, true, false, Option, Some, None}
+use Rattle.std.specs.Prelude.{◌≡◌, true, false, Option, Some, None, IfSome}
 use Rattle.fz_tree.specs.Frontier.{can_cut, part_of}
 use Rattle.fz_tree.specs.Account.{Account, with_given}
 use Rattle.fz_tree.specs.Book.{Book, Takes, IsOpen}
@@ -7,6 +7,7 @@ use Rattle.fz_path.specs.Paths.{Pathed, with_held, held_behind, can_cut_held}
 use Rattle.fz_path.specs.Cuts.{held_behind_cut}
 use Rattle.fz_team.specs.declared.section.Handed.{Handed}
 use Rattle.fz_team.specs.declared.section.Handed.TheVariants.{Taken, Dropped}
+use Rattle.fz_team.specs.declared.section.Reported.{Reported}
 use Rattle.fz_team.specs.declared.section.CutOff.{CutOff}
 
 -- an account of this model, of what is open in the book
@@ -18,18 +19,19 @@ abbrev pub HandsIn : Handed → Account → Book → Book → Type 0
 HandsIn Taken c old new = Takes old c new
 HandsIn Dropped c old new = (IsOwnOf old c → ⊥) × (new ≡ old)
 
--- the account of what the path holds is handed in, and it goes on with what is left
-pub record HasReported (handed : Handed) (path : Pathed) (book : Book) (path' : Pathed) (book' : Book) : Type 0 where
+-- the account of what the path holds is handed in and copied, and it goes on with what is left
+pub record HasReported (reported : Reported) (path : Pathed) (book : Book) (path' : Pathed) (book' : Book) : Type 0 where
   pub account : Account
   pub holds : path.held ≡ Some account
   pub path_is : path' ≡ with_held path (held_behind account)
-  pub hands : HandsIn handed account book book'
+  pub hands : HandsIn reported.handed account book book'
+  pub copied : IfSome reported.copy (λ c. c ≡ account)
 
-abbrev pub Reports : Option Handed → Pathed → Book → Pathed → Book → Type 0
-Reports (Some handed) path book path' book' = HasReported handed path book path' book'
+abbrev pub Reports : Option Reported → Pathed → Book → Pathed → Book → Type 0
+Reports (Some reported) path book path' book' = HasReported reported path book path' book'
 Reports None path book path' book' = (path.held ≡ None) × (path' ≡ path) × (book' ≡ book)
 
--- a part is cut off what the path holds, and the account that names it as given is handed in
+-- a part is cut off what the path holds, and the account that names it as given is handed in and copied
 pub record HasCut (off : CutOff) (path : Pathed) (book : Book) (path' : Pathed) (book' : Book) : Type 0 where
   pub account : Account
   pub holds : path.held ≡ Some account
@@ -37,6 +39,7 @@ pub record HasCut (off : CutOff) (path : Pathed) (book : Book) (path' : Pathed) 
   pub task_is : off.task ≡ part_of account.after
   pub path_is : path' ≡ with_held path (held_behind_cut account)
   pub hands : HandsIn off.handed (with_given account) book book'
+  pub copied : IfSome off.copy (λ c. c ≡ with_given account)
 
 abbrev pub Cuts : Option CutOff → Pathed → Book → Pathed → Book → Type 0
 Cuts (Some off) path book path' book' = HasCut off path book path' book'

@@ -6,6 +6,7 @@ use fz_io::gate::Gate;
 use fz_model::Model;
 use fz_path::Path;
 use fz_search_space::SearchSpace;
+use fz_stream::Outbox;
 use std::sync::Mutex;
 use std::sync::atomic::AtomicBool;
 
@@ -21,5 +22,7 @@ pub struct Crew<'a, S: SearchSpace, G: Gate> {
     /// Whether workers are to stop.
     pub stop: &'a AtomicBool,
     pub gate: &'a G,
+    /// Where what the book takes is told, too.
+    pub outbox: &'a Outbox,
     pub enough: Option<u32>,
 }

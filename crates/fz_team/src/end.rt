@@ -11,6 +11,8 @@ pub enum End {
     Closed,
     /// There was no memory.
     Short,
+    /// Nothing more is printed of what workers tell.
+    Stopped,
 }
 
 /// What a team leaves: the book, the best that each worker found or learnt, and the least of their scores.

@@ -6,13 +6,16 @@ use crate::crew::Crew;
 use crate::member::Member;
 use crate::score::{NO_SCORE, score_of};
 use crate::section;
-use crate::section::{CutOff, Handed};
-use fz_book::{Book, has_enough};
+use crate::section::{CutOff, Handed, Reported};
+use fz_account::Account;
+use fz_book::{Book, Offered, has_enough};
 use fz_io::gate::{EventKind, Gate};
 use fz_model::Assignment;
 use fz_path::{Path, Start, Step};
 use fz_region::Frontier;
 use fz_search_space::SearchSpace;
+use fz_solo::is_report_due;
+use fz_stream::Told;
 use fz_truth::holds;
 use std::alloc::AllocError;
 use std::sync::Wait;
@@ -29,22 +32,35 @@ pub enum Next {
     Gain,
 }
 
-/// What a path asks for.
-fn next_of<S: SearchSpace>(path: &Path<S>, enough: Option<u32>) -> Next {
+/// What a path asks for, whose worker was asked so often for what it found when it last reported.
+fn next_of<S: SearchSpace, G: Gate>(crew: &Crew<S, G>, path: &Path<S>, heard: u64) -> Next {
     if path.is_idle() {
         return Next::Gain;
     }
-    if path.is_spent() || (enough.is_some() && 0 < path.found_count()) {
+    if path.is_spent() || is_to_tell(crew, path, heard) {
         return Next::Report;
     }
     Next::Step
 }
 
+/// Whether what a path found is to be reported: at once where so many are enough, else in batches, or where it has waited.
+fn is_to_tell<S: SearchSpace, G: Gate>(crew: &Crew<S, G>, path: &Path<S>, heard: u64) -> bool {
+    if path.found_count() == 0 {
+        return false;
+    }
+    crew.enough.is_some() || is_report_due(path, crew.outbox.asks().saturating_sub(heard))
+}
+
 /// What a worker is to do first: in a later round its path may hold something.
-pub fn first<R: Wait, S: SearchSpace, G: Gate>(rt: &R, crew: &Crew<S, G>, worker: u32) -> Next
+pub fn first<R: Wait, S: SearchSpace, G: Gate>(
+    rt: &R,
+    crew: &Crew<S, G>,
+    worker: u32,
+    heard: u64,
+) -> Next
     requires { worker < length crew.now.paths.now }
 {
-    next_of(&crew.paths[worker as usize].lock(rt), crew.enough)
+    next_of(crew, &crew.paths[worker as usize].lock(rt), heard)
 }
 
 /// Whether nothing more is to be done on a book.
@@ -61,7 +77,7 @@ pub fn step<R: Wait, S: SearchSpace, G: Gate>(
     requires { IsMember crew.now.model.now crew.now.bound.now (length crew.now.paths.now) member.old }
     ensures { IsMember crew.now.model.now crew.now.bound.now (length crew.now.paths.now) member.new }
 {
-    let (found, next) = look(rt, crew, member.worker)?;
+    let (found, next) = look(rt, crew, member.worker, member.heard)?;
     if let Some(found) = found {
         offer(rt, crew, &found)?;
         put(crew, member, found);
@@ -74,6 +90,7 @@ fn look<R: Wait, S: SearchSpace, G: Gate>(
     rt: &R,
     crew: &Crew<S, G>,
     worker: u32,
+    heard: u64,
 ) -> Result<(Option<Assignment>, Next), AllocError>
     requires { worker < length crew.now.paths.now }
 {
@@ -88,7 +105,7 @@ fn look<R: Wait, S: SearchSpace, G: Gate>(
     } else {
         None
     };
-    Ok((found, next_of(&path, crew.enough)))
+    Ok((found, next_of(crew, &path, heard)))
 }
 
 /// A copy of what a path knows.
@@ -99,15 +116,17 @@ fn known<S: SearchSpace>(path: &Path<S>) -> Result<Option<Assignment>, AllocErro
     }
 }
 
-/// The book records it, if it is better than its incumbent.
+/// The book records it, if it is better than its incumbent; then it is told.
 fn offer<R: Wait, S: SearchSpace, G: Gate>(
     rt: &R,
     crew: &Crew<S, G>,
     found: &Assignment,
 ) -> Result<(), AllocError> {
-    let found = found.copy()?;
-    match crew.book.lock(rt).offer(found) {
-        Ok(_) => Ok(()),
+    let (found, copy) = (found.copy()?, found.copy()?);
+    let mut book = crew.book.lock(rt);
+    match book.offer(found) {
+        Ok(Offered::Better) => crew.outbox.tell(rt, Told::Better(copy)),
+        Ok(Offered::NotBetter(_)) => Ok(()),
         Err(_) => Err(AllocError),
     }
 }
@@ -192,21 +211,36 @@ fn tell<R: Wait, S: SearchSpace, G: Gate>(
 pub fn report<R: Wait, S: SearchSpace, G: Gate>(
     rt: &R,
     crew: &Crew<S, G>,
-    worker: u32,
+    member: &mut Member,
 ) -> Result<Next, AllocError>
-    requires { worker < length crew.now.paths.now }
+    requires { IsMember crew.now.model.now crew.now.bound.now (length crew.now.paths.now) member.old }
+    ensures { IsMember crew.now.model.now crew.now.bound.now (length crew.now.paths.now) member.new }
 {
-    crew.gate.before(worker, EventKind::Report);
-    let mut path = crew.paths[worker as usize].lock(rt);
+    member.heard = crew.outbox.asks();
+    crew.gate.before(member.worker, EventKind::Report);
+    let mut path = crew.paths[member.worker as usize].lock(rt);
     let mut book = crew.book.lock(rt);
-    if let Some(handed) = section::report(&mut path, &mut book)? {
+    if let Some(Reported { handed, copy }) = section::report(&mut path, &mut book)? {
         taken(handed)?;
-        crew.gate.at(worker, EventKind::Report);
+        crew.gate.at(member.worker, EventKind::Report);
+        tell_account(rt, crew, copy)?;
     }
     if is_done(&book, crew.enough) {
         crew.stop.store(true, Ordering::SeqCst);
     }
-    Ok(next_of(&path, crew.enough))
+    Ok(next_of(crew, &path, member.heard))
+}
+
+/// What the book took is told, by whoever holds its lock.
+fn tell_account<R: Wait, S: SearchSpace, G: Gate>(
+    rt: &R,
+    crew: &Crew<S, G>,
+    copy: Option<Account>,
+) -> Result<(), AllocError> {
+    match copy {
+        Some(account) => crew.outbox.tell(rt, Told::Taken(account)),
+        None => Err(AllocError),
+    }
 }
 
 /// Where an account was dropped, the team ends as for want of memory: what it was of is open, and nobody holds it.
@@ -237,11 +271,11 @@ pub fn start<R: Wait, S: SearchSpace, G: Gate>(
     match path.start(task) {
         Start::Started => {
             crew.gate.at(member.worker, EventKind::Start);
-            Ok(next_of(&path, crew.enough))
+            Ok(next_of(crew, &path, member.heard))
         }
         Start::Busy(task) => {
             member.hand = Some(task);
-            Ok(next_of(&path, crew.enough))
+            Ok(next_of(crew, &path, member.heard))
         }
         Start::NoMemory(task) => {
             member.hand = Some(task);
@@ -334,11 +368,12 @@ fn steal<R: Wait, S: SearchSpace, G: Gate>(
     crew.gate.before(worker, EventKind::Steal);
     let mut path = crew.paths[victim].lock(rt);
     let mut book = crew.book.lock(rt);
-    let Some(CutOff { task, handed }) = section::cut(&mut path, &mut book)? else {
+    let Some(CutOff { task, handed, copy }) = section::cut(&mut path, &mut book)? else {
         return Ok(None);
     };
     taken(handed)?;
     crew.gate.at(worker, EventKind::Steal);
+    tell_account(rt, crew, copy)?;
     Ok(Some(task))
 }
 

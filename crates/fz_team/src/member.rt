@@ -4,7 +4,8 @@ use fz_model::Assignment;
 use fz_region::Frontier;
 
 /// A worker: its number, its seat of the bound word, the assignment of the least score that it put, the task in its hand, and the
-/// score of what its path was last seen to know. `short` says that it had no memory.
+/// score of what its path was last seen to know. `heard` says how often it was asked for what it found when it last reported, `short`
+/// that it had no memory.
 #[derive(Drop)]
 pub struct Member {
     pub worker: u32,
@@ -12,5 +13,6 @@ pub struct Member {
     pub best: Option<Assignment>,
     pub hand: Option<Frontier>,
     pub known: u64,
+    pub heard: u64,
     pub short: bool,
 }

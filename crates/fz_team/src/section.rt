@@ -1,5 +1,5 @@
 //! Critical sections: what a worker does to the values behind the locks that it holds.
-ghost use Rattle.std.specs.Prelude.{◌≡◌, ◌≤◌, ◌+◌, IfOk, OnOk, OnErr};
+ghost use Rattle.std.specs.Prelude.{◌≡◌, ◌≤◌, ◌+◌, IfOk, IfSome, OnOk, OnErr};
 ghost use Rattle.fz_book.specs.Needs.{found_needed, given_needed};
 ghost use Rattle.fz_path.specs.Paths.{found_held};
 ghost use Rattle.fz_team.specs.Sections.{HandsIn, Reports, Cuts};
@@ -20,11 +20,19 @@ pub enum Handed {
     Dropped,
 }
 
-/// A part that was cut off, and what became of the account that names it.
+/// What became of an account that was handed in, and a copy of it, where there was memory for one.
+#[derive(Drop)]
+pub struct Reported {
+    pub handed: Handed,
+    pub copy: Option<Account>,
+}
+
+/// A part that was cut off, what became of the account that names it, and a copy of that.
 #[derive(Drop)]
 pub struct CutOff {
     pub task: Frontier,
     pub handed: Handed,
+    pub copy: Option<Account>,
 }
 
 /// Makes room for what a path found and knows, and for one part that it gives.
@@ -53,6 +61,16 @@ fn hand_in(book: &mut Book, account: Account) -> Handed
     }
 }
 
+/// A copy of an account, where there is memory for one.
+fn copy_of(account: &Account) -> Option<Account>
+    ensures { IfSome result (λ c. c ≡ account.now) }
+{
+    match account.copy() {
+        Ok(copy) => Some(copy),
+        Err(_) => None,
+    }
+}
+
 /// The book takes the account of what the path holds, and the path goes on with what is left. `None` where it held nothing.
 ///
 /// # Errors
@@ -60,9 +78,9 @@ fn hand_in(book: &mut Book, account: Account) -> Handed
 pub fn report<S: SearchSpace>(
     path: &mut Path<S>,
     book: &mut Book,
-) -> Result<Option<Handed>, AllocError>
-    ensures reported { IfOk result (λ handed.
-        Reports handed path.old book.old.book path.new book.new.book) }
+) -> Result<Option<Reported>, AllocError>
+    ensures reported { IfOk result (λ reported.
+        Reports reported path.old book.old.book path.new book.new.book) }
     ensures path { OnErr result (path.new ≡ path.old) }
     ensures book { OnErr result (book.new.book ≡ book.old.book) }
 {
@@ -71,7 +89,11 @@ pub fn report<S: SearchSpace>(
     let Some(account) = path.report()? else {
         return Ok(None);
     };
-    Ok(Some(hand_in(book, account)))
+    let copy = copy_of(&account);
+    Ok(Some(Reported {
+        handed: hand_in(book, account),
+        copy,
+    }))
 }
 
 /// Cuts a part off what the path holds and hands it out, if there is one. The book takes the account that names it as given, and the
@@ -92,6 +114,7 @@ pub fn cut<S: SearchSpace>(
     let Some(Cut { task, account }) = path.cut()? else {
         return Ok(None);
     };
+    let copy = copy_of(&account);
     let handed = hand_in(book, account);
-    Ok(Some(CutOff { task, handed }))
+    Ok(Some(CutOff { task, handed, copy }))
 }

@@ -17,6 +17,7 @@ use fz_io::gate::Gate;
 use fz_model::{Assignment, Model};
 use fz_path::Path;
 use fz_search_space::SearchSpace;
+use fz_stream::Outbox;
 use std::alloc::{AllocError, Global};
 use std::sync::atomic::AtomicBool;
 use std::sync::{Mutex, Wait};
@@ -35,7 +36,8 @@ struct Team<S: SearchSpace> {
 }
 
 /// Lets one worker for each path search what is open in a book, each in a thread where one can be made, until nothing is open or as
-/// many are recorded as are asked for. Whatever the threads did, the book keeps its law.
+/// many are recorded as are asked for. Each account that the book takes, and each better one that it records, is told, until nobody
+/// takes that any more. Whatever the threads did, the book keeps its law.
 pub fn run<R: Threads + Wait + Sync, S: SearchSpace + Send, G: Gate + Sync>(
     rt: &R,
     alloc: Global,
@@ -43,6 +45,7 @@ pub fn run<R: Threads + Wait + Sync, S: SearchSpace + Send, G: Gate + Sync>(
     paths: Vec<Path<S>>,
     enough: Option<u32>,
     gate: &G,
+    outbox: &Outbox,
 ) -> TeamEnd
     requires several { (1 ≤ vec_len paths) × (vec_len paths ≤ 64) }
     ensures law { BookLaw result.book.book }
@@ -59,7 +62,7 @@ pub fn run<R: Threads + Wait + Sync, S: SearchSpace + Send, G: Gate + Sync>(
                 members,
             },
         ) => rounds(
-            rt, alloc, book, &model, &paths, bound, seat, members, enough, gate,
+            rt, alloc, book, &model, &paths, bound, seat, members, enough, gate, outbox,
         ),
         Err(_) => short(alloc, book),
     }
@@ -77,6 +80,21 @@ fn short(alloc: Global, book: Book) -> TeamEnd
         bests: Vec::new(alloc),
         word: NO_SCORE,
         end: End::Short,
+    }
+}
+
+/// The end of a team that nobody listens to any more.
+fn stopped(alloc: Global, book: Book) -> TeamEnd
+    ensures end { result.end ≡ End.Stopped }
+    ensures book { result.book.book ≡ book.book }
+    ensures law { BookLaw result.book.book }
+{
+    let _ = book.model();
+    TeamEnd {
+        book,
+        bests: Vec::new(alloc),
+        word: NO_SCORE,
+        end: End::Stopped,
     }
 }
 
@@ -141,6 +159,7 @@ fn members_of(
             best: None,
             hand: None,
             known: NO_SCORE,
+            heard: 0,
             short: false,
         })?;
     }
@@ -159,6 +178,7 @@ fn rounds<R: Threads + Wait + Sync, S: SearchSpace + Send, G: Gate + Sync>(
     members: Vec<Member>,
     enough: Option<u32>,
     gate: &G,
+    outbox: &Outbox,
 ) -> TeamEnd
     requires { IsTeam model.now bound (length paths.now) seat members.items }
     ensures law { BookLaw result.book.book }
@@ -168,7 +188,9 @@ fn rounds<R: Threads + Wait + Sync, S: SearchSpace + Send, G: Gate + Sync>(
     let mut book = book;
     let mut members = members;
     'rounds: for _ in rt.forever() {
-        let (back, after) = round(rt, model, paths, &bound, book, members, enough, gate);
+        let (back, after) = round(
+            rt, model, paths, &bound, book, members, enough, gate, outbox,
+        );
         book = back;
         let Some(after) = after else {
             return short(alloc, book);
@@ -176,6 +198,9 @@ fn rounds<R: Threads + Wait + Sync, S: SearchSpace + Send, G: Gate + Sync>(
         members = after;
         if let Some(end) = end_of(&book, model, enough) {
             return closing(alloc, book, model, bound, seat, members, end);
+        }
+        if outbox.is_stopped() {
+            return stopped(alloc, book);
         }
     }
     unreachable!()
@@ -191,6 +216,7 @@ fn round<R: Threads + Wait + Sync, S: SearchSpace + Send, G: Gate + Sync>(
     members: Vec<Member>,
     enough: Option<u32>,
     gate: &G,
+    outbox: &Outbox,
 ) -> (Book, Option<Vec<Member>>)
     requires { All (IsMember model.now bound.now (length paths.now)) members.items }
     ensures all { IfSome result.1 (λ v. All (IsMember model.now bound.now (length paths.now)) v.items) }
@@ -205,6 +231,7 @@ fn round<R: Threads + Wait + Sync, S: SearchSpace + Send, G: Gate + Sync>(
         model,
         stop: &stop,
         gate,
+        outbox,
         enough,
     };
     let after = in_threads(rt, &crew, members);

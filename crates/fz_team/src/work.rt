@@ -22,9 +22,9 @@ pub fn work<R: Wait, S: SearchSpace, G: Gate>(
     ensures { IsMember crew.now.model.now crew.now.bound.now (length crew.now.paths.now) result }
 {
     let mut rest = Rest::new();
-    let mut next = first(rt, crew, member.worker);
+    let mut next = first(rt, crew, member.worker, member.heard);
     for _ in rt.forever() {
-        if crew.stop.load(Ordering::SeqCst) {
+        if crew.stop.load(Ordering::SeqCst) || crew.outbox.is_stopped() {
             break;
         }
         match turn(rt, crew, &mut member, next, &mut rest) {
@@ -38,7 +38,7 @@ pub fn work<R: Wait, S: SearchSpace, G: Gate>(
     member
 }
 
-/// One turn: a report, a step, a start, a claim or a theft.
+/// One turn: a report, a step, a start, a claim or a theft; or a rest, while much waits to be printed.
 fn turn<R: Wait, S: SearchSpace, G: Gate>(
     rt: &R,
     crew: &Crew<S, G>,
@@ -49,8 +49,12 @@ fn turn<R: Wait, S: SearchSpace, G: Gate>(
     requires { IsMember crew.now.model.now crew.now.bound.now (length crew.now.paths.now) member.old }
     ensures { IsMember crew.now.model.now crew.now.bound.now (length crew.now.paths.now) member.new }
 {
+    if crew.outbox.is_full() {
+        rest.wait(rt);
+        return Ok(next);
+    }
     match next {
-        Next::Report => report(rt, crew, member.worker),
+        Next::Report => report(rt, crew, member),
         Next::Step => {
             learn(rt, crew, member)?;
             step(rt, crew, member)

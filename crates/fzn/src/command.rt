@@ -25,8 +25,8 @@ use std::{env, io};
 /// Runs the program with its arguments over a writer for what it prints, says on standard error what is wrong, and answers the exit
 /// status.
 pub fn program<
-    R: Env + Files + Input + Eprint + AllocGlobal + Clock + Threads + Wait + Sync + Copy,
-    W: Write + Drop,
+    R: Env + Files + Input + Eprint + AllocGlobal + Clock + Threads + Wait + Send + Sync + Copy,
+    W: Write + Drop + Send,
 >(rt: R, out: W) -> ExitCode {
     let arguments = match env::args(&rt) {
         Ok(arguments) => arguments,
@@ -52,8 +52,8 @@ fn untaken(fault: &io::Error) -> Status
 
 /// The run of these words over files, standard input and this writer, which is handed what is printed within a tenth of a second.
 fn over_streams<
-    R: Files + Input + AllocGlobal + Clock + Threads + Wait + Sync + Copy,
-    W: Write + Drop,
+    R: Files + Input + AllocGlobal + Clock + Threads + Wait + Send + Sync + Copy,
+    W: Write + Drop + Send,
 >(rt: &R, out: W, words: &[String]) -> Status {
     let alloc = rt.alloc();
     let Ok(buffered) = BufferedSink::new(alloc, OutSink::new(out)) else {

@@ -43,11 +43,12 @@ use std::thread::Threads;
 /// place of both; where none satisfies, `=====UNSATISFIABLE=====` alone; of a text that is refused, the place, the code and
 /// `=====ERROR=====`. Behind all but a refusal `-s` prints how many assignments were listed. Each block, each last line, the two
 /// lines of statistics and each refusal is one piece for the sink, and one flush comes last, whenever something was written.
-/// One worker hands each block to the sink as the solution is found, and has it handed on where that is due.
+/// Each block is handed to the sink as the solution is found, and handed on where that is due; workers that take turns hand on theirs
+/// at the end.
 ///
 /// With `-p N` above 1 and without `--interleave` the workers search in threads of `rt`, and `gate` sees their events. Every other run
 /// takes no thread, waits for nobody and makes no call of the gate.
-pub fn fzn<T: Threads + Wait + Sync, R: Source, S: Sink, G: Gate + Sync>(
+pub fn fzn<T: Threads + Wait + Sync, R: Source, S: Sink + Send, G: Gate + Sync>(
     rt: &T,
     alloc: Global,
     words: &[String],
@@ -114,7 +115,7 @@ pub fn fzn<T: Threads + Wait + Sync, R: Source, S: Sink, G: Gate + Sync>(
 }
 
 /// The run of these options by threads, where several workers are asked for that take no turns; else by this thread alone.
-fn run_with<T: Threads + Wait + Sync, R: Source, S: Sink, G: Gate + Sync>(
+fn run_with<T: Threads + Wait + Sync, R: Source, S: Sink + Send, G: Gate + Sync>(
     rt: &T,
     alloc: Global,
     options: &Options,
@@ -148,8 +149,8 @@ fn run_with<T: Threads + Wait + Sync, R: Source, S: Sink, G: Gate + Sync>(
     }
     run_options(
         alloc,
-        &|model: Arc<Model>, _sink: &mut S| {
-            search_in_threads::<T, Space, G>(rt, alloc, &model, options, gate)
+        &|model: Arc<Model>, sink: &mut S| {
+            search_in_threads::<T, Space, S, G>(rt, alloc, &model, options, sink, gate)
         },
         options,
         source,

@@ -29,3 +29,5 @@ mod solutions;
 mod threads;
 #[cfg(test)]
 mod turns;
+#[cfg(test)]
+mod watching;

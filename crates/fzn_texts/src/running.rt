@@ -1,7 +1,10 @@
 //! Runs over a text in memory.
+ghost use Rattle.std.specs.Prelude.{◌<◌, ◌-◌, ◌^◌};
+
 use fz_io::gate::{Gate, NoGate};
 use fz_io::memory_sink::MemSink;
 use fz_io::memory_source::MemSource;
+use fz_io::outside::Sink;
 use fz_io::texts::NamedText;
 use fz_print::refusal::Refusal;
 use fzn::{Status, fzn};
@@ -26,6 +29,17 @@ pub(crate) struct Faults<'a> {
     pub source: &'a [u64],
     pub sink: &'a [u64],
     pub step: usize,
+}
+
+impl Faults<'static> {
+    /// No call fails, and all bytes move at once.
+    pub(crate) fn none() -> Faults<'static> {
+        Faults {
+            source: &[],
+            sink: &[],
+            step: usize::MAX,
+        }
+    }
 }
 
 pub(crate) fn strings(alloc: Global, words: &[&str]) -> Result<Vec<String>, AllocError> {
@@ -77,12 +91,7 @@ pub(crate) fn run_watched<R: Threads + Wait + Sync, G: Gate + Sync>(
     words: &[&str],
     gate: &G,
 ) -> Result<Outcome, AllocError> {
-    let faults = Faults {
-        source: &[],
-        sink: &[],
-        step: usize::MAX,
-    };
-    run_all(rt, alloc, text, words, faults, gate)
+    run_all(rt, alloc, text, words, Faults::none(), gate)
 }
 
 fn run_all<R: Threads + Wait + Sync, G: Gate + Sync>(
@@ -93,6 +102,29 @@ fn run_all<R: Threads + Wait + Sync, G: Gate + Sync>(
     faults: Faults,
     gate: &G,
 ) -> Result<Outcome, AllocError> {
+    let sink = MemSink::new(alloc, Vec::from_slice(alloc, faults.sink)?);
+    let mut sink = sink.with_step(faults.step);
+    let (status, source_faults) = run_into(rt, alloc, text, words, faults, &mut sink, gate)?;
+    Ok(Outcome {
+        status,
+        printed: Vec::from_slice(alloc, sink.bytes())?,
+        flushed: sink.flushed_count(),
+        source_faults,
+    })
+}
+
+/// A run with these words into a sink, and how often the source failed.
+pub(crate) fn run_into<R: Threads + Wait + Sync, S: Sink + Send, G: Gate + Sync>(
+    rt: &R,
+    alloc: Global,
+    text: &[u8],
+    words: &[&str],
+    faults: Faults,
+    sink: &mut S,
+    gate: &G,
+) -> Result<(Status, u64), AllocError>
+    requires { S.faults sink.old < 2 ^ 64 - 1 }
+{
     let mut texts = Vec::new(alloc);
     for name in ["-", "m.fzn"] {
         texts.push(NamedText {
@@ -102,16 +134,9 @@ fn run_all<R: Threads + Wait + Sync, G: Gate + Sync>(
     }
     let words = strings(alloc, words)?;
     let source = MemSource::new(texts, Vec::from_slice(alloc, faults.source)?);
-    let sink = MemSink::new(alloc, Vec::from_slice(alloc, faults.sink)?);
     let mut source = source.with_step(faults.step);
-    let mut sink = sink.with_step(faults.step);
-    let status = fzn(rt, alloc, &words, &mut source, &mut sink, gate);
-    Ok(Outcome {
-        status,
-        printed: Vec::from_slice(alloc, sink.bytes())?,
-        flushed: sink.flushed_count(),
-        source_faults: source.fault_count(),
-    })
+    let status = fzn(rt, alloc, &words, &mut source, sink, gate);
+    Ok((status, source.fault_count()))
 }
 
 /// A run with these words, in which no call fails.

@@ -1,7 +1,12 @@
 //! Searches by workers in threads: the same is printed as by one worker, in whatever order the threads come.
 use crate::meeting::Meeting;
-use crate::running::{blocks_of, expect_printed_by, run, run_watched};
+use crate::running::{
+    Faults, blocks_of, expect_printed_by, run, run_failing, run_into, run_watched,
+};
+use crate::watching::{ShowingSink, Watching};
+use fz_io::memory_sink::MemSink;
 use fzn::Status;
+use std::sync::atomic::AtomicBool;
 use std::test::Fail;
 
 /// A text, the words but for the number of workers, and what is printed.
@@ -109,5 +114,31 @@ fn two_workers_step_at_once(rt: HostRuntime) -> Result<(), Fail> {
     assert!(rt; !meeting.is_missed());
     // Each node of the tree has a step of its own: 8 that branch and 9 that are solved.
     assert!(rt; 17 <= meeting.steps());
+    Ok(())
+}
+
+#[test]
+fn a_block_is_printed_while_workers_search(rt: HostRuntime) -> Result<(), Fail> {
+    let text = b"var 1..3: x; var 1..3: y; solve satisfy;";
+    let alloc = rt.alloc();
+    let has_taken = AtomicBool::new(false);
+    let gate = Watching::new(&has_taken);
+    let mut sink = ShowingSink::new(MemSink::new(alloc, Vec::new(alloc)), &has_taken);
+    let words = ["-a", "-p", "2"];
+    let (status, _) = run_into(&rt, alloc, text, &words, Faults::none(), &mut sink, &gate)?;
+    assert_eq!(rt; status, Status::Done);
+    // Nine blocks and the closing line.
+    assert_eq!(rt; sink.inner().bytes().len(), 110);
+    assert!(rt; gate.has_waited());
+    assert!(rt; !gate.is_missed());
+    Ok(())
+}
+
+#[test]
+fn where_the_second_write_fails_one_block_is_taken(rt: HostRuntime) -> Result<(), Fail> {
+    let text = b"var 1..3: x; var 1..3: y; solve satisfy;";
+    let outcome = run_failing(&rt, rt.alloc(), text, &["-a", "-p", "2"], &[], &[2])?;
+    assert_eq!(rt; outcome.status, Status::SinkFault);
+    assert_eq!(rt; outcome.printed.len(), 11);
     Ok(())
 }
