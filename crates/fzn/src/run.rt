@@ -149,9 +149,9 @@ fn run_with<T: Threads + Wait + Sync, R: Source, S: Sink + Send, G: Gate + Sync>
     }
     run_options(
         alloc,
-        &|model: Arc<Model>, sink: &mut S| {
-            search_in_threads::<T, Space, S, G>(rt, alloc, &model, options, sink, gate)
-        },
+        &|model: Arc<Model>, sink: &mut S|
+            requires { S.faults sink.old < 2 ^ 64 - 1 }
+        { search_in_threads::<T, Space, S, G>(rt, alloc, &model, options, sink, gate) },
         options,
         source,
         sink,
