@@ -10,7 +10,7 @@ ghost use Rattle.fz_engine.specs.Steps.{IsAnswerAt, IsProgress};
 use crate::network::Network;
 use fz_agenda::{Agenda, drain, drain_but};
 use fz_kept::Kept;
-use fz_prop::{Answer, Store};
+use fz_prop::{Answer, Propagator, Store};
 use std::alloc::AllocError;
 
 /// What a step did.
@@ -138,6 +138,52 @@ fn run_next(
 
 /// Runs a propagator that is queued, and stays so.
 fn run(
+    network: &Network,
+    place: u32,
+    store: &mut Store,
+    kept: &mut [Kept],
+    agenda: &Agenda,
+) -> Result<Answer, AllocError>
+    requires queued { slice_index agenda.now.states place ≡ 1 }
+    requires alive { IsAlive network.now agenda.now.states store.old }
+    requires told { AreTold network.now.sayings kept.old store.old.doms }
+    ensures run { IsRun network.now store.old store.new agenda.now.states }
+    ensures told { AreTold network.now.sayings kept.new store.new.doms }
+    ensures falls { (store.new ≡ store.old) ⊎ (room store.new.doms < room store.old.doms) }
+    ensures answer { IfOk result (λ r. IsAnswerAt r network.now place store.old store.new) }
+{
+    if !has_cell(network, place, kept) {
+        return run_plain(network, place, store, agenda);
+    }
+    run_kept(network, place, store, kept, agenda)
+}
+
+/// Whether the propagator at a place has a cell.
+fn has_cell(network: &Network, place: u32, kept: &[Kept]) -> bool {
+    !kept.is_empty() && (network.slot(place) as usize) < kept.len()
+}
+
+/// Runs the propagator at a place, which keeps nothing.
+fn run_plain(
+    network: &Network,
+    place: u32,
+    store: &mut Store,
+    agenda: &Agenda,
+) -> Result<Answer, AllocError>
+    requires queued { slice_index agenda.now.states place ≡ 1 }
+    requires alive { IsAlive network.now agenda.now.states store.old }
+    ensures run { IsRun network.now store.old store.new agenda.now.states }
+    ensures falls { (store.new ≡ store.old) ⊎ (room store.new.doms < room store.old.doms) }
+    ensures answer { IfOk result (λ r. IsAnswerAt r network.now place store.old store.new) }
+{
+    let _ = network.wakes();
+    let answer = network.propagator(place).propagate(store);
+    let _ = store.doms();
+    answer
+}
+
+/// Runs the propagator at a place, which finds in its cell what it kept.
+fn run_kept(
     network: &Network,
     place: u32,
     store: &mut Store,
