@@ -6,7 +6,7 @@ use Rattle.fz_spec.specs.declared.term.Term.{Term}
 use Rattle.fz_strength.specs.declared.literal.Literal.{Literal}
 use Rattle.fz_strength.specs.Domains.{AreDomains, IsNarrower}
 use Rattle.fz_strength.specs.Clauses.{IsUntrueIn}
-use Rattle.fz_strength.specs.Sayings.{Saying, Sum, Says}
+use Rattle.fz_strength.specs.Sayings.{Saying, Sum, SumIf, Says}
 use Rattle.fz_strength.proofs.Clauses.{only_still}
 use Rattle.fz_kept.specs.declared.kept.Kept.{Kept}
 use Rattle.fz_kept.specs.Told.{nothing, owned, IsToldSum, AreEndsUntrue, IsTold, AreTold}
@@ -29,6 +29,7 @@ ends_last ls front back ds es domains narrower told = record {
 
 pub told_lasts : (s : Saying) (kept : Kept) (ds es : List (List (ℤ × ℤ))) → AreDomains es → IsNarrower ds es → IsTold s kept ds → IsTold s kept es
 told_lasts (Sum relation ks ts c) kept ds es domains narrower told = sum_lasts ks ts kept.front kept.number ds es domains narrower told
+told_lasts (SumIf relation ks ts c r) kept ds es domains narrower told = sum_lasts ks ts kept.front kept.number ds es domains narrower told
 told_lasts (Says all clause) kept ds es domains narrower told = ends_last clause.literals kept.front kept.back ds es domains narrower told
 told_lasts s kept ds es domains narrower told = tt
 
@@ -45,6 +46,7 @@ no_ends ls ds = record {
 
 pub nothing_told : (s : Saying) (ds : List (List (ℤ × ℤ))) → IsTold s nothing ds
 nothing_told (Sum relation ks ts c) ds = refl
+nothing_told (SumIf relation ks ts c r) ds = refl
 nothing_told (Says all clause) ds = no_ends clause.literals ds
 nothing_told s ds = tt
 
@@ -56,6 +58,7 @@ all_last sayings kept ds es domains narrower told = λ k s at. told_lasts s (sli
 -- whoever owns it, it agrees
 told_owned : (s : Saying) (i : ℕ) (kept : Kept) (ds : List (List (ℤ × ℤ))) → IsTold s kept ds → IsTold s (owned i kept) ds
 told_owned (Sum relation ks ts c) i kept ds told = told
+told_owned (SumIf relation ks ts c r) i kept ds told = told
 told_owned (Says all clause) i kept ds told = told
 told_owned s i kept ds told = tt
 

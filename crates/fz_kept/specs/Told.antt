@@ -5,7 +5,7 @@ use Rattle.fz_strength.specs.declared.literal.Literal.{Literal}
 use Rattle.fz_strength.specs.Domains.{term_set}
 use Rattle.fz_strength.specs.Events.{IsOnly}
 use Rattle.fz_strength.specs.Clauses.{IsUntrueIn}
-use Rattle.fz_strength.specs.Sayings.{Saying, Sum, Says}
+use Rattle.fz_strength.specs.Sayings.{Saying, Sum, SumIf, Says}
 use Rattle.fz_kept.specs.declared.kept.Kept.{Kept}
 
 abbrev pub nothing : Kept
@@ -37,6 +37,7 @@ pub record AreEndsUntrue (ls : List Literal) (front back : ℕ) (ds : List (List
 -- both ends of which none may still get true; for all else whatever is kept.
 abbrev pub IsTold : Saying → Kept → List (List (ℤ × ℤ)) → Type 0
 IsTold (Sum relation ks ts c) kept ds = IsToldSum ks ts kept.front kept.number ds
+IsTold (SumIf relation ks ts c r) kept ds = IsToldSum ks ts kept.front kept.number ds
 IsTold (Says all clause) kept ds = AreEndsUntrue clause.literals kept.front kept.back ds
 IsTold says kept ds = Unit {0}
 
@@ -47,5 +48,6 @@ AreTold sayings kept ds = (k : ℕ) (s : Saying) → slice_get sayings (slice_in
 -- It has so many terms or literals that it serves to keep something.
 abbrev pub IsLong : Saying → Type 0
 IsLong (Sum relation ks ts c) = 4 < length ts
+IsLong (SumIf relation ks ts c r) = 4 < length ts
 IsLong (Says all clause) = 8 < length clause.literals
 IsLong says = ⊥

@@ -131,7 +131,7 @@ told_others (k ∷ ks) [] (suc front) n ds told others = absurd told
 told_others (k ∷ ks) (t ∷ ts) (suc front) n ds told (inl all) = told_others ks ts front (n -ℤ (k *ℤ told.0)) ds told.2 (all_but_one ts ds all)
 told_others (k ∷ ks) (t ∷ ts) (suc front) n ds told (inr rest) = told_others ks ts front (n -ℤ (k *ℤ told.0)) ds told.2 rest.1
 
-told_line : (relation : Relation) (ks : List ℤ) (ts : List Term) (front : ℕ) (n c left : ℤ) (ds : List (List (ℤ × ℤ))) → AreTermsOf (length ds) ts → left ≡ (c -ℤ n)
+pub told_line : (relation : Relation) (ks : List ℤ) (ts : List Term) (front : ℕ) (n c left : ℤ) (ds : List (List (ℤ × ℤ))) → AreTermsOf (length ds) ts → left ≡ (c -ℤ n)
     → IsToldSum ks ts front n ds → SumLine relation (drop front ks) (drop front ts) left ds → SumLine relation ks ts c ds
 told_line Equal ks ts front n c left ds are is told line = (
   told_at_most ks ts front n c left ds is told line.0,

@@ -4,6 +4,7 @@
 
 mod decide;
 mod follow;
+mod front;
 pub mod reified;
 
 pub use reified::ReifiedLinear;

@@ -1,12 +1,18 @@
 //! Linear constraints, and a Boolean that says whether they hold.
-ghost use Rattle.std.specs.Prelude.{◌≡◌, ◌≢◌, ◌≤◌, length, IfOk};
+ghost use Rattle.std.specs.Prelude.{◌≡◌, ◌≢◌, ◌↔◌, ◌≤◌, length, IfOk, IsTrue};
 ghost use Rattle.std.specs.List.{AllByRecursion};
 ghost use Rattle.fz_spec.specs.declared.limits.TheConstants.{ELEMENT_LIMIT};
 ghost use Rattle.fz_strength.specs.declared.relation.Relation.TheVariants.{Below};
-ghost use Rattle.fz_strength.specs.Sayings.{SumIf};
-ghost use Rattle.fz_prop.specs.Stores.{FitsTerm};
+ghost use Rattle.fz_strength.specs.Domains.{AreDomains};
+ghost use Rattle.fz_strength.specs.Promises.{Suits};
+ghost use Rattle.fz_strength.specs.Sayings.{SumIf, line_of, said_terms, truth_of};
+ghost use Rattle.fz_kept.specs.Told.{IsLong, IsTold};
+ghost use Rattle.fz_prop.specs.Answers.{Narrows};
+ghost use Rattle.fz_prop.specs.Stores.{FitsTerm, IsTermOf};
 
-use crate::follow::keep_reified;
+use crate::front::keep_rest;
+use fz_kept::Kept;
+use fz_linear::front::is_long;
 use fz_linear::narrow::{Precision, Weighted, precision_of};
 use fz_prop::{Answer, Propagator, Store};
 use fz_spec::term::Term;
@@ -68,15 +74,40 @@ impl ReifiedLinear {
     }
 }
 
-impl Propagator for ReifiedLinear {
-    ghost saying = { λ p. p };
+impl ReifiedLinear {
+    /// Whether it has so many terms that it serves to keep something.
+    pub fn keeps(&self) -> bool
+        ensures { IsTrue result ↔ IsLong self.now }
+    {
+        is_long(&self.terms)
+    }
 
-    fn propagate(&self, store: &mut Store) -> Result<Answer, AllocError> {
+    /// Narrows a store, as `propagate` does. How many terms at the front are fixed is kept, and what they add up to.
+    ///
+    /// # Errors
+    /// `AllocError` where there is no memory for a domain; the store is then narrower, and no assignment is lost.
+    pub fn run(&self, store: &mut Store, kept: &mut Kept) -> Result<Answer, AllocError>
+        requires terms { AllByRecursion (IsTermOf (length store.old.doms)) (said_terms self.now) }
+        requires suits { Suits self.now store.old.doms }
+        requires told { IsTold self.now kept.old store.old.doms }
+        ensures told { AreDomains store.new.doms → IsTold self.now kept.new store.new.doms }
+        ensures narrows { Narrows (truth_of self.now) (line_of self.now) result
+            store.old store.new }
+    {
         let sum = Weighted {
             factors: &self.factors,
             terms: &self.terms,
             precision: self.precision,
         };
-        keep_reified(store, &sum, self.relation, self.number, self.r)
+        keep_rest(store, &sum, self.relation, self.number, self.r, kept)
+    }
+}
+
+impl Propagator for ReifiedLinear {
+    ghost saying = { λ p. p };
+
+    fn propagate(&self, store: &mut Store) -> Result<Answer, AllocError> {
+        let mut kept = Kept::none();
+        self.run(store, &mut kept)
     }
 }

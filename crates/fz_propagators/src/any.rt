@@ -138,6 +138,7 @@ impl AnyPropagator {
     {
         match self {
             AnyPropagator::Linear(linear) => linear.keeps(),
+            AnyPropagator::ReifiedLinear(linear) => linear.keeps(),
             AnyPropagator::Clause(clause) => clause.keeps(),
             _ => false,
         }
@@ -159,6 +160,7 @@ impl AnyPropagator {
     {
         match self {
             AnyPropagator::Linear(linear) => linear.run(store, kept),
+            AnyPropagator::ReifiedLinear(linear) => linear.run(store, kept),
             AnyPropagator::Clause(clause) => clause.run(store, kept),
             _ => self.propagate(store),
         }
