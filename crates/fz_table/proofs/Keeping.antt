@@ -11,7 +11,7 @@ use Rattle.fz_dom.specs.declared.change.Change.{Change}
 use Rattle.fz_dom.specs.declared.change.Change.TheVariants.{Same, Changed, Wiped}
 use Rattle.fz_dom.proofs.Kept.{limits_of}
 use Rattle.fz_spec.specs.declared.term.Term.{Term}
-use Rattle.fz_spec.specs.declared.term.Term.TheVariants.{Var}
+use Rattle.fz_spec.specs.declared.term.Term.TheVariants.{Num, Var}
 use Rattle.fz_spec.specs.Constraints.{term_value}
 use Rattle.fz_strength.specs.Domains.{dom_at, term_set, room, AreDomains, Within, IsNarrower}
 use Rattle.fz_strength.specs.Events.{IsOnly, IsFixedIn, AllFixed, AreSingle}
@@ -26,9 +26,10 @@ use Rattle.fz_prop.proofs.TermChanges.{term_within, narrower_term, only_in, with
 use Rattle.fz_prop.proofs.Twice.{shrinks_twice, room_after}
 use Rattle.fz_table.specs.Spans.{IsFilled}
 use Rattle.fz_bits.specs.Members.{HasMember}
-use Rattle.fz_table.specs.Rows.{IsRowAt, AreLeft, Stands}
+use Rattle.fz_table.specs.Rows.{IsRowAt, AreLeft, Stands, AreApart}
 use Rattle.fz_table.proofs.Growing.{limits_by_numbers}
-use Rattle.fz_table.proofs.LeftRows.{value_stands, stands_supported}
+use Rattle.fz_table.proofs.LeftRows.{value_stands}
+use Rattle.fz_table.proofs.Slices.{part_get}
 
 -- a list has a number at each place before its end
 number_at_place : (ns : List ℤ) (j n : ℕ) → length ns ≡ n → j < n → (m : ℤ) × (slice_get ns j ≡ Some m)
@@ -39,69 +40,71 @@ number_at_place ns j n size below = elim (slice_get_cases ns j).1 [
 
 -- ---- the loop over the columns
 
--- Terms before place k are kept to their columns; where nothing changed, what is left of each is supported.
-pub record IsKeeping (xs : List Term) (table : List ℤ) (r s : Stored) (has_changed : Bool) (k : ℕ) : Type 0 where
+-- the rows lie in domains
+abbrev pub LieStill : List Term → List ℤ → List ℕ → List (List (ℤ × ℤ)) → Type 0
+LieStill xs table rows ds = (i : ℕ) → HasMember rows i → LieWithin ds xs (slice_range table (i * length xs) (i * length xs + length xs))
+
+-- Terms before place k are kept to their columns; where nothing changed, or no variable stands at two places, the rows still lie in
+-- the domains.
+pub record IsKeeping (xs : List Term) (table : List ℤ) (rows : List ℕ) (r s : Stored) (has_changed : Bool) (k : ℕ) : Type 0 where
   pub shrinks : Shrinks r s
   pub correct : IsCorrectOf (IsRowAt xs table) r.doms s.doms
   pub falls : has_changed ≡ true → room s.doms < room r.doms
   pub same : has_changed ≡ false → s ≡ r
-  pub supported : has_changed ≡ false → (j : ℕ) (t : Term) (n : ℤ) → j < k → slice_get xs j ≡ Some t → IsInSet (term_set r.doms t) n → IsSupported xs table r.doms j n
+  pub lie : (has_changed ≡ true → AreApart xs) → LieStill xs table rows s.doms
+  pub stand : (j : ℕ) (t : Term) (n : ℤ) → j < k → slice_get xs j ≡ Some t → IsInSet (term_set s.doms t) n → Stands table (length xs) rows j n
 
-pub keeping_none : (xs : List Term) (table : List ℤ) (s : Stored) → IsKeeping xs table s s false 0
-keeping_none xs table s = record {
+pub keeping_none : (xs : List Term) (table : List ℤ) (rows : List ℕ) (s : Stored) → AreLeft xs table s.doms rows → IsKeeping xs table rows s s false 0
+keeping_none xs table rows s are = record {
   shrinks = same_shrinks s;
   correct = λ a holds within. within;
   falls = λ e. absurd (cc (e));
   same = λ e. refl;
-  supported = λ e j t n below. absurd (omega (arith, below));
+  lie = λ apart i has. ((are i).0 has).within;
+  stand = λ j t n below. absurd (omega (arith, below));
 }
 
-only_supported : (xs : List Term) (table : List ℤ) (ds : List (List (ℤ × ℤ))) (rows : List ℕ) (k : ℕ) (t : Term) (m : ℤ) → slice_get xs k ≡ Some t → IsOnly (term_set ds t) m → ((i : ℕ) × HasMember rows i)
-    → AreLeft xs table ds rows → IsSupported xs table ds k m
-only_supported xs table ds rows k t m at only some are =
-    let start = some.0 * length xs in
-    let left = (are some.0).0 some.1 in
-    let row = slice_range table start (start + length xs) in
-    let here = number_at_place row k (length xs) left.within.size (slice_get_within xs k t at) in
-    (row, left, here.1 ∙ ap (λ (x : ℤ). Some x) (only_in (term_set ds t) m here.0 only (left.within.each k t here.0 at here.1)))
-
 -- the only number that is left of a term stands in each row that is left
-pub keeping_only : (xs : List Term) (table : List ℤ) (r s : Stored) (has_changed : Bool) (k : ℕ) (t : Term) (rows : List ℕ) → slice_get xs k ≡ Some t → IsFixedIn s.doms t → ((i : ℕ) × HasMember rows i)
-    → AreLeft xs table r.doms rows → IsKeeping xs table r s has_changed k → IsKeeping xs table r s has_changed (k + 1)
+pub keeping_only : (xs : List Term) (table : List ℤ) (r s : Stored) (has_changed : Bool) (k : ℕ) (t : Term) (rows : List ℕ) → slice_get xs k ≡ Some t → IsFixedIn r.doms t → ((i : ℕ) × HasMember rows i)
+    → AreLeft xs table r.doms rows → IsKeeping xs table rows r s has_changed k → IsKeeping xs table rows r s has_changed (k + 1)
 keeping_only xs table r s has_changed k t rows at fixed some are h = record {
   shrinks = h.shrinks;
   correct = h.correct;
   falls = h.falls;
   same = h.same;
-  supported = λ e j u n below at_u is. elim (cases_eq j k) [
+  lie = h.lie;
+  stand = λ j u n below at_u is. elim (cases_eq j k) [
     | inl same ↦
-        let before : IsFixedIn r.doms t = subst (λ (w : Stored). IsFixedIn w.doms t) (h.same e) fixed in
         let one : u ≡ t = cc (at, subst (λ (i : ℕ). slice_get xs i ≡ Some u) same at_u) in
-        let is_m : n ≡ before.0 = only_in (term_set r.doms t) before.0 n before.1 (subst (λ (w : Term). IsInSet (term_set r.doms w) n) one is) in
-        subst (λ (i : ℕ). IsSupported xs table r.doms i n) (sym same)
-        (subst (IsSupported xs table r.doms k) (sym is_m) (only_supported xs table r.doms rows k t before.0 at before.1 some are))
-    | inr other ↦ h.supported e j u n (omega (arith, below, other)) at_u is
+        let was : IsInSet (term_set r.doms t) n = narrower_term r.doms s.doms t h.shrinks.narrower n (subst (λ (w : Term). IsInSet (term_set s.doms w) n) one is) in
+        let row = slice_range table (some.0 * length xs) (some.0 * length xs + length xs) in
+        let left = (are some.0).0 some.1 in
+        let here = number_at_place row k (length xs) left.within.size (slice_get_within xs k t at) in
+        let is_n : here.0 ≡ n = only_in (term_set r.doms t) fixed.0 here.0 fixed.1 (left.within.each k t here.0 at here.1) ∙ sym (only_in (term_set r.doms t) fixed.0 n fixed.1 was) in
+        let there : slice_get table (some.0 * length xs + k) ≡ Some n =
+        sym (part_get table (some.0 * length xs) (length xs) k (slice_get_within xs k t at)) ∙ here.1 ∙ ap (λ (x : ℤ). Some x) is_n in
+        subst (λ (i : ℕ). Stands table (length xs) rows i n) (sym same) (some.0, some.1, there)
+    | inr other ↦ h.stand j u n (omega (arith, below, other)) at_u is
   ];
 }
 
 -- a variable keeps the numbers of its column
 pub keeping_same : (xs : List Term) (table : List ℤ) (r s t : Stored) (has_changed : Bool) (k v : ℕ) (rows : List ℕ) (P : ℤ → Type 0)
-    → slice_get xs k ≡ Some (Var v) → AreLeft xs table r.doms rows → ((n : ℤ) → P n ↔ Stands table (length xs) rows k n)
-    → IsChangeAt Same v P s t → IsKeeping xs table r s has_changed k → IsKeeping xs table r t has_changed (k + 1)
-keeping_same xs table r s t has_changed k v rows P at are stands change h =
-    subst (λ (u : Stored). IsKeeping xs table r u has_changed (k + 1)) (sym change.0) (record {
+    → slice_get xs k ≡ Some (Var v) → ((n : ℤ) → P n ↔ Stands table (length xs) rows k n)
+    → IsChangeAt Same v P s t → IsKeeping xs table rows r s has_changed k → IsKeeping xs table rows r t has_changed (k + 1)
+keeping_same xs table r s t has_changed k v rows P at stands change h =
+    subst (λ (u : Stored). IsKeeping xs table rows r u has_changed (k + 1)) (sym change.0) (record {
       shrinks = h.shrinks;
       correct = h.correct;
       falls = h.falls;
       same = h.same;
-      supported = λ e j u n below at_u is. elim (cases_eq j k) [
+      lie = h.lie;
+      stand = λ j u n below at_u is. elim (cases_eq j k) [
         | inl one ↦
             let is_v : u ≡ Var v = cc (at, subst (λ (i : ℕ). slice_get xs i ≡ Some u) one at_u) in
-            let left : IsInSet (dom_at r.doms v) n = subst (λ (w : Term). IsInSet (term_set r.doms w) n) is_v is in
-            let now : IsInSet (dom_at s.doms v) n = subst (λ (w : Stored). IsInSet (dom_at w.doms v) n) (sym (h.same e)) left in
-            subst (λ (i : ℕ). IsSupported xs table r.doms i n) (sym one)
-            (stands_supported xs table r.doms rows k n (slice_get_within xs k (Var v) at) are ((stands n).0 (change.1 n now)))
-        | inr other ↦ h.supported e j u n (omega (arith, below, other)) at_u is
+            let now : IsInSet (dom_at s.doms v) n = subst (λ (w : Term). IsInSet (term_set s.doms w) n) is_v is in
+            subst (λ (i : ℕ). Stands table (length xs) rows i n) (sym one) ((stands n).0 (change.1 n now))
+        | inr other ↦ h.stand j u n (omega (arith, below, other)) at_u is
       ];
     })
 
@@ -112,21 +115,51 @@ keeping_correct change xs table r s t k v rows P terms at are stands h shrinks c
     within_kept change (Var v) P s t a h shrinks (correct a holds within)
     ((stands (term_value a (Var v))).1 (value_stands xs table r.doms rows a k (Var v) terms are at holds within))
 
+-- a number that stands at a place of a row lies in what is kept there
+lies_in : (xs : List Term) (table : List ℤ) (s t : Stored) (k v i : ℕ) (rows : List ℕ) (P : ℤ → Type 0) (j : ℕ) (u : Term) (n : ℤ) → slice_get xs k ≡ Some (Var v)
+    → ((m : ℤ) → P m ↔ Stands table (length xs) rows k m) → IsChangeAt Changed v P s t → AreApart xs → HasMember rows i
+    → slice_get xs j ≡ Some u → slice_get table (i * length xs + j) ≡ Some n → IsInSet (term_set s.doms u) n → IsInSet (term_set t.doms u) n
+lies_in xs table s t k v i rows P j (Num m) n at stands change apart has at_u at_n is = is
+lies_in xs table s t k v i rows P j (Var w) n at stands change apart has at_u at_n is = elim (cases_eq w v) [
+  | inl one ↦
+      let here : slice_get xs j ≡ Some (Var v) = at_u ∙ ap (λ (u : ℕ). Some (Var u)) one in
+      let same : j ≡ k = apart j k v here at in
+      let there : slice_get table (i * length xs + k) ≡ Some n = subst (λ (m : ℕ). slice_get table (i * length xs + m) ≡ Some n) same at_n in
+      let was : IsInSet (dom_at s.doms v) n = subst (λ (u : ℕ). IsInSet (dom_at s.doms u) n) one is in
+      subst (λ (u : ℕ). IsInSet (dom_at t.doms u) n) (sym one) ((change.kept n).1 (was, (stands n).1 (i, has, there)))
+  | inr other ↦ subst (λ (d : List (ℤ × ℤ)). IsInSet d n) (sym (change.others w other)) is
+]
+
 pub keeping_changed : (xs : List Term) (table : List ℤ) (r s t : Stored) (has_changed : Bool) (k v : ℕ) (rows : List ℕ) (P : ℤ → Type 0)
     → AllByRecursion (IsTermOf (length r.doms)) xs → slice_get xs k ≡ Some (Var v) → AreLeft xs table r.doms rows → ((n : ℤ) → P n ↔ Stands table (length xs) rows k n)
-    → IsChangeAt Changed v P s t → Shrinks s t → IsKeeping xs table r s has_changed k → IsKeeping xs table r t true (k + 1)
+    → IsChangeAt Changed v P s t → Shrinks s t → IsKeeping xs table rows r s has_changed k → IsKeeping xs table rows r t true (k + 1)
 keeping_changed xs table r s t has_changed k v rows P terms at are stands change shrinks h = record {
   shrinks = shrinks_twice r s t h.shrinks shrinks;
   correct = keeping_correct Changed xs table r s t k v rows P terms at are stands change shrinks h.correct;
   falls = λ e. let before = room_after r s h.shrinks in let now = change.falls in omega (arith, before, now);
   same = λ e. absurd (cc (e));
-  supported = λ e. absurd (cc (e));
+  lie = λ apart i has.
+      let was = h.lie (λ e. apart refl) i has in
+      record {
+        size = was.size;
+        each = λ j u n at_u at_n.
+            let under = slice_get_within xs j u at_u in
+            let there : slice_get table (i * length xs + j) ≡ Some n = sym (part_get table (i * length xs) (length xs) j under) ∙ at_n in
+            lies_in xs table s t k v i rows P j u n at stands change (apart refl) has at_u there (was.each j u n at_u at_n);
+      };
+  stand = λ j u n below at_u is. elim (cases_eq j k) [
+    | inl one ↦
+        let is_v : u ≡ Var v = cc (at, subst (λ (i : ℕ). slice_get xs i ≡ Some u) one at_u) in
+        let now : IsInSet (dom_at t.doms v) n = subst (λ (w : Term). IsInSet (term_set t.doms w) n) is_v is in
+        subst (λ (i : ℕ). Stands table (length xs) rows i n) (sym one) ((stands n).0 ((change.kept n).0 now).1)
+    | inr other ↦ h.stand j u n (omega (arith, below, other)) at_u (narrower_term s.doms t.doms u shrinks.narrower n is)
+  ];
 }
 
 -- no number of a variable is in its column
 pub keeping_fails : (xs : List Term) (table : List ℤ) (r s t : Stored) (has_changed : Bool) (k v : ℕ) (rows : List ℕ) (P : ℤ → Type 0)
     → AllByRecursion (IsTermOf (length r.doms)) xs → slice_get xs k ≡ Some (Var v) → AreLeft xs table r.doms rows → ((n : ℤ) → P n ↔ Stands table (length xs) rows k n)
-    → IsChangeAt Wiped v P s t → IsKeeping xs table r s has_changed k → (a : List ℤ) → Within r.doms a → IsRowAt xs table a → ⊥
+    → IsChangeAt Wiped v P s t → IsKeeping xs table rows r s has_changed k → (a : List ℤ) → Within r.doms a → IsRowAt xs table a → ⊥
 keeping_fails xs table r s t has_changed k v rows P terms at are stands change h = λ a within holds.
     let is_v : IsTermOf (length s.doms) (Var v) = subst (λ (n : ℕ). IsTermOf n (Var v)) (sym h.shrinks.narrower.size) (all_at (IsTermOf (length r.doms)) xs k (Var v) terms at) in
     none_kept (Var v) P s t change (term_value a (Var v)) (term_within s.doms a (Var v) is_v (h.correct a holds within))
@@ -137,13 +170,18 @@ keeping_fails xs table r s t has_changed k v rows P terms at are stands change h
 some_left : (xs : List Term) (table : List ℤ) (ds : List (List (ℤ × ℤ))) (rows : List ℕ) → ((i : ℕ) × HasMember rows i) → AreLeft xs table ds rows → (row : List ℤ) × IsLeftRow xs table ds row
 some_left xs table ds rows some are = (slice_range table (some.0 * length xs) (some.0 * length xs + length xs), (are some.0).0 some.1)
 
-pub keeping_all : (xs : List Term) (table : List ℤ) (r s : Stored) (k : ℕ) (rows : List ℕ) → length xs ≤ k → ((i : ℕ) × HasMember rows i) → AreLeft xs table r.doms rows
-    → IsKeeping xs table r s false k → AreSupported xs table s.doms
-keeping_all xs table r s k rows end some are h =
-    subst (λ (u : Stored). AreSupported xs table u.doms) (sym (h.same refl)) (record {
-      some = some_left xs table r.doms rows some are;
-      supported = λ j t n at is. let inside = slice_get_within xs j t at in h.supported refl j t n (omega (arith, end, inside)) at is;
-    })
+pub keeping_all : (xs : List Term) (table : List ℤ) (r s : Stored) (has_changed : Bool) (k : ℕ) (rows : List ℕ) → length xs ≤ k → ((i : ℕ) × HasMember rows i) → AreLeft xs table r.doms rows
+    → (has_changed ≡ true → AreApart xs) → IsKeeping xs table rows r s has_changed k → AreSupported xs table s.doms
+keeping_all xs table r s has_changed k rows end some are apart h =
+    let row_of : ℕ → List ℤ = λ i. slice_range table (i * length xs) (i * length xs + length xs) in
+    let left : (i : ℕ) → HasMember rows i → IsLeftRow xs table s.doms (row_of i) = λ i has. record { is_row = ((are i).0 has).is_row; within = h.lie apart i has } in
+    record {
+      some = (row_of some.0, left some.0 some.1);
+      supported = λ j t n at is.
+          let inside = slice_get_within xs j t at in
+          let w = h.stand j t n (omega (arith, end, inside)) at is in
+          (row_of w.0, left w.0 w.1, part_get table (w.0 * length xs) (length xs) j inside ∙ w.2);
+    }
 
 -- ---- where all terms are fixed
 

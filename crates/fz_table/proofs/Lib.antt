@@ -1,8 +1,10 @@
+pub mod Different
 pub mod Growing
 pub mod Slices
 pub mod Filling
 pub mod Building
 pub mod Walking
 pub mod Finding
+pub mod Windowed
 pub mod LeftRows
 pub mod Keeping

@@ -1,17 +1,21 @@
 //! Columns of a table: the rows whose number is left, and the numbers of some rows.
-ghost use Rattle.std.specs.Prelude.{◌≡◌, ◌↔◌, ◌⊎◌, ℕ, ℤ, length, IfOk};
+ghost use Rattle.std.specs.Prelude.{◌≡◌, ◌<◌, ◌↔◌, ◌⊎◌, ℕ, ℤ, length, IfOk};
 ghost use Rattle.fz_sets.specs.Sets.{IsInSet, single};
-ghost use Rattle.fz_strength.specs.Domains.{term_set};
+ghost use Rattle.fz_strength.specs.Domains.{dom_at, term_set};
 ghost use Rattle.fz_prop.specs.Stores.{IsTermOf};
 ghost use Rattle.fz_bits.specs.Members.{HasMember};
+ghost use Rattle.fz_bits.specs.Windows.{IsBit};
 ghost use Rattle.fz_table.specs.Supports.{IsIn, AreInOrder, HasNumber, AreSized, StandsIn, IsLeftIn};
 
+use crate::near::{join_near, numbers_near};
+use crate::row_set::{clear, meet};
 use crate::spans::Spans;
 use crate::supports::Support;
 use crate::walk::{add_numbers, ends_of, first_from, join_to};
-use fz_bits::BitSet;
+use fz_bits::Window;
 use fz_dom::Dom;
 use fz_prop::Store;
+use fz_prop::terms::window_of;
 use fz_spec::term::Term;
 use std::alloc::{AllocError, Global};
 use std::marker::Model;
@@ -58,7 +62,7 @@ impl Column {
     }
 
     /// Keeps the rows of a set whose number is left of a term. What the other set has is lost.
-    pub fn keep_left(&self, store: &Store, term: Term, rows: &mut BitSet, found: &mut BitSet)
+    pub fn keep_left(&self, store: &Store, term: Term, rows: &mut [u64], found: &mut [u64])
         requires term { IsTermOf (length store.now.doms) term }
         requires sized { AreSized self.now (length rows.old) }
         requires found { length found.old ≡ length rows.old }
@@ -72,26 +76,40 @@ impl Column {
             return;
         }
         self.find(store, term, found);
-        rows.meet(found);
+        meet(rows, found);
     }
 
     /// Finds the rows whose number is left of a term.
-    fn find(&self, store: &Store, term: Term, found: &mut BitSet)
+    fn find(&self, store: &Store, term: Term, found: &mut [u64])
         requires term { IsTermOf (length store.now.doms) term }
         requires sized { AreSized self.now (length found.old) }
         ensures found { (i : ℕ) → HasMember found.new i
             ↔ IsLeftIn self.now (term_set store.now.doms term) i }
         ensures size { length found.new ≡ length found.old }
     {
-        found.clear();
+        clear(found);
         match term {
-            Term::Var(variable) => self.join_in(store.dom(variable), found),
+            Term::Var(variable) => self.join_left(store, variable, found),
             Term::Num(number) => self.join_one(number, found),
         }
     }
 
+    /// Puts the rows that have a number which is left of a variable into a set.
+    fn join_left(&self, store: &Store, variable: u32, rows: &mut [u64])
+        requires variable { variable < length store.now.doms }
+        requires sized { AreSized self.now (length rows.old) }
+        ensures rows { (i : ℕ) → HasMember rows.new i
+            ↔ (HasMember rows.old i ⊎ IsLeftIn self.now (dom_at store.now.doms variable) i) }
+        ensures size { length rows.new ≡ length rows.old }
+    {
+        match window_of(store, Term::Var(variable)) {
+            Some(window) => join_near(&self.supports, &self.ends, window, rows),
+            None => self.join_in(store.dom(variable), rows),
+        }
+    }
+
     /// Puts the rows that have a number of a domain into a set.
-    fn join_in(&self, dom: &Dom, rows: &mut BitSet)
+    fn join_in(&self, dom: &Dom, rows: &mut [u64])
         requires { AreSized self.now (length rows.old) }
         ensures rows { (i : ℕ) → HasMember rows.new i
             ↔ (HasMember rows.old i ⊎ IsLeftIn self.now dom.now i) }
@@ -105,7 +123,7 @@ impl Column {
     }
 
     /// Puts the rows that have a number into a set.
-    fn join_one(&self, number: i32, rows: &mut BitSet)
+    fn join_one(&self, number: i32, rows: &mut [u64])
         requires { AreSized self.now (length rows.old) }
         ensures rows { (i : ℕ) → HasMember rows.new i
             ↔ (HasMember rows.old i ⊎ IsLeftIn self.now (single number) i) }
@@ -115,11 +133,21 @@ impl Column {
         let _ = join_to(&self.supports, first, number, rows);
     }
 
+    /// The numbers of a window that some rows have.
+    pub fn numbers_near(&self, window: Window, rows: &[u64]) -> Window
+        requires { AreSized self.now (length rows.now) }
+        ensures base { result.base ≡ window.base }
+        ensures numbers { (n : ℤ) → IsBit window.base result.bits n
+            ↔ (IsBit window.base window.bits n × StandsIn self.now rows.now n) }
+    {
+        numbers_near(&self.supports, &self.ends, window, rows)
+    }
+
     /// The numbers of a domain that some rows have.
     ///
     /// # Errors
     /// `AllocError` where there is no memory.
-    pub fn numbers_in(&self, alloc: Global, dom: &Dom, rows: &BitSet) -> Result<Spans, AllocError>
+    pub fn numbers_in(&self, alloc: Global, dom: &Dom, rows: &[u64]) -> Result<Spans, AllocError>
         requires { AreSized self.now (length rows.now) }
         ensures { IfOk result (λ s. (n : ℤ) → IsInSet s n
             ↔ (IsInSet dom.now n × StandsIn self.now rows.now n)) }

@@ -1,32 +1,37 @@
 //! Keeping each term to the numbers that stand at its place of the rows that are left.
-ghost use Rattle.std.specs.Prelude.{◌≡◌, ◌<◌, ◌/◌, ℕ, length, IfOk, OnErr};
+ghost use Rattle.std.specs.Prelude.{◌≡◌, ◌<◌, ◌/◌, ℕ, length, IfOk, OnErr, IsTrue};
 ghost use Rattle.std.specs.List.{AllByRecursion};
 ghost use Rattle.fz_strength.specs.Tables.{AreSupported};
 ghost use Rattle.fz_prop.specs.Answers.{IsAnswerOf, IsCorrectOf};
 ghost use Rattle.fz_prop.specs.Stores.{Shrinks, IsTermOf, IsChangeAt};
 ghost use Rattle.fz_bits.specs.Members.{HasMember, words_for};
 ghost use Rattle.fz_table.specs.Supports.{AreSized, StandsIn, AreColumnsOf};
-ghost use Rattle.fz_table.specs.Rows.{IsRowAt, AreLeft};
+ghost use Rattle.fz_table.specs.Rows.{IsRowAt, AreLeft, AreApart};
 
 use crate::column::Column;
-use crate::rows::rows_left;
-use fz_bits::BitSet;
+use crate::row_set::is_empty;
+use crate::rows::find_left;
 use fz_dom::Dom;
-use fz_prop::terms::are_fixed;
+use fz_prop::terms::{are_fixed, window_of};
 use fz_prop::{Answer, Change, Store};
 use fz_spec::term::Term;
 use std::alloc::{AllocError, Global};
 
+/// Sets of rows of so many words stand on the stack.
+const NEAR: usize = 16;
+
 /// Narrows a store so that the values of terms are a row of a table: each term keeps the numbers that stand at its place of a row
-/// that lies in the domains. It answers NoFix where something changed.
+/// that lies in the domains. Where no variable stands at two places these rows still lie in what is left, and it rests at once.
 pub fn keep_rows(
     alloc: Global,
     store: &mut Store,
     terms: &[Term],
     table: &[i32],
     columns: &[Column],
+    differ: bool,
 ) -> Result<Answer, AllocError>
     requires terms { AllByRecursion (IsTermOf (length store.old.doms)) terms.now }
+    requires differ { IsTrue differ → AreApart terms.now }
     requires columns { AreColumnsOf table.now (length terms.now) columns.now }
     ensures shrinks { Shrinks store.old store.new }
     ensures correct { IsCorrectOf (IsRowAt terms.now table.now) store.old.doms store.new.doms }
@@ -37,14 +42,52 @@ pub fn keep_rows(
     if terms.is_empty() {
         return Ok(Answer::Failed);
     }
-    let rows = rows_left(alloc, store, terms, table, columns)?;
-    if rows.is_empty() {
+    let size = table.len() / terms.len() / 64 + 1;
+    if size <= NEAR {
+        let mut left = [0; NEAR];
+        let mut found = [0; NEAR];
+        let left = &mut left[..size];
+        let found = &mut found[..size];
+        return keep_found(alloc, store, terms, table, columns, differ, left, found);
+    }
+    let mut left = Vec::from_elem(alloc, 0, size)?;
+    let mut found = Vec::from_elem(alloc, 0, size)?;
+    keep_found(
+        alloc, store, terms, table, columns, differ, &mut left, &mut found,
+    )
+}
+
+/// Finds the rows that lie in the domains, and keeps each term to the numbers of these.
+fn keep_found(
+    alloc: Global,
+    store: &mut Store,
+    terms: &[Term],
+    table: &[i32],
+    columns: &[Column],
+    differ: bool,
+    left: &mut [u64],
+    found: &mut [u64],
+) -> Result<Answer, AllocError>
+    requires terms { AllByRecursion (IsTermOf (length store.old.doms)) terms.now }
+    requires some { 0 < length terms.now }
+    requires columns { AreColumnsOf table.now (length terms.now) columns.now }
+    requires differ { IsTrue differ → AreApart terms.now }
+    requires size { length left.old ≡ words_for (length table.now / length terms.now) }
+    requires found { length found.old ≡ length left.old }
+    ensures shrinks { Shrinks store.old store.new }
+    ensures correct { IsCorrectOf (IsRowAt terms.now table.now) store.old.doms store.new.doms }
+    ensures answer { IfOk result
+        (λ r. IsAnswerOf r (IsRowAt terms.now table.now) (AreSupported terms.now table.now)
+        store.old.doms store.new.doms) }
+{
+    find_left(store, terms, table, columns, left, found);
+    if is_empty(left) {
         return Ok(Answer::Failed);
     }
     if are_fixed(store, terms) {
         return Ok(Answer::Subsumed);
     }
-    keep_columns(alloc, store, terms, table, columns, &rows)
+    keep_columns(alloc, store, terms, table, columns, left, differ)
 }
 
 /// Keeps each variable to the numbers that stand at its place of the rows that are left: one that was fixed has its number there.
@@ -54,10 +97,12 @@ fn keep_columns(
     terms: &[Term],
     table: &[i32],
     columns: &[Column],
-    rows: &BitSet,
+    rows: &[u64],
+    differ: bool,
 ) -> Result<Answer, AllocError>
     requires terms { AllByRecursion (IsTermOf (length store.old.doms)) terms.now }
     requires columns { AreColumnsOf table.now (length terms.now) columns.now }
+    requires differ { IsTrue differ → AreApart terms.now }
     requires rows { AreLeft terms.now table.now store.old.doms rows.now }
     requires size { length rows.now ≡ words_for (length table.now / length terms.now) }
     requires some { (i : ℕ) × HasMember rows.now i }
@@ -83,7 +128,7 @@ fn keep_columns(
             Change::Same => {}
         }
     }
-    if has_changed {
+    if has_changed && !differ {
         Ok(Answer::NoFix)
     } else {
         Ok(Answer::Fix)
@@ -96,7 +141,7 @@ fn keep_column(
     store: &mut Store,
     variable: u32,
     column: &Column,
-    rows: &BitSet,
+    rows: &[u64],
 ) -> Result<Change, AllocError>
     requires variable { variable < length store.old.doms }
     requires sized { AreSized column.now (length rows.now) }
@@ -105,6 +150,10 @@ fn keep_column(
     ensures change { IfOk result
         (λ r. IsChangeAt r variable (StandsIn column.now rows.now) store.old store.new) }
 {
+    if let Some(window) = window_of(store, Term::Var(variable)) {
+        let numbers = column.numbers_near(window, rows);
+        return store.keep_window(variable, numbers);
+    }
     let numbers = column.numbers_in(alloc, store.dom(variable), rows)?;
     if numbers.are(store.dom(variable)) {
         return Ok(Change::Same);

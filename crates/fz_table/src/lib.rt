@@ -1,9 +1,12 @@
 //! The propagator of a list of terms that takes the numbers of a row of a table.
 #![tactic(auto)]
 
+mod apart;
 mod column;
 mod columns;
 mod keep;
+mod near;
+mod row_set;
 mod rows;
 mod spans;
 mod supports;

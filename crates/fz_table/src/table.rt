@@ -2,6 +2,7 @@
 ghost use Rattle.std.specs.Prelude.{◌≡◌, IfOk};
 ghost use Rattle.fz_strength.specs.Sayings.{Row};
 
+use crate::apart::do_differ;
 use crate::column::Column;
 use crate::columns::columns_of;
 use crate::keep::keep_rows;
@@ -16,19 +17,23 @@ pub struct Table {
     terms: Vec<Term>,
     numbers: Vec<i32>,
     columns: Vec<Column>,
+    /// Whether no variable stands at two places, as far as that was looked at.
+    differ: bool,
 }
 
 impl Model for Table {
-    ghost use Rattle.std.specs.Prelude.{length};
+    ghost use Rattle.std.specs.Prelude.{length, IsTrue};
     ghost use Rattle.fz_strength.specs.Sayings.{Saying, Row};
     ghost use Rattle.fz_table.specs.Supports.{AreColumnsOf};
+    ghost use Rattle.fz_table.specs.Rows.{AreApart};
 
     ghost Value = { Saying };
 
     ghost view = { λ p. Row p.terms.items p.numbers.items };
 
     ghost invariant = { λ p.
-        AreColumnsOf p.numbers.items (length p.terms.items) p.columns.items };
+        AreColumnsOf p.numbers.items (length p.terms.items) p.columns.items
+        × (IsTrue p.differ → AreApart p.terms.items) };
 }
 
 impl Table {
@@ -40,12 +45,14 @@ impl Table {
         ensures { IfOk result (λ p. p ≡ Row terms.now numbers.now) }
     {
         let columns = columns_of(alloc, numbers, terms.len())?;
+        let differ = do_differ(terms);
         let terms = Vec::from_slice(alloc, terms)?;
         let numbers = Vec::from_slice(alloc, numbers)?;
         Ok(Table {
             terms,
             numbers,
             columns,
+            differ,
         })
     }
 }
@@ -55,6 +62,13 @@ impl Propagator for Table {
 
     fn propagate(&self, store: &mut Store) -> Result<Answer, AllocError> {
         let alloc = *self.terms.allocator();
-        keep_rows(alloc, store, &self.terms, &self.numbers, &self.columns)
+        keep_rows(
+            alloc,
+            store,
+            &self.terms,
+            &self.numbers,
+            &self.columns,
+            self.differ,
+        )
     }
 }

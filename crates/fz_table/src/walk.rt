@@ -4,9 +4,9 @@ ghost use Rattle.fz_sets.specs.Sets.{IsInSet};
 ghost use Rattle.fz_bits.specs.Members.{HasMember};
 ghost use Rattle.fz_table.specs.Supports.{AreInOrder, AreSized, AreEnds, IsFirst, IsEnd, HasOneBetween, StandsBetween};
 
+use crate::row_set::{join, meets};
 use crate::spans::Spans;
 use crate::supports::{Support, count_below, count_to};
-use fz_bits::BitSet;
 use std::alloc::{AllocError, Global};
 
 /// How many numbers are looked at one after the other before one is found by halves.
@@ -52,7 +52,7 @@ pub fn first_from(supports: &[Support], ends: &[usize], place: usize, value: i32
 }
 
 /// Puts the rows of the supports from a place up to a number into a set, and gives the place behind them.
-pub fn join_to(supports: &[Support], place: usize, high: i32, rows: &mut BitSet) -> usize
+pub fn join_to(supports: &[Support], place: usize, high: i32, rows: &mut [u64]) -> usize
     requires order { AreInOrder supports.now }
     requires sized { AreSized supports.now (length rows.old) }
     requires place { place ≤ length supports.now }
@@ -65,7 +65,7 @@ pub fn join_to(supports: &[Support], place: usize, high: i32, rows: &mut BitSet)
         if supports[end].number > high {
             return end;
         }
-        rows.join(supports[end].rows);
+        join(rows, supports[end].rows);
     }
     supports.len()
 }
@@ -79,7 +79,7 @@ pub fn add_numbers(
     ends: &[usize],
     place: usize,
     high: i32,
-    rows: &BitSet,
+    rows: &[u64],
     numbers: &mut Spans,
 ) -> Result<usize, AllocError>
     requires order { AreInOrder supports.now }
@@ -96,7 +96,7 @@ pub fn add_numbers(
         if support.number > high {
             return Ok(end);
         }
-        if rows.meets(support.rows) {
+        if meets(rows, support.rows) {
             numbers.add(support.number)?;
             end = ends[end];
         } else {

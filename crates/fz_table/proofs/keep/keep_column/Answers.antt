@@ -1,4 +1,7 @@
+use Rattle.std.proofs.Common.{◌≡◌}
+use Rattle.std.specs.Prelude.{ℤ, ◌↔◌}
 use Rattle.std.proofs.lemmas.Result.{IfOk-weaker}
+use Rattle.fz_bits.specs.Windows.{IsBit}
 use Rattle.fz_sets.specs.Sets.{IsInSet, AreOneSet}
 use Rattle.fz_dom.specs.declared.change.Change.{Change}
 use Rattle.fz_strength.specs.Domains.{dom_at}
@@ -26,3 +29,16 @@ returns-clause-change c =
     let same = numbers_same (dom_at s.doms v) c.in_ok-numbers.numbers kept stands one (rw c.dom.ensures.dom at c.in_ok-numbers.ensures) in
     IfOk-weaker c.keep.result (λ (r : Change). IsChangeAt r v (λ x. IsInSet kept x) s t) (λ (r : Change). IsChangeAt r v stands s t)
     (λ r h. change_by r v (λ x. IsInSet kept x) stands s t same h) c.keep.ensures.change
+
+pub returns-in-Some-clause-change : goal.returns-in-Some-clause-change
+returns-in-Some-clause-change c =
+    let v = c.args.variable in
+    let s = c.args.store.now in
+    let t = c.keep_window.new.self in
+    let stands = StandsIn c.args.column.now c.args.rows.now in
+    let kept : ℤ → Type 0 = λ x. IsBit c.in-Some.window.base c.numbers_near-numbers.result.bits x in
+    let same : (x : ℤ) → IsInSet (dom_at s.doms v) x → kept x ↔ stands x = λ x is.
+    let here = (c.in-Some.ensures.numbers x).1 is in
+    ((λ h. ((c.numbers_near-numbers.ensures.numbers x).0 h).1), (λ h. (c.numbers_near-numbers.ensures.numbers x).1 (here, h))) in
+    IfOk-weaker c.keep_window.result (λ (r : Change). IsChangeAt r v kept s t) (λ (r : Change). IsChangeAt r v stands s t)
+    (λ r h. change_by r v kept stands s t same h) (rw c.numbers_near-numbers.ensures.base at c.keep_window.ensures.change)

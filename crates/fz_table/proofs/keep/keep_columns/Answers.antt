@@ -1,10 +1,11 @@
-use Rattle.std.proofs.Common.{◌≡◌, ℕ, ◌<◌, ◌∙◌, refl, ap, sym, subst, arith, pos, Bool}
+use Rattle.std.proofs.Common.{◌≡◌, ℕ, ◌<◌, rules, ◌∙◌, refl, ap, sym, subst, arith, pos, Bool}
 use Rattle.std.specs.Prelude.{slice_get, Some}
 use Rattle.std.proofs.lemmas.Option.{slice_get-get_or}
 use Rattle.fz_spec.specs.declared.term.Term.{Term}
 use Rattle.fz_spec.specs.declared.term.Term.TheVariants.{Num, Var}
 use Rattle.std.proofs.Common.{length}
 use Rattle.fz_strength.specs.Events.{IsFixedIn}
+use Rattle.fz_prop.specs.Stores.{Stored}
 use Rattle.fz_table.specs.Supports.{StandsIn}
 use Rattle.fz_table.proofs.LeftRows.{in_column, column_at}
 use Rattle.fz_table.proofs.Keeping.{IsKeeping, keeping_only, keeping_same, keeping_changed, keeping_correct, keeping_fails, keeping_all}
@@ -24,7 +25,9 @@ loop-place-preserved-then-is_fixed c =
     let k = c.loop-place.place in
     let v = c.in-Var.variable in
     let at : slice_get xs k ≡ Some (Var v) = slice_get-get_or xs k (Num (pos 0)) c.loop-place-test.true ∙ ap (λ (t : Term). Some t) c.in-Var.is in
-    let fixed : IsFixedIn c.loop-place.store.doms (Var v) = rw c.dom.ensures.dom at (c.if-is_fixed.ensures.one.0 refl) in
+    let now : IsFixedIn c.loop-place.store.doms (Var v) = rw c.dom.ensures.dom at (c.if-is_fixed.ensures.one.0 refl) in
+    let same : c.loop-place.store ≡ c.args.store.now = c.loop-place.invariant.same (search rules) in
+    let fixed : IsFixedIn c.args.store.now.doms (Var v) = subst (λ (s : Stored). IsFixedIn s.doms (Var v)) same now in
     keeping_only xs c.args.table.now c.args.store.now c.loop-place.store c.loop-place.has_changed k (Var v) c.args.rows.now at fixed c.requires.some c.requires.rows c.loop-place.invariant
 
 pub keep_column-requires-clause-sized : goal.keep_column-requires-clause-sized
@@ -81,12 +84,12 @@ loop-place-preserved c =
       | in-Same w ↦
           rw w.has_changed-is
           (keeping_same xs c.args.table.now c.args.store.now c.loop-place.store c.keep_column.new.store c.loop-place.has_changed k v c.args.rows.now (StandsIn column c.args.rows.now)
-          at c.requires.rows stands (rw w.in-Same.is at c.in_ok-keep_column.ensures.change) c.loop-place.invariant)
+          at stands (rw w.in-Same.is at c.in_ok-keep_column.ensures.change) c.loop-place.invariant)
     ]
 
 pub returns-else-has_changed-clause-answer : goal.returns-else-has_changed-clause-answer
 returns-else-has_changed-clause-answer c =
     let xs = c.args.terms.now in
     let end = c.loop-place-test.false in
-    keeping_all xs c.args.table.now c.args.store.now c.loop-place.store c.loop-place.place c.args.rows.now (omega (arith, end)) c.requires.some c.requires.rows
-    (subst (λ (b : Bool). IsKeeping xs c.args.table.now c.args.store.now c.loop-place.store b c.loop-place.place) c.if-has_changed.false c.loop-place.invariant)
+    keeping_all xs c.args.table.now c.args.store.now c.loop-place.store c.loop-place.has_changed c.loop-place.place c.args.rows.now (omega (arith, end)) c.requires.some c.requires.rows
+    (λ e. c.requires.differ (search rules)) c.loop-place.invariant

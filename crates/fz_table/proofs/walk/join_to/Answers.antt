@@ -36,7 +36,7 @@ loop-end-preserved c =
     let up_to = rw (to_z-of_z c.ranges.high) at c.loop-end.invariant.up_to in
     record {
       up_to = rw (to_z-of_z c.ranges.high) (up_to_more xs c.args.place c.args.high k (k + 1) s at low (omega arith) (omega (arith, test)) (one_more xs k s at) up_to);
-      joined = joined_next xs c.args.place c.args.rows.now c.loop-end.rows c.join.new.self k s up_to.from at c.join.ensures.members c.loop-end.invariant.joined;
+      joined = joined_next xs c.args.place c.args.rows.now c.loop-end.rows c.join.new.rows k s up_to.from at c.join.ensures.members c.loop-end.invariant.joined;
       size = c.join.ensures.size ∙ c.loop-end.invariant.size;
     }
 

@@ -1,6 +1,6 @@
 use Rattle.std.proofs.Common.{◌≡◌, length}
 use Rattle.fz_table.proofs.LeftRows.{AreLeftBelow}
-use Rattle.fz_table.proofs.rows.rows_left.Given as goal
+use Rattle.fz_table.proofs.rows.find_left.Given as goal
 
 -- the rows that are left at the places so far
 abbrev pub invariant-loop-place : goal.invariant-loop-place

@@ -3,7 +3,7 @@ use Rattle.std.specs.Prelude.{slice_get, Some}
 use Rattle.std.proofs.lemmas.Option.{slice_get-get_or}
 use Rattle.fz_spec.specs.declared.term.Term.TheVariants.{Num}
 use Rattle.fz_table.proofs.LeftRows.{left_each, left_sized, left_more, left_all, column_at}
-use Rattle.fz_table.proofs.rows.rows_left.Goals as goal
+use Rattle.fz_table.proofs.rows.find_left.Goals as goal
 
 pub keep_left-requires-clause-sized : goal.keep_left-requires-clause-sized
 keep_left-requires-clause-sized c =

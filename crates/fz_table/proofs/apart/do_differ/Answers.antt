@@ -1,0 +1,21 @@
+use Rattle.std.proofs.Common.{◌≡◌, get_or, pos, length, arith}
+use Rattle.std.specs.Prelude.{slice_get, Some}
+use Rattle.std.proofs.lemmas.Option.{slice_get-get_or}
+use Rattle.fz_spec.specs.declared.term.Term.TheVariants.{Num}
+use Rattle.fz_table.proofs.Different.{apart_none, apart_more, apart_all}
+use Rattle.fz_table.proofs.apart.do_differ.Goals as goal
+
+pub loop-place-init : goal.loop-place-init
+loop-place-init c = apart_none c.args.terms.now
+
+pub loop-place-preserved : goal.loop-place-preserved
+loop-place-preserved c =
+    let xs = c.args.terms.now in
+    let k = c.loop-place.place in
+    let at = slice_get-get_or xs k (Num (pos 0)) c.loop-place-test.true in
+    apart_more xs k (get_or xs k (Num (pos 0))) at (c.is_before.ensures c.if-is_before.false) c.loop-place.invariant
+
+pub returns : goal.returns
+returns c = λ e.
+    let end = c.loop-place-test.false in
+    apart_all c.args.terms.now c.loop-place.place (omega (arith, end)) c.loop-place.invariant

@@ -1,0 +1,10 @@
+use Rattle.std.proofs.Common.{◌≡◌, ◌∙◌, ◌<◌, ℕ, length, get_or, subst}
+use Rattle.std.proofs.lemmas.List.{get_or_default}
+use Rattle.fz_bits.specs.Words.{HasBit, AreOnes}
+use Rattle.fz_bits.proofs.Members.{meets_tells}
+use Rattle.fz_table.proofs.row_set.meets.Goals as goal
+
+pub returns : goal.returns
+returns c =
+    let words = c.args.rows.now in
+    meets_tells words c.args.chunk c.common.result c.common.ensures c.common.type_inv
