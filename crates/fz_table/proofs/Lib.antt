@@ -8,3 +8,7 @@ pub mod Finding
 pub mod Windowed
 pub mod LeftRows
 pub mod Keeping
+pub mod Partnering
+pub mod Coupling
+pub mod TwoColumns
+pub mod PairWords

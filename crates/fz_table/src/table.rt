@@ -6,6 +6,8 @@ use crate::apart::do_differ;
 use crate::column::Column;
 use crate::columns::columns_of;
 use crate::keep::keep_rows;
+use crate::keep_pairs::{keep_pairs, left_of};
+use crate::pairs::{Pairs, pairs_of_two};
 use fz_prop::{Answer, Propagator, Store};
 use fz_spec::term::Term;
 use std::alloc::{AllocError, Global};
@@ -19,12 +21,15 @@ pub struct Table {
     columns: Vec<Column>,
     /// Whether no variable stands at two places, as far as that was looked at.
     differ: bool,
+    /// Of a table of two columns the pairs, where its numbers are near to one another.
+    pairs: Option<Pairs>,
 }
 
 impl Model for Table {
-    ghost use Rattle.std.specs.Prelude.{length, IsTrue};
+    ghost use Rattle.std.specs.Prelude.{◌≡◌, length, IsTrue, IfSome};
     ghost use Rattle.fz_strength.specs.Sayings.{Saying, Row};
     ghost use Rattle.fz_table.specs.Supports.{AreColumnsOf};
+    ghost use Rattle.fz_table.specs.Partners.{ArePairsOf};
     ghost use Rattle.fz_table.specs.Rows.{AreApart};
 
     ghost Value = { Saying };
@@ -33,7 +38,8 @@ impl Model for Table {
 
     ghost invariant = { λ p.
         AreColumnsOf p.numbers.items (length p.terms.items) p.columns.items
-        × (IsTrue p.differ → AreApart p.terms.items) };
+        × (IsTrue p.differ → AreApart p.terms.items)
+        × IfSome p.pairs (λ q. ArePairsOf p.numbers.items q × (length p.terms.items ≡ 2)) };
 }
 
 impl Table {
@@ -46,6 +52,7 @@ impl Table {
     {
         let columns = columns_of(alloc, numbers, terms.len())?;
         let differ = do_differ(terms);
+        let pairs = pairs_of_two(alloc, numbers, terms.len())?;
         let terms = Vec::from_slice(alloc, terms)?;
         let numbers = Vec::from_slice(alloc, numbers)?;
         Ok(Table {
@@ -53,6 +60,7 @@ impl Table {
             numbers,
             columns,
             differ,
+            pairs,
         })
     }
 }
@@ -61,6 +69,12 @@ impl Propagator for Table {
     ghost saying = { λ p. p };
 
     fn propagate(&self, store: &mut Store) -> Result<Answer, AllocError> {
+        if let Some(pairs) = &self.pairs {
+            let (first, second) = (self.terms[0], self.terms[1]);
+            if let Some(left) = left_of(store, first, second) {
+                return keep_pairs(store, first, second, &self.numbers, pairs, left);
+            }
+        }
         let alloc = *self.terms.allocator();
         keep_rows(
             alloc,

@@ -1,0 +1,94 @@
+//! The rows of a table of two columns as words of partners.
+ghost use Rattle.std.specs.Prelude.{◌≡◌, ◌↔◌, ◌⊎◌, ◌<◌, ℕ, ℤ, pos, ◌+ℤ◌, IfOk, IfSome, IsTrue, MatchOption};
+ghost use Rattle.fz_table.specs.Partners.{ArePartners, ArePairsOf};
+
+use fz_bits::word::with_bit;
+use std::alloc::{AllocError, Global};
+
+/// For each of 64 numbers that follow one another a word of its partners: the numbers at the second place of the rows that have it
+/// at the first.
+#[derive(Drop)]
+pub struct Pairs {
+    /// The number of the first word.
+    pub first: i32,
+    /// The number that bit 0 of each word stands for.
+    pub base: i32,
+    pub words: Vec<u64>,
+}
+
+/// Bit 0 of a word stands for a number between these.
+const LOWEST_BASE: i32 = -2147483646;
+
+const HIGHEST_BASE: i32 = 2147483583;
+
+/// The pairs of a table whose rows have a width, if that is two, and the numbers at a place are near to one another.
+///
+/// # Errors
+/// `AllocError` where there is no memory.
+pub fn pairs_of_two(alloc: Global, table: &[i32], width: usize) -> Result<Option<Pairs>, AllocError>
+    ensures { IfOk result (λ o. IfSome o (λ p. ArePairsOf table.now p × (width ≡ 2))) }
+{
+    if width != 2 {
+        return Ok(None);
+    }
+    pairs_of(alloc, table)
+}
+
+/// The pairs of a table of two columns; `None` where the numbers at a place are too far apart.
+fn pairs_of(alloc: Global, table: &[i32]) -> Result<Option<Pairs>, AllocError>
+    ensures { IfOk result (λ o. IfSome o (λ p. ArePairsOf table.now p)) }
+{
+    let first = least_at(table, 0);
+    let base = least_at(table, 1).clamp(LOWEST_BASE, HIGHEST_BASE);
+    let words = Vec::from_elem(alloc, 0, 64)?;
+    let mut pairs = Pairs { first, base, words };
+    for row in 0..table.len() / 2 {
+        if !add(&mut pairs, table[row * 2], table[row * 2 + 1]) {
+            return Ok(None);
+        }
+    }
+    Ok(Some(pairs))
+}
+
+/// The least number at one of two places.
+fn least_at(table: &[i32], place: usize) -> i32
+    requires { place < 2 }
+{
+    let mut least = i32::MAX;
+    for row in 0..table.len() / 2 {
+        least = least.min(table[row * 2 + place]);
+    }
+    least
+}
+
+/// Adds a row, if both numbers have their place.
+fn add(pairs: &mut Pairs, first: i32, second: i32) -> bool
+    ensures base { pairs.new.base ≡ pairs.old.base }
+    ensures added { IsTrue result → (n m : ℤ) → ArePartners pairs.new n m
+        ↔ (ArePartners pairs.old n m ⊎ ((n ≡ first) × (m ≡ second))) }
+{
+    let Some(place) = place_of(first, pairs.first) else {
+        return false;
+    };
+    let Some(bit) = place_of(second, pairs.base) else {
+        return false;
+    };
+    let place = place as usize;
+    if place >= pairs.words.len() {
+        return false;
+    }
+    pairs.words[place] = with_bit(pairs.words[place], bit);
+    true
+}
+
+/// The place of a number among the 64 from a base on, if it is one of them.
+pub fn place_of(number: i32, base: i32) -> Option<u32>
+    ensures { MatchOption result ((k : ℕ) → k < 64 → number ≡ base +ℤ pos k → ⊥)
+        (λ k. (k < 64) × (number ≡ base +ℤ pos k)) }
+{
+    if number < base {
+        return None;
+    }
+    let place = number.abs_diff(base);
+    if place < 64 { Some(place) } else { None }
+}
