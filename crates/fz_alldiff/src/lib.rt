@@ -3,8 +3,9 @@
 
 pub mod all_different;
 mod close;
-mod differ;
+pub mod differ;
 mod far;
 mod span;
 
 pub use all_different::AllDifferent;
+pub use differ::keep_different;

@@ -3,5 +3,4 @@ pub mod Choosing
 pub mod Ordering
 pub mod Places
 pub mod Pairs
-pub mod Keeping
 pub mod Shared

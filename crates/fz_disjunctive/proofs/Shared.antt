@@ -18,7 +18,8 @@ use Rattle.fz_cumulative.proofs.Sharing.{terms_at, IsSetting}
 use Rattle.fz_disjunctive.specs.declared.job.Job.{Job}
 use Rattle.fz_disjunctive.specs.declared.job.Direction.{Direction}
 use Rattle.fz_disjunctive.specs.Jobs.{IsJobOf, AreJobs, starts_by}
-use Rattle.fz_disjunctive.specs.Outcomes.{IsOutcome, IsScheduling}
+use Rattle.fz_prop.specs.Outcomes.{IsOutcome}
+use Rattle.fz_disjunctive.specs.Outcomes.{IsScheduling}
 use Rattle.fz_disjunctive.specs.Schedules.{HasNoSchedule}
 use Rattle.fz_disjunctive.proofs.Pairs.{scheduled}
 

@@ -4,10 +4,11 @@ ghost use Rattle.std.specs.List.{AllByRecursion};
 ghost use Rattle.fz_spec.specs.Constraints.{term_value};
 ghost use Rattle.fz_strength.specs.Domains.{Within};
 ghost use Rattle.fz_prop.specs.Answers.{IsAnswerOf, IsCorrectOf};
+ghost use Rattle.fz_prop.specs.Outcomes.{IsOutcome};
 ghost use Rattle.fz_prop.specs.Stores.{Shrinks, IsTermOf};
 ghost use Rattle.fz_cumulative.specs.Cumulatives.{AreTermsOf, TasksShare, TasksRest};
 ghost use Rattle.fz_disjunctive.specs.Jobs.{begins};
-ghost use Rattle.fz_disjunctive.specs.Outcomes.{IsOutcome, IsScheduling};
+ghost use Rattle.fz_disjunctive.specs.Outcomes.{IsScheduling};
 
 use crate::job::{Direction, Job};
 use crate::order::{earliest_start, is_overloaded, soonest_ends};

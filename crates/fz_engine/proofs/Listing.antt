@@ -49,7 +49,7 @@ listed_next w u place waits i x within extends listed here =
     let next : suc i ≡ i + 1 = omega arith in subst (λ (k : ℕ). IsListedAt u place (waits_in (take k waits))) next (listed_more w u place waits i x within extends listed here)
 
 -- what stands at a place of a list with one more at its end
-at_end : {A : Type 0} (xs : List A) (x y : A) (i : ℕ) → slice_get (xs ++ x ∷ []) i ≡ Some y → (slice_get xs i ≡ Some y) ⊎ ((i ≡ length xs) × (x ≡ y))
+pub at_end : {A : Type 0} (xs : List A) (x y : A) (i : ℕ) → slice_get (xs ++ x ∷ []) i ≡ Some y → (slice_get xs i ≡ Some y) ⊎ ((i ≡ length xs) × (x ≡ y))
 at_end [] x y zero is = let same : x ≡ y = cc in inr (refl, same)
 at_end [] x y (suc i) is = absurd (cc (is))
 at_end (z ∷ xs) x y zero is = inl is

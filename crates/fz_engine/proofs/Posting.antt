@@ -1,15 +1,18 @@
 -- Propagators of what the constraints of a model say.
-use Rattle.std.proofs.Common.{◌≡◌, ℕ, zero, suc, ◌+◌, ◌<◌, List, [], ◌∷◌, ◌++◌, ◌∙◌, refl, sym, ap, subst, arith, length, map, take, get_or}
+use Rattle.std.proofs.Common.{◌≡◌, ◌⊎◌, inl, inr, ℕ, zero, suc, ◌+◌, ◌<◌, List, [], ◌∷◌, ◌++◌, ◌∙◌, refl, sym, ap, subst, arith, length, map, take, get_or, length-append, take_all}
 use Rattle.std.proofs.lemmas.List.{length-map, length-take-le}
+use Rattle.std.proofs.lemmas.Option.{slice_get_read}
 use Rattle.std.specs.Prelude.{ℤ, Some, slice_get, ◌≤◌, ◌^◌}
 use Rattle.std.specs.List.{AllByRecursion}
-use Rattle.fz_sets.proofs.Lists.{all_at}
+use Rattle.fz_sets.proofs.Lists.{all_at, all_left, all_right, all_both}
 use Rattle.fz_spec.specs.declared.term.Term.{Term}
+use Rattle.fz_spec.specs.declared.term.Term.TheVariants.{Num, Var}
 use Rattle.fz_spec.specs.Constraints.{Constraint, IsTrueOf}
 use Rattle.fz_spec.specs.Instance.{Instance, Variable}
 use Rattle.fz_model.specs.Kept.{IsConstraint, IsModel}
-use Rattle.fz_strength.specs.Events.{AreBelow}
-use Rattle.fz_strength.specs.Sayings.{Saying, saying_of, said_terms, truth_of, waits_of}
+use Rattle.fz_strength.specs.declared.event.Event.TheVariants.{Bound, Fixed}
+use Rattle.fz_strength.specs.Events.{AreBelow, waits_for}
+use Rattle.fz_strength.specs.Sayings.{Saying, Differ, DifferByBounds, saying_of, said_terms, truth_of, waits_of}
 use Rattle.fz_strength.proofs.Says.{says}
 use Rattle.fz_prop.specs.Stores.{IsTermOf, FitsTerm, declared_sets}
 use Rattle.fz_prop.proofs.Waits.{below}
@@ -20,28 +23,88 @@ use Rattle.fz_spec.specs.declared.limits.TheConstants.{CONSTRAINT_LIMIT}
 use Rattle.fz_propagators.specs.declared.any.AnyPropagator.{AnyPropagator}
 use Rattle.fz_propagators.specs.Forms.{said_of}
 use Rattle.fz_agenda.specs.Wakes.{Waking}
-use Rattle.fz_engine.specs.Networks.{AreSaid, AreOf, IsListing, IsNetwork, sayings_of}
+use Rattle.fz_engine.specs.Networks.{AreSaid, AreSaidOf, AreOf, IsListing, IsNetwork, IsSaidMore, sayings_of}
+use Rattle.fz_engine.proofs.Listing.{at_end}
 
-said_at : (cs : List Constraint) (i : ℕ) (c : Constraint) → slice_get cs i ≡ Some c → slice_get (map saying_of cs) i ≡ Some (saying_of c)
-said_at [] i c is = absurd (cc (is))
-said_at (b ∷ cs) zero c is = let same : b ≡ c = cc in rw same refl
-said_at (b ∷ cs) (suc i) c is = said_at cs i c is
+-- ---- what is said
 
-all_follow : (a : List ℤ) (cs : List Constraint) → AllByRecursion (IsTrueOf a) cs → AllByRecursion (λ (saying : Saying). truth_of saying a) (map saying_of cs)
-all_follow a [] all = tt
-all_follow a (c ∷ cs) all = ((says c a).0 all.0, all_follow a cs all.1)
+at_front : (xs ys : List Saying) (i : ℕ) (x : Saying) → slice_get xs i ≡ Some x → slice_get (xs ++ ys) i ≡ Some x
+at_front [] ys i x is = absurd (cc (is))
+at_front (y ∷ xs) ys zero x is = is
+at_front (y ∷ xs) ys (suc i) x is = at_front xs ys i x is
 
-are_said : (cs : List Constraint) → AreSaid cs (map saying_of cs)
-are_said cs = record { each = λ i c is. (i, said_at cs i c is); follow = λ a all. all_follow a cs all }
+at_back : (xs : List Saying) (x : Saying) → slice_get (xs ++ x ∷ []) (length xs) ≡ Some x
+at_back [] x = refl
+at_back (y ∷ xs) x = at_back xs x
+
+abbrev AreTrue : List ℤ → List Constraint → Type 0
+AreTrue a cs = AllByRecursion (IsTrueOf a) cs
+
+abbrev Follow : List ℤ → List Saying → Type 0
+Follow a sayings = AllByRecursion (λ (saying : Saying). truth_of saying a) sayings
+
+more_said : (cs : List Constraint) (sayings : List Saying) (saying : Saying) → AreSaid cs sayings → ((a : List ℤ) → AreTrue a cs → truth_of saying a) → AreSaid cs (sayings ++ saying ∷ [])
+more_said cs sayings saying said holds = record {
+  each = λ i c is. let p = said.each i c is in (p.0, at_front sayings (saying ∷ []) p.0 (saying_of c) p.1);
+  follow = λ a all. all_both (λ (s : Saying). truth_of s a) sayings (saying ∷ []) (said.follow a all) (holds a all, tt);
+}
+
+one_said : (cs : List Constraint) (c : Constraint) (sayings : List Saying) → AreSaid cs sayings → AreSaid (cs ++ c ∷ []) (sayings ++ saying_of c ∷ [])
+one_said cs c sayings said = record {
+  each = λ i d is. elim (at_end cs c d i is) [
+    | inl there ↦ let p = said.each i d there in (p.0, at_front sayings (saying_of c ∷ []) p.0 (saying_of d) p.1)
+    | inr last ↦ (length sayings, subst (λ (x : Constraint). slice_get (sayings ++ saying_of c ∷ []) (length sayings) ≡ Some (saying_of x)) last.1 (at_back sayings (saying_of c)))
+  ];
+  follow = λ a all.
+      all_both (λ (s : Saying). truth_of s a) sayings (saying_of c ∷ []) (said.follow a (all_left (IsTrueOf a) cs (c ∷ []) all)) ((says c a).0 (all_right (IsTrueOf a) cs (c ∷ []) all).0, tt);
+}
+
+bounds_fit : (vs : List Variable) (xs : List Term) (saying : Saying) → saying ≡ Differ xs → IsFit vs saying → IsFit vs (DifferByBounds xs)
+bounds_fit vs xs saying is fit = let differ : IsFit vs (Differ xs) = subst (IsFit vs) is fit in record { terms = differ.terms; truths = tt; sum = tt }
+
+bounds_true : (c : Constraint) (xs : List Term) (a : List ℤ) → saying_of c ≡ Differ xs → IsTrueOf a c → truth_of (DifferByBounds xs) a
+bounds_true c xs a is holds = subst (λ (s : Saying). truth_of s a) is ((says c a).0 holds)
+
+pub said_none : (vs : List Variable) → AreSaidOf vs [] []
+said_none vs = record {
+  said = record { each = λ i c is. absurd (cc (is)); follow = λ a all. tt };
+  fit = tt;
+  few = omega arith;
+}
+
+-- one constraint more
+pub said_more_of : (vs : List Variable) (cs : List Constraint) (c : Constraint) (sayings after : List Saying) → AreSaidOf vs cs sayings → IsFit vs (saying_of c)
+    → IsSaidMore (saying_of c) (sayings ++ saying_of c ∷ []) after → AreSaidOf vs (cs ++ c ∷ []) after
+said_more_of vs cs c sayings after so_far fit (inl same) =
+    let size = length-append sayings (saying_of c ∷ []) in
+    let size_of_cs = length-append cs (c ∷ []) in
+    let few = so_far.few in
+    subst (λ (l : List Saying). AreSaidOf vs (cs ++ c ∷ []) l) (sym same) (record {
+      said = one_said cs c sayings so_far.said;
+      fit = all_both (IsFit vs) sayings (saying_of c ∷ []) so_far.fit (fit, tt);
+      few = omega (arith, size, size_of_cs, few);
+    })
+said_more_of vs cs c sayings after so_far fit (inr more) =
+    let xs = more.0 in
+    let is = more.1 in
+    let front = sayings ++ saying_of c ∷ [] in
+    let size = length-append sayings (saying_of c ∷ []) in
+    let size_of_front = length-append front (DifferByBounds xs ∷ []) in
+    let size_of_cs = length-append cs (c ∷ []) in
+    let few = so_far.few in
+    subst (λ (l : List Saying). AreSaidOf vs (cs ++ c ∷ []) l) (sym more.2) (record {
+      said = more_said (cs ++ c ∷ []) front (DifferByBounds xs) (one_said cs c sayings so_far.said) (λ a all. bounds_true c xs a is (all_right (IsTrueOf a) cs (c ∷ []) all).0);
+      fit = all_both (IsFit vs) front (DifferByBounds xs ∷ []) (all_both (IsFit vs) sayings (saying_of c ∷ []) so_far.fit (fit, tt)) (bounds_fit vs xs (saying_of c) is fit, tt);
+      few = omega (arith, size, size_of_front, size_of_cs, few);
+    })
 
 -- ---- what fits the model
 
-pub fits_at : (m : Instance) (i : ℕ) (c : Constraint) → IsModel m → slice_get m.constraints i ≡ Some c → IsFit m.variables (saying_of c)
+fits_at : (m : Instance) (i : ℕ) (c : Constraint) → IsModel m → slice_get m.constraints i ≡ Some c → IsFit m.variables (saying_of c)
 fits_at m i c model is = said_fits m.variables c (all_at (IsConstraint m.variables) m.constraints i c model.constrained is)
 
-all_fit : (vs : List Variable) (cs : List Constraint) → AllByRecursion (IsConstraint vs) cs → AllByRecursion (IsFit vs) (map saying_of cs)
-all_fit vs [] all = tt
-all_fit vs (c ∷ cs) all = (said_fits vs c all.0, all_fit vs cs all.1)
+pub fits_of : (m : Instance) (cs : List Constraint) (i : ℕ) (c : Constraint) → IsModel m → cs ≡ m.constraints → i < length cs → c ≡ get_or cs i c → IsFit m.variables (saying_of c)
+fits_of m cs i c model are within is = fits_at m i c model (subst (λ (l : List Constraint). slice_get l i ≡ Some c) are (slice_get_read cs (length cs) i c refl within is))
 
 known_fits : (vs : List Variable) (ts : List Term) → AllByRecursion (IsKnown vs) ts → AllByRecursion FitsTerm ts
 known_fits vs [] all = tt
@@ -57,41 +120,62 @@ limits_of vs saying fit = known_fits vs (said_terms saying) fit.terms
 pub waits_below : (vs : List Variable) (saying : Saying) → IsFit vs saying → AreBelow (waits_of saying) (length vs)
 waits_below vs saying fit = below (length vs) saying (known_terms vs (said_terms saying) fit.terms)
 
+-- the bounds of the same terms
+pub bounds_below : (xs : List Term) (n : ℕ) → AreBelow (waits_for Fixed xs) n → AreBelow (waits_for Bound xs) n
+bounds_below [] n all = tt
+bounds_below (Num m ∷ xs) n all = bounds_below xs n all
+bounds_below (Var v ∷ xs) n all = (all.0, bounds_below xs n all.1)
+
 pub declared_length : (vs : List Variable) → length (declared_sets vs) ≡ length vs
 declared_length vs = length-map vs (λ (v : Variable). v.set)
 
-terms_declared : (m : Instance) → IsModel m → AreOf (map saying_of m.constraints) (declared_sets m.variables)
-terms_declared m model i saying is =
-    let fit = all_at (IsFit m.variables) (map saying_of m.constraints) i saying (all_fit m.variables m.constraints model.constrained) is in (
+terms_declared : (m : Instance) (sayings : List Saying) → IsModel m → AllByRecursion (IsFit m.variables) sayings → AreOf sayings (declared_sets m.variables)
+terms_declared m sayings model all i saying is =
+    let fit = all_at (IsFit m.variables) sayings i saying all is in (
       subst (λ (n : ℕ). AllByRecursion (IsTermOf n) (said_terms saying)) (sym (declared_length m.variables)) (known_terms m.variables (said_terms saying) fit.terms),
       fit_suits m.variables saying model.sets fit,
     )
 
 -- a network whose propagators say what the constraints do
-pub network_of : (m : Instance) (sayings : List Saying) (w : Waking) → IsModel m → sayings ≡ map saying_of m.constraints → IsListing sayings w (length m.variables)
+pub network_of : (m : Instance) (sayings : List Saying) (w : Waking) → IsModel m → AreSaidOf m.variables m.constraints sayings → IsListing sayings w (length m.variables)
     → IsNetwork (record { model = m; sayings = sayings; wakes = w })
-network_of m sayings w model is listing =
-    let cs = m.constraints in
-    let few : length (map saying_of cs) ≤ 2 ^ 32 = (let size = length-map cs saying_of in let some = model.few_constraints in omega (arith, size, some)) in
+network_of m sayings w model said listing =
+    let some = model.few_constraints in
+    let twice = said.few in
     record {
-      said = subst (λ (l : List Saying). AreSaid cs l) (sym is) (are_said cs);
+      said = said.said;
       listing = listing;
-      terms = subst (λ (l : List Saying). AreOf l (declared_sets m.variables)) (sym is) (terms_declared m model);
-      few = subst (λ (l : List Saying). length l ≤ 2 ^ 32) (sym is) few;
+      terms = terms_declared m sayings model said.fit;
+      few = omega (arith, some, twice);
     }
 
 -- ---- one more
 
-said_after : (cs : List Constraint) (i : ℕ) (c : Constraint) → i < length cs → c ≡ get_or cs i c → map saying_of (take i cs) ++ saying_of c ∷ [] ≡ map saying_of (take (suc i) cs)
-said_after [] i c within is = absurd (omega (arith, within))
-said_after (b ∷ cs) zero c within is = ap (λ (x : Constraint). saying_of x ∷ []) is
-said_after (b ∷ cs) (suc i) c within is = ap (λ (l : List Saying). saying_of b ∷ l) (said_after cs i c (omega (arith, within)) is)
+taken_after : (cs : List Constraint) (i : ℕ) (c : Constraint) → i < length cs → c ≡ get_or cs i c → take i cs ++ c ∷ [] ≡ take (suc i) cs
+taken_after [] i c within is = absurd (omega (arith, within))
+taken_after (b ∷ cs) zero c within is = ap (λ (x : Constraint). x ∷ []) is
+taken_after (b ∷ cs) (suc i) c within is = ap (λ (l : List Constraint). b ∷ l) (taken_after cs i c (omega (arith, within)) is)
 
-pub said_next : (cs : List Constraint) (i : ℕ) (c : Constraint) → i < length cs → c ≡ get_or cs i c → map saying_of (take i cs) ++ saying_of c ∷ [] ≡ map saying_of (take (i + 1) cs)
-said_next cs i c within is = let next : suc i ≡ i + 1 = omega arith in said_after cs i c within is ∙ ap (λ (k : ℕ). map saying_of (take k cs)) next
+pub said_next : (vs : List Variable) (cs : List Constraint) (i : ℕ) (c : Constraint) (sayings after : List Saying) → i < length cs → c ≡ get_or cs i c → AreSaidOf vs (take i cs) sayings → IsFit vs (saying_of c)
+    → IsSaidMore (saying_of c) (sayings ++ saying_of c ∷ []) after → AreSaidOf vs (take (i + 1) cs) after
+said_next vs cs i c sayings after within is so_far fit more =
+    let next : suc i ≡ i + 1 = omega arith in
+    subst (λ (l : List Constraint). AreSaidOf vs l after) (taken_after cs i c within is ∙ ap (λ (k : ℕ). take k cs) next) (said_more_of vs (take i cs) c sayings after so_far fit more)
+
+pub said_all : (vs : List Variable) (cs : List Constraint) (i : ℕ) (sayings : List Saying) → length cs ≤ i → AreSaidOf vs (take i cs) sayings → AreSaidOf vs cs sayings
+said_all vs cs i sayings past said = subst (λ (l : List Constraint). AreSaidOf vs l sayings) (take_all i cs past) said
 
 -- there is room for more
-pub few_so_far : (ps : List AnyPropagator) (cs : List Constraint) (i : ℕ) → sayings_of ps ≡ map saying_of (take i cs) → i ≤ length cs → length cs ≤ CONSTRAINT_LIMIT → length ps < 2 ^ 32
-few_so_far ps cs i is within few =
-    let size = sym (length-map ps said_of) ∙ ap length is ∙ length-map (take i cs) saying_of ∙ length-take-le i cs within in
-    omega (arith, size, within, few)
+pub few_so_far : (vs : List Variable) (ps : List AnyPropagator) (cs : List Constraint) (i : ℕ) → AreSaidOf vs (take i cs) (sayings_of ps) → i ≤ length cs → length cs ≤ CONSTRAINT_LIMIT → length ps + 1 < 2 ^ 32
+few_so_far vs ps cs i said within few =
+    let size = length-map ps said_of in
+    let some = said.few in
+    let taken = length-take-le i cs within in
+    omega (arith, size, some, taken, within, few)
+
+-- and for one more behind it
+pub few_behind : (ps qs : List AnyPropagator) (saying : Saying) → length ps + 1 < 2 ^ 32 → sayings_of qs ≡ sayings_of ps ++ saying ∷ [] → length qs < 2 ^ 32
+few_behind ps qs saying few is =
+    let size = length-map ps said_of in
+    let more = sym (length-map qs said_of) ∙ ap (λ (l : List Saying). length l) is ∙ length-append (sayings_of ps) (saying ∷ []) in
+    omega (arith, size, more, few)

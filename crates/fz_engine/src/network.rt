@@ -6,7 +6,7 @@ ghost use Rattle.fz_model.specs.Kept.{IsModel};
 ghost use Rattle.fz_strength.specs.Costs.{cost_of};
 ghost use Rattle.fz_strength.specs.Events.{AreBelow};
 ghost use Rattle.fz_strength.specs.Sayings as said;
-ghost use Rattle.fz_strength.specs.Sayings.{said_terms, saying_of, waits_of};
+ghost use Rattle.fz_strength.specs.Sayings.{said_terms, waits_of};
 ghost use Rattle.fz_kept.specs.Told.{nothing};
 ghost use Rattle.fz_prop.specs.Stores.{FitsTerm, Stored};
 ghost use Rattle.fz_says.specs.Fits.{FitsSum};
@@ -14,7 +14,7 @@ ghost use Rattle.fz_says.specs.Said.{said_by, waits_in};
 ghost use Rattle.fz_propagators.specs.Forms.{said_of};
 ghost use Rattle.fz_agenda.specs.Agendas.{IsSettled};
 ghost use Rattle.fz_agenda.specs.Wakes.{IsListedAt, HaveSize, Extends};
-ghost use Rattle.fz_engine.specs.Networks.{IsFull, IsListing, IsNetwork, sayings_of};
+ghost use Rattle.fz_engine.specs.Networks.{AreSaidOf, IsFull, IsListing, IsNetwork, IsSaidMore, sayings_of};
 
 use fz_agenda::{Agenda, Wakes};
 use fz_kept::Kept;
@@ -154,10 +154,10 @@ struct Posted {
     wakes: Wakes,
 }
 
-/// A propagator of what each constraint of a model says.
+/// Propagators of what each constraint of a model says.
 fn post_all(alloc: Global, model: &fz_model::Model) -> Result<Posted, AllocError>
-    ensures said { IfOk result (λ p. sayings_of p.propagators.items
-        ≡ map saying_of model.now.constraints) }
+    ensures said { IfOk result (λ p. AreSaidOf model.now.variables model.now.constraints
+        (sayings_of p.propagators.items)) }
     ensures listing { IfOk result (λ p. IsListing (sayings_of p.propagators.items) p.wakes
         (length model.now.variables)) }
     ensures kept { IsModel model.now }
@@ -168,7 +168,9 @@ fn post_all(alloc: Global, model: &fz_model::Model) -> Result<Posted, AllocError
         wakes: Wakes::new(alloc, model.variables().len())?,
     };
     for constraint in constraints {
-        post(alloc, &mut posted, &Saying::of(constraint))?;
+        let saying = Saying::of(constraint);
+        post(alloc, &mut posted, &saying)?;
+        post_bounds(alloc, &mut posted, &saying)?;
     }
     Ok(posted)
 }
@@ -193,6 +195,27 @@ fn post(alloc: Global, posted: &mut Posted, saying: &Saying) -> Result<(), Alloc
     let propagator = AnyPropagator::of(alloc, saying)?;
     posted.propagators.push(propagator)?;
     Ok(())
+}
+
+/// Adds a propagator of the bounds of terms, where these are said to be all different.
+fn post_bounds(alloc: Global, posted: &mut Posted, saying: &Saying) -> Result<(), AllocError>
+    requires fits { AllByRecursion FitsTerm (said_terms (said_by saying.now)) }
+    requires inside { AreBelow (waits_of (said_by saying.now)) (length posted.old.wakes.any) }
+    requires few { length posted.old.propagators.items < 2 ^ 32 }
+    requires listing { IsListing (sayings_of posted.old.propagators.items) posted.old.wakes
+        (length posted.old.wakes.any) }
+    ensures said { OnOk result (IsSaidMore (said_by saying.now)
+        (sayings_of posted.old.propagators.items) (sayings_of posted.new.propagators.items)) }
+    ensures listing { OnOk result (IsListing (sayings_of posted.new.propagators.items)
+        posted.new.wakes (length posted.old.wakes.any)) }
+{
+    match saying {
+        Saying::Differ(terms) => {
+            post(alloc, posted, &Saying::DifferByBounds(terms))?;
+            Ok(())
+        }
+        _ => Ok(()),
+    }
 }
 
 /// Lists a propagator at each change that it waits for.

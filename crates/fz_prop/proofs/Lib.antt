@@ -9,3 +9,4 @@ pub mod Filled
 pub mod Grown
 pub mod Reifying
 pub mod Numbers
+pub mod Keeping

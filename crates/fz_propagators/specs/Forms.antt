@@ -17,5 +17,6 @@ said_of (forms.Element element) = element
 said_of (forms.VariableElement element) = element
 said_of (forms.Table table) = table
 said_of (forms.AllDifferent different) = different
+said_of (forms.HallIntervals intervals) = intervals
 said_of (forms.Disjunctive disjunctive) = disjunctive
 said_of (forms.Awaiting awaiting) = awaiting

@@ -17,6 +17,7 @@ use fz_await::Awaiting;
 use fz_bool::{Clause, Parity};
 use fz_disjunctive::Disjunctive;
 use fz_element::Element;
+use fz_hall::HallIntervals;
 use fz_kept::Kept;
 use fz_linear::Linear;
 use fz_linreif::ReifiedLinear;
@@ -43,6 +44,7 @@ pub enum AnyPropagator {
     VariableElement(VariableElement),
     Table(Table),
     AllDifferent(AllDifferent),
+    HallIntervals(HallIntervals),
     Disjunctive(Disjunctive),
     Awaiting(Awaiting),
 }
@@ -119,6 +121,10 @@ impl AnyPropagator {
                 let different = AllDifferent::new(alloc, terms)?;
                 Ok(AnyPropagator::AllDifferent(different))
             }
+            Saying::DifferByBounds(terms) => {
+                let intervals = HallIntervals::new(alloc, terms)?;
+                Ok(AnyPropagator::HallIntervals(intervals))
+            }
             Saying::Share(starts, durations, usages, bound) => {
                 let disjunctive = Disjunctive::new(alloc, starts, durations, usages, *bound)?;
                 Ok(AnyPropagator::Disjunctive(disjunctive))
@@ -185,6 +191,7 @@ impl Propagator for AnyPropagator {
             AnyPropagator::VariableElement(element) => element.propagate(store),
             AnyPropagator::Table(table) => table.propagate(store),
             AnyPropagator::AllDifferent(different) => different.propagate(store),
+            AnyPropagator::HallIntervals(intervals) => intervals.propagate(store),
             AnyPropagator::Disjunctive(disjunctive) => disjunctive.propagate(store),
             AnyPropagator::Awaiting(awaiting) => awaiting.propagate(store),
         }

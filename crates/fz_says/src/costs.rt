@@ -22,7 +22,7 @@ impl<'m> Saying<'m> {
                 cost_of_operands(terms.as_slice().len())
             }
             Saying::Differ(_) | Saying::Share(..) => Cost::Quadratic,
-            Saying::Row(..) => Cost::Cubic,
+            Saying::Row(..) | Saying::DifferByBounds(_) => Cost::Cubic,
             _ => Cost::Linear,
         }
     }

@@ -65,6 +65,8 @@ pub enum Saying<'m> {
     Row(&'m [Term], &'m [i32]),
     /// No two terms are equal.
     Differ(&'m [Term]),
+    /// The same, said to the propagator that looks at the bounds of all.
+    DifferByBounds(&'m [Term]),
     /// Tasks, by their starts, durations and usages, never use more than a bound.
     Share(&'m [Term], &'m [Term], &'m [Term], Term),
     /// It is true: this is told of a constraint that says none of the others.

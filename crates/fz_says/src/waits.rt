@@ -66,6 +66,7 @@ fn add_said(waits: &mut Vec<Wait>, saying: &Saying) -> Result<(), AllocError>
             add_all(waits, operand_event(*operation), terms.as_slice())
         }
         Saying::Odd(terms) | Saying::Differ(terms) => add_all(waits, Event::Fixed, terms),
+        Saying::DifferByBounds(terms) => add_all(waits, Event::Bound, terms),
         Saying::Select(_, index, value) => add_all(waits, Event::Any, &[*index, *value]),
         Saying::SelectTerm(terms, index, value) => {
             add(waits, Event::Any, *index)?;

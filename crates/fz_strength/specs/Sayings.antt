@@ -18,7 +18,7 @@ use Rattle.fz_strength.specs.Events.{Wait, wait_for, waits_for}
 use Rattle.fz_strength.specs.Clauses.{Clause, disjunction, conjunction, clause, ClauseTruth, AllTruth, clause_terms, IsClauseLine}
 use Rattle.fz_strength.specs.Cumulatives.{RestsCumulative, open_tasks, terms_of_tasks}
 use Rattle.fz_strength.specs.Relations.{Relates, RestsAs, event_of, reified_event}
-use Rattle.fz_strength.specs.Differences.{AreApart}
+use Rattle.fz_strength.specs.Differences.{AreApart, AreApartOnceFixed}
 use Rattle.fz_strength.specs.Sums.{left_factors, left_terms, right_number, RestsSum, sum_event_of}
 use Rattle.fz_strength.specs.Elements.{AreMatched}
 use Rattle.fz_strength.specs.Tables.{AreSupported}
@@ -41,6 +41,7 @@ pub data Saying : Type 0 where
   SelectTerm : (terms : List Term) (index value : Term) → Saying
   Row : (terms : List Term) (table : List ℤ) → Saying
   Differ : (terms : List Term) → Saying
+  DifferByBounds : (terms : List Term) → Saying
   Share : (starts durations usages : List Term) (bound : Term) → Saying
   Nothing : (name : Builtin) (arguments : List Argument) → Saying
 
@@ -215,6 +216,7 @@ truth_of (Select xs k c) a = IsElement (term_value a k) xs (term_value a c)
 truth_of (SelectTerm xs k c) a = IsElement (term_value a k) (term_values a xs) (term_value a c)
 truth_of (Row xs table) a = IsRowOf (term_values a xs) table
 truth_of (Differ xs) a = AreDifferent (term_values a xs)
+truth_of (DifferByBounds xs) a = AreDifferent (term_values a xs)
 truth_of (Share ss dd us b) a = IsCumulative (tasks_of (term_values a ss) (term_values a dd) (term_values a us)) (term_value a b)
 truth_of (Nothing name arguments) a = Holds name arguments a
 
@@ -237,6 +239,7 @@ line_of (Select xs k c) ds = AreMatched xs (term_set ds k) (term_set ds c)
 line_of (SelectTerm xs k c) ds = IsVariableElementLine xs k c ds
 line_of (Row xs table) ds = AreSupported xs table ds
 line_of (Differ xs) ds = AreApart xs ds
+line_of (DifferByBounds xs) ds = AreApartOnceFixed xs ds
 line_of (Share ss dd us b) ds = RestsCumulative (open_tasks ds ss dd us) (least (term_set ds b)) (greatest (term_set ds b))
 line_of (Nothing name arguments) ds = RestsOnceFixed name arguments ds
 
@@ -255,6 +258,7 @@ waits_of (Select xs k c) = waits_for Any (k ∷ c ∷ [])
 waits_of (SelectTerm xs k c) = variable_element_waits xs k c
 waits_of (Row xs table) = waits_for Any xs
 waits_of (Differ xs) = waits_for Fixed xs
+waits_of (DifferByBounds xs) = waits_for Bound xs
 waits_of (Share ss dd us b) = waits_for Bound (terms_of_tasks ss dd us b)
 waits_of (Nothing name arguments) = waits_for Fixed (terms_among arguments)
 
@@ -273,6 +277,7 @@ said_terms (Select xs k c) = k ∷ c ∷ []
 said_terms (SelectTerm xs k c) = k ∷ c ∷ xs
 said_terms (Row xs table) = xs
 said_terms (Differ xs) = xs
+said_terms (DifferByBounds xs) = xs
 said_terms (Share ss dd us b) = terms_of_tasks ss dd us b
 said_terms (Nothing name arguments) = terms_among arguments
 

@@ -107,6 +107,32 @@ fn are_due(doms: &[Dom], declared: [&Declared; 3], solutions: &[&Assignment], re
             return false;
         }
     }
+    rest != Rest::Ends || !are_in_a_row(declared) || are_ends_used(doms, solutions)
+}
+
+/// The numbers of each variable follow each other.
+fn are_in_a_row(declared: [&Declared; 3]) -> bool {
+    declared.iter().all(|one| is_in_a_row(&one.numbers))
+}
+
+/// Some rising numbers follow each other.
+fn is_in_a_row(numbers: &[i32]) -> bool {
+    match numbers {
+        [first, .., last] => last.abs_diff(*first) as usize == numbers.len() - 1,
+        _ => true,
+    }
+}
+
+/// The least and the greatest number that is left of each variable are its numbers in some assignments.
+fn are_ends_used(doms: &[Dom], assignments: &[&Assignment]) -> bool {
+    for (place, dom) in doms.iter().enumerate() {
+        if dom.is_empty()
+            || !is_used(place, dom.min(), assignments)
+            || !is_used(place, dom.max(), assignments)
+        {
+            return false;
+        }
+    }
     true
 }
 

@@ -6,6 +6,9 @@ use crate::numbers::Numbers;
 pub enum Rest {
     /// The numbers of solutions, and no others: where the line of the constraint says so of any domains.
     Exact,
+    /// The numbers of solutions, and maybe others; where all were declared with numbers that follow each other, the ends of what is
+    /// left are of solutions.
+    Ends,
     /// The numbers of solutions, and maybe others.
     Sound,
 }
@@ -28,7 +31,7 @@ const ZERO: Numbers = Numbers::Zero;
 
 const FAR: Numbers = Numbers::Far;
 
-static GROUPS: [Group; 29] = [
+static GROUPS: [Group; 30] = [
     Group {
         numbers: [SIGNED, SIGNED, ZERO],
         rest: Rest::Exact,
@@ -232,10 +235,16 @@ static GROUPS: [Group; 29] = [
         constraints: &[
             "fzn_table_int([x, y, x, z], [0, 1, 2, 1, 1, 3, 1, 0, 0, 2, 0, 2, 3, 1, 3, 1])",
             "array_var_int_element(x, [y, x], z)",
-            "all_different_int([x, y, z, 2])",
-            "fzn_all_different_int([x, y, z])",
             "fzn_cumulative([x, y, z], [2, 1, 1], [1, 1, 1], 1)",
             "fzn_cumulative([x, y], [2, 3], [1, 2], z)",
+        ],
+    },
+    Group {
+        numbers: [COUNTING, COUNTING, COUNTING],
+        rest: Rest::Ends,
+        constraints: &[
+            "all_different_int([x, y, z, 2])",
+            "fzn_all_different_int([x, y, z])",
         ],
     },
     Group {

@@ -99,6 +99,7 @@ impl Count {
     fn print(self, rt: &HostRuntime, constraint: &str, rest: Rest) {
         let more = match rest {
             Rest::Exact => " and nothing else",
+            Rest::Ends => ", and no other ends where numbers follow each other",
             Rest::Sound => "",
         };
         let _ = println!(rt;

@@ -6,7 +6,7 @@ use std::test::Fail;
 /// A text, and what is printed of it.
 type Row = (&'static str, &'static str);
 
-const ROWS: [Row; 23] = [
+const ROWS: [Row; 24] = [
     ("solve satisfy;", "----------\n==========\n"),
     ("var 3..1: x; solve satisfy;", "=====UNSATISFIABLE=====\n"),
     (
@@ -19,6 +19,10 @@ const ROWS: [Row; 23] = [
     ),
     (
         "var 1..3: a; var 1..3: b; var 1..3: c; var 1..3: d; constraint fzn_all_different_int([a,b,c,d]); solve satisfy;",
+        "=====UNSATISFIABLE=====\n",
+    ),
+    (
+        "var 1..2: x; constraint all_different_int([x,x]); solve satisfy;",
         "=====UNSATISFIABLE=====\n",
     ),
     (

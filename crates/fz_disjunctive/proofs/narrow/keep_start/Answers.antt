@@ -9,7 +9,7 @@ use Rattle.fz_prop.proofs.TermChanges.{within_kept}
 use Rattle.fz_disjunctive.specs.declared.job.Direction.{Direction}
 use Rattle.fz_disjunctive.specs.declared.job.Direction.TheVariants.{Backward}
 use Rattle.fz_disjunctive.specs.Jobs.{begins}
-use Rattle.fz_disjunctive.proofs.Keeping.{change_outcome}
+use Rattle.fz_prop.proofs.Keeping.{change_outcome}
 use Rattle.fz_disjunctive.proofs.narrow.keep_start.Goals as goal
 
 last_of : (direction : Direction) (time start duration last : ℤ) → direction ≡ Backward → last ≡ ((pos 0 -ℤ time) -ℤ duration) → time ≤ℤ begins direction start duration → start ≤ℤ last

@@ -9,8 +9,9 @@ use Rattle.fz_spec.specs.Constraints.{term_value}
 use Rattle.fz_prop.proofs.Twice.{shrinks_twice}
 use Rattle.fz_disjunctive.specs.declared.job.Job.{Job}
 use Rattle.fz_disjunctive.specs.Jobs.{begins, starts_by}
-use Rattle.fz_disjunctive.specs.Outcomes.{IsOutcome, IsScheduling}
-use Rattle.fz_disjunctive.proofs.Keeping.{correct_more, kept_changed, kept_wiped, changed_of}
+use Rattle.fz_prop.specs.Outcomes.{IsOutcome}
+use Rattle.fz_disjunctive.specs.Outcomes.{IsScheduling}
+use Rattle.fz_prop.proofs.Keeping.{correct_more, kept_changed, kept_wiped, changed_of}
 use Rattle.fz_disjunctive.proofs.narrow.keep_starts.Goals as goal
 
 pub returns-in_err-change-clause-shrinks : goal.returns-in_err-change-clause-shrinks

@@ -1,5 +1,5 @@
 use Rattle.fz_disjunctive.specs.Outcomes.{IsScheduling}
-use Rattle.fz_disjunctive.proofs.Keeping.{IsKept}
+use Rattle.fz_prop.proofs.Keeping.{IsKept}
 use Rattle.fz_disjunctive.proofs.narrow.keep_starts.Given as goal
 
 -- no schedule is lost, and whether the store changed

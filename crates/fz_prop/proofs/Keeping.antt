@@ -1,4 +1,4 @@
--- Keeping starts one after the other.
+-- Keeping terms one after the other.
 use Rattle.std.proofs.Common.{◌≡◌, ◌<◌, Bool, true, false, List, refl, sym, subst, arith, length, Result, Ok, Err}
 use Rattle.std.specs.Prelude.{ℤ, IfOk, OnErr}
 use Rattle.fz_dom.specs.declared.change.Change.{Change}
@@ -7,11 +7,11 @@ use Rattle.fz_spec.specs.declared.term.Term.{Term}
 use Rattle.fz_spec.specs.Constraints.{term_value}
 use Rattle.fz_strength.specs.Domains.{room, Within}
 use Rattle.fz_prop.specs.Answers.{IsCorrectOf}
+use Rattle.fz_prop.specs.Outcomes.{IsOutcome}
 use Rattle.fz_prop.specs.Stores.{Stored, Shrinks, IsTermOf, IsTermChange}
 use Rattle.fz_prop.proofs.Steps.{same_shrinks}
 use Rattle.fz_prop.proofs.TermChanges.{term_within, within_kept, none_kept, falls_of, same_store}
 use Rattle.fz_prop.proofs.Twice.{shrinks_twice, room_after}
-use Rattle.fz_disjunctive.specs.Outcomes.{IsOutcome}
 
 -- ---- one term
 

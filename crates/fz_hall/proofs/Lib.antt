@@ -1,0 +1,3 @@
+pub mod Crowding
+pub mod Confining
+pub mod Outside
