@@ -10,4 +10,4 @@ abbrev pub book_of : Inside → Book
 book_of b = record { model = arc_value b.model; mode = b.mode; recorded = b.recorded.items; parts = b.parts.items }
 
 abbrev pub roomy_of : Inside → Roomy
-roomy_of b = record { book = book_of b; found_room = vec_capacity b.recorded - vec_len b.recorded; given_room = vec_capacity b.parts - vec_len b.parts }
+roomy_of b = record { book = book_of b; gone = b.recorded.gone; found_room = b.recorded.room; given_room = vec_capacity b.parts - vec_len b.parts }

@@ -4,4 +4,5 @@ pub mod Places
 pub mod Outcomes
 pub mod Needs
 pub mod Offering
+pub mod Recorded
 pub mod Reports

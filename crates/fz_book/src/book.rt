@@ -1,5 +1,5 @@
 //! Books.
-ghost use Rattle.std.specs.Prelude.{◌≡◌, ◌≤◌, ◌+◌, ◌-◌, ◌<◌, ◌↔◌, ◌⊎◌, ◌≢◌, ◌++◌, ◌∷◌, [], true, false, length, option_copied, option_map, map, IsTrue, not, IsSomeAnd, IfOk, IfErr, IfSome, IfNone, OnOk, OnErr};
+ghost use Rattle.std.specs.Prelude.{drop, ◌≡◌, ◌≤◌, ◌+◌, ◌-◌, ◌<◌, ◌↔◌, ◌⊎◌, ◌≢◌, ◌++◌, ◌∷◌, [], true, false, length, option_copied, option_map, map, IsTrue, not, IsSomeAnd, IfOk, IfErr, IfSome, IfNone, OnOk, OnErr};
 ghost use Rattle.std.specs.List.{list_all, slice_get, AllByRecursion};
 ghost use Rattle.std.specs.Arc.{arc_value};
 ghost use Rattle.std.specs.Vec.{vec_len, vec_capacity};
@@ -12,6 +12,7 @@ ghost use Rattle.fz_book.specs.Needs.{found_needed, given_needed, witness_if};
 
 use crate::offered::Offered;
 use crate::part::{OpenPart, place_of, unclaimed_place};
+use crate::record::Record;
 use crate::taken::Taken;
 use fz_account::account::{Account, Parts};
 use fz_better::better;
@@ -23,12 +24,13 @@ use std::alloc::{AllocError, AllocFailed, Global};
 use std::marker::Model;
 use std::sync::Arc;
 
-/// A book of a model. Contracts see beside it how many more assignments and parts it has room for.
+/// A book of a model. Contracts see beside it how many of those recorded it has let go of, and how many more assignments and parts it
+/// has room for.
 #[derive(Drop)]
 pub struct Book {
     model: Arc<fz_model::Model>,
     mode: Mode,
-    recorded: Vec<Assignment>,
+    recorded: Record,
     parts: Vec<OpenPart>,
 }
 
@@ -57,6 +59,7 @@ impl Book {
     ) -> Result<Book, AllocFailed<Arc<fz_model::Model>>>
         requires { mode ≡ mode_of (arc_value model).goal }
         ensures ok { IfOk result (λ b. b.book ≡ opening (arc_value model) mode) }
+        ensures whole { IfOk result (λ b. b.gone ≡ 0) }
         ensures err { IfErr result (λ refused. refused.value ≡ model) }
     {
         let mut parts = Vec::new(alloc);
@@ -68,7 +71,7 @@ impl Book {
             Ok(()) => Ok(Book {
                 model,
                 mode,
-                recorded: Vec::new(alloc),
+                recorded: Record::new(alloc),
                 parts,
             }),
             Err(_) => Err(AllocFailed { value: model }),
@@ -91,13 +94,48 @@ impl Book {
         self.mode
     }
 
-    /// What is recorded, in order: in a search for all satisfying assignments what was found, else each that was better than
-    /// those before it.
+    /// What is recorded, in order, but for the first that it has let go of: in a search for all satisfying assignments what was found,
+    /// else each that was better than those before it.
     pub fn recorded(&self) -> &[Assignment]
-        ensures recorded { result.now ≡ self.now.book.recorded }
+        ensures recorded { result.now ≡ drop self.now.gone self.now.book.recorded }
+        ensures whole { self.now.gone ≡ 0 → result.now ≡ self.now.book.recorded }
         ensures law { BookLaw self.now.book }
     {
-        &self.recorded
+        self.recorded.kept()
+    }
+
+    /// What is recorded from this place on, which it has not let go of.
+    pub fn recorded_from(&self, place: usize) -> &[Assignment]
+        requires kept { self.now.gone ≤ place }
+        requires within { place ≤ length self.now.book.recorded }
+        ensures recorded { result.now ≡ drop place self.now.book.recorded }
+        ensures law { BookLaw self.now.book }
+    {
+        self.recorded.from(place)
+    }
+
+    /// How many are recorded, those that it has let go of among them.
+    pub fn recorded_count(&self) -> usize
+        ensures count { result ≡ length self.now.book.recorded }
+        ensures law { BookLaw self.now.book }
+    {
+        self.recorded.len()
+    }
+
+    /// How many of the first it has let go of.
+    pub fn gone_count(&self) -> usize
+        ensures gone { result ≡ self.now.gone }
+        ensures last { self.now.gone ≤ length self.now.book.recorded - 1 }
+    {
+        self.recorded.gone()
+    }
+
+    /// Lets go of all that is recorded but the last. From now on only contracts see them.
+    pub fn keep_last(&mut self)
+        ensures book { self.new.book ≡ self.old.book }
+        ensures gone { self.new.gone ≤ length self.old.book.recorded - 1 }
+    {
+        self.recorded.keep_last();
     }
 
     /// The best that is recorded. A search for all satisfying assignments has none.
@@ -155,6 +193,7 @@ impl Book {
             (λ o. IfNone o (list_all is_claimed self.old.book.parts ≡ true)) }
         ensures same { IfOk result (λ o. IfNone o (self.new ≡ self.old)) }
         ensures err { OnErr result (self.new ≡ self.old) }
+        ensures gone { self.new.gone ≡ self.old.gone }
     {
         let Some(i) = unclaimed_place(&self.parts) else {
             return Ok(None);
@@ -176,6 +215,7 @@ impl Book {
         ensures found { OnOk result (found ≤ self.new.found_room) }
         ensures given { OnOk result (given ≤ self.new.given_room) }
         ensures book { self.new.book ≡ self.old.book }
+        ensures gone { self.new.gone ≡ self.old.gone }
     {
         self.recorded.reserve(found as usize)?;
         self.parts.reserve(given as usize)?;
@@ -194,6 +234,7 @@ impl Book {
         ensures room { LacksMemory result → (self.old.found_room < found_needed account)
             ⊎ (self.old.given_room < given_needed account) }
         ensures back { GivesBack result account }
+        ensures gone { self.new.gone ≡ self.old.gone }
     {
         if !self.model.same(account.model()) {
             return Taken::Foreign(account);
@@ -211,7 +252,8 @@ impl Book {
         requires open { IsOpen self.old.book account.before }
         requires found { found_needed account ≤ self.old.found_room }
         requires given { given_needed account ≤ self.old.given_room }
-        ensures { Takes self.old.book account self.new.book }
+        ensures taken { Takes self.old.book account self.new.book }
+        ensures gone { self.new.gone ≡ self.old.gone }
     {
         let Some(place) = place_of(&self.parts, account.before()) else {
             unreachable!()
@@ -233,6 +275,7 @@ impl Book {
         ensures room { LacksMemory result → (self.old.found_room < found_needed account)
             ⊎ (self.old.given_room < given_needed account) }
         ensures back { GivesBack result account }
+        ensures gone { self.new.gone ≡ self.old.gone }
     {
         let adds_witness = self.is_bettered_by(&account);
         if room_for(&mut self.recorded, &mut self.parts, &account).is_err() {
@@ -257,6 +300,7 @@ impl Book {
         ensures ok { IfOk result (λ o. Offers o self.old.book assignment self.new.book) }
         ensures err { OnErr result (self.new.book ≡ self.old.book) }
         ensures back { IfErr result (λ refused. refused.value ≡ assignment) }
+        ensures gone { self.new.gone ≡ self.old.gone }
     {
         if !self.is_improved_by(&assignment) {
             return Ok(Offered::NotBetter(assignment));
@@ -299,18 +343,18 @@ impl Book {
 
 /// Makes room for what an account found, knows and gave.
 fn room_for(
-    recorded: &mut Vec<Assignment>,
+    recorded: &mut Record,
     parts: &mut Vec<OpenPart>,
     account: &Account,
 ) -> Result<(), AllocError>
-    ensures record_room { OnOk result
-        (vec_len recorded.new + found_needed account.now ≤ vec_capacity recorded.new) }
+    ensures record_room { OnOk result (found_needed account.now ≤ recorded.new.room) }
     ensures part_room { OnOk result
         (vec_len parts.new + given_needed account.now ≤ vec_capacity parts.new) }
     ensures recorded { recorded.new.items ≡ recorded.old.items }
+    ensures gone { recorded.new.gone ≡ recorded.old.gone }
     ensures parts { parts.new.items ≡ parts.old.items }
     ensures err { OnErr result
-        ((vec_capacity recorded.old - vec_len recorded.old < found_needed account.now)
+        ((recorded.old.room < found_needed account.now)
         ⊎ (vec_capacity parts.old - vec_len parts.old < given_needed account.now)) }
 {
     let found = account.found().len() + usize::from(account.witness().is_some());
@@ -321,17 +365,18 @@ fn room_for(
 
 /// Puts what an account found, gave and left in the place of a part. There is room, so it takes no memory.
 fn settle(
-    recorded: &mut Vec<Assignment>,
+    recorded: &mut Record,
     parts: &mut Vec<OpenPart>,
     place: usize,
     account: Account,
     adds_witness: bool,
 )
     requires place { place < vec_len parts.old }
-    requires record_room { vec_len recorded.old + found_needed account ≤ vec_capacity recorded.old }
+    requires record_room { found_needed account ≤ recorded.old.room }
     requires part_room { vec_len parts.old + given_needed account ≤ vec_capacity parts.old }
     ensures recorded { recorded.new.items ≡
         recorded.old.items ++ (account.found ++ witness_if adds_witness account.witness) }
+    ensures gone { recorded.new.gone ≡ recorded.old.gone }
     ensures parts { parts.new.items ≡ parts_after parts.old.items place account }
 {
     let Parts {
@@ -340,7 +385,7 @@ fn settle(
         given,
         after,
     } = account.into_parts();
-    let _ = recorded.append(&mut found);
+    recorded.append(&mut found);
     if adds_witness && let Some(witness) = witness {
         let _ = recorded.push(witness);
     }

@@ -20,7 +20,7 @@ pub fn has_enough(book: &Book, enough: Option<u32>) -> bool
 {
     let _ = book.model();
     match enough {
-        Some(count) => count as usize <= book.recorded().len(),
+        Some(count) => count as usize <= book.recorded_count(),
         None => false,
     }
 }

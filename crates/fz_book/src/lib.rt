@@ -9,6 +9,8 @@ pub mod book;
 pub mod end;
 pub mod offered;
 mod part;
+mod past;
+mod record;
 pub mod taken;
 
 pub use book::Book;

@@ -25,6 +25,7 @@ use std::sync::Arc;
 pub struct Machine<S: SearchSpace> {
     workers: Vec<Slot<S>>,
     book: Book,
+    ghost whole: { book.gone ≡ 0 },
 }
 
 impl<S: SearchSpace> Model for Machine<S> {
@@ -231,6 +232,7 @@ impl<S: SearchSpace> Machine<S> {
     /// The book, without the workers.
     pub fn into_book(self) -> Book
         ensures book { result.book ≡ self.book }
+        ensures whole { result.gone ≡ 0 }
         ensures law { BookLaw result.book }
     {
         self.book

@@ -103,6 +103,7 @@ impl<S: SearchSpace> Slot<S> {
             × Takes book.old.book c book.new.book × (self.new ≡ holding self.old (held_behind c))) }
         ensures same { OnErr result (self.new ≡ self.old) }
         ensures book { OnErr result (book.new.book ≡ book.old.book) }
+        ensures gone { book.new.gone ≡ book.old.gone }
     {
         book.make_room(self.path.found_count() + 1, 1)?;
         let Some(account) = self.path.report()? else {
@@ -125,6 +126,7 @@ impl<S: SearchSpace> Slot<S> {
             × (self.new ≡ holding self.old (held_behind_cut c))) }
         ensures same { OnErr result (self.new ≡ self.old) }
         ensures book { OnErr result (book.new.book ≡ book.old.book) }
+        ensures gone { book.new.gone ≡ book.old.gone }
     {
         book.make_room(self.path.found_count() + 1, 1)?;
         let Some(cut) = self.path.cut()? else {

@@ -178,3 +178,12 @@ printed_more old new before after m l book keeps model recorded more none is = r
   more = more;
   took = subst (λ (s : Option Stop). Took s old new before after) (sym none) (is ∙ (λ i. with_more before (blocks (model i) (slice_range (recorded i) old.printed new.printed))));
 }
+
+-- those from the first that isn't printed on, as many as are due behind it
+pub printed_due : (old new : Printer) (before after : Option (List ℕ)) (m : Instance) (rest found : List (List ℤ)) (count : ℕ) → new.book.book ≡ old.book.book → KeepsPrinting old new → m ≡ old.book.book.model → rest ≡ drop old.printed old.book.book.recorded
+    → found ≡ take (count - old.printed) rest → old.printed ≤ count → new.printed ≡ count → new.stopped ≡ None → after ≡ with_more before (blocks m found) → Grew old new before after
+printed_due old new before after m rest found count book keeps model is_rest is_found more printed none is =
+    let recorded : old.book.book.recorded ≡ new.book.book.recorded = ap (λ (b : Book). b.recorded) (sym book) in
+    let same : found ≡ slice_range new.book.book.recorded old.printed new.printed =
+    is_found ∙ ap (take (count - old.printed)) is_rest ∙ ap (λ (l : List (List ℤ)). slice_range l old.printed count) recorded ∙ ap (slice_range new.book.book.recorded old.printed) (sym printed) in
+    printed_more old new before after m new.book.book.recorded book keeps (model ∙ ap (λ (b : Book). b.model) (sym book)) refl (omega (arith, more, printed)) none (is ∙ ap (λ (l : List (List ℤ)). with_more before (blocks m l)) same)

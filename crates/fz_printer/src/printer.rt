@@ -1,6 +1,5 @@
 //! Printers.
 ghost use Rattle.std.specs.Prelude.{◌≡◌, ◌<◌, ◌≤◌, ◌^◌, ◌-◌, None, Some, length};
-ghost use Rattle.fz_printer.specs.Printed.{book_of, printed_of, stopped_of, as_found_of, wanted_of, due_of, AccountsTo, CountsMark, Grew, IsReady, KeepsPrinting, MarksMemory, OffersTo};
 
 use fz_account::Account;
 use fz_book::{Book, Taken};
@@ -10,7 +9,8 @@ use fz_printing::{Stop, print_blocks};
 use std::alloc::Global;
 
 /// A book of its own, how many of its recorded solutions it handed to the sink, and why it stopped, where it did. Where it prints
-/// solutions as they are found it prints each that the book records, up to as many as are wanted; else it prints none.
+/// solutions as they are found it prints each that the book records, up to as many as are wanted, and the book lets go of what is
+/// printed; else it prints none.
 #[derive(Drop)]
 pub struct Printer {
     book: Book,
@@ -18,11 +18,15 @@ pub struct Printer {
     wanted: Option<u32>,
     printed: usize,
     stopped: Option<Stop>,
+    ghost kept: { book.gone ≤ printed },
 }
 
 impl Printer {
+    ghost use Rattle.fz_printer.specs.Printed.{book_of, printed_of, stopped_of, as_found_of, wanted_of, due_of, AccountsTo, CountsMark, Grew, IsReady, KeepsPrinting, MarksMemory, OffersTo};
+
     /// Nothing is printed yet.
     pub fn new(book: Book, as_found: bool, wanted: Option<u32>) -> Printer
+        requires { book.gone ≡ 0 }
         ensures book { book_of result ≡ book.book }
         ensures as_found { as_found_of result ≡ as_found }
         ensures wanted { wanted_of result ≡ wanted }
@@ -40,7 +44,8 @@ impl Printer {
 
     /// The book that its accounts were taken into.
     pub fn book(&self) -> &Book
-        ensures { result.now.book ≡ book_of self.now }
+        ensures book { result.now.book ≡ book_of self.now }
+        ensures kept { result.now.gone ≤ printed_of self.now }
     {
         &self.book
     }
@@ -121,10 +126,24 @@ impl Printer {
         ensures cause { CountsMark (S.faults sink.old) (S.faults sink.new) (stopped_of self.new) }
     {
         let due = self.due();
-        let found = &self.book.recorded()[self.printed..due];
+        let found = &self.book.recorded_from(self.printed)[..due - self.printed];
         match print_blocks(alloc, sink, self.book.model(), found) {
-            Ok(()) => self.printed = due,
+            Ok(()) => self.mark_printed(due),
             Err(stop) => self.stopped = Some(stop),
+        }
+    }
+
+    /// So many are printed now. Where these are all that is recorded, its book lets go of them.
+    fn mark_printed(&mut self, count: usize)
+        requires more { printed_of self.old ≤ count }
+        ensures book { book_of self.new ≡ book_of self.old }
+        ensures keeps { KeepsPrinting self.old self.new }
+        ensures printed { printed_of self.new ≡ count }
+        ensures stopped { stopped_of self.new ≡ stopped_of self.old }
+    {
+        self.printed = count;
+        if self.book.recorded_count() <= count {
+            self.book.keep_last();
         }
     }
 
@@ -133,7 +152,7 @@ impl Printer {
         ensures due { result ≡ due_of self.now }
         ensures within { result ≤ length (book_of self.now).recorded }
     {
-        let count = self.book.recorded().len();
+        let count = self.book.recorded_count();
         if !self.as_found {
             return 0;
         }

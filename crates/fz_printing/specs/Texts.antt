@@ -1,5 +1,5 @@
 -- What is printed of a search, and what a sink took of it.
-use Rattle.std.specs.Prelude.{◌≡◌, ℕ, ℤ, ◌+◌, ◌<◌, Bool, if◌then◌else◌, length, Option, Some, None, Result, MatchResult, List, [], ◌++◌}
+use Rattle.std.specs.Prelude.{◌≡◌, ℕ, zero, suc, ℤ, ◌+◌, ◌<◌, Bool, true, false, if◌then◌else◌, length, Option, Some, None, Result, MatchResult, List, [], ◌∷◌, ◌++◌}
 use Rattle.fz_spec.specs.Instance.{Instance}
 use Rattle.fz_spec.specs.Run.{blocks, closing}
 use Rattle.fz_spec.specs.declared.goal.Goal.{Goal}
@@ -31,6 +31,18 @@ HasStopCause before after result = MatchResult result (λ _. after ≡ before) (
 -- the closing line, where there is one
 abbrev pub ending : Bool → List (List ℤ) → List ℕ
 ending complete l = if complete then closing l else []
+
+-- the same of so many, whichever they are
+abbrev pub closing_after : ℕ → List ℕ
+closing_after zero = closing []
+closing_after (suc n) = closing ([] ∷ [])
+
+abbrev pub ending_after : Bool → ℕ → List ℕ
+ending_after complete n = if complete then closing_after n else []
+
+abbrev pub count_if : Bool → ℕ → Option ℕ
+count_if true n = Some n
+count_if false n = None
 
 -- what stands behind the blocks of all that is listed
 abbrev pub end_text : Options → List (List ℤ) → Bool → List ℕ

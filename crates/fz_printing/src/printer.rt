@@ -1,5 +1,5 @@
 //! Printing, a piece at a time.
-ghost use Rattle.std.specs.Prelude.{◌≡◌, ◌≢◌, ◌<◌, ◌^◌, ◌-◌, ◌++◌, OnOk, OnErr, IfErr, MatchResult};
+ghost use Rattle.std.specs.Prelude.{ℤ, List, length, ◌≡◌, ◌≢◌, ◌<◌, ◌^◌, ◌-◌, ◌++◌, OnOk, OnErr, IfErr, MatchResult};
 ghost use Rattle.std.specs.List.{AllByRecursion};
 ghost use Rattle.fz_spec.specs.Instance.{AreDeclared};
 ghost use Rattle.fz_spec.specs.Run.{block, blocks, closing};
@@ -7,7 +7,7 @@ ghost use Rattle.fz_io.specs.Outside.{with_more};
 ghost use Rattle.fz_print.specs.Refusal.{text_of};
 ghost use Rattle.fz_print.specs.Ending.{statistics_text};
 ghost use Rattle.fz_runs.specs.Runs.{counted, summary_of};
-ghost use Rattle.fz_printing.specs.Texts.{TakesFront, HasStopCause, end_text, ending, best_text, listing_text, run_text, shown_text};
+ghost use Rattle.fz_printing.specs.Texts.{TakesFront, HasStopCause, closing_after, count_if, end_text, ending_after, best_text, listing_text, run_text, shown_text};
 
 use fz_cmd::Options;
 use fz_io::outside::Sink;
@@ -48,27 +48,29 @@ pub fn print_run<S: Sink>(
     ensures cause { HasStopCause (S.faults sink.old) (S.faults sink.new) result }
 {
     print_shown(alloc, sink, model, options.generate(), found, complete)?;
-    put_statistics(alloc, sink, options.stats(), found)
+    put_statistics(alloc, sink, options.stats(), found.len() as u64)
 }
 
-/// Prints what stands behind the blocks of all that is listed: the closing line where there is one, and the statistics where they
-/// are asked for.
+/// Prints what stands behind the blocks of all that is listed, which are so many: the closing line where there is one, and the
+/// statistics where they are asked for.
 pub fn print_end<S: Sink>(
     alloc: Global,
     sink: &mut S,
     options: &Options,
-    found: &[Assignment],
+    count: u64,
     complete: bool,
 ) -> Result<(), Stop>
     requires { S.faults sink.old < 2 ^ 64 - 1 }
-    ensures taken { OnOk result (S.taken sink.new
-        ≡ with_more (S.taken sink.old) (end_text options.now found.now complete)) }
-    ensures front { OnErr result (TakesFront (end_text options.now found.now complete)
+    ensures taken { (listed : List (List ℤ)) → length listed ≡ count → OnOk result
+        (S.taken sink.new
+        ≡ with_more (S.taken sink.old) (end_text options.now listed complete)) }
+    ensures front { (listed : List (List ℤ)) → length listed ≡ count → OnErr result
+        (TakesFront (end_text options.now listed complete)
         (S.taken sink.old) (S.taken sink.new)) }
     ensures cause { HasStopCause (S.faults sink.old) (S.faults sink.new) result }
 {
-    put_ending(alloc, sink, found, complete)?;
-    put_statistics(alloc, sink, options.stats(), found)
+    put_ending(alloc, sink, count, complete)?;
+    put_statistics(alloc, sink, options.stats(), count)
 }
 
 /// Prints what is shown of a search, by the goal.
@@ -137,7 +139,7 @@ fn put_summary<S: Sink>(
     ensures cause { HasStopCause (S.faults sink.old) (S.faults sink.new) result }
 {
     let Some(best) = found.first() else {
-        return put_closing(alloc, sink, found);
+        return put_closing(alloc, sink, 0);
     };
     match summary(alloc, items, value_of(goal, best.values())) {
         Ok(text) => put(sink, &text),
@@ -146,23 +148,18 @@ fn put_summary<S: Sink>(
 }
 
 /// Prints how many solutions there are, where statistics are asked for.
-fn put_statistics<S: Sink>(
-    alloc: Global,
-    sink: &mut S,
-    asked: bool,
-    found: &[Assignment],
-) -> Result<(), Stop>
+fn put_statistics<S: Sink>(alloc: Global, sink: &mut S, asked: bool, count: u64) -> Result<(), Stop>
     requires { S.faults sink.old < 2 ^ 64 - 1 }
     ensures taken { OnOk result (S.taken sink.new
-        ≡ with_more (S.taken sink.old) (statistics_text (counted asked found.now))) }
-    ensures front { OnErr result (TakesFront (statistics_text (counted asked found.now))
+        ≡ with_more (S.taken sink.old) (statistics_text (count_if asked count))) }
+    ensures front { OnErr result (TakesFront (statistics_text (count_if asked count))
         (S.taken sink.old) (S.taken sink.new)) }
     ensures cause { HasStopCause (S.faults sink.old) (S.faults sink.new) result }
 {
     if !asked {
         return Ok(());
     }
-    match trailer(alloc, Ending::Plain, Some(found.len() as u64)) {
+    match trailer(alloc, Ending::Plain, Some(count)) {
         Ok(text) => put(sink, &text),
         Err(_) => Err(Stop::Memory),
     }
@@ -186,25 +183,20 @@ fn print_listing<S: Sink>(
     ensures cause { HasStopCause (S.faults sink.old) (S.faults sink.new) result }
 {
     print_blocks(alloc, sink, model, found)?;
-    put_ending(alloc, sink, found, complete)
+    put_ending(alloc, sink, found.len() as u64, complete)
 }
 
-/// Prints the closing line, where there is one.
-fn put_ending<S: Sink>(
-    alloc: Global,
-    sink: &mut S,
-    found: &[Assignment],
-    complete: bool,
-) -> Result<(), Stop>
+/// Prints the closing line behind so many solutions, where there is one.
+fn put_ending<S: Sink>(alloc: Global, sink: &mut S, count: u64, complete: bool) -> Result<(), Stop>
     requires { S.faults sink.old < 2 ^ 64 - 1 }
     ensures taken { OnOk result
-        (S.taken sink.new ≡ with_more (S.taken sink.old) (ending complete found.now)) }
+        (S.taken sink.new ≡ with_more (S.taken sink.old) (ending_after complete count)) }
     ensures front { OnErr result
-        (TakesFront (ending complete found.now) (S.taken sink.old) (S.taken sink.new)) }
+        (TakesFront (ending_after complete count) (S.taken sink.old) (S.taken sink.new)) }
     ensures cause { HasStopCause (S.faults sink.old) (S.faults sink.new) result }
 {
     if complete {
-        put_closing(alloc, sink, found)
+        put_closing(alloc, sink, count)
     } else {
         Ok(())
     }
@@ -251,15 +243,15 @@ fn put_block<S: Sink>(
     }
 }
 
-fn put_closing<S: Sink>(alloc: Global, sink: &mut S, found: &[Assignment]) -> Result<(), Stop>
+fn put_closing<S: Sink>(alloc: Global, sink: &mut S, count: u64) -> Result<(), Stop>
     requires { S.faults sink.old < 2 ^ 64 - 1 }
     ensures taken { OnOk result
-        (S.taken sink.new ≡ with_more (S.taken sink.old) (closing found.now)) }
+        (S.taken sink.new ≡ with_more (S.taken sink.old) (closing_after count)) }
     ensures front { OnErr result
-        (TakesFront (closing found.now) (S.taken sink.old) (S.taken sink.new)) }
+        (TakesFront (closing_after count) (S.taken sink.old) (S.taken sink.new)) }
     ensures cause { HasStopCause (S.faults sink.old) (S.faults sink.new) result }
 {
-    let ending = if found.is_empty() {
+    let ending = if count == 0 {
         Ending::Unsatisfiable
     } else {
         Ending::Complete

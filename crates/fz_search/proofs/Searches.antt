@@ -28,7 +28,7 @@ use Rattle.fz_printer.specs.declared.printer.Printer.{Printer}
 use Rattle.fz_printer.specs.Printed.{as_found_of, book_of, printed_of, stopped_of, wanted_of, due_among, due_of, CountsMark, HasPrinted, HasPrintedAt, IsReady}
 use Rattle.fz_stream.specs.Streamed.{Gathers, IsFilled, IsFilledFor, Streams}
 use Rattle.fz_stream.proofs.Gatherings.{gathers_both}
-use Rattle.fz_search.specs.Searched.{IsAlone, IsByTurns, IsPrinted, enough_for, HasEnded, IsSearched, IsListing, IsShown, shows_found}
+use Rattle.fz_search.specs.Searched.{IsAlone, IsByTurns, IsPrinted, enough_for, first_shown, HasEnded, IsSearched, IsListing, IsShown, IsTally, shows_all, shows_found}
 
 -- ---- the first so many of a list
 
@@ -232,3 +232,65 @@ pub shown_declared : (goal : Goal) (m : Instance) (o : Options) (l : List (List 
 shown_declared goals.Satisfy m o l complete h = listed_declared m (wanted o) l complete h
 shown_declared (goals.Minimize t) m o l complete h = all_declared m l h.1.sound
 shown_declared (goals.Maximize t) m o l complete h = all_declared m l h.1.sound
+
+-- ---- what is shown where each that is recorded is
+
+due_count : (w : Option ℕ) (l : List (List ℤ)) → length (take (due_among true w (length l)) l) ≡ due_among true w (length l)
+due_count None l = length-take-le (length l) l (omega arith)
+due_count (Some n) l = length-take-le (due_among true (Some n) (length l)) l (omega arith)
+
+some_tally : (w : Option ℕ) (n : ℕ) (b : Book) → BookLaw b → b.mode ≡ modes.All → w ≡ Some n → n ≤ length b.recorded → IsListing b.model w (take (due_among true w (length b.recorded)) b.recorded) false
+some_tally w n b law all is within =
+    subst (λ (v : Option ℕ). IsListing b.model v (take (due_among true v (length b.recorded)) b.recorded) false) (sym is)
+    (subst (λ (l : List (List ℤ)). AreSome b.model n l) (first_due b.recorded n within) (some_of b n law all within))
+
+all_tally : (w : Option ℕ) (b : Book) → IsSearched b.model w b → b.mode ≡ modes.All → ((n : ℕ) → w ≡ Some n → length b.recorded < n) → IsListing b.model w (take (due_among true w (length b.recorded)) b.recorded) true
+all_tally None b s all few = subst (λ (l : List (List ℤ)). IsListing b.model None l true) (all_due b.recorded) (all_shown b s all)
+all_tally (Some n) b s all few = subst (λ (l : List (List ℤ)). IsListing b.model (Some n) l true) (few_due b.recorded n (few n refl)) (rest_shown b n s all (few n refl))
+
+best_tally : (b : Book) (all : Bool) → IsSearched b.model None b → b.mode ≡ modes.Best → all ≡ true → AreBest all b.model (take (due_among true None (length b.recorded)) b.recorded)
+best_tally b all s best is = subst (λ (l : List (List ℤ)). AreBest all b.model l) (all_due b.recorded) (best_listed b all b.recorded s best is refl)
+
+-- as many are recorded as are asked for
+some_by : (goal : Goal) (o : Options) (n : ℕ) (b : Book) → IsSearched b.model (enough_for goal o) b → b.model.goal ≡ goal → enough_for goal o ≡ Some n → n ≤ length b.recorded
+    → IsShown goal o b.model (take (due_among true (enough_for goal o) (length b.recorded)) b.recorded) false
+some_by goals.Satisfy o n b s is asked within = some_tally (wanted o) n b s.law (mode_by_goal b (wanted o) goals.Satisfy s is) asked within
+some_by (goals.Minimize t) o n b s is asked within = absurd (cc asked)
+some_by (goals.Maximize t) o n b s is asked within = absurd (cc asked)
+
+all_by : (goal : Goal) (o : Options) (b : Book) → IsSearched b.model (enough_for goal o) b → b.model.goal ≡ goal → shows_found goal o ≡ true → ((n : ℕ) → enough_for goal o ≡ Some n → length b.recorded < n)
+    → IsShown goal o b.model (take (due_among true (enough_for goal o) (length b.recorded)) b.recorded) true
+all_by goals.Satisfy o b s is shows few = all_tally (wanted o) b s (mode_by_goal b (wanted o) goals.Satisfy s is) few
+all_by (goals.Minimize t) o b s is shows few = (refl, best_tally b (shows_all o.generate o.all) s (mode_by_goal b None (goals.Minimize t) s is) shows)
+all_by (goals.Maximize t) o b s is shows few = (refl, best_tally b (shows_all o.generate o.all) s (mode_by_goal b None (goals.Maximize t) s is) shows)
+
+some_are_shown : (o : Options) (n : ℕ) (b : Book) → IsSearched b.model (enough_for b.model.goal o) b → enough_for b.model.goal o ≡ Some n → n ≤ length b.recorded → IsShown b.model.goal o b.model (first_shown o b) false
+some_are_shown o n b s asked within = some_by b.model.goal o n b s refl asked within
+
+all_are_shown : (o : Options) (b : Book) → IsSearched b.model (enough_for b.model.goal o) b → shows_found b.model.goal o ≡ true → ((n : ℕ) → enough_for b.model.goal o ≡ Some n → length b.recorded < n)
+    → IsShown b.model.goal o b.model (first_shown o b) true
+all_are_shown o b s shows few = all_by b.model.goal o b s refl shows few
+
+least : (w : Option ℕ) (n count : ℕ) → w ≡ Some n → n ≤ count → due_among true w count ≡ n
+least w n count is h = ap (λ (v : Option ℕ). due_among true v count) is ∙ omega (arith, h)
+
+whole : (w : Option ℕ) (count : ℕ) → ((n : ℕ) → w ≡ Some n → count < n) → due_among true w count ≡ count
+whole None count few = refl
+whole (Some n) count few = (let h = few n refl in omega (arith, h))
+
+some_are_counted : (o : Options) (n : ℕ) (b : Book) → enough_for b.model.goal o ≡ Some n → n ≤ length b.recorded → length (first_shown o b) ≡ n
+some_are_counted o n b asked within = due_count (enough_for b.model.goal o) b.recorded ∙ least (enough_for b.model.goal o) n (length b.recorded) asked within
+
+all_are_counted : (o : Options) (b : Book) → ((n : ℕ) → enough_for b.model.goal o ≡ Some n → length b.recorded < n) → length (first_shown o b) ≡ length b.recorded
+all_are_counted o b few = due_count (enough_for b.model.goal o) b.recorded ∙ whole (enough_for b.model.goal o) (length b.recorded) few
+
+pub tally_shown : (o : Options) (b : Book) (w : Option ℕ) (recorded count : ℕ) (complete : Bool) → w ≡ enough_for b.model.goal o → recorded ≡ length b.recorded → IsTally w recorded count complete → IsSearched b.model (enough_for b.model.goal o) b
+    → shows_found b.model.goal o ≡ true → IsShown b.model.goal o b.model (first_shown o b) complete
+tally_shown o b w recorded count true asked all h s shows = all_are_shown o b s shows (λ n is. (let few = h.1 n (asked ∙ is) in omega (arith, few, all)))
+tally_shown o b (Some n) recorded count false asked all h s shows = some_are_shown o n b s (sym asked) (let within = h.0 in omega (arith, within, all))
+tally_shown o b None recorded count false asked all h s shows = absurd h
+
+pub tally_counted : (o : Options) (b : Book) (w : Option ℕ) (recorded count : ℕ) (complete : Bool) → w ≡ enough_for b.model.goal o → recorded ≡ length b.recorded → IsTally w recorded count complete → length (first_shown o b) ≡ count
+tally_counted o b w recorded count true asked all h = all_are_counted o b (λ n is. (let few = h.1 n (asked ∙ is) in omega (arith, few, all))) ∙ sym all ∙ sym h.0
+tally_counted o b (Some n) recorded count false asked all h = some_are_counted o n b (sym asked) (let within = h.0 in omega (arith, within, all)) ∙ sym h.1
+tally_counted o b None recorded count false asked all h = absurd h

@@ -1,5 +1,5 @@
 -- What a search leaves of its book, and what is shown of it.
-use Rattle.std.specs.Prelude.{◌≡◌, ℕ, ℤ, ◌<◌, ◌≤◌, ◌⊎◌, Bool, true, false, length, Option, Some, None, List, []}
+use Rattle.std.specs.Prelude.{◌≡◌, ℕ, ℤ, ◌<◌, ◌≤◌, ◌⊎◌, Bool, true, false, length, take, Option, Some, None, IsSomeAnd, List, []}
 use Rattle.fz_spec.specs.Instance.{Instance, Lists}
 use Rattle.fz_spec.specs.declared.goal.Goal.{Goal}
 use Rattle.fz_spec.specs.declared.goal.Goal.TheVariants.{Satisfy, Minimize, Maximize}
@@ -8,7 +8,7 @@ use Rattle.fz_tree.specs.Book.{Book, BookLaw, opening}
 use Rattle.fz_path.specs.Paths.{Pathed, idle_path}
 use Rattle.fz_solo.specs.Searches.{Searches}
 use Rattle.fz_printer.specs.declared.printer.Printer.{Printer}
-use Rattle.fz_printer.specs.Printed.{book_of, as_found_of, wanted_of, printed_of, stopped_of, due_of, HasPrinted, IsReady}
+use Rattle.fz_printer.specs.Printed.{book_of, as_found_of, wanted_of, printed_of, stopped_of, due_among, due_of, HasPrinted, IsReady}
 use Rattle.fz_core.specs.Cores.{Core, starting}
 use Rattle.fz_machine.specs.Schedule.{HasGone}
 use Rattle.fz_cmd.specs.Meaning.{Options}
@@ -87,3 +87,12 @@ abbrev pub IsShown : Goal → Options → Instance → List (List ℤ) → Bool 
 IsShown Satisfy o m l complete = IsListing m (wanted o) l complete
 IsShown (Minimize term) o m l complete = (complete ≡ true) × AreBest (shows_all o.generate o.all) m l
 IsShown (Maximize term) o m l complete = (complete ≡ true) × AreBest (shows_all o.generate o.all) m l
+
+-- as many as are wanted, of so many that are recorded; or all, where these are fewer
+abbrev pub IsTally : Option ℕ → ℕ → ℕ → Bool → Type 0
+IsTally w recorded count true = (count ≡ recorded) × ((n : ℕ) → w ≡ Some n → recorded < n)
+IsTally w recorded count false = IsSomeAnd w (λ n. (n ≤ recorded) × (count ≡ n))
+
+-- what is shown where each that is recorded is, up to as many as are asked for
+abbrev pub first_shown : Options → Book → List (List ℤ)
+first_shown o b = take (due_among true (enough_for b.model.goal o) (length b.recorded)) b.recorded

@@ -5,5 +5,5 @@
 pub mod searching;
 pub mod team;
 
-pub use searching::{Listing, listing_of, search};
+pub use searching::{Listing, Tally, listing_of, search, tally_of};
 pub use team::search_in_threads;

@@ -1,5 +1,5 @@
 //! The search of a model, and what is shown of it.
-ghost use Rattle.std.specs.Prelude.{◌≡◌, ◌≢◌, ◌-◌, ◌<◌, ◌^◌, ℕ, Option, List, None, Some, true, drop, take, length, IfOk, OnErr};
+ghost use Rattle.std.specs.Prelude.{◌≡◌, ◌≢◌, ◌-◌, ◌<◌, ◌^◌, ℕ, Option, List, None, Some, true, drop, length, IfOk, OnErr};
 ghost use Rattle.std.specs.Arc.{arc_value};
 ghost use Rattle.fz_tree.specs.declared.mode.Mode.TheVariants as modes;
 ghost use Rattle.fz_tree.specs.Better.{mode_of};
@@ -9,8 +9,8 @@ ghost use Rattle.fz_runs.specs.Runs as runs;
 ghost use Rattle.fz_runs.specs.Runs.{AreBest};
 ghost use Rattle.fz_search.specs.Searched as searched;
 ghost use Rattle.fz_printing.specs.declared.printer.Stop.TheVariants as stops;
-ghost use Rattle.fz_printer.specs.Printed.{book_of, stopped_of, due_among, CountsMark};
-ghost use Rattle.fz_search.specs.Searched.{enough_for, IsAlone, IsByTurns, IsPrinted, IsSearched, IsSearchedBy, IsListing, IsShown};
+ghost use Rattle.fz_printer.specs.Printed.{book_of, stopped_of, CountsMark};
+ghost use Rattle.fz_search.specs.Searched.{enough_for, first_shown, IsAlone, IsByTurns, IsPrinted, IsSearched, IsSearchedBy, IsListing, IsShown, IsTally};
 
 use fz_account::Mode;
 use fz_book::Book;
@@ -31,6 +31,13 @@ use std::sync::Arc;
 #[derive(Clone, Copy)]
 pub struct Listing<'a> {
     pub found: &'a [Assignment],
+    pub complete: bool,
+}
+
+/// How many solutions are shown, and whether they are all.
+#[derive(Clone, Copy, Debug, PartialEq, Eq)]
+pub struct Tally {
+    pub count: usize,
     pub complete: bool,
 }
 
@@ -149,7 +156,8 @@ pub(crate) fn mode_of(goal: &Goal) -> Mode
 /// A book of a model.
 pub(crate) fn begin(alloc: Global, model: &Arc<Model>, mode: Mode) -> Result<Book, AllocError>
     requires { mode ≡ mode_of (arc_value model.now).goal }
-    ensures { IfOk result (λ b. b.book ≡ opening (arc_value model.now) mode) }
+    ensures opened { IfOk result (λ b. b.book ≡ opening (arc_value model.now) mode) }
+    ensures whole { IfOk result (λ b. b.gone ≡ 0) }
 {
     match Book::begin(alloc, model.clone()?, mode) {
         Ok(book) => Ok(book),
@@ -196,16 +204,42 @@ pub(crate) fn shows_found(goal: &Goal, options: &Options) -> bool
     }
 }
 
-/// What is shown of a search that has ended.
-pub fn listing_of<'a>(book: &'a Book, options: &Options) -> Listing<'a>
-    requires { IsSearched book.now.book.model
+/// How many are shown of a search that has ended, where each that its book recorded is shown, and whether they are all.
+pub fn tally_of(book: &Book, options: &Options) -> Tally
+    requires searched { IsSearched book.now.book.model
         (enough_for book.now.book.model.goal options.now) book.now.book }
+    requires shows { searched.shows_found book.now.book.model.goal options.now ≡ true }
     ensures shown { IsShown book.now.book.model.goal options.now book.now.book.model
+        (first_shown options.now book.now.book) result.complete }
+    ensures count { length (first_shown options.now book.now.book) ≡ result.count }
+{
+    let wanted = enough_for(book.model().goal(), options);
+    tally_among(book.recorded_count(), wanted)
+}
+
+/// As many as are wanted, where so many are recorded, or all.
+fn tally_among(recorded: usize, wanted: Option<u32>) -> Tally
+    ensures { IsTally wanted recorded result.count result.complete }
+{
+    match wanted {
+        Some(wanted) if wanted as usize <= recorded => Tally {
+            count: wanted as usize,
+            complete: false,
+        },
+        _ => Tally {
+            count: recorded,
+            complete: true,
+        },
+    }
+}
+
+/// What is shown of a search that has ended, and whose book has let go of nothing.
+pub fn listing_of<'a>(book: &'a Book, options: &Options) -> Listing<'a>
+    requires searched { IsSearched book.now.book.model
+        (enough_for book.now.book.model.goal options.now) book.now.book }
+    requires whole { book.now.gone ≡ 0 }
+    ensures { IsShown book.now.book.model.goal options.now book.now.book.model
         result.found.now result.complete }
-    ensures found { searched.shows_found book.now.book.model.goal options.now ≡ true
-        → result.found.now ≡ take (due_among true
-        (enough_for book.now.book.model.goal options.now) (length book.now.book.recorded))
-        book.now.book.recorded }
 {
     match book.model().goal() {
         Goal::Satisfy => solutions_of(book, wanted(options)),
@@ -218,9 +252,8 @@ pub fn listing_of<'a>(book: &'a Book, options: &Options) -> Listing<'a>
 fn solutions_of(book: &Book, wanted: Option<u32>) -> Listing<'_>
     requires searched { IsSearched book.now.book.model wanted book.now.book }
     requires mode { book.now.book.mode ≡ modes.All }
-    ensures listing { IsListing book.now.book.model wanted result.found.now result.complete }
-    ensures found { result.found.now ≡ take
-        (due_among true wanted (length book.now.book.recorded)) book.now.book.recorded }
+    requires whole { book.now.gone ≡ 0 }
+    ensures { IsListing book.now.book.model wanted result.found.now result.complete }
 {
     let found = book.recorded();
     match wanted {
@@ -239,9 +272,9 @@ fn solutions_of(book: &Book, wanted: Option<u32>) -> Listing<'_>
 fn best_of(book: &Book, all: bool) -> Listing<'_>
     requires searched { IsSearched book.now.book.model None book.now.book }
     requires mode { book.now.book.mode ≡ modes.Best }
+    requires whole { book.now.gone ≡ 0 }
     ensures best { AreBest all book.now.book.model result.found.now }
     ensures complete { result.complete ≡ true }
-    ensures found { all ≡ true → result.found.now ≡ book.now.book.recorded }
 {
     let found = book.recorded();
     if all {

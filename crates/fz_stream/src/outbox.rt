@@ -68,7 +68,12 @@ impl Outbox {
 
     /// Whether so much waits that workers are to rest. They never do where nobody takes what they tell.
     pub fn is_full(&self) -> bool {
-        MOST_WAITING <= self.waiting.load(Ordering::SeqCst) && self.is_read.load(Ordering::SeqCst)
+        MOST_WAITING <= self.waiting.load(Ordering::SeqCst) && self.is_read()
+    }
+
+    /// Whether somebody takes what is told.
+    pub fn is_read(&self) -> bool {
+        self.is_read.load(Ordering::SeqCst)
     }
 
     /// How often workers were asked for what they found.

@@ -65,7 +65,7 @@ pub(crate) fn is_filled(printer: &Printer) -> bool
     ensures { IsTrue result ↔ IsFilled printer.now }
 {
     match printer.wanted() {
-        Some(count) => count as usize <= printer.book().recorded().len(),
+        Some(count) => count as usize <= printer.book().recorded_count(),
         None => false,
     }
 }
@@ -203,7 +203,7 @@ fn halt_of(printer: &Printer) -> Halt
 
 /// How many more are wanted.
 fn still_wanted(printer: &Printer) -> Option<u64> {
-    let recorded = printer.book().recorded().len() as u64;
+    let recorded = printer.book().recorded_count() as u64;
     match printer.wanted() {
         Some(count) => Some((count as u64).saturating_sub(recorded)),
         None => None,

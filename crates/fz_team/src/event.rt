@@ -223,7 +223,7 @@ pub fn report<R: Wait, S: SearchSpace, G: Gate>(
     if let Some(Reported { handed, copy }) = section::report(&mut path, &mut book)? {
         taken(handed)?;
         crew.gate.at(member.worker, EventKind::Report);
-        tell_account(rt, crew, copy)?;
+        tell_account(rt, crew, &mut book, copy)?;
     }
     if is_done(&book, crew.enough) {
         crew.stop.store(true, Ordering::SeqCst);
@@ -231,16 +231,23 @@ pub fn report<R: Wait, S: SearchSpace, G: Gate>(
     Ok(next_of(crew, &path, member.heard))
 }
 
-/// What the book took is told, by whoever holds its lock.
+/// What the book took is told, by whoever holds its lock; where somebody prints it, the book lets go of it.
 fn tell_account<R: Wait, S: SearchSpace, G: Gate>(
     rt: &R,
     crew: &Crew<S, G>,
+    book: &mut Book,
     copy: Option<Account>,
-) -> Result<(), AllocError> {
-    match copy {
-        Some(account) => crew.outbox.tell(rt, Told::Taken(account)),
-        None => Err(AllocError),
+) -> Result<(), AllocError>
+    ensures { book.new.book ≡ book.old.book }
+{
+    let Some(account) = copy else {
+        return Err(AllocError);
+    };
+    crew.outbox.tell(rt, Told::Taken(account))?;
+    if crew.outbox.is_read() {
+        book.keep_last();
     }
+    Ok(())
 }
 
 /// Where an account was dropped, the team ends as for want of memory: what it was of is open, and nobody holds it.
@@ -373,7 +380,7 @@ fn steal<R: Wait, S: SearchSpace, G: Gate>(
     };
     taken(handed)?;
     crew.gate.at(worker, EventKind::Steal);
-    tell_account(rt, crew, copy)?;
+    tell_account(rt, crew, &mut book, copy)?;
     Ok(Some(task))
 }
 

@@ -1,5 +1,5 @@
 -- What is printed of a search that has ended.
-use Rattle.std.proofs.Common.{◌≡◌, ◌∙◌, inl, inr, ℕ, List, ◌++◌, length, take, Option, None, Some, Result, Ok, Err, OnErr, Bool, true, false, refl, sym, ap, subst, append_assoc}
+use Rattle.std.proofs.Common.{◌≡◌, ◌∙◌, ◌≤◌, arith, inl, inr, ℕ, List, ◌++◌, length, take, Option, None, Some, Result, Ok, Err, OnErr, Bool, true, false, refl, sym, ap, subst, append_assoc}
 use Rattle.std.specs.Prelude.{ℤ, IfOk, OnOk}
 use Rattle.fz_spec.specs.Instance.{Instance}
 use Rattle.fz_spec.specs.Run.{blocks}
@@ -135,3 +135,18 @@ refused stop s m o before middle after flushed c d h same cases text reads =
 
 pub failed : (stop : Stop) (m : Instance) (o : Options) (before after : Option (List ℕ)) → Shows (Err stop) m o before after → PrintsModel SinkFault m o before after
 failed stop m o before after h text reads = prints_wanted SinkFault text m o h.0 h.1 before after reads h.2 (inr (inl refl, h.3))
+
+-- ---- what is gone is printed
+
+pub none_gone : (o : Options) (p : Printer) (gone : ℕ) → IsEnded o p → as_found_of p ≡ false → gone ≤ printed_of p → gone ≡ 0
+none_gone o p gone e not within =
+    let none : due_of p ≡ 0 = ap (λ f. due_among f (wanted_of p) (length (book_of p).recorded)) not in
+    let ready = e.ready in
+    omega (arith, none, ready, within)
+
+-- each that is recorded is shown where solutions are printed as they are found
+pub all_shown : (o : Options) (p : Printer) → IsEnded o p → as_found_of p ≡ true → shows_found (book_of p).model.goal o ≡ true
+all_shown o p e is = elim e.prints [
+  | inl not ↦ absurd (cc (is, not))
+  | inr shown ↦ sym shown.0 ∙ is
+]

@@ -23,7 +23,7 @@ use fz_print::refusal::Refusal;
 use fz_printer::Printer;
 use fz_printing::{Stop, print_end, print_refusal, print_run};
 use fz_reader::model_of;
-use fz_search::{listing_of, search, search_in_threads};
+use fz_search::{listing_of, search, search_in_threads, tally_of};
 use fz_space::Space;
 use fz_spec::limits::TEXT_LIMIT;
 use std::alloc::{AllocError, Global};
@@ -440,10 +440,11 @@ fn print_rest<S: Sink>(
     ensures cause { HasStopCause (S.faults sink.old) (S.faults sink.new) result }
 {
     let book = printer.book();
-    let listing = listing_of(book, options);
     if printer.as_found() {
-        return print_end(alloc, sink, options, listing.found, listing.complete);
+        let tally = tally_of(book, options);
+        return print_end(alloc, sink, options, tally.count as u64, tally.complete);
     }
+    let listing = listing_of(book, options);
     print_run(
         alloc,
         sink,

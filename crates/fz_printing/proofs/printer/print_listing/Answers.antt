@@ -1,6 +1,8 @@
+use Rattle.std.proofs.Common.{refl}
 use Rattle.std.proofs.lemmas.Result.{on_err_weaker}
 use Rattle.fz_spec.specs.Run.{blocks}
 use Rattle.fz_printing.specs.Texts.{ending}
+use Rattle.fz_printing.proofs.Counts.{ending_by_count}
 use Rattle.fz_printing.proofs.Fronts.{front_more, front_after, whenever}
 use Rattle.fz_printing.proofs.printer.print_listing.Goals as goal
 
@@ -12,5 +14,5 @@ returns-in_err-print_blocks-clause-front g c =
 pub returns-clause-front : goal.returns-clause-front
 returns-clause-front g c =
     on_err_weaker c.put_ending.result
-    (λ front. front_after (blocks c.args.model.now c.args.found.now) (ending c.args.complete c.args.found.now) (g.S.Sink.taken c.args.sink.now) _ (rw c.in_ok-print_blocks.ensures.taken at front))
+    (λ front. front_after (blocks c.args.model.now c.args.found.now) (ending c.args.complete c.args.found.now) (g.S.Sink.taken c.args.sink.now) _ (rw (c.in_ok-print_blocks.ensures.taken, ending_by_count c.args.complete c.args.found.now _ refl) at front))
     c.put_ending.ensures.front

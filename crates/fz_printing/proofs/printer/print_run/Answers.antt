@@ -1,4 +1,6 @@
+use Rattle.std.proofs.Common.{refl}
 use Rattle.std.proofs.lemmas.Result.{on_err_weaker}
+use Rattle.fz_printing.proofs.Counts.{counted_by_count}
 use Rattle.fz_printing.proofs.Fronts.{front_more, front_after, whenever}
 use Rattle.fz_printing.proofs.printer.print_run.Goals as goal
 
@@ -8,5 +10,5 @@ returns-in_err-print_shown-clause-front g c = whenever c.from_residual.result (f
 pub returns-clause-front : goal.returns-clause-front
 returns-clause-front g c =
     on_err_weaker c.put_statistics.result
-    (λ front. rw (c.generate.ensures.generate, c.stats.ensures) at (front_after _ _ (g.S.Sink.taken c.args.sink.now) _ (rw c.in_ok-print_shown.ensures.taken at front)))
+    (λ front. rw (c.generate.ensures.generate, c.stats.ensures, counted_by_count c.args.options.now.stats c.args.found.now _ refl) at (front_after _ _ (g.S.Sink.taken c.args.sink.now) _ (rw c.in_ok-print_shown.ensures.taken at front)))
     c.put_statistics.ensures.front

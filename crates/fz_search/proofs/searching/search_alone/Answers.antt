@@ -17,7 +17,7 @@ returns-clause-printed g c =
     let shown : c.goal-3.result.now ≡ m.goal = search rules in
     let law : BookLaw (book_of c.stream.new.printer) = search rules in
     printed_alone m o c.new-printer.result c.stream.new.printer c.in_ok-path.path c.stream.new.path c.shows_found.result c.enough_for-wanted.result (g.K.Sink.taken c.args.sink.now) (g.K.Sink.taken c.stream.new.sink) c.stream.ensures.streams
-    (ap (λ (b : Book). b.model) (c.new-printer.ensures.book ∙ c.in_ok-book.ensures)) law c.new-printer.ensures.as_found (c.shows_found.ensures ∙ ap (λ (goal : Goal). shows_found goal o) shown) c.new-printer.ensures.wanted
+    (ap (λ (b : Book). b.model) (c.new-printer.ensures.book ∙ c.in_ok-book.ensures.opened)) law c.new-printer.ensures.as_found (c.shows_found.ensures ∙ ap (λ (goal : Goal). shows_found goal o) shown) c.new-printer.ensures.wanted
     (c.enough_for-wanted.ensures ∙ ap (λ (goal : Goal). enough_for goal o) asked) c.new-printer.ensures.printed c.new-printer.ensures.stopped c.stream.ensures.ready c.stream.ensures.ended
 
 pub returns-clause-by : goal.returns-clause-by
@@ -28,4 +28,4 @@ returns-clause-by g c = λ n.
     let shown : c.goal-3.result.now ≡ m.goal = search rules in
     let same : c.in_ok-path.path ≡ idle_path m c.mode_of-mode.result c.commit_distance-distance.result c.adaptive_distance-adaptive.result = search rules in
     alone m o c.new-printer.result.as_found c.mode_of-mode.result c.commit_distance-distance.result c.adaptive_distance-adaptive.result (book_of c.new-printer.result) (book_of c.stream.new.printer) c.in_ok-path.path c.stream.new.path
-    (c.new-printer.ensures.as_found ∙ c.shows_found.ensures ∙ ap (λ (goal : Goal). shows_found goal o) shown) (c.mode_of-mode.ensures ∙ ap mode_of aim) (search rules) (search rules) (c.new-printer.ensures.book ∙ c.in_ok-book.ensures) same (c.stream.ensures.streams.searched n)
+    (c.new-printer.ensures.as_found ∙ c.shows_found.ensures ∙ ap (λ (goal : Goal). shows_found goal o) shown) (c.mode_of-mode.ensures ∙ ap mode_of aim) (search rules) (search rules) (c.new-printer.ensures.book ∙ c.in_ok-book.ensures.opened) same (c.stream.ensures.streams.searched n)

@@ -15,7 +15,7 @@ returns-clause-printed g c =
     let shown : c.goal-3.result.now ≡ m.goal = search rules in
     let law : BookLaw (book_of c.search_all.new.printer) = search rules in
     printed_together m o c.new-printer.result c.search_all.new.printer c.shows_found.result c.enough_for-wanted.result (g.K.Sink.taken c.args.sink.now) (g.K.Sink.taken c.search_all.new.sink) (g.K.Sink.faults c.args.sink.now) (g.K.Sink.faults c.search_all.new.sink)
-    c.search_all.ensures.gathers (ap (λ (b : Book). b.model) (c.new-printer.ensures.book ∙ c.in_ok-book.ensures)) law c.new-printer.ensures.as_found (c.shows_found.ensures ∙ ap (λ (goal : Goal). shows_found goal o) shown) c.new-printer.ensures.wanted
+    c.search_all.ensures.gathers (ap (λ (b : Book). b.model) (c.new-printer.ensures.book ∙ c.in_ok-book.ensures.opened)) law c.new-printer.ensures.as_found (c.shows_found.ensures ∙ ap (λ (goal : Goal). shows_found goal o) shown) c.new-printer.ensures.wanted
     (c.enough_for-wanted.ensures ∙ ap (λ (goal : Goal). enough_for goal o) asked) c.new-printer.ensures.printed c.new-printer.ensures.stopped c.search_all.ensures.ended
 
 pub returns-clause-cause : goal.returns-clause-cause

@@ -7,4 +7,4 @@ use Rattle.fz_book.proofs.book.Book.offer.Goals as goal
 pub invariant_of-self-2 : goal.invariant_of-self-2
 invariant_of-self-2 c =
     offer_code c.args.self.now.book (book_of c.self.inside) c.args.assignment c.push.new.self.items (ap (λ (r : Roomy). r.book) c.self.view_is) c.self.invariant
-    (c.if-not-is_improved_by.ensures.0 refl) c.in_ok-push.ensures.items
+    (c.if-not-is_improved_by.ensures.0 refl) c.in_ok-push.ensures.ok
