@@ -8,3 +8,7 @@ mod Trying
 mod Agreeing
 mod Opening
 mod Fixing
+mod Wording
+mod Guessing
+mod Heading
+mod Unread

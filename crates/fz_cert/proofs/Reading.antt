@@ -3,6 +3,7 @@ use Rattle.std.proofs.Common.{◌≡◌, ℕ, List, [], ◌∷◌, ◌++◌, ref
 use Rattle.std.specs.Prelude.{ℤ, Option, ◌↔◌, Bool, true, false, bytes_eq, take, nat_eq}
 use Rattle.std.proofs.lemmas.Bool.{false≢true}
 use Rattle.fz_cert.specs.declared.step.Step.{Step}
+use Rattle.fz_cert.proofs.Wording.{take_front}
 use Rattle.fz_cert.specs.Steps.{IsTaken, line_of}
 use Rattle.fz_spec.specs.Instance.{Instance}
 use Rattle.fz_refutes.specs.Trees.{Line, AreRefutedBy}
@@ -34,15 +35,11 @@ one_read m head old now new text rest later piece line read is at taken = record
 
 -- ---- what the code compares
 
-take_front : (piece rest : List ℕ) → take (length piece) (piece ++ rest) ≡ piece
-take_front [] rest = refl
-take_front (x ∷ xs) rest = ap (λ (t : List ℕ). x ∷ t) (take_front xs rest)
-
 bytes_self : (xs : List ℕ) → bytes_eq xs xs ≡ true
 bytes_self [] = refl
 bytes_self (x ∷ xs) = let here : nat_eq x x ≡ true = grind arith in rw here (bytes_self xs)
 
-bytes_same : (xs ys : List ℕ) → xs ≡ ys → bytes_eq xs ys ≡ true
+pub bytes_same : (xs ys : List ℕ) → xs ≡ ys → bytes_eq xs ys ≡ true
 bytes_same xs ys e = subst (λ (zs : List ℕ). bytes_eq xs zs ≡ true) e (bytes_self xs)
 
 pub no_front : (text piece front rest : List ℕ) → front ≡ take (length piece) text → bytes_eq front piece ≡ false → text ≡ piece ++ rest → ⊥

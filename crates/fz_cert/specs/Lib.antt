@@ -1,3 +1,4 @@
 pub mod Walks
 pub mod Steps
 pub mod Smalls
+pub mod Guesses

@@ -3,8 +3,8 @@ ghost use Rattle.std.specs.Prelude.{◌≡◌, ◌≢◌, ◌↔◌, ◌++◌, L
 ghost use Rattle.fz_spec.specs.Run.{block};
 ghost use Rattle.fz_spec.specs.declared.goal.Goal.TheVariants.{Satisfy};
 ghost use Rattle.fz_spec.specs.Instance.{AreDeclared};
-ghost use Rattle.fz_refutes.specs.Texts.{comment, head_text, front_text, lines_text, cert_text, IsHead, ProvesHead};
 ghost use Rattle.fz_refutes.specs.Laws.{Shows};
+ghost use Rattle.fz_refutes.specs.Texts.{comment, head_text, front_text, lines_text, cert_text, IsHead, Proves, ProvesHead};
 
 use crate::area::Area;
 use crate::guess;
@@ -18,7 +18,8 @@ use std::alloc::{AllocError, Global};
 
 /// Whether an output proves its last block best, or that no assignment satisfies.
 pub fn check(alloc: Global, model: &Model, output: &[u8]) -> Result<bool, AllocError>
-    ensures { IfOk result (λ yes. IsTrue yes → Shows model.now output.now) }
+    ensures proves { IfOk result (λ yes. IsTrue yes ↔ Proves model.now output.now) }
+    ensures shows { IfOk result (λ yes. IsTrue yes → Shows model.now output.now) }
 {
     let _ = model.goal();
     let head = guess::head(alloc, model, output)?;
@@ -56,7 +57,7 @@ fn proves(
     output: &[u8],
 ) -> Result<bool, AllocError>
     requires { IsHead model.now head.now }
-    ensures { IfOk result (λ yes. IsTrue yes → ProvesHead model.now head.now output.now) }
+    ensures { IfOk result (λ yes. IsTrue yes ↔ ProvesHead model.now head.now output.now) }
 {
     let mut front = Vec::new(alloc);
     push_front(&mut front, model, head)?;

@@ -14,6 +14,7 @@ mod text;
 mod tree;
 mod variables;
 mod walk;
+mod word;
 
 pub use area::Area;
 pub use checker::check;

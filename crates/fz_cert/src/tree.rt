@@ -1,5 +1,5 @@
 //! The lines of a tree.
-ghost use Rattle.std.specs.Prelude.{◌≡◌, ◌++◌, List, length, IfOk, IsTrue, codes};
+ghost use Rattle.std.specs.Prelude.{◌≡◌, ◌↔◌, ◌++◌, List, length, IfOk, IsTrue, codes};
 ghost use Rattle.fz_refutes.specs.Trees.{Line, AreRefutedBy};
 ghost use Rattle.fz_refutes.specs.Texts.{comment, lines_text};
 ghost use Rattle.fz_cert.specs.Steps.{HaveLength};
@@ -20,7 +20,7 @@ pub fn is_tree(
     text: &[u8],
 ) -> Result<bool, AllocError>
     requires { HaveLength (length model.now.variables) walk.old }
-    ensures { IfOk result (λ yes. IsTrue yes → (lines : List Line)
+    ensures { IfOk result (λ yes. IsTrue yes ↔ (lines : List Line)
         × AreRefutedBy model.now head.now walk.old lines
         × (text.now ≡ lines_text lines ++ comment (codes "end"))) }
 {

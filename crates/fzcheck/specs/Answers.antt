@@ -1,5 +1,5 @@
 -- What each answer of the checker says of the two texts, of what was printed, and of its cause. `fzcheck` cites these.
-use Rattle.std.specs.Prelude.{◌≡◌, ℕ, ◌+◌, ◌<◌, ◌≤◌, ◌&&◌, take, Option, Some, None, IfSome, List, [], ◌∷◌, length, codes, bytes_eq, if◌then◌else◌}
+use Rattle.std.specs.Prelude.{◌≡◌, ◌⊎◌, ℕ, ◌+◌, ◌<◌, ◌≤◌, ◌&&◌, take, Option, Some, None, IfSome, List, [], ◌∷◌, length, codes, bytes_eq, if◌then◌else◌}
 use Rattle.fz_spec.specs.declared.limits.TheConstants.{TEXT_LIMIT}
 use Rattle.fz_spec.specs.Instance.{Instance}
 use Rattle.fz_language.specs.Reads.{Reads, Accepted}
@@ -8,6 +8,7 @@ use Rattle.fz_print.specs.declared.refusal.Refusal.{Refusal}
 use Rattle.fz_print.specs.Refusal.{text_of}
 use Rattle.fz_reader.specs.Refusals.{IsRefusal}
 use Rattle.fz_refutes.specs.Laws.{Shows}
+use Rattle.fz_refutes.specs.Texts.{Proves}
 use Rattle.fzcheck.specs.declared.run.TheConstants.{OUTPUT_LIMIT}
 use Rattle.fzcheck.specs.declared.status.CheckStatus.{CheckStatus}
 use Rattle.fzcheck.specs.declared.status.CheckStatus.TheVariants.{Yes, No, Usage, SourceFault, SinkFault, Refused, NoMemory}
@@ -41,10 +42,16 @@ pub record IsProved (m : Instance) (file : Option (List ℕ)) : Type 0 where
   pub short : length output ≤ OUTPUT_LIMIT
   pub shows : Shows m output
 
+-- The output is longer than its limit, or doesn't prove.
+pub record IsUnproved (m : Instance) (file : Option (List ℕ)) : Type 0 where
+  pub output : List ℕ
+  pub read : IsReadOf OUTPUT_LIMIT file output
+  pub fails : (OUTPUT_LIMIT < length output) ⊎ (Proves m output → ⊥)
+
 -- what the answer says of a model and an output
 abbrev pub Judges : CheckStatus → Instance → Option (List ℕ) → Type 0
 Judges Yes m file = IsProved m file
-Judges No m file = Unit {0}
+Judges No m file = IsUnproved m file
 Judges Usage m file = ⊥
 Judges SourceFault m file = Unit {0}
 Judges SinkFault m file = ⊥
