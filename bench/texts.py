@@ -51,6 +51,20 @@ class Text:
         self.add(f"bool2int({truth},{one})")
         return one
 
+    def hidden_is(self, name, number):
+        """The same as `whether_is`, by an element of ones and zeros: `name` is at least 1 and at most `number`."""
+        one = self.hidden(f"{name}_mark_{number}", "0..1")
+        self.element(name, [int(value == number) for value in range(1, number + 1)], one)
+        return one
+
+    def way(self, word, first, second, count, ways):
+        """The way between two places of so many, by an index of two dimensions, as the MiniZinc compiler writes it."""
+        index = self.hidden(f"i{word}", f"1..{count * count}")
+        self.linear("eq", [(count, first), (1, second), (-1, index)], count)
+        way = self.hidden(f"w{word}", f"0..{max(ways)}")
+        self.element(index, ways, way)
+        return way
+
     def apart(self, first, first_length, second, second_length):
         """One ends before the other begins."""
         names = [self.whether_before(first, first_length, second), self.whether_before(second, second_length, first)]
@@ -65,6 +79,9 @@ class Text:
 
     def greatest(self, name, names):
         self.add(f"array_int_maximum({name},{listed(names)})")
+
+    def least(self, name, names):
+        self.add(f"array_int_minimum({name},{listed(names)})")
 
     def different(self, names):
         """fzn-gecode is asked for values alone: by itself it narrows bounds as well."""
