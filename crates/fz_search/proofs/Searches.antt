@@ -168,6 +168,11 @@ all_shown b s all = closed_lists b s.law all s.ended
 pub rest_shown : (b : Book) (n : ℕ) → IsSearched b.model (Some n) b → b.mode ≡ modes.All → length b.recorded < n → IsListing b.model (Some n) b.recorded true
 rest_shown b n s all few = (few, elim s.ended [ inl many ↦ absurd (omega (arith, many, few)) | inr closed ↦ closed_lists b s.law all closed ])
 
+pub some_listed : (b : Book) (w : Option ℕ) (n : ℕ) (found : List (List ℤ)) → BookLaw b → b.mode ≡ modes.All → w ≡ Some n → found ≡ b.recorded → n ≤ length found → IsListing b.model w (take n found) false
+some_listed b w n found law all asked same within =
+    subst (λ (v : Option ℕ). IsListing b.model v (take n found) false) (sym asked)
+    (subst (λ (l : List (List ℤ)). AreSome b.model n (take n l)) (sym same) (some_of b n law all (subst (λ (l : List (List ℤ)). n ≤ length l) same within)))
+
 -- the mode of a book is its goal's
 pub mode_by_goal : (b : Book) (w : Option ℕ) (goal : Goal) → IsSearched b.model w b → b.model.goal ≡ goal → b.mode ≡ mode_of goal
 mode_by_goal b w goal s is = s.law.own_mode ∙ ap mode_of is
