@@ -5,8 +5,8 @@ use Rattle.fz_search.proofs.Searches.{shown_declared}
 use Rattle.fzn.proofs.Endings.{all_shown, ends, none_gone}
 use Rattle.fzn.proofs.run.print_rest.Goals as goal
 
-pub tally_of-requires-clause-shows : goal.tally_of-requires-clause-shows
-tally_of-requires-clause-shows g c =
+pub tally_of-tally-requires-clause-shows : goal.tally_of-tally-requires-clause-shows
+tally_of-tally-requires-clause-shows g c =
     let told = c.as_found.ensures in
     let taken = c.if-as_found.true in
     let is : as_found_of c.args.printer.now ≡ true = cc in
@@ -22,8 +22,8 @@ returns-then-as_found-clause-shows g c = λ before printed.
     ends c.print_end.result c.args.options.now c.args.printer.now l c.tally_of-tally.result.complete before (g.S.Sink.taken c.args.sink.now) (g.S.Sink.taken c.print_end.new.sink)
     c.requires.ended is (rw c.book-book.ensures.book at c.tally_of-tally.ensures.shown) (λ shows. refl) (c.print_end.ensures.taken l count) (c.print_end.ensures.front l count) printed
 
-pub listing_of-requires-clause-whole : goal.listing_of-requires-clause-whole
-listing_of-requires-clause-whole g c =
+pub listing_of-listing-requires-clause-whole : goal.listing_of-listing-requires-clause-whole
+listing_of-listing-requires-clause-whole g c =
     let told = c.as_found.ensures in
     let taken = c.if-as_found.false in
     let is : as_found_of c.args.printer.now ≡ false = cc in
