@@ -74,7 +74,7 @@ fn set_value<'a>(
         ≡ set_entry (entries.set_of (environment_of names.now) (trees.basic_of basic.now))) }
 {
     match set(alloc, names, basic)? {
-        Some(set) => Ok(Some(Entry::Set(Box::new(alloc, set)?))),
+        Some(set) => Ok(Some(Entry::Set(set))),
         None => Ok(None),
     }
 }

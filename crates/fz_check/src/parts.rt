@@ -1,5 +1,6 @@
 //! What declarations add to a model.
 ghost use Rattle.std.specs.Prelude.{◌≡◌, ◌++◌, ◌∷◌, [], OnOk, IfOk, Some, None, true, false, map, option_map, ◌≤◌, length, pos};
+ghost use Rattle.std.specs.Arc.{arc_value};
 ghost use Rattle.fz_sets.specs.Sets.{LEAST, GREATEST};
 ghost use Rattle.fz_spec.specs.declared.term.Term.TheVariants.{Var};
 ghost use Rattle.fz_language.specs.Entries.{Environment};
@@ -22,6 +23,7 @@ use fz_room::types::{is_bound, kind_of, term_asked};
 use fz_spec::builtin::Builtin;
 use fz_syntax::{ArrayItem, Name, Plain, ValueType, VariableItem};
 use std::alloc::{AllocError, Global};
+use std::sync::Arc;
 
 /// The set of a type of variables.
 fn type_set(alloc: Global, value_type: &ValueType) -> Result<Dom, AllocError>
@@ -194,7 +196,7 @@ pub(crate) fn push_bounds(
     }
 }
 
-/// Adds for each term the constraint that it lies in the set of its type.
+/// Adds for each term the constraint that it lies in the set of its type, which all of them share.
 fn push_bound_terms(
     alloc: Global,
     constraints: &mut Vec<Constraint>,
@@ -206,21 +208,19 @@ fn push_bound_terms(
         ≡ constraints.old.items ++ map (models.bound_to (models.type_set
         (trees.type_of value_type.now))) terms.now) }
 {
+    let set = Arc::new(alloc, type_set(alloc, value_type)?)?;
     for term in terms {
-        let constraint = bound_to(alloc, value_type, *term)?;
+        let constraint = bound_to(alloc, &set, *term)?;
         constraints.push(constraint)?;
     }
     Ok(())
 }
 
-/// The constraint that a term lies in the set of its type.
-fn bound_to(alloc: Global, value_type: &ValueType, term: Term) -> Result<Constraint, AllocError>
-    requires { TypeFits (trees.type_of value_type.now) }
-    ensures { IfOk result (λ c. c
-        ≡ models.bound_to (models.type_set (trees.type_of value_type.now)) term) }
+/// The constraint that a term lies in a set.
+fn bound_to(alloc: Global, set: &Arc<Dom>, term: Term) -> Result<Constraint, AllocError>
+    ensures { IfOk result (λ c. c ≡ models.bound_to (arc_value set.now) term) }
 {
-    let set = type_set(alloc, value_type)?;
-    let arguments = Vec::from_array(alloc, [Argument::One(term), Argument::Set(set)])?;
+    let arguments = Vec::from_array(alloc, [Argument::One(term), Argument::Set(set.clone()?)])?;
     Ok(Constraint::new(Builtin::SetIn, arguments))
 }
 

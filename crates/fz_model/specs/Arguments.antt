@@ -7,4 +7,4 @@ abbrev pub argument_of : Argument → meaning.Argument
 argument_of (One term) = meaning.One term
 argument_of (Numbers numbers) = meaning.Numbers numbers.items
 argument_of (Terms terms) = meaning.Terms terms.items
-argument_of (Set set) = meaning.Set set
+argument_of (Set set) = meaning.Set set.value

@@ -8,14 +8,16 @@ use fz_spec::builtin::Builtin;
 use fz_spec::term::Term;
 use std::alloc::{AllocError, Global};
 use std::marker::Model;
+use std::sync::Arc;
 
-/// An argument of a constraint: a term, a list of numbers, a list of terms, or a set.
+/// An argument of a constraint: a term, a list of numbers, a list of terms, or a set. One set may stand in many constraints, so it is
+/// shared.
 #[derive(Drop)]
 pub enum Argument {
     One(Term),
     Numbers(Vec<i32>),
     Terms(Vec<Term>),
-    Set(Dom),
+    Set(Arc<Dom>),
 }
 
 impl Argument {
@@ -33,7 +35,7 @@ impl Argument {
                 let terms = Vec::from_slice(*terms.allocator(), terms)?;
                 Ok(Argument::Terms(terms))
             }
-            Argument::Set(set) => Ok(Argument::Set(set.copy()?)),
+            Argument::Set(set) => Ok(Argument::Set(set.clone()?)),
         }
     }
 

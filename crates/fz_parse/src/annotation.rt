@@ -62,7 +62,7 @@ fn annotation<'a>(alloc: Global, lexer: &mut Lexer<'a>, left: u32) -> Result<Ann
     })
 }
 
-/// Takes arguments of an annotation, up to what closes them.
+/// Takes arguments of an annotation, up to what closes them. Most calls in calls have one, which is the room that a list begins with.
 #[cycle(nested)]
 fn arguments<'a>(alloc: Global, lexer: &mut Lexer<'a>, left: u32) -> Result<Vec<Argument<'a>>, Stop>
     requires left { left ≤ level_limit }
@@ -72,13 +72,13 @@ fn arguments<'a>(alloc: Global, lexer: &mut Lexer<'a>, left: u32) -> Result<Vec<
     ensures forward { OnOk result (length lexer.new.tokens ≤ length lexer.old.tokens) }
     ensures same { lexer.new.source ≡ lexer.old.source }
 {
-    let mut found = Vec::new(alloc);
     if is(lexer, TokenKind::Sign(Sign::RightParenthesis)) {
-        return Ok(found);
+        return Ok(Vec::new(alloc));
     }
     if is(lexer, TokenKind::Sign(Sign::RightBracket)) {
-        return Ok(found);
+        return Ok(Vec::new(alloc));
     }
+    let mut found = Vec::with_capacity(alloc, 1)?;
     found.push(argument(alloc, lexer, left)?)?;
     'arguments: while is(lexer, TokenKind::Sign(Sign::Comma)) {
         take(lexer, TokenKind::Sign(Sign::Comma))?;

@@ -109,10 +109,10 @@ fn parameters<'a>(alloc: Global, lexer: &mut Lexer<'a>) -> Result<Vec<PredicateP
     ensures forward { OnOk result (length lexer.new.tokens ≤ length lexer.old.tokens) }
     ensures same { lexer.new.source ≡ lexer.old.source }
 {
-    let mut found = Vec::new(alloc);
     if is(lexer, TokenKind::Sign(Sign::RightParenthesis)) {
-        return Ok(found);
+        return Ok(Vec::new(alloc));
     }
+    let mut found = Vec::with_capacity(alloc, 1)?;
     found.push(parameter(alloc, lexer)?)?;
     'parameters: while is(lexer, TokenKind::Sign(Sign::Comma)) {
         take(lexer, TokenKind::Sign(Sign::Comma))?;

@@ -27,6 +27,7 @@ use fz_says::Saying;
 use fz_table::Table;
 use fz_varelement::VariableElement;
 use std::alloc::{AllocError, Global};
+use std::sync::Arc;
 
 /// A propagator of some shape.
 #[derive(Drop)]
@@ -69,11 +70,11 @@ impl AnyPropagator {
                 Ok(AnyPropagator::ReifiedComparison(comparison))
             }
             Saying::Member(x, set) => {
-                let membership = Membership::new(*x, set.copy()?);
+                let membership = Membership::new(*x, Arc::try_clone(set)?);
                 Ok(AnyPropagator::Membership(membership))
             }
             Saying::MemberIf(x, set, r) => {
-                let membership = ReifiedMembership::new(alloc, *x, set.copy()?, *r)?;
+                let membership = ReifiedMembership::new(alloc, *x, Arc::try_clone(set)?, *r)?;
                 Ok(AnyPropagator::ReifiedMembership(membership))
             }
             Saying::Sum(relation, factors, terms, last) => {

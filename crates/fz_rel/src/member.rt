@@ -1,4 +1,5 @@
 //! Terms in a set.
+ghost use Rattle.std.specs.Arc.{arc_value};
 ghost use Rattle.std.specs.Prelude.{◌≡◌, List, length, IfOk};
 ghost use Rattle.fz_strength.specs.Sayings.{Member};
 ghost use Rattle.fz_prop.specs.Answers.{IsAnswerOf, IsCorrectOf};
@@ -11,26 +12,28 @@ use fz_prop::{Answer, Propagator, Store};
 use fz_spec::term::Term;
 use std::alloc::AllocError;
 use std::marker::Model;
+use std::sync::Arc;
 
 /// A term that is to be in a set.
 #[derive(Drop)]
 pub struct Membership {
     x: Term,
-    set: Dom,
+    set: Arc<Dom>,
 }
 
 impl Model for Membership {
+    ghost use Rattle.std.specs.Arc.{arc_value};
     ghost use Rattle.fz_strength.specs.Sayings.{Saying, Member};
 
     ghost Value = { Saying };
 
-    ghost view = { λ p. Member p.x p.set };
+    ghost view = { λ p. Member p.x (arc_value p.set) };
 }
 
 impl Membership {
     /// The propagator of a term and a set.
-    pub fn new(x: Term, set: Dom) -> Membership
-        ensures { result ≡ Member x set }
+    pub fn new(x: Term, set: Arc<Dom>) -> Membership
+        ensures { result ≡ Member x (arc_value set) }
     {
         Membership { x, set }
     }

@@ -1,4 +1,5 @@
 //! Terms in a set, and a Boolean that says whether they are.
+ghost use Rattle.std.specs.Arc.{arc_value};
 ghost use Rattle.std.specs.Prelude.{◌≡◌, ℤ, pos, List, length, IfOk};
 ghost use Rattle.fz_strength.specs.Domains.{term_set};
 ghost use Rattle.fz_strength.specs.Events.{IsOnly, IsFixedIn};
@@ -18,27 +19,29 @@ use fz_prop::{Answer, Propagator, Store};
 use fz_spec::term::Term;
 use std::alloc::{AllocError, Global};
 use std::marker::Model;
+use std::sync::Arc;
 
 /// A term and a set, and a Boolean that says whether the term is in the set.
 #[derive(Drop)]
 pub struct ReifiedMembership {
     x: Term,
-    set: Dom,
+    set: Arc<Dom>,
     /// The numbers within the limits that aren't in the set.
     others: Dom,
     r: Term,
 }
 
 impl Model for ReifiedMembership {
+    ghost use Rattle.std.specs.Arc.{arc_value};
     ghost use Rattle.fz_strength.specs.Sayings.{Saying, MemberIf};
     ghost use Rattle.fz_prop.specs.Stores.{FitsTerm};
     ghost use Rattle.fz_rel.specs.Reified.{AreOthers};
 
     ghost Value = { Saying };
 
-    ghost view = { λ p. MemberIf p.x p.set p.r };
+    ghost view = { λ p. MemberIf p.x (arc_value p.set) p.r };
 
-    ghost invariant = { λ p. AreOthers p.set p.others × FitsTerm p.x };
+    ghost invariant = { λ p. AreOthers (arc_value p.set) p.others × FitsTerm p.x };
 }
 
 impl ReifiedMembership {
@@ -46,9 +49,14 @@ impl ReifiedMembership {
     ///
     /// # Errors
     /// `AllocError` where there is no memory for the numbers outside the set.
-    pub fn new(alloc: Global, x: Term, set: Dom, r: Term) -> Result<ReifiedMembership, AllocError>
+    pub fn new(
+        alloc: Global,
+        x: Term,
+        set: Arc<Dom>,
+        r: Term,
+    ) -> Result<ReifiedMembership, AllocError>
         requires { FitsTerm x }
-        ensures { IfOk result (λ p. p ≡ MemberIf x set r) }
+        ensures { IfOk result (λ p. p ≡ MemberIf x (arc_value set) r) }
     {
         let others = others_of(alloc, &set)?;
         Ok(ReifiedMembership { x, set, others, r })

@@ -8,6 +8,7 @@ use fz_dom::Dom;
 use fz_model::Term;
 use fz_spec::asked::Element;
 use fz_spec::kind::Kind;
+use std::sync::Arc;
 
 /// An array of numbers.
 #[derive(Drop)]
@@ -24,12 +25,12 @@ pub struct TermList {
 }
 
 /// A variable by its number, a value, a set, an array of numbers, of variables and numbers, or of sets. Most entries are variables:
-/// what is larger stands in a box.
+/// what is larger stands in a box, or is shared.
 #[derive(Drop)]
 pub enum Entry {
     Variable { kind: Kind, number: u32 },
     Value { kind: Kind, value: i32 },
-    Set(Box<Dom>),
+    Set(Arc<Dom>),
     Numbers(Box<NumberList>),
     Terms(Box<TermList>),
     Sets,

@@ -1,5 +1,6 @@
 //! From expressions to arguments of constraints.
 ghost use Rattle.std.specs.Prelude.{◌≡◌, ℤ, IfOk, None, cond, map, option_map, slice_get, false};
+ghost use Rattle.std.specs.Arc.{arc_value};
 ghost use Rattle.std.specs.List.{AllByRecursion};
 ghost use Rattle.fz_language.specs.Entries as entries;
 ghost use Rattle.fz_language.specs.Entries.{Environment, term_in, each_of, with_value, number_of, truth_value};
@@ -19,6 +20,7 @@ use fz_model::{Argument, Kind, Term};
 use fz_spec::asked::{Asked, Element};
 use fz_syntax::{Basic, Elements, Expression, Integer, Name, Number, SetLiteral};
 use std::alloc::{AllocError, Global};
+use std::sync::Arc;
 
 /// What is asked, or the place where an expression is of a wrong type.
 pub type Checked<T> = Result<T, u32>;
@@ -260,15 +262,18 @@ pub fn set<'a>(
     alloc: Global,
     names: &Names<'a>,
     basic: &Basic<'a>,
-) -> Result<Option<Dom>, AllocError>
+) -> Result<Option<Arc<Dom>>, AllocError>
     requires { BasicFits (basic_of basic.now) }
-    ensures { IfOk result (λ found. found
+    ensures { IfOk result (λ found. option_map arc_value found
         ≡ entries.set_of (environment_of names.now) (basic_of basic.now)) }
 {
     match basic {
-        Basic::Literal(set) => literal(alloc, set),
+        Basic::Literal(set) => match literal(alloc, set)? {
+            Some(set) => Ok(Some(Arc::new(alloc, set)?)),
+            None => Ok(None),
+        },
         Basic::Named(name) => match names.entry(*name) {
-            Some(Entry::Set(set)) => Ok(Some(set.copy()?)),
+            Some(Entry::Set(set)) => Ok(Some(set.clone()?)),
             _ => Ok(None),
         },
         Basic::Truth { .. } | Basic::Numeral(_) => Ok(None),

@@ -20,8 +20,8 @@ operands_of (operands.Listed ts) = ts.now
 abbrev pub said_by : Saying → said.Saying
 said_by (code.Compare relation x y) = said.Compare relation x y
 said_by (code.CompareIf relation x y r) = said.CompareIf relation x y r
-said_by (code.Member x set) = said.Member x set.now
-said_by (code.MemberIf x set r) = said.MemberIf x set.now r
+said_by (code.Member x set) = said.Member x set.now.value
+said_by (code.MemberIf x set r) = said.MemberIf x set.now.value r
 said_by (code.Sum relation ks ts c) = said.Sum relation (left_factors ks.now c) (left_terms ts.now c) (right_number c)
 said_by (code.SumIf relation ks ts c r) = said.SumIf relation ks.now ts.now c r
 said_by (code.Clause ps ns r) = said.Says false (clause ps.now ns.now r)

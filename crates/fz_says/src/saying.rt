@@ -10,6 +10,7 @@ use fz_spec::builtin::Builtin;
 use fz_spec::term::Term;
 use fz_strength::operation::Operation;
 use fz_strength::relation::Relation;
+use std::sync::Arc;
 
 /// One term, two, or a list.
 #[derive(Clone, Copy)]
@@ -40,9 +41,9 @@ pub enum Saying<'m> {
     /// Two terms are related so exactly where the third is 1.
     CompareIf(Relation, Term, Term, Term),
     /// A term is in a set.
-    Member(Term, &'m Dom),
+    Member(Term, &'m Arc<Dom>),
     /// A term is in a set exactly where the other is 1.
-    MemberIf(Term, &'m Dom, Term),
+    MemberIf(Term, &'m Arc<Dom>, Term),
     /// A sum, by its factors and terms, is related so to a term.
     Sum(Relation, &'m [i32], &'m [Term], Term),
     /// A sum is related so to a number exactly where the last term is 1.

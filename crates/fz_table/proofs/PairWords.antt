@@ -1,9 +1,9 @@
 -- Words of partners, row by row.
-use Rattle.std.proofs.Common.{◌≡◌, ◌<◌, ◌≤◌, ◌+◌, ◌*◌, ◌/◌, ℕ, suc, List, refl, sym, subst, ◌∙◌, ap, arith, length, ◌⊎◌, inl, inr, get_or, set, pos, replicate}
+use Rattle.std.proofs.Common.{◌≡◌, ◌<◌, ◌≤◌, ◌+◌, ◌*◌, ◌/◌, ℕ, zero, suc, List, refl, sym, subst, ◌∙◌, ap, arith, length, ◌⊎◌, inl, inr, get_or, set, pos, replicate}
 use Rattle.std.specs.Prelude.{ℤ, ◌↔◌, ◌+ℤ◌, slice_get, Some}
 use Rattle.std.proofs.lemmas.Bool.{cases_eq}
 use Rattle.std.proofs.lemmas.Int.{ints}
-use Rattle.std.proofs.lemmas.List.{get_or-set_same, get_or-set_other, get_or-replicate}
+use Rattle.std.proofs.lemmas.List.{get_or-set_same, get_or-set_other}
 use Rattle.fz_bits.specs.Words.{HasBit, AreOnes}
 use Rattle.fz_bits.specs.Windows.{IsBit}
 use Rattle.fz_bits.proofs.Windows.{none_in}
@@ -73,10 +73,15 @@ pub record ArePartnersBelow (table : List ℤ) (pairs : Pairs) (row : ℕ) : Typ
   pub partners : (n m : ℤ) → ArePartners pairs n m ↔ ((i : ℕ) × (i < row) × (slice_get table (i * 2 + 0) ≡ Some n) × (slice_get table (i * 2 + 1) ≡ Some m))
   pub room : HasRoom pairs.base
 
-pub below_none : (table : List ℤ) (pairs : Pairs) → pairs.words.items ≡ replicate 64 0 → HasRoom pairs.base → ArePartnersBelow table pairs 0
-below_none table pairs none room = record {
+zeros_at : (count k : ℕ) → let none : ℕ = 0 in get_or (replicate count none) k none ≡ none
+zeros_at zero k = refl
+zeros_at (suc count) zero = refl
+zeros_at (suc count) (suc k) = zeros_at count k
+
+pub below_none : (table : List ℤ) (pairs : Pairs) (count : ℕ) → pairs.words.items ≡ replicate count 0 → HasRoom pairs.base → ArePartnersBelow table pairs 0
+below_none table pairs count none room = record {
   partners = λ n m. (
-    (λ p. absurd (none_in pairs.base m (subst (λ (w : ℕ). IsBit pairs.base w m) (ap (λ (xs : List ℕ). get_or xs p.0 0) none ∙ get_or-replicate 64 p.0 0 0 p.1) p.3))),
+    (λ p. absurd (none_in pairs.base m (subst (λ (w : ℕ). IsBit pairs.base w m) (ap (λ (xs : List ℕ). get_or xs p.0 0) none ∙ zeros_at count p.0) p.3))),
     (λ w. let below = w.1 in absurd (omega (arith, below))),
   );
   room = room;

@@ -5,8 +5,8 @@ ghost use Rattle.fz_table.specs.Partners.{ArePartners, ArePairsOf};
 use fz_bits::word::with_bit;
 use std::alloc::{AllocError, Global};
 
-/// For each of 64 numbers that follow one another a word of its partners: the numbers at the second place of the rows that have it
-/// at the first.
+/// For each of at most 64 numbers that follow one another a word of its partners: the numbers at the second place of the rows that
+/// have it at the first.
 #[derive(Drop)]
 pub struct Pairs {
     /// The number of the first word.
@@ -21,6 +21,9 @@ const LOWEST_BASE: i32 = -2147483646;
 
 const HIGHEST_BASE: i32 = 2147483583;
 
+/// A row may take so many words, at most.
+const WORDS_A_ROW: usize = 4;
+
 /// The pairs of a table whose rows have a width, if that is two, and the numbers at a place are near to one another.
 ///
 /// # Errors
@@ -34,13 +37,17 @@ pub fn pairs_of_two(alloc: Global, table: &[i32], width: usize) -> Result<Option
     pairs_of(alloc, table)
 }
 
-/// The pairs of a table of two columns; `None` where the numbers at a place are too far apart.
+/// The pairs of a table of two columns; `None` where the numbers at a place are too far apart, or the rows are few for the words.
 fn pairs_of(alloc: Global, table: &[i32]) -> Result<Option<Pairs>, AllocError>
     ensures { IfOk result (λ o. IfSome o (λ p. ArePairsOf table.now p)) }
 {
-    let first = least_at(table, 0);
-    let base = least_at(table, 1).clamp(LOWEST_BASE, HIGHEST_BASE);
-    let words = Vec::from_elem(alloc, 0, 64)?;
+    let (first, last) = ends_at(table, 0);
+    let Some(count) = words_for(first, last, table.len() / 2) else {
+        return Ok(None);
+    };
+    let (least, _) = ends_at(table, 1);
+    let base = least.clamp(LOWEST_BASE, HIGHEST_BASE);
+    let words = Vec::from_elem(alloc, 0, count)?;
     let mut pairs = Pairs { first, base, words };
     for row in 0..table.len() / 2 {
         if !add(&mut pairs, table[row * 2], table[row * 2 + 1]) {
@@ -50,15 +57,26 @@ fn pairs_of(alloc: Global, table: &[i32]) -> Result<Option<Pairs>, AllocError>
     Ok(Some(pairs))
 }
 
-/// The least number at one of two places.
-fn least_at(table: &[i32], place: usize) -> i32
+/// How many words numbers from a first to a last one take, if these are at most 64 and so many rows are worth them.
+fn words_for(first: i32, last: i32, rows: usize) -> Option<usize> {
+    let last = place_of(last, first)? as usize;
+    if last / WORDS_A_ROW < rows {
+        Some(last + 1)
+    } else {
+        None
+    }
+}
+
+/// The least and the greatest number at one of two places.
+fn ends_at(table: &[i32], place: usize) -> (i32, i32)
     requires { place < 2 }
 {
-    let mut least = i32::MAX;
+    let mut ends = (i32::MAX, i32::MIN);
     for row in 0..table.len() / 2 {
-        least = least.min(table[row * 2 + place]);
+        let number = table[row * 2 + place];
+        ends = (ends.0.min(number), ends.1.max(number));
     }
-    least
+    ends
 }
 
 /// Adds a row, if both numbers have their place.

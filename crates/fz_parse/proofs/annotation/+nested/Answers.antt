@@ -68,18 +68,18 @@ pub arguments-returns-then-is-clause-taken : goal.arguments-returns-then-is-clau
 arguments-returns-then-is-clause-taken t c =
     let l = 64 - c.args.left in
     let h = head grammar.flatzinc c.args.lexer.now.tokens in
-    subst (λ (v : trees.Arguments). Read l (Rule (Listed Arguments) ∷ []) (v, tt) c.args.lexer.now.tokens c.args.lexer.now.tokens) (sym (ap arguments_of c.new-found.ensures.items)) (reads_by {n = (Listed Arguments)} (first (grammar.rules (Listed Arguments)) h (closes h c.is.ensures.found refl) (λ i. c.if-is.true i || has (12 ∷ []) h)) ended)
+    subst (λ (v : trees.Arguments). Read l (Rule (Listed Arguments) ∷ []) (v, tt) c.args.lexer.now.tokens c.args.lexer.now.tokens) (sym (ap arguments_of c.new.ensures.items)) (reads_by {n = (Listed Arguments)} (first (grammar.rules (Listed Arguments)) h (closes h c.is.ensures.found refl) (λ i. c.if-is.true i || has (12 ∷ []) h)) ended)
 
 pub arguments-returns-then-is-2-clause-taken : goal.arguments-returns-then-is-2-clause-taken
 arguments-returns-then-is-2-clause-taken t c =
     let l = 64 - c.args.left in
     let h = head grammar.flatzinc c.args.lexer.now.tokens in
-    subst (λ (v : trees.Arguments). Read l (Rule (Listed Arguments) ∷ []) (v, tt) c.args.lexer.now.tokens c.args.lexer.now.tokens) (sym (ap arguments_of c.new-found.ensures.items)) (reads_by {n = (Listed Arguments)} (first (grammar.rules (Listed Arguments)) h (closes h c.is.ensures.found c.is-2.ensures.found) (λ i. c.if-is.false i || c.if-is-2.true i)) ended)
+    subst (λ (v : trees.Arguments). Read l (Rule (Listed Arguments) ∷ []) (v, tt) c.args.lexer.now.tokens c.args.lexer.now.tokens) (sym (ap arguments_of c.new-then-is-2.ensures.items)) (reads_by {n = (Listed Arguments)} (first (grammar.rules (Listed Arguments)) h (closes h c.is.ensures.found c.is-2.ensures.found) (λ i. c.if-is.false i || c.if-is-2.true i)) ended)
 
 pub arguments-returns-in_err-argument-clause-taken : goal.arguments-returns-in_err-argument-clause-taken
 arguments-returns-in_err-argument-clause-taken t c =
     let h = head grammar.flatzinc c.args.lexer.now.tokens in
-    let p = err_from_is_err_and c.from_residual.result c.from_residual.ensures.1 in
+    let p = err_from_is_err_and c.from_residual-in_err-argument.result c.from_residual-in_err-argument.ensures.1 in
     rw (p.1, p.2) (stops_first Arguments (later (grammar.rules (Listed Arguments)) h (closes h c.is.ensures.found c.is-2.ensures.found) (λ i. c.if-is.false i || c.if-is-2.false i)) c.in_err-argument.ensures.taken)
 
 pub arguments-arguments-init : goal.arguments-arguments-init
@@ -87,7 +87,7 @@ arguments-arguments-init t c =
     let h = head grammar.flatzinc c.args.lexer.now.tokens in (
       omega (arith, c.in_ok-argument.ensures.forward),
       subst (λ (v : List trees.Argument). GoesOn Arguments (64 - c.args.left) (Listed Arguments) c.args.lexer.now.tokens c.argument.new.lexer.tokens (λ w. w) v)
-          (first_pushed argument_of c.push.new.self.items c.new-found.result.items c.in_ok-argument.field-0 c.new-found.ensures.items c.in_ok-push.ensures.items)
+          (first_pushed argument_of c.push.new.self.items c.in_ok-found.found.items c.in_ok-argument.field-0 c.in_ok-found.ensures.items c.in_ok-push.ensures.items)
           (goes_first Arguments (later (grammar.rules (Listed Arguments)) h (closes h c.is.ensures.found c.is-2.ensures.found) (λ i. c.if-is.false i || c.if-is-2.false i)) c.in_ok-argument.ensures.taken),
       c.in_ok-argument.ensures.same,
     )

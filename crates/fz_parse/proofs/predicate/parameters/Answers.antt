@@ -13,12 +13,12 @@ use Rattle.fz_parse.proofs.predicate.parameters.Goals as goal
 pub returns-then-is-clause-taken : goal.returns-then-is-clause-taken
 returns-then-is-clause-taken c = λ l low.
     let old = c.args.lexer.now.tokens in
-    subst (λ (v : List trees.PredicateParameter). Read l (Rule (Listed Parameters) ∷ []) (v, tt) old old) (sym (ap (map predicate_parameter_of) c.new-found.ensures.items))
+    subst (λ (v : List trees.PredicateParameter). Read l (Rule (Listed Parameters) ∷ []) (v, tt) old old) (sym (ap (map predicate_parameter_of) c.new.ensures.items))
     (reads_by (first (rules (Listed Parameters)) (head flatzinc old) c.is.ensures.found c.if-is.true) ended)
 
 pub returns-in_err-parameter-clause-taken : goal.returns-in_err-parameter-clause-taken
 returns-in_err-parameter-clause-taken c =
-    let p = err_from_is_err_and c.from_residual.result c.from_residual.ensures.1 in
+    let p = err_from_is_err_and c.from_residual-in_err-parameter.result c.from_residual-in_err-parameter.ensures.1 in
     rw (p.1, p.2) (λ l low. stops_first Parameters (later (rules (Listed Parameters)) (head flatzinc c.args.lexer.now.tokens) c.is.ensures.found c.if-is.false) (c.in_err-parameter.ensures.taken l low))
 
 pub parameters-init : goal.parameters-init
@@ -26,7 +26,7 @@ parameters-init c = (
   omega (arith, c.in_ok-parameter.ensures.forward),
   λ l low.
       subst (λ (v : List trees.PredicateParameter). GoesOn Parameters l (Listed Parameters) c.args.lexer.now.tokens c.parameter.new.lexer.tokens (λ w. w) v)
-      (first_pushed predicate_parameter_of c.push.new.self.items c.new-found.result.items c.in_ok-parameter.field-0 c.new-found.ensures.items c.in_ok-push.ensures.items)
+      (first_pushed predicate_parameter_of c.push.new.self.items c.in_ok-found.found.items c.in_ok-parameter.field-0 c.in_ok-found.ensures.items c.in_ok-push.ensures.items)
       (goes_first Parameters (later (rules (Listed Parameters)) (head flatzinc c.args.lexer.now.tokens) c.is.ensures.found c.if-is.false) (c.in_ok-parameter.ensures.taken l low)),
   c.in_ok-parameter.ensures.same,
 )

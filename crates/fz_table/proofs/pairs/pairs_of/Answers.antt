@@ -15,8 +15,8 @@ loop-row-init c =
     let low = c.clamp-base.ensures.lower_bound in
     let high = c.clamp-base.ensures.upper_bound in
     let room : HasRoom c.clamp-base.result = (omega (arith, ints, low), omega (arith, ints, high)) in
-    let zeros : c.in_ok-words.words.items ≡ replicate 64 0 = search rules in
-    below_none c.args.table.now _ zeros (rw (to_z-of_z fits) room)
+    let zeros : c.in_ok-words.words.items ≡ replicate c.in-Some.count 0 = search rules in
+    below_none c.args.table.now _ c.in-Some.count zeros (rw (to_z-of_z fits) room)
 
 pub loop-row-preserved : goal.loop-row-preserved
 loop-row-preserved c =
