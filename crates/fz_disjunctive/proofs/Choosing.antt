@@ -8,8 +8,8 @@ use Rattle.std.proofs.lemmas.List.Elements.{filter_more}
 use Rattle.fz_sets.proofs.Lists.{all_both}
 use Rattle.fz_disjunctive.specs.declared.job.Job.{Job}
 use Rattle.fz_disjunctive.specs.declared.job.Choice.{Choice}
-use Rattle.fz_disjunctive.specs.Schedules.{IsStarted, HasEnded, AreApart, IsSchedule, IsSoonestEnd, takes, chosen}
-use Rattle.fz_disjunctive.proofs.Windows.{IsWithin, needed, needed_more, within_bounded}
+use Rattle.fz_disjunctive.specs.Schedules.{IsStarted, HasEnded, AreApart, IsSchedule, IsSoonestEnd, takes, chosen, needed}
+use Rattle.fz_disjunctive.proofs.Windows.{IsWithin, needed_more, within_bounded}
 
 -- ---- lists
 
@@ -64,7 +64,7 @@ one_scheduled : (b : Bool) (start : Job → ℤ) (job : Job) (jobs : List Job) �
 one_scheduled true start job jobs started apart h = (started, apart, h)
 one_scheduled false start job jobs started apart h = h
 
-schedule_filter : (test : Job → Bool) (start : Job → ℤ) (jobs : List Job) → IsSchedule start jobs → IsSchedule start (filter test jobs)
+pub schedule_filter : (test : Job → Bool) (start : Job → ℤ) (jobs : List Job) → IsSchedule start jobs → IsSchedule start (filter test jobs)
 schedule_filter test start [] h = tt
 schedule_filter test start (job ∷ jobs) h =
     one_scheduled (test job) start job (filter test jobs) h.0 (all_filter test (AreApart start job) jobs h.1) (schedule_filter test start jobs h.2)
@@ -75,11 +75,11 @@ all_started start (job ∷ jobs) h = (h.0, all_started start jobs h.2)
 
 -- ---- one job more
 
-chosen_more : (choice : Choice) (jobs : List Job) (index : ℕ) (d : Job) → index < length jobs → takes choice (get_or jobs index d) ≡ true
+pub chosen_more : (choice : Choice) (jobs : List Job) (index : ℕ) (d : Job) → index < length jobs → takes choice (get_or jobs index d) ≡ true
     → chosen choice (take (index + 1) jobs) ≡ chosen choice (take index jobs) ++ get_or jobs index d ∷ []
 chosen_more choice jobs index d within taken = rw taken at (filter_more (takes choice) jobs index d within)
 
-chosen_same : (choice : Choice) (jobs : List Job) (index : ℕ) (d : Job) → index < length jobs → takes choice (get_or jobs index d) ≡ false
+pub chosen_same : (choice : Choice) (jobs : List Job) (index : ℕ) (d : Job) → index < length jobs → takes choice (get_or jobs index d) ≡ false
     → chosen choice (take (index + 1) jobs) ≡ chosen choice (take index jobs)
 chosen_same choice jobs index d within left = (rw left at (filter_more (takes choice) jobs index d within)) ∙ append-nil (chosen choice (take index jobs))
 
@@ -102,13 +102,13 @@ sofar_same jobs choice floor index since total end d h within left =
       soonest = h.soonest;
     }
 
-below_first : (x y z : ℤ) → x ≤ℤ z → int_min x y ≤ℤ z
+pub below_first : (x y z : ℤ) → x ≤ℤ z → int_min x y ≤ℤ z
 below_first x y z low = grind (arith, ints, clamps)
 
-below_second : (x y : ℤ) → int_min x y ≤ℤ y
+pub below_second : (x y : ℤ) → int_min x y ≤ℤ y
 below_second x y = grind (arith, ints, clamps)
 
-above_both : (x y z : ℤ) → x ≤ℤ z → y ≤ℤ z → int_max x y ≤ℤ z
+pub above_both : (x y z : ℤ) → x ≤ℤ z → y ≤ℤ z → int_max x y ≤ℤ z
 above_both x y z p q = grind (arith, ints, clamps)
 
 -- those chosen so far lie within a window from their earliest start to the end of all

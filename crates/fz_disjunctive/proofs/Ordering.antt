@@ -13,10 +13,10 @@ use Rattle.fz_disjunctive.proofs.Choosing.{all_each, all_passing, all_started}
 
 -- ---- each job beside one of them
 
-abbrev IsOrApart : (Job → ℤ) → Job → Job → Type 0
+abbrev pub IsOrApart : (Job → ℤ) → Job → Job → Type 0
 IsOrApart start me job = (job ≡ me) ⊎ AreApart start job me
 
-flipped : (start : Job → ℤ) (one other : Job) → AreApart start one other → AreApart start other one
+pub flipped : (start : Job → ℤ) (one other : Job) → AreApart start one other → AreApart start other one
 flipped start one other h = record {
   places = λ e. h.places (sym e);
   order = elim h.order [ inl first ↦ inr first | inr second ↦ inl second ];
@@ -30,7 +30,7 @@ all_first start first me (job ∷ jobs) same apart started = (
   all_first start first me jobs same apart.1 started.1,
 )
 
-all_beside : (start : Job → ℤ) (jobs : List Job) (index : ℕ) (me : Job) → IsSchedule start jobs → slice_get jobs index ≡ Some me
+pub all_beside : (start : Job → ℤ) (jobs : List Job) (index : ℕ) (me : Job) → IsSchedule start jobs → slice_get jobs index ≡ Some me
     → AllByRecursion (λ (job : Job). IsStarted start job × IsOrApart start me job) jobs
 all_beside start [] index me h at = tt
 all_beside start (job ∷ jobs) zero me h at =
@@ -39,12 +39,12 @@ all_beside start (job ∷ jobs) zero me h at =
 all_beside start (job ∷ jobs) (suc index) me h at =
     ((h.0, inr (all_at (AreApart start job) jobs index me h.1 at)), all_beside start jobs index me h.2 at)
 
-started_at : (start : Job → ℤ) (jobs : List Job) (index : ℕ) (me : Job) → IsSchedule start jobs → slice_get jobs index ≡ Some me → IsStarted start me
+pub started_at : (start : Job → ℤ) (jobs : List Job) (index : ℕ) (me : Job) → IsSchedule start jobs → slice_get jobs index ≡ Some me → IsStarted start me
 started_at start jobs index me h at = all_at (IsStarted start) jobs index me (all_started start jobs h) at
 
 -- ---- what a choice tells of a job
 
-le_of : (x y : ℤ) → int_le x y ≡ true → x ≤ℤ y
+pub le_of : (x y : ℤ) → int_le x y ≡ true → x ≤ℤ y
 le_of x y h = grind (arith, ints)
 
 pub lt_of : (x y : ℤ) → int_lt x y ≡ true → x <ℤ y
@@ -64,7 +64,7 @@ overloaded jobs time end soonest over = λ start h.
 
 -- ---- those before a job
 
-other_place : (m n : ℕ) (b : Bool) → (not (nat_eq m n) && b) ≡ true → m ≢ n
+pub other_place : (m n : ℕ) (b : Bool) → (not (nat_eq m n) && b) ≡ true → m ≢ n
 other_place m n b both = λ e. absurd (cc (rw (eq-eqb m n e) at both))
 
 that_early : (x y : ℤ) (b : Bool) → (b && int_lt x y) ≡ true → x <ℤ y

@@ -4,7 +4,7 @@ use Rattle.std.specs.Prelude.{ℤ, pos, ◌+ℤ◌, ◌≤ℤ◌, ◌<ℤ◌, in
 use Rattle.std.specs.List.{AllByRecursion}
 use Rattle.std.proofs.lemmas.Int.{ints, by_lt_z}
 use Rattle.fz_disjunctive.specs.declared.job.Job.{Job}
-use Rattle.fz_disjunctive.specs.Schedules.{HasEnded, AreApart, IsSchedule}
+use Rattle.fz_disjunctive.specs.Schedules.{HasEnded, AreApart, IsSchedule, needed}
 
 -- what a job that begins at s and lasts for d needs of a window from a to b that it lies within
 abbrev part : ℤ → ℤ → ℤ → ℤ → ℤ
@@ -77,11 +77,6 @@ load_bounded start a b (job ∷ jobs) h rises =
 pub record IsWithin (start : Job → ℤ) (a b : ℤ) (job : Job) : Type 0 where
   pub begins : a ≤ℤ start job
   pub ends : HasEnded start b job
-
--- what jobs need
-abbrev pub needed : List Job → ℤ
-needed [] = pos 0
-needed (job ∷ jobs) = job.duration +ℤ needed jobs
 
 load_whole : (start : Job → ℤ) (a b : ℤ) (jobs : List Job) → AllByRecursion (IsWithin start a b) jobs → load start a b jobs ≡ needed jobs
 load_whole start a b [] all = refl

@@ -3,7 +3,7 @@ use Rattle.std.specs.Prelude.{◌≡◌, ◌≢◌, ◌⊎◌, ℕ, ℤ, pos, �
 use Rattle.std.specs.List.{AllByRecursion, filter}
 use Rattle.fz_disjunctive.specs.declared.job.Job.{Job}
 use Rattle.fz_disjunctive.specs.declared.job.Choice.{Choice}
-use Rattle.fz_disjunctive.specs.declared.job.Choice.TheVariants.{EndingBy, EndingByOrAt, Before}
+use Rattle.fz_disjunctive.specs.declared.job.Choice.TheVariants.{EndingBy, EndingByOrAt, Before, Beside}
 
 -- a job lasts, and begins from its earliest start up to its latest
 pub record IsStarted (start : Job → ℤ) (job : Job) : Type 0 where
@@ -30,9 +30,20 @@ abbrev pub takes : Choice → Job → Bool
 takes (EndingBy time) job = int_le (job.latest +ℤ job.duration) time
 takes (EndingByOrAt time place) job = nat_eq job.place place || int_le (job.latest +ℤ job.duration) time
 takes (Before other) job = not (nat_eq job.place other.place) && int_lt job.latest (other.earliest +ℤ other.duration)
+takes (Beside other time) job = not (nat_eq job.place other.place) && (int_le (job.latest +ℤ job.duration) time && int_lt other.earliest (job.earliest +ℤ job.duration))
 
 abbrev pub chosen : Choice → List Job → List Job
 chosen choice jobs = filter (takes choice) jobs
+
+-- how long jobs last together
+abbrev pub needed : List Job → ℤ
+needed [] = pos 0
+needed (job ∷ jobs) = job.duration +ℤ needed jobs
+
+-- What jobs need, and a time before which none of them can have ended.
+pub record IsLoad (jobs : List Job) (total first_end : ℤ) : Type 0 where
+  pub total_is : total ≡ needed jobs
+  pub ends : AllByRecursion (λ (job : Job). first_end ≤ℤ (job.earliest +ℤ job.duration)) jobs
 
 -- Where all of the jobs that are chosen have ended by a time, from a floor on, it isn't before this one.
 abbrev pub IsSoonestEnd : List Job → Choice → ℤ → ℤ → Type 0

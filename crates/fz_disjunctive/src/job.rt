@@ -1,5 +1,5 @@
 //! Tasks of which no two can run at the same time.
-ghost use Rattle.std.specs.Prelude.{◌≡◌, ◌+ℤ◌};
+ghost use Rattle.std.specs.Prelude.{◌≡◌, ◌+ℤ◌, ◌&&◌, int_le, int_lt};
 ghost use Rattle.fz_disjunctive.specs.Schedules.{takes};
 
 /// A task that runs beside none of the others: when it may start, and how long it lasts at least.
@@ -29,6 +29,14 @@ impl Job {
     {
         i128::from(self.latest) + i128::from(self.duration)
     }
+
+    /// Whether it has ended by a time at the latest, and not by another.
+    fn ends_between(self, after: i64, by: i128) -> bool
+        ensures { result ≡ (int_le (self.latest +ℤ self.duration) by
+            && int_lt after (self.earliest +ℤ self.duration)) }
+    {
+        self.latest_end() <= by && i128::from(after) < self.earliest_end()
+    }
 }
 
 /// Which way time is read.
@@ -49,6 +57,8 @@ pub enum Choice {
     EndingByOrAt(i128, usize),
     /// Those that come before another job, since it can't end by their latest start.
     Before(Job),
+    /// Those other than a job that have ended by a time at the latest, none of them when the job can start.
+    Beside(Job, i128),
 }
 
 impl Choice {
@@ -65,6 +75,10 @@ impl Choice {
             Choice::Before(other) => {
                 let is_soon = i128::from(job.latest) < other.earliest_end();
                 job.place != other.place && is_soon
+            }
+            Choice::Beside(other, time) => {
+                let is_between = job.ends_between(other.earliest, time);
+                job.place != other.place && is_between
             }
         }
     }

@@ -1,7 +1,7 @@
 //! In which order jobs can run (Vilím: "Global constraints in scheduling").
-ghost use Rattle.std.specs.Prelude.{◌≡◌, ◌+◌, ◌*◌, ◌^◌, ◌≤◌, ◌<◌, ◌+ℤ◌, IsTrue, IfOk, length, unsigned_abs};
+ghost use Rattle.std.specs.Prelude.{◌≡◌, ◌+◌, ◌*◌, ◌^◌, ◌≤◌, ◌<◌, ◌+ℤ◌, IsTrue, IfOk, IfSome, length, unsigned_abs};
 ghost use Rattle.fz_disjunctive.specs.declared.job.Choice.TheVariants.{EndingBy};
-ghost use Rattle.fz_disjunctive.specs.Schedules.{IsSoonestEnd, IsBehind, IsEarliest, IsOfJob, HasNoSchedule};
+ghost use Rattle.fz_disjunctive.specs.Schedules.{IsSoonestEnd, IsBehind, IsEarliest, IsOfJob, HasNoSchedule, IsLoad, chosen};
 
 use crate::job::{Choice, Job};
 use std::alloc::{AllocError, Global};
@@ -72,9 +72,20 @@ pub fn soonest_ends(alloc: Global, jobs: &[Job]) -> Result<Vec<i128>, AllocError
     Ok(ends)
 }
 
-/// When the job at an index can start: once all have ended that come before it. `ends` are the soonest ends of the jobs; where these
-/// tell that nothing is to be found, nothing is looked for.
+/// When the job at an index can start: once those have ended that come before it. `ends` are the soonest ends of the jobs.
 pub fn earliest_start(jobs: &[Job], ends: &[i128], index: usize) -> i128
+    requires index { index < length jobs.now }
+    requires ends { length ends.now ≡ length jobs.now }
+    ensures { IsOfJob jobs.now index (IsEarliest jobs.now result) }
+{
+    let all = start_behind_all(jobs, ends, index);
+    let one = start_behind_one(jobs, index);
+    all.max(one)
+}
+
+/// When the job at an index can start, since all of some others come before it: once they have ended. Where the soonest ends tell that
+/// nothing is to be found, nothing is looked for.
+fn start_behind_all(jobs: &[Job], ends: &[i128], index: usize) -> i128
     requires index { index < length jobs.now }
     requires ends { length ends.now ≡ length jobs.now }
     ensures { IsOfJob jobs.now index (IsEarliest jobs.now result) }
@@ -105,4 +116,69 @@ fn is_behind(jobs: &[Job], index: usize, time: i128) -> bool
         return false;
     }
     soonest_end(jobs, Choice::EndingByOrAt(time, job.place), time) > time
+}
+
+/// What jobs need, and a time before which none of them can have ended.
+#[derive(Clone, Copy)]
+struct Load {
+    total: i128,
+    first_end: i128,
+}
+
+/// What the jobs that are chosen need, and how soon one of them can have ended.
+fn load_of(jobs: &[Job], choice: Choice) -> Load
+    ensures load { IsLoad (chosen choice jobs.now) result.total result.first_end }
+    ensures near { unsigned_abs result.total ≤ length jobs.now * 2 ^ 32 }
+{
+    let mut load = Load {
+        total: 0,
+        first_end: i128::MAX,
+    };
+    for index in 0..jobs.len() {
+        let job = jobs[index];
+        if !choice.takes(job) {
+            continue;
+        }
+        load = Load {
+            total: add(load.total, job.duration, index),
+            first_end: load.first_end.min(job.earliest_end()),
+        };
+    }
+    load
+}
+
+/// When the job at an index can start, since it can't come before all of some others: once one of them has ended.
+fn start_behind_one(jobs: &[Job], index: usize) -> i128
+    requires { index < length jobs.now }
+    ensures { IsOfJob jobs.now index (IsEarliest jobs.now result) }
+{
+    let job = jobs[index];
+    let mut earliest = i128::from(job.earliest);
+    for other in 0..jobs.len() {
+        let time = jobs[other].latest_end();
+        if !Choice::Beside(job, time).takes(jobs[other]) {
+            continue;
+        }
+        let Some(end) = end_of_one(jobs, index, time) else {
+            continue;
+        };
+        earliest = earliest.max(end);
+    }
+    earliest
+}
+
+/// How soon one of those beside a job that have to end by a time has ended, if the job can't come first: it and they need more than
+/// there is from its start up to that time.
+fn end_of_one(jobs: &[Job], index: usize, time: i128) -> Option<i128>
+    requires { index < length jobs.now }
+    ensures { IfSome result (λ end. IsOfJob jobs.now index (IsEarliest jobs.now end)) }
+{
+    let job = jobs[index];
+    let load = load_of(jobs, Choice::Beside(job, time));
+    let total = add(load.total, job.duration, jobs.len());
+    if load.total > 0 && plus(job.earliest, total) > time {
+        Some(load.first_end)
+    } else {
+        None
+    }
 }

@@ -5,7 +5,7 @@ use mir.Syntax.{w128}
 use Rattle.fz_disjunctive.specs.declared.job.Job.{Job}
 use Rattle.fz_disjunctive.specs.declared.job.Choice.TheVariants.{Before, EndingBy}
 use Rattle.fz_disjunctive.proofs.Ordering.{earliest_known, earliest_same, earliest_behind, behind_before}
-use Rattle.fz_disjunctive.proofs.order.earliest_start.Goals as goal
+use Rattle.fz_disjunctive.proofs.order.start_behind_all.Goals as goal
 
 pub loop-other-init : goal.loop-other-init
 loop-other-init c =
