@@ -81,6 +81,7 @@ impl Agenda {
     }
 
     /// Queues a propagator that is idle, if it is one of those that are there.
+    #[inline(always)]
     pub(crate) fn wake_idle(&mut self, place: u32, cost: Cost) -> Result<(), AllocError>
         requires { place < length self.old.states → slice_index self.old.states place ≡ 0 }
         ensures idle { OnOk result
@@ -106,6 +107,7 @@ impl Agenda {
     }
 
     /// The first has run and is gone.
+    #[inline(always)]
     pub fn retire(&mut self, place: u32)
         requires { IsFirst self.old place }
         ensures { IsGone place self.old self.new }
@@ -114,6 +116,7 @@ impl Agenda {
     }
 
     /// One that is gone is idle again.
+    #[inline(always)]
     pub(crate) fn revive(&mut self, place: u32)
         requires { slice_index self.old.states place ≡ 2 }
         ensures { self.new
@@ -164,6 +167,7 @@ impl Agenda {
 }
 
 /// The place of a class among the queues; cheaper ones come first.
+#[inline(always)]
 fn class_of(cost: Cost) -> usize
     ensures { result ≡ class_of cost }
 {
@@ -232,6 +236,7 @@ fn clear_queues(queues: &mut Vec<Queue>)
 }
 
 /// The first that is queued, of the cheapest class.
+#[inline(always)]
 fn first_of(queues: &[Queue], lowest: &mut usize, states: &States) -> Option<u32>
     requires agenda { IsAgenda states.now queues.now lowest.old }
     ensures agenda { IsAgenda states.now queues.now lowest.new }
@@ -248,6 +253,7 @@ fn first_of(queues: &[Queue], lowest: &mut usize, states: &States) -> Option<u32
 }
 
 /// The first class from one on in which any is queued, or the number of classes.
+#[inline(always)]
 fn lowest_from(queues: &[Queue], lowest: usize) -> usize
     requires { AreEmptyBelow queues.now lowest }
     ensures below { AreEmptyBelow queues.now result }
@@ -262,6 +268,7 @@ fn lowest_from(queues: &[Queue], lowest: usize) -> usize
 }
 
 /// Queues a propagator that is idle where it is there.
+#[inline(always)]
 fn enqueue(
     queues: &mut Vec<Queue>,
     lowest: &mut usize,
@@ -291,6 +298,7 @@ fn enqueue(
 }
 
 /// The first has run and is gone: it leaves its queue.
+#[inline(always)]
 fn retire_first(queues: &mut Vec<Queue>, lowest: &mut usize, states: &mut States, place: u32)
     requires first { IsFirst (lineup states.old queues.old.items) place }
     requires agenda { IsAgenda states.old queues.old.items lowest.old }
@@ -303,6 +311,7 @@ fn retire_first(queues: &mut Vec<Queue>, lowest: &mut usize, states: &mut States
 }
 
 /// The first of the cheapest class leaves; that class.
+#[inline(always)]
 fn pop_first(queues: &mut Vec<Queue>, lowest: usize) -> usize
     requires { AreEmptyBelow queues.old.items lowest }
     ensures queues { queues.new.items ≡ without_first queues.old.items }

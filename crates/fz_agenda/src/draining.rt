@@ -13,6 +13,7 @@ use std::alloc::AllocError;
 ///
 /// # Errors
 /// `AllocError` where there is no memory; a change is taken only once all others that wait for it are queued.
+#[inline(always)]
 pub fn drain_but(
     wakes: &Wakes,
     place: u32,
@@ -36,6 +37,7 @@ pub fn drain_but(
 ///
 /// # Errors
 /// `AllocError` where there is no memory; a change is taken only once all that wait for it are queued.
+#[inline(always)]
 pub fn drain(wakes: &Wakes, store: &mut Store, agenda: &mut Agenda) -> Result<(), AllocError>
     requires { HaveSize wakes.now (length store.old.doms) }
     ensures draining { IsDraining wakes.now store.old agenda.old store.new agenda.new }

@@ -30,6 +30,7 @@ impl Queue {
     }
 
     /// The first.
+    #[inline(always)]
     pub fn first(&self) -> Option<u32>
         ensures { MatchOption result (self.now ≡ [])
             (λ i. (rest : List ℕ) × (self.now ≡ i ∷ rest)) }
@@ -38,6 +39,7 @@ impl Queue {
     }
 
     /// The first leaves.
+    #[inline(always)]
     pub fn pop(&mut self)
         ensures { (i : ℕ) (rest : List ℕ) → self.old ≡ i ∷ rest → self.new ≡ rest }
     {
@@ -48,6 +50,7 @@ impl Queue {
     ///
     /// # Errors
     /// `AllocError` where there is no memory; the queue is then as it was.
+    #[inline(always)]
     pub fn push(&mut self, place: u32) -> Result<(), AllocError>
         ensures ok { OnOk result (self.new ≡ self.old ++ place ∷ []) }
         ensures err { OnErr result (self.new ≡ self.old) }

@@ -158,6 +158,7 @@ impl Wakes {
     ///
     /// # Errors
     /// `AllocError` where there is no memory.
+    #[inline(always)]
     pub fn wake(&self, variable: u32, level: u8, agenda: &mut Agenda) -> Result<(), AllocError>
         requires { HasVariable self.now variable }
         ensures woken { IsWoken (WaitsFor self.now variable level) self.now.costs
@@ -172,6 +173,7 @@ impl Wakes {
         }
     }
 
+    #[inline(always)]
     fn wake_any(&self, variable: u32, agenda: &mut Agenda) -> Result<(), AllocError>
         requires { HasVariable self.now variable }
         ensures woken { IsWoken (WaitsFor self.now variable 1) self.now.costs
@@ -182,6 +184,7 @@ impl Wakes {
         wake_listed(&self.any, variable, &self.costs, agenda)
     }
 
+    #[inline(always)]
     fn wake_bound(&self, variable: u32, agenda: &mut Agenda) -> Result<(), AllocError>
         requires { HasVariable self.now variable }
         ensures woken { IsWoken (WaitsFor self.now variable 2) self.now.costs
@@ -195,6 +198,7 @@ impl Wakes {
         wake_listed(&self.bound, variable, &self.costs, agenda)
     }
 
+    #[inline(always)]
     fn wake_fixed(&self, variable: u32, agenda: &mut Agenda) -> Result<(), AllocError>
         requires { HasVariable self.now variable }
         ensures woken { IsWoken (WaitsFor self.now variable 3) self.now.costs
@@ -236,6 +240,7 @@ fn list_at(lists: &mut Vec<Waiters>, variable: u32, place: u32) -> Result<(), Al
 }
 
 /// Queues those that wait for a change of a variable and are idle.
+#[inline(always)]
 fn wake_listed(
     lists: &[Waiters],
     variable: u32,
@@ -252,6 +257,7 @@ fn wake_listed(
 }
 
 /// Queues those of some words that are idle.
+#[inline(always)]
 fn wake_words(words: &[Members], costs: &[Cost], agenda: &mut Agenda) -> Result<(), AllocError>
     ensures woken { IsWoken (IsListed (concat words.now)) costs.now agenda.old agenda.new }
     ensures awake { OnOk result (AreAwake agenda.new.states (concat words.now)) }
@@ -263,6 +269,7 @@ fn wake_words(words: &[Members], costs: &[Cost], agenda: &mut Agenda) -> Result<
 }
 
 /// Queues those of a word that are idle.
+#[inline(always)]
 fn wake_members(members: &Members, costs: &[Cost], agenda: &mut Agenda) -> Result<(), AllocError>
     ensures woken { IsWoken (IsListed members.now) costs.now agenda.old agenda.new }
     ensures awake { OnOk result (AreAwake agenda.new.states members.now) }
@@ -279,6 +286,7 @@ fn wake_members(members: &Members, costs: &[Cost], agenda: &mut Agenda) -> Resul
 }
 
 /// The class of a propagator's cost.
+#[inline(always)]
 fn cost_at(costs: &[Cost], place: u32) -> Cost
     ensures { result ≡ cost_at costs.now place }
 {

@@ -300,6 +300,7 @@ impl Dom {
     }
 
     /// Whether a number is in the set.
+    #[inline(always)]
     pub fn contains(&self, value: i32) -> bool
         ensures member { IsTrue result ↔ IsInSet self.now value }
         ensures domain { IsDomain self.now }
@@ -344,6 +345,7 @@ impl Dom {
     }
 
     /// Keeps the numbers at or above a value.
+    #[inline(always)]
     pub fn keep_from(&mut self, value: i32) -> Change
         ensures change { IsChange result (λ x. value ≤ℤ x) self.old self.new }
         ensures domain { IsDomain self.new }
@@ -352,6 +354,7 @@ impl Dom {
     }
 
     /// Keeps the numbers at or below a value.
+    #[inline(always)]
     pub fn keep_to(&mut self, value: i32) -> Change
         ensures change { IsChange result (λ x. x ≤ℤ value) self.old self.new }
         ensures domain { IsDomain self.new }
@@ -360,6 +363,7 @@ impl Dom {
     }
 
     /// Keeps one number.
+    #[inline(always)]
     pub fn keep_only(&mut self, value: i32) -> Change
         ensures change { IsChange result (λ x. x ≡ value) self.old self.new }
         ensures domain { IsDomain self.new }
@@ -368,6 +372,7 @@ impl Dom {
     }
 
     /// Keeps the numbers from a low to a high, both among them.
+    #[inline(always)]
     pub fn keep_range(&mut self, low: i32, high: i32) -> Change
         ensures change { IsChange result (λ x. IsFromTo low high x) self.old self.new }
         ensures domain { IsDomain self.new }

@@ -84,6 +84,7 @@ impl Head {
     }
 
     /// The numbers that are left of a word's, which have some of its bits.
+    #[inline(always)]
     pub fn keep_bits(&mut self, kept: u64) -> Change
         requires whole { IsWhole self.old }
         requires bits { 0 < self.old.bits }
@@ -115,6 +116,7 @@ impl Head {
     }
 
     /// Keeps the numbers from a low to a high, both among them.
+    #[inline(always)]
     pub fn keep_range(&mut self, low: i32, high: i32) -> Change
         requires whole { IsWhole self.old }
         ensures whole { IsWhole self.new }
@@ -131,6 +133,7 @@ impl Head {
     }
 
     /// Keeps a part, whose ends lie between its own, and isn't all of it.
+    #[inline(always)]
     fn keep_part(&mut self, low: i32, high: i32) -> Change
         requires whole { IsWhole self.old }
         requires some { 0 < self.old.size }
@@ -206,6 +209,7 @@ impl Head {
     }
 
     /// Whether a number is one of them.
+    #[inline(always)]
     pub fn contains(&self, value: i32) -> bool
         requires { IsWhole self.now }
         ensures { IsTrue result ↔ IsInSet (head_set self.now) value }

@@ -19,6 +19,7 @@ use fz_spec::term::Term;
 use std::alloc::AllocError;
 
 /// Narrows a store so that a sum is at most a number.
+#[inline(always)]
 pub fn keep_at_most(
     store: &mut Store,
     sum: &Weighted<'_>,
@@ -64,6 +65,7 @@ fn next(number: i32) -> i128
 }
 
 /// Narrows a store so that a sum is above a number.
+#[inline(always)]
 pub fn keep_above(store: &mut Store, sum: &Weighted<'_>, number: i32) -> Result<Answer, AllocError>
     requires law { IsWeighted sum.now }
     requires inside { AreTermsOf (length store.old.doms) sum.now.terms.now }
@@ -97,6 +99,7 @@ pub fn keep_above(store: &mut Store, sum: &Weighted<'_>, number: i32) -> Result<
 }
 
 /// Narrows a store so that a sum is a number.
+#[inline(always)]
 pub fn keep_equal(store: &mut Store, sum: &Weighted<'_>, number: i32) -> Result<Answer, AllocError>
     requires law { IsWeighted sum.now }
     requires inside { AreTermsOf (length store.old.doms) sum.now.terms.now }

@@ -52,6 +52,7 @@ fn add_narrow(sum: i64, product: i64) -> i64
 }
 
 /// The ends of a sum, as `sum_ends` gives them, added up in 64 bits.
+#[inline(always)]
 fn narrow_ends(store: &Store, factors: &[i32], terms: &[Term]) -> Ends
     requires same { length factors.now ≡ length terms.now }
     requires light { AreLight factors.now }
@@ -80,6 +81,7 @@ fn narrow_ends(store: &Store, factors: &[i32], terms: &[Term]) -> Ends
 }
 
 /// The least and the greatest that the sum of terms is with their factors, added up in as many bits as those allow.
+#[inline(always)]
 pub fn ends_of(store: &Store, sum: &Weighted<'_>) -> Ends
     requires law { IsWeighted sum.now }
     requires inside { AreTermsOf (length store.now.doms) sum.now.terms.now }

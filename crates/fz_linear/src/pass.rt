@@ -25,6 +25,7 @@ fn is_changed(change: Change) -> bool
 }
 
 /// Narrows a term to the numbers that are with its factor at most the slack above the least.
+#[inline(always)]
 fn tighten(
     store: &mut Store,
     side: Side,
@@ -50,6 +51,7 @@ fn tighten(
 }
 
 /// Narrows each term so, and says whether anything changed.
+#[inline(always)]
 pub fn tighten_all(
     store: &mut Store,
     side: Side,

@@ -29,6 +29,7 @@ use std::alloc::AllocError;
 ///
 /// # Errors
 /// `AllocError` where there is no memory for a domain; the store is then narrower, and no assignment is lost.
+#[inline(always)]
 pub fn relate(
     store: &mut Store,
     sum: &Weighted<'_>,
@@ -54,6 +55,7 @@ pub fn relate(
 }
 
 /// Narrows a store by how a sum relates to a number, as `relate` does, again and again until that changes nothing more.
+#[inline(always)]
 pub fn relate_to_rest(
     store: &mut Store,
     sum: &Weighted<'_>,
@@ -87,6 +89,7 @@ pub fn relate_to_rest(
 ///
 /// # Errors
 /// As `relate`.
+#[inline(always)]
 pub fn relate_whole(
     store: &mut Store,
     difference: Option<Difference>,
@@ -122,6 +125,7 @@ pub fn relate_whole(
 ///
 /// # Errors
 /// As `relate`.
+#[inline(always)]
 pub fn relate_against(
     store: &mut Store,
     sum: &Weighted<'_>,

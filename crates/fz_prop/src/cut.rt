@@ -22,6 +22,7 @@ pub enum Cut {
     WithoutRange(i32, i32),
 }
 
+#[inline(always)]
 fn keep(dom: &mut Dom, cut: Cut) -> Result<Change, AllocError>
     ensures change { IfOk result (λ r. IsChange r (Keeps cut) dom.old dom.new) }
     ensures err { OnErr result (dom.new ≡ dom.old) }
@@ -38,6 +39,7 @@ fn keep(dom: &mut Dom, cut: Cut) -> Result<Change, AllocError>
 }
 
 /// How much of a change it was from a domain with these ends.
+#[inline(always)]
 fn level_since(low: i32, high: i32, dom: &Dom) -> u8
     requires { 0 < length dom.now }
     ensures { result ≡ change_level low high dom.now }
@@ -55,6 +57,7 @@ fn level_since(low: i32, high: i32, dom: &Dom) -> u8
 }
 
 /// Cuts a domain: what became of it, and how much of a change it was, 0 where nothing left.
+#[inline(always)]
 pub fn cut_one(dom: &mut Dom, cut: Cut) -> Result<(Change, u8), AllocError>
     requires { 0 < length dom.old }
     ensures cut { IfOk result (λ r. IsCut r.0 r.1 (Keeps cut) dom.old dom.new) }
@@ -88,6 +91,7 @@ pub fn cut_to(dom: &mut Dom, other: &Dom, shift: i32) -> Result<(Change, u8), Al
 
 /// Keeps the numbers of a domain that are those of a window: what became of it, and how much of a change it was, 0 where nothing
 /// left.
+#[inline(always)]
 pub fn cut_window(dom: &mut Dom, window: Window) -> (Change, u8)
     requires some { 0 < length dom.old }
     requires floor { LEAST ≤ℤ window.base }

@@ -136,6 +136,7 @@ impl Store {
     ///
     /// # Errors
     /// `AllocError` where there is no memory; the store is then left as it was. So it is at each change.
+    #[inline(always)]
     pub fn keep_from(&mut self, variable: u32, value: i32) -> Result<Change, AllocError>
         requires { variable < length self.old.doms }
         ensures shrinks { Shrinks self.old self.new }
@@ -147,6 +148,7 @@ impl Store {
     }
 
     /// Keeps the numbers of a variable at or below a value.
+    #[inline(always)]
     pub fn keep_to(&mut self, variable: u32, value: i32) -> Result<Change, AllocError>
         requires { variable < length self.old.doms }
         ensures shrinks { Shrinks self.old self.new }
@@ -158,6 +160,7 @@ impl Store {
     }
 
     /// Keeps one number of a variable.
+    #[inline(always)]
     pub fn keep_only(&mut self, variable: u32, value: i32) -> Result<Change, AllocError>
         requires { variable < length self.old.doms }
         ensures shrinks { Shrinks self.old self.new }
@@ -169,6 +172,7 @@ impl Store {
     }
 
     /// Keeps the numbers of a variable from a low to a high, both among them.
+    #[inline(always)]
     pub fn keep_range(&mut self, variable: u32, low: i32, high: i32) -> Result<Change, AllocError>
         requires { variable < length self.old.doms }
         ensures shrinks { Shrinks self.old self.new }
@@ -180,6 +184,7 @@ impl Store {
     }
 
     /// Removes a number of a variable.
+    #[inline(always)]
     pub fn remove(&mut self, variable: u32, value: i32) -> Result<Change, AllocError>
         requires { variable < length self.old.doms }
         ensures shrinks { Shrinks self.old self.new }
@@ -233,6 +238,7 @@ impl Store {
     }
 
     /// Keeps the numbers of a variable that are those of a window.
+    #[inline(always)]
     pub fn keep_window(&mut self, variable: u32, window: Window) -> Result<Change, AllocError>
         requires variable { variable < length self.old.doms }
         requires floor { LEAST ≤ℤ window.base }
@@ -317,6 +323,7 @@ impl Store {
         Some(first)
     }
 
+    #[inline(always)]
     fn cut(&mut self, variable: u32, cut: Cut) -> Result<Change, AllocError>
         requires { variable < length self.old.doms }
         ensures shrinks { Shrinks self.old self.new }
@@ -332,6 +339,7 @@ impl Store {
 }
 
 /// Marks and lists a variable if something left its domain.
+#[inline(always)]
 fn note(marks: &mut Vec<u8>, changed: &mut Vec<u32>, variable: u32, change: Change, level: u8)
     requires place { variable < length marks.old.items }
     requires room { vec_len changed.old < vec_capacity changed.old }
@@ -345,6 +353,7 @@ fn note(marks: &mut Vec<u8>, changed: &mut Vec<u32>, variable: u32, change: Chan
 }
 
 /// Marks a variable with the level of a change, and lists it unless its mark says that it is listed.
+#[inline(always)]
 fn mark(marks: &mut Vec<u8>, changed: &mut Vec<u32>, variable: u32, level: u8)
     requires place { variable < length marks.old.items }
     requires room { vec_len changed.old < vec_capacity changed.old }
