@@ -11,7 +11,8 @@ use Rattle.fz_tree.specs.Account.{Account, rest_begun, with_given}
 use Rattle.fz_tree.specs.Book.{Part, Book, BookLaw, Takes, claimed_part, parts_after}
 use Rattle.fz_tree.proofs.Accounts.{gives}
 use Rattle.fz_tree.proofs.Books.{claims, takes, all_set}
-use Rattle.fz_path.specs.Paths.{Pathed, held_behind, started}
+use Rattle.fz_path.specs.Paths.{Pathed, held_behind}
+use Rattle.fz_path.specs.Tasks.{Tasked, bare_task}
 use Rattle.fz_path.specs.Learns.{Learns, held_with}
 use Rattle.fz_account.specs.declared.account.Learned.{Learned}
 use Rattle.fz_account.specs.declared.account.Learned.TheVariants as learned
@@ -69,11 +70,11 @@ replaced old new i w v law at of_m same is =
 
 start_keeps : (w : ℕ) (old new : Core) → CoreLaw old → StartsAt w old new → CoreLaw new
 start_keeps w old new law s =
-    replaced old new w s.worker (record { path = started s.worker.path s.task; hand = None }) law s.at (start_worker old.book.model s.worker s.task (worker_of old w s.worker law s.at) s.full)
-    (λ g. omega (arith, ap (path_adds g) s.idle, ap (hand_adds g) s.full)) s.is
+    replaced old new w s.worker (record { path = s.path; hand = None }) law s.at (start_worker old.book.model s.worker s.task s.path (worker_of old w s.worker law s.at) s.full s.takes)
+    (λ g. omega (arith, ap (λ (p : Pathed). path_adds g p.held) s.takes.is, ap (path_adds g) s.idle, ap (hand_adds g) s.full)) s.is
 
 -- an account that follows counts the same
-follows_adds : (c : Account) (old held : Option Account) (hand : Option Frontier) → old ≡ Some c → FollowsTo c held → (g : Frontier → ℕ) → path_adds g held + hand_adds g hand ≡ path_adds g old + hand_adds g hand
+follows_adds : (c : Account) (old held : Option Account) (hand : Option Tasked) → old ≡ Some c → FollowsTo c held → (g : Frontier → ℕ) → path_adds g held + hand_adds g hand ≡ path_adds g old + hand_adds g hand
 follows_adds c old held hand holds follows = λ g.
     ap (λ n. n + hand_adds g hand) (ap (path_adds g) follows.1 ∙ ap g follows.2.before ∙ sym (ap (path_adds g) holds))
 
@@ -108,16 +109,17 @@ learn_keeps w i answer old new law l =
 
 claim_keeps : (w : ℕ) (old new : Core) → CoreLaw old → ClaimsAt w old new → CoreLaw new
 claim_keeps w old new law s =
-    let v : Worker = record { path = s.worker.path; hand = Some s.task } in
-    let edges : AreEdges s.task.edges = subst (λ (f : Frontier). AreEdges f.edges) (s.claims.open_at.is (claimed_part s.task)) (all_get (λ (p : Part). AreEdges p.frontier.edges) old.book.parts s.claims.place (claimed_part s.task) s.claims.open_at.within law.book.edges) in
-    let parts : new.book.parts ≡ set old.book.parts s.claims.place (claimed_part s.task) = ap (λ (b : Book). b.parts) s.claims.is in
-    law_of old (set old.workers w v) new.book new law s.workers refl (length-set old.workers w v) (claims old.book s.task new.book law.book s.claims) (ap (λ (b : Book). b.model) s.claims.is)
-    (all_set (IsWorkerOf old.book.model) old.workers w v law.workers (takes_up old.book.model s.worker s.task (worker_of old w s.worker law s.at) edges))
+    let f = s.frontier in
+    let v : Worker = record { path = s.worker.path; hand = Some (bare_task f) } in
+    let edges : AreEdges f.edges = subst (λ (g : Frontier). AreEdges g.edges) (s.claims.open_at.is (claimed_part f)) (all_get (λ (p : Part). AreEdges p.frontier.edges) old.book.parts s.claims.place (claimed_part f) s.claims.open_at.within law.book.edges) in
+    let parts : new.book.parts ≡ set old.book.parts s.claims.place (claimed_part f) = ap (λ (b : Book). b.parts) s.claims.is in
+    law_of old (set old.workers w v) new.book new law s.workers refl (length-set old.workers w v) (claims old.book f new.book law.book s.claims) (ap (λ (b : Book). b.model) s.claims.is)
+    (all_set (IsWorkerOf old.book.model) old.workers w v law.workers (takes_up old.book.model s.worker (bare_task f) (worker_of old w s.worker law s.at) edges))
     (λ g. omega (
       arith,
       law.held g,
       ap (λ (ps : List Part). sum_by (claimed_adds g) ps) parts,
-      claimed_more g old.book.parts s.task s.claims.place s.claims.open_at s.claims.first.unclaimed,
+      claimed_more g old.book.parts f s.claims.place s.claims.open_at s.claims.first.unclaimed,
       set_adds (worker_adds g) old.workers w s.worker v s.at,
       ap (path_adds g) s.idle,
       ap (hand_adds g) s.empty,
@@ -174,22 +176,24 @@ steal_keeps : (v w : ℕ) (old new : Core) → CoreLaw old → StealsAt v w old 
 steal_keeps v w old new law s =
     let taken = with_given s.account in
     let left = holding s.victim (held_behind taken) in
-    let thief : Worker = record { path = s.thief.path; hand = Some (part_of s.account.after) } in
+    let thief : Worker = record { path = s.thief.path; hand = Some s.task } in
     let between = set old.workers v left in
     let of_v = worker_of old v s.victim law s.at_victim in
     let is = held_by old.book.model s.victim s.account of_v s.holds in
     let model : old.book.model ≡ s.account.model = sym (is.model ∙ of_v.model) in
     let of_taken = gives s.account is.law s.can in
     let at_thief : slice_get between w ≡ Some s.thief = get_set_other old.workers v w left (λ same. s.other (sym same)) ∙ s.at_thief in
-    let task : AreEdges (part_of s.account.after).edges = (all_right (λ (f : Frontier). AreEdges f.edges) s.account.given (part_of s.account.after ∷ []) of_taken.edges.1).0 in
+    let part : AreEdges (part_of s.account.after).edges = (all_right (λ (f : Frontier). AreEdges f.edges) s.account.given (part_of s.account.after ∷ []) of_taken.edges.1).0 in
+    let task : AreEdges s.task.frontier.edges = subst (λ (f : Frontier). AreEdges f.edges) (sym s.part) part in
     law_of old (set between w thief) new.book new law s.workers refl (length-set between w thief ∙ length-set old.workers v left) (takes old.book taken new.book law.book of_taken model s.takes) (ap (λ (b : Book). b.model) s.takes.is)
     (all_set (IsWorkerOf old.book.model) between w thief (all_set (IsWorkerOf old.book.model) old.workers v left law.workers (victim_worker old.book.model s.victim s.account of_v s.holds s.can))
-    (takes_up old.book.model s.thief (part_of s.account.after) (worker_of old w s.thief law s.at_thief) task))
+    (takes_up old.book.model s.thief s.task (worker_of old w s.thief law s.at_thief) task))
     (λ g. omega (
       arith,
       law.held g,
       taken_adds old v s.victim s.account taken new.book law s.at_victim s.holds refl s.takes g,
       part_adds g s.account is.given,
+      ap g s.part,
       behind_adds g taken,
       set_adds (worker_adds g) old.workers v s.victim left s.at_victim,
       set_adds (worker_adds g) between w s.thief thief at_thief,

@@ -9,6 +9,7 @@ use Rattle.fz_tree.specs.Frontier.{Frontier}
 use Rattle.fz_tree.specs.Account.{Account}
 use Rattle.fz_tree.specs.Book.{Part}
 use Rattle.fz_tree.proofs.Counts.{one_if}
+use Rattle.fz_path.specs.Tasks.{Tasked}
 use Rattle.fz_core.specs.Cores.{Worker, Core, CoreLaw, path_adds, hand_adds, worker_adds, claimed_adds}
 use Rattle.fz_core.specs.Laws.{path_held, hand_held, worker_held, unclaimed_in, held}
 use Rattle.fz_core.proofs.Sums.{one_each}
@@ -50,9 +51,9 @@ path_sum : (g : Frontier → ℕ) (o : Option Account) → sum_by g (path_held o
 path_sum g None = refl
 path_sum g (Some c) = omega arith
 
-hand_sum : (g : Frontier → ℕ) (o : Option Frontier) → sum_by g (hand_held o) ≡ hand_adds g o
+hand_sum : (g : Frontier → ℕ) (o : Option Tasked) → sum_by g (hand_held o) ≡ hand_adds g o
 hand_sum g None = refl
-hand_sum g (Some f) = omega arith
+hand_sum g (Some t) = omega arith
 
 worker_sum : (g : Frontier → ℕ) (ws : List Worker) → sum_by g (flat_map worker_held ws) ≡ sum_by (worker_adds g) ws
 worker_sum g [] = refl

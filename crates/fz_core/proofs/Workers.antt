@@ -4,7 +4,7 @@ use Rattle.std.specs.Prelude.{ℤ, if◌then◌else◌}
 use Rattle.fz_spec.specs.Instance.{Instance, Satisfies}
 use Rattle.fz_tree.specs.declared.mode.Mode.{Mode}
 use Rattle.fz_tree.specs.declared.mode.Mode.TheVariants.{Best}
-use Rattle.fz_tree.specs.Frontier.{Frontier, AreEdges, has_rest, can_cut}
+use Rattle.fz_tree.specs.Frontier.{AreEdges, has_rest, can_cut}
 use Rattle.fz_tree.specs.Better.{Betters}
 use Rattle.fz_tree.specs.Account.{Account, AccountLaw, SuitsMode, begun, rest_begun, with_given}
 use Rattle.fz_tree.proofs.Accounts.{begins, gives, hands_out, learns}
@@ -13,6 +13,8 @@ use Rattle.fz_account.specs.declared.account.Learned.TheVariants as learned
 use Rattle.fz_path.specs.declared.step.Step.{Step}
 use Rattle.fz_path.specs.Paths.{Pathed, PathLaw, with_held, started, held_behind}
 use Rattle.fz_path.specs.Steps.{StepsTo, Stays, at_node}
+use Rattle.fz_path.specs.Tasks.{Neared, Tasked}
+use Rattle.fz_path.specs.Starts.{LearnsNear, TakesUp}
 use Rattle.fz_path.specs.Cuts.{held_behind_cut}
 use Rattle.fz_path.specs.Learns.{IsNews, Learns, held_with, with_known}
 use Rattle.fz_core.specs.Cores.{Worker, IsOwn, IsWorkerOf}
@@ -44,7 +46,7 @@ held_own p None is = tt
 held_own p (Some c) is = record { law = is.law; witness = refl; given = is.given }
 
 -- it holds something else
-holds_other : (m : Instance) (w : Worker) (held : Option Account) (hand : Option Frontier) → IsWorkerOf m w → IfSome held (IsHeldBy w.path) → IfSome hand (λ (f : Frontier). AreEdges f.edges) → IsWorkerOf m (record { path = with_held w.path held; hand = hand })
+holds_other : (m : Instance) (w : Worker) (held : Option Account) (hand : Option Tasked) → IsWorkerOf m w → IfSome held (IsHeldBy w.path) → IfSome hand (λ (t : Tasked). AreEdges t.frontier.edges) → IsWorkerOf m (record { path = with_held w.path held; hand = hand })
 holds_other m w held hand of_m is task = record {
   model = of_m.model;
   law = held_law w.path held of_m.law is;
@@ -61,16 +63,8 @@ held_by m w c of_m holds =
 
 -- ---- hands
 
-pub takes_up : (m : Instance) (w : Worker) (f : Frontier) → IsWorkerOf m w → AreEdges f.edges → IsWorkerOf m (record { path = w.path; hand = Some f })
-takes_up m w f of_m edges = record { model = of_m.model; law = of_m.law; account = of_m.account; task = edges }
-
--- ---- starting
-
-pub start_worker : (m : Instance) (w : Worker) (f : Frontier) → IsWorkerOf m w → w.hand ≡ Some f → IsWorkerOf m (record { path = started w.path f; hand = None })
-start_worker m w f of_m full =
-    let edges : AreEdges f.edges = subst (λ (o : Option Frontier). IfSome o (λ (g : Frontier). AreEdges g.edges)) full of_m.task in
-    let is : IsHeldBy w.path (begun w.path.model w.path.mode f w.path.known) = record { law = begins w.path.model w.path.mode f w.path.known of_m.law.own_mode edges of_m.law.suits of_m.law.known; model = refl; mode = refl; given = refl } in
-    holds_other m w (Some (begun w.path.model w.path.mode f w.path.known)) None of_m is tt
+pub takes_up : (m : Instance) (w : Worker) (t : Tasked) → IsWorkerOf m w → AreEdges t.frontier.edges → IsWorkerOf m (record { path = w.path; hand = Some t })
+takes_up m w t of_m edges = record { model = of_m.model; law = of_m.law; account = of_m.account; task = edges }
 
 -- ---- steps
 
@@ -146,3 +140,24 @@ learn_worker m w learned.Learned a path of_m learns =
     subst (λ (p : Pathed). IsWorkerOf m (record { path = p; hand = w.hand })) (sym learns.1) (learned_worker m w a of_m learns.0)
 learn_worker m w learned.Ignored a path of_m learns =
     subst (λ (p : Pathed). IsWorkerOf m (record { path = p; hand = w.hand })) (sym learns.1) of_m
+
+-- ---- starting
+
+begun_worker : (m : Instance) (w : Worker) (t : Tasked) → IsWorkerOf m w → w.hand ≡ Some t → IsWorkerOf m (record { path = started w.path t.frontier; hand = None })
+begun_worker m w t of_m full =
+    let f = t.frontier in
+    let edges : AreEdges f.edges = subst (λ (o : Option Tasked). IfSome o (λ (u : Tasked). AreEdges u.frontier.edges)) full of_m.task in
+    let is : IsHeldBy w.path (begun w.path.model w.path.mode f w.path.known) = record { law = begins w.path.model w.path.mode f w.path.known of_m.law.own_mode edges of_m.law.suits of_m.law.known; model = refl; mode = refl; given = refl } in
+    holds_other m w (Some (begun w.path.model w.path.mode f w.path.known)) None of_m is tt
+
+-- the path that takes up a task may have learned what comes with it
+told_worker : (m : Instance) (w : Worker) (near : Option Neared) (p : Pathed) → IsWorkerOf m w → LearnsNear w.path near p → IsWorkerOf m (record { path = p; hand = w.hand })
+told_worker m w near p of_m (inl news) = subst (λ (q : Pathed). IsWorkerOf m (record { path = q; hand = w.hand })) (sym news.2) (learned_worker m w news.0 of_m news.1.1)
+told_worker m w near p of_m (inr same) = subst (λ (q : Pathed). IsWorkerOf m (record { path = q; hand = w.hand })) (sym same.1) of_m
+
+pub taking_worker : (m : Instance) (w : Worker) (t : Tasked) (new : Pathed) → IsWorkerOf m w → (takes : TakesUp w.path new t) → IsWorkerOf m (record { path = takes.path; hand = w.hand })
+taking_worker m w t new of_m takes = told_worker m w t.near takes.path of_m takes.learns
+
+pub start_worker : (m : Instance) (w : Worker) (t : Tasked) (new : Pathed) → IsWorkerOf m w → w.hand ≡ Some t → TakesUp w.path new t → IsWorkerOf m (record { path = new; hand = None })
+start_worker m w t new of_m full takes =
+    subst (λ (q : Pathed). IsWorkerOf m (record { path = q; hand = None })) (sym takes.is) (begun_worker m (record { path = takes.path; hand = w.hand }) t (taking_worker m w t new of_m takes) full)

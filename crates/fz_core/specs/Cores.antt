@@ -7,11 +7,12 @@ use Rattle.fz_tree.specs.Frontier.{Frontier, AreEdges}
 use Rattle.fz_tree.specs.Account.{Account, AccountLaw}
 use Rattle.fz_tree.specs.Book.{Book, BookLaw, Part, opening}
 use Rattle.fz_path.specs.Paths.{Pathed, PathLaw, idle_path}
+use Rattle.fz_path.specs.Tasks.{Tasked}
 
 -- A worker's path, and the task in its hand.
 pub record Worker : Type 0 where
   pub path : Pathed
-  pub hand : Option Frontier
+  pub hand : Option Tasked
 
 pub record Core : Type 0 where
   pub workers : List Worker
@@ -34,14 +35,14 @@ with_worker s i w = record { workers = slice_set s.workers i w; book = s.book }
 
 -- ---- what is held
 
--- The frontier that a path was started with, the one in a hand, and both, by what each counts.
+-- The frontier that a path was started with, that of the task in a hand, and both, by what each counts.
 abbrev pub path_adds : (Frontier → ℕ) → Option Account → ℕ
 path_adds g None = 0
 path_adds g (Some c) = g c.before
 
-abbrev pub hand_adds : (Frontier → ℕ) → Option Frontier → ℕ
+abbrev pub hand_adds : (Frontier → ℕ) → Option Tasked → ℕ
 hand_adds g None = 0
-hand_adds g (Some f) = g f
+hand_adds g (Some t) = g t.frontier
 
 abbrev pub worker_adds : (Frontier → ℕ) → Worker → ℕ
 worker_adds g w = path_adds g w.path.held + hand_adds g w.hand
@@ -66,7 +67,7 @@ pub record IsWorkerOf (m : Instance) (w : Worker) : Type 0 where
   pub model : w.path.model ≡ m
   pub law : PathLaw w.path
   pub account : IfSome w.path.held (IsOwn w.path.known)
-  pub task : IfSome w.hand (λ (f : Frontier). AreEdges f.edges)
+  pub task : IfSome w.hand (λ (t : Tasked). AreEdges t.frontier.edges)
 
 pub record CoreLaw (s : Core) : Type 0 where
   pub several : 1 ≤ length s.workers

@@ -1,5 +1,5 @@
 -- What each event makes of workers and book. Workers that an event doesn't name stay, and so does what it doesn't name of those.
-use Rattle.std.specs.Prelude.{◌≡◌, ℕ, ℤ, true, List, Option, Some, None, slice_set}
+use Rattle.std.specs.Prelude.{◌≡◌, ℕ, ℤ, true, List, Option, Some, None, IfSome, slice_set}
 use Rattle.std.specs.List.{slice_get}
 use Rattle.fz_tree.specs.Frontier.{Frontier, can_cut, part_of}
 use Rattle.fz_tree.specs.Account.{Account, with_given}
@@ -8,9 +8,11 @@ use Rattle.fz_account.specs.declared.account.Learned.{Learned}
 use Rattle.fz_account.specs.declared.account.Learned.TheVariants as learned
 use Rattle.fz_path.specs.declared.step.Step.{Step}
 use Rattle.fz_path.specs.declared.step.Step.TheVariants as step
-use Rattle.fz_path.specs.Paths.{Pathed, with_held, started, held_behind}
+use Rattle.fz_path.specs.Paths.{Pathed, with_held, held_behind}
 use Rattle.fz_path.specs.Steps.{StepsTo, Falls, Stays}
-use Rattle.fz_path.specs.Cuts.{held_behind_cut}
+use Rattle.fz_path.specs.Tasks.{Tasked, bare_task}
+use Rattle.fz_path.specs.Starts.{TakesUp}
+use Rattle.fz_path.specs.Cuts.{IsNearOf, held_behind_cut}
 use Rattle.fz_path.specs.Learns.{Learns}
 use Rattle.fz_core.specs.declared.event.Event.{Event}
 use Rattle.fz_core.specs.declared.event.Event.TheVariants as event
@@ -19,24 +21,26 @@ use Rattle.fz_core.specs.declared.event.Outcome.TheVariants as outcome
 use Rattle.fz_core.specs.Cores.{Worker, Core, worker_at, with_worker}
 use Rattle.fz_core.specs.Lawful.{improving}
 
--- an idle worker with an empty hand is handed what the book had unclaimed
+-- an idle worker with an empty hand is handed what the book had unclaimed, with no space
 pub record ClaimsAt (w : ℕ) (old new : Core) : Type 0 where
   pub worker : Worker
   pub at : worker_at old w ≡ Some worker
   pub idle : worker.path.held ≡ None
   pub empty : worker.hand ≡ None
-  pub task : Frontier
-  pub claims : books.Claims old.book task new.book
-  pub workers : new.workers ≡ slice_set old.workers w (record { path = worker.path; hand = Some task })
+  pub frontier : Frontier
+  pub claims : books.Claims old.book frontier new.book
+  pub workers : new.workers ≡ slice_set old.workers w (record { path = worker.path; hand = Some (bare_task frontier) })
 
--- an idle worker takes up the task in its hand
+-- an idle worker takes up the task in its hand, and learns before what comes with it, where that is news
 pub record StartsAt (w : ℕ) (old new : Core) : Type 0 where
   pub worker : Worker
   pub at : worker_at old w ≡ Some worker
   pub idle : worker.path.held ≡ None
-  pub task : Frontier
+  pub task : Tasked
   pub full : worker.hand ≡ Some task
-  pub is : new ≡ with_worker old w (record { path = started worker.path task; hand = None })
+  pub path : Pathed
+  pub takes : TakesUp worker.path path task
+  pub is : new ≡ with_worker old w (record { path = path; hand = None })
 
 -- the worker that holds this instead
 abbrev pub holding : Worker → Option Account → Worker
@@ -70,8 +74,8 @@ pub record ReportsAt (w : ℕ) (old new : Core) : Type 0 where
   pub takes : books.Takes old.book account new.book
   pub workers : new.workers ≡ slice_set old.workers w (holding worker (held_behind account))
 
--- A part of what v holds is cut off for w, that is idle with an empty hand, and the book takes the account of v, which names the
--- part as given. v goes on with what is left.
+-- A part of what v holds is cut off for w, that is idle with an empty hand, maybe with a space of v's, and the book takes the account
+-- of v, which names the part as given. v goes on with what is left.
 pub record StealsAt (v w : ℕ) (old new : Core) : Type 0 where
   pub victim : Worker
   pub at_victim : worker_at old v ≡ Some victim
@@ -84,7 +88,10 @@ pub record StealsAt (v w : ℕ) (old new : Core) : Type 0 where
   pub idle : thief.path.held ≡ None
   pub empty : thief.hand ≡ None
   pub takes : books.Takes old.book (with_given account) new.book
-  pub workers : new.workers ≡ slice_set (slice_set old.workers v (holding victim (held_behind_cut account))) w (record { path = thief.path; hand = Some (part_of account.after) })
+  pub task : Tasked
+  pub part : task.frontier ≡ part_of account.after
+  pub near : IfSome task.near (IsNearOf victim.path)
+  pub workers : new.workers ≡ slice_set (slice_set old.workers v (holding victim (held_behind_cut account))) w (record { path = thief.path; hand = Some task })
 
 abbrev pub learned_outcome : Learned → Outcome
 learned_outcome learned.Learned = outcome.Learned

@@ -9,6 +9,7 @@ use Rattle.fz_tree.specs.Frontier.{Frontier, times_in}
 use Rattle.fz_tree.specs.Better.{mode_of, Betters}
 use Rattle.fz_tree.specs.Account.{Account, times_found}
 use Rattle.fz_tree.specs.Book.{Part, incumbent, is_claimed, times_recorded}
+use Rattle.fz_path.specs.Tasks.{Tasked}
 use Rattle.fz_core.specs.declared.event.Event.{Event}
 use Rattle.fz_core.specs.Cores.{Worker, Core, CoreLaw, starting, hand_adds}
 use Rattle.fz_core.specs.Runs.{Runs}
@@ -37,9 +38,9 @@ abbrev pub path_held : Option Account → List Frontier
 path_held None = []
 path_held (Some c) = c.before ∷ []
 
-abbrev pub hand_held : Option Frontier → List Frontier
+abbrev pub hand_held : Option Tasked → List Frontier
 hand_held None = []
-hand_held (Some f) = f ∷ []
+hand_held (Some t) = t.frontier ∷ []
 
 abbrev pub worker_held : Worker → List Frontier
 worker_held w = path_held w.path.held ++ hand_held w.hand
@@ -48,7 +49,7 @@ abbrev pub unclaimed_in : List Part → List Frontier
 unclaimed_in [] = []
 unclaimed_in (p ∷ ps) = if p.claimed then unclaimed_in ps else p.frontier ∷ unclaimed_in ps
 
--- what paths were started with, what is in hands, and what nobody has claimed
+-- what paths were started with, what the tasks in hands are, and what nobody has claimed
 abbrev pub held : Core → List Frontier
 held s = flat_map worker_held s.workers ++ unclaimed_in s.book.parts
 

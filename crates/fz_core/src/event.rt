@@ -10,7 +10,7 @@ use fz_path::Step;
 pub enum Event {
     /// The worker, that is idle with an empty hand, is handed the first part that nobody has claimed.
     Claim(u32),
-    /// The worker, that is idle, takes up the task in its hand.
+    /// The worker, that is idle, takes up the task in its hand, and learns before what comes with it.
     Start(u32),
     /// The worker looks at one node of what it holds.
     Step(u32),

@@ -4,7 +4,7 @@ use Rattle.std.specs.Prelude.{ℤ, is_some, IfOk, OnErr, nat_lt}
 use Rattle.std.specs.List.{slice_get, list_all}
 use Rattle.std.proofs.lemmas.List.{set-get_or}
 use Rattle.std.proofs.lemmas.Option.{slice_get_within, get_or_from_slice_get, slice_get_read}
-use Rattle.std.proofs.lemmas.Bool.{and_parts, ltb-true}
+use Rattle.std.proofs.lemmas.Bool.{and_parts, ltb-true, ne_eqb}
 use Rattle.std.proofs.lemmas.Bool.Decides.{Decides-eqb}
 use Rattle.fz_tree.specs.declared.mode.Mode.{Mode}
 use Rattle.fz_tree.specs.declared.mode.Mode.TheVariants.{All, Best}
@@ -16,14 +16,17 @@ use Rattle.fz_tree.specs.Book.{Book, Claims, Takes, opening, is_claimed}
 use Rattle.fz_account.specs.declared.account.Learned.{Learned}
 use Rattle.fz_path.specs.declared.step.Step as stepping
 use Rattle.fz_path.specs.declared.step.Step.TheVariants as steps
-use Rattle.fz_path.specs.Paths.{Pathed, started, held_behind, with_held, can_cut_held}
+use Rattle.fz_path.specs.Paths.{Pathed, held_behind, with_held, can_cut_held}
+use Rattle.fz_path.specs.Tasks.{Tasked, bare_task}
+use Rattle.fz_path.specs.Starts.{TakesUp}
 use Rattle.fz_path.specs.Steps.{Steps, StepsTo, Falls, FallsFrom, Stays}
-use Rattle.fz_path.specs.Cuts.{held_behind_cut}
+use Rattle.fz_path.specs.Cuts.{IsNearOf, held_behind_cut}
 use Rattle.fz_path.specs.Learns.{Learns}
+use Rattle.fz_core.specs.declared.event.Event.{Event}
 use Rattle.fz_core.specs.declared.event.Event.TheVariants.{Claim, Start, Step, Report, Steal, Learn}
 use Rattle.fz_core.specs.declared.event.Outcome.{Outcome}
 use Rattle.fz_core.specs.Cores.{Worker, Core, CoreLaw, idle, worker_at}
-use Rattle.fz_core.specs.Lawful.{is_lawful, is_free, can_be_cut, has_unclaimed, improving_in, improving}
+use Rattle.fz_core.specs.Lawful.{is_lawful, is_free, is_busy, can_be_cut, has_unclaimed, improving_in, improving}
 use Rattle.fz_core.specs.Events.{ClaimsAt, StartsAt, StepsAt, ReportsAt, StealsAt, LearnsAt, StaysAt, holding, step_outcome, learned_outcome}
 use Rattle.fz_book.specs.Reports.{IsReportable}
 use Rattle.fz_machine.proofs.Lawful.{IsFree, CanCut, free, ready, busy, cuttable, some_is_there}
@@ -48,21 +51,21 @@ unchanged_code s old i read now b view is same book =
 
 -- ---- a claim
 
-pub claim_code : (s old : Core) (i : ℕ) (read : Worker) (path : Pathed) (hand handed : Option Frontier) (task : Frontier) (b : Book) → s ≡ old → is_lawful old (Claim i) ≡ true → read ≡ get_or s.workers i read
-    → (let seen : Worker = record { path = path; hand = hand } in seen ≡ read) → handed ≡ Some task → IfSome handed (λ (f : Frontier). Claims s.book f b) → ClaimsAt i old (record { workers = set s.workers i (record { path = path; hand = Some task }); book = b })
-claim_code s old i read path hand handed task b view lawful is seen some claims =
+pub claim_code : (s old : Core) (i : ℕ) (read : Worker) (path : Pathed) (hand : Option Tasked) (handed : Option Frontier) (frontier : Frontier) (task : Tasked) (b : Book) → s ≡ old → is_lawful old (Claim i) ≡ true → read ≡ get_or s.workers i read
+    → (let seen : Worker = record { path = path; hand = hand } in seen ≡ read) → handed ≡ Some frontier → IfSome handed (λ (f : Frontier). Claims s.book f b) → task ≡ bare_task frontier → ClaimsAt i old (record { workers = set s.workers i (record { path = path; hand = Some task }); book = b })
+claim_code s old i read path hand handed frontier task b view lawful is seen some claims made =
     let f = free (worker_at old i) (and_parts (is_free (worker_at old i)) (has_unclaimed old.book) lawful).0 in
     let same : path ≡ f.worker.path = ap (λ (w : Worker). w.path) (seen ∙ read_is s old i f.worker read view f.at is) in
-    let of_task : Claims s.book task b = subst (λ (o : Option Frontier). IfSome o (λ (x : Frontier). Claims s.book x b)) some claims in
-    let holder : Pathed → Worker = λ p. record { path = p; hand = Some task } in
+    let of_book : Claims s.book frontier b = subst (λ (o : Option Frontier). IfSome o (λ (x : Frontier). Claims s.book x b)) some claims in
+    let holder : Pathed → Tasked → Worker = λ p t. record { path = p; hand = Some t } in
     record {
       worker = f.worker;
       at = f.at;
       idle = f.idle;
       empty = f.empty;
-      task = task;
-      claims = subst (λ (x : Core). Claims x.book task b) view of_task;
-      workers = ap (λ (x : Core). set x.workers i (holder path)) view ∙ ap (λ (p : Pathed). set old.workers i (holder p)) same;
+      frontier = frontier;
+      claims = subst (λ (x : Core). Claims x.book frontier b) view of_book;
+      workers = ap (λ (x : Core). set x.workers i (holder path task)) view ∙ ap (λ (p : Pathed). set old.workers i (holder p task)) same ∙ ap (λ (t : Tasked). set old.workers i (holder f.worker.path t)) made;
     }
 
 -- ---- a start
@@ -74,11 +77,11 @@ start_ready s old i read view lawful is =
     (ap (λ (w : Worker). w.path.held) same ∙ r.idle, ap (λ (w : Worker). is_some w.hand) same ∙ r.full)
 
 pub start_code : (s old : Core) (i : ℕ) (read now : Worker) → s ≡ old → is_lawful old (Start i) ≡ true → read ≡ get_or s.workers i read
-    → ((task : Frontier) × (read.hand ≡ Some task) × (now ≡ record { path = started read.path task; hand = None })) → StartsAt i old (record { workers = set s.workers i now; book = s.book })
+    → ((task : Tasked) × (read.hand ≡ Some task) × TakesUp read.path now.path task × (now.hand ≡ None)) → StartsAt i old (record { workers = set s.workers i now; book = s.book })
 start_code s old i read now view lawful is does =
     let r = ready (worker_at old i) lawful in
     let same = read_is s old i r.worker read view r.at is in
-    let starter : Worker → Worker = λ w. record { path = started w.path does.0; hand = None } in
+    let holder : Option Tasked → Worker = λ h. record { path = now.path; hand = h } in
     let made : Core → Worker → Core = λ x w. record { workers = set x.workers i w; book = x.book } in
     record {
       worker = r.worker;
@@ -86,16 +89,18 @@ start_code s old i read now view lawful is does =
       idle = r.idle;
       task = does.0;
       full = ap (λ (w : Worker). w.hand) (sym same) ∙ does.1;
-      is = ap (λ (x : Core). made x now) view ∙ ap (made old) (does.2 ∙ ap starter same);
+      path = now.path;
+      takes = subst (λ (w : Worker). TakesUp w.path now.path does.0) same does.2;
+      is = ap (λ (x : Core). made x now) view ∙ ap (λ (h : Option Tasked). made old (holder h)) does.3;
     }
 
 -- ---- a step
 
 -- the worker that was read, with what it holds now
-holds_now : (read w : Worker) (path new : Pathed) (hand : Option Frontier) → (let seen : Worker = record { path = path; hand = hand } in seen ≡ read) → read ≡ w → new ≡ with_held path new.held
+holds_now : (read w : Worker) (path new : Pathed) (hand : Option Tasked) → (let seen : Worker = record { path = path; hand = hand } in seen ≡ read) → read ≡ w → new ≡ with_held path new.held
     → (let now : Worker = record { path = new; hand = hand } in now ≡ holding w new.held)
 holds_now read w path new hand seen same rest =
-    let made : Pathed → Option Frontier → Worker = λ p h. record { path = p; hand = h } in
+    let made : Pathed → Option Tasked → Worker = λ p h. record { path = p; hand = h } in
     ap (λ (p : Pathed). made p hand) rest ∙ ap (λ (x : Worker). holding x new.held) (seen ∙ same)
 
 steps_held : (step : stepping.Step) (c : Account) (held new : Option Account) → held ≡ Some c → Steps step held new → FallsFrom step held new → (d : Account) × (new ≡ Some d) × StepsTo step c d × Falls step c d
@@ -104,7 +109,7 @@ steps_held step c held new holds does falls =
     let less : FallsFrom step (Some c) (Some from.account) = subst (λ (o : Option Account). FallsFrom step (Some c) o) from.holds (subst (λ (o : Option Account). FallsFrom step o new) holds falls) in
     (from.account, from.holds, from.steps, less)
 
-pub step_code : (s old : Core) (i : ℕ) (read : Worker) (path new : Pathed) (hand : Option Frontier) (step : stepping.Step) (answer : Outcome) → s ≡ old → is_lawful old (Step i) ≡ true → read ≡ get_or s.workers i read
+pub step_code : (s old : Core) (i : ℕ) (read : Worker) (path new : Pathed) (hand : Option Tasked) (step : stepping.Step) (answer : Outcome) → s ≡ old → is_lawful old (Step i) ≡ true → read ≡ get_or s.workers i read
     → (let seen : Worker = record { path = path; hand = hand } in seen ≡ read) → Steps step path.held new.held → FallsFrom step path.held new.held → new ≡ with_held path new.held → step_outcome step ≡ Some answer
     → StepsAt i answer old (record { workers = set s.workers i (record { path = new; hand = hand }); book = s.book })
 step_code s old i read path new hand step answer view lawful is seen does falls rest answers =
@@ -127,7 +132,7 @@ step_code s old i read path new hand step answer view lawful is seen does falls 
       is = ap (λ (x : Core). made x now) view ∙ ap (made old) (holds_now read b.worker path new hand seen same rest ∙ ap (holding b.worker) d.1);
     }
 
-pub stay_code : (s old : Core) (i : ℕ) (read : Worker) (path new : Pathed) (hand : Option Frontier) → s ≡ old → is_lawful old (Step i) ≡ true → read ≡ get_or s.workers i read
+pub stay_code : (s old : Core) (i : ℕ) (read : Worker) (path new : Pathed) (hand : Option Tasked) → s ≡ old → is_lawful old (Step i) ≡ true → read ≡ get_or s.workers i read
     → (let seen : Worker = record { path = path; hand = hand } in seen ≡ read) → Stays path.held new.held → new ≡ with_held path new.held → StaysAt i old (record { workers = set s.workers i (record { path = new; hand = hand }); book = s.book })
 stay_code s old i read path new hand view lawful is seen stays rest =
     let b = busy (worker_at old i) lawful in
@@ -146,7 +151,7 @@ stay_code s old i read path new hand view lawful is seen stays rest =
     }
 
 -- a worker that holds a frontier isn't idle at a step
-pub never_idle : (s old : Core) (i : ℕ) (read : Worker) (path new : Pathed) (hand : Option Frontier) (step : stepping.Step) → s ≡ old → is_lawful old (Step i) ≡ true → read ≡ get_or s.workers i read
+pub never_idle : (s old : Core) (i : ℕ) (read : Worker) (path new : Pathed) (hand : Option Tasked) (step : stepping.Step) → s ≡ old → is_lawful old (Step i) ≡ true → read ≡ get_or s.workers i read
     → (let seen : Worker = record { path = path; hand = hand } in seen ≡ read) → Steps step path.held new.held → step_outcome step ≡ None → ⊥
 never_idle s old i read path new hand step view lawful is seen does none =
     let b = busy (worker_at old i) lawful in
@@ -238,8 +243,8 @@ steal_can s old v w read view lawful is =
 pub steal_reports : (s old : Core) (v w : ℕ) (read : Worker) → CoreLaw s → s ≡ old → is_lawful old (Steal v w) ≡ true → read ≡ get_or s.workers v read → IfSome read.path.held (IsReportable s.book)
 steal_reports s old v w read law view lawful is = let h = (steal_of old v w lawful).victim in reportable_read s old v h.worker read law view h.at is
 
-pub steal_code : (s old : Core) (v w : ℕ) (read now other : Worker) (path : Pathed) (hand : Option Frontier) (task : Frontier) (b : Book) → s ≡ old → is_lawful old (Steal v w) ≡ true → read ≡ get_or s.workers v read
-    → ((c : Account) × (read.path.held ≡ Some c) × (task ≡ part_of c.after) × Takes s.book (with_given c) b × (now ≡ holding read (held_behind_cut c)))
+pub steal_code : (s old : Core) (v w : ℕ) (read now other : Worker) (path : Pathed) (hand : Option Tasked) (task : Tasked) (b : Book) → s ≡ old → is_lawful old (Steal v w) ≡ true → read ≡ get_or s.workers v read
+    → ((c : Account) × (read.path.held ≡ Some c) × (task.frontier ≡ part_of c.after) × IfSome task.near (IsNearOf read.path) × Takes s.book (with_given c) b × (now ≡ holding read (held_behind_cut c)))
     → other ≡ get_or (set s.workers v now) w other → (let seen : Worker = record { path = path; hand = hand } in seen ≡ other) → StealsAt v w old (record { workers = set (set s.workers v now) w (record { path = path; hand = Some task }); book = b })
 steal_code s old v w read now other path hand task b view lawful is does at seen =
     let h = steal_of old v w lawful in
@@ -248,7 +253,7 @@ steal_code s old v w read now other path hand task b view lawful is does at seen
     let at_thief : slice_get s.workers w ≡ Some h.thief.worker = subst (λ (x : Core). worker_at x w ≡ Some h.thief.worker) (sym view) h.thief.at in
     let behind : slice_get (set s.workers v now) w ≡ Some h.thief.worker = get_set_other s.workers v w now (λ e. h.other (sym e)) ∙ at_thief in
     let same_path : path ≡ h.thief.worker.path = ap (λ (x : Worker). x.path) (seen ∙ at ∙ get_or_from_slice_get (set s.workers v now) w h.thief.worker other behind) in
-    let thief : Pathed → Frontier → Worker = λ p f. record { path = p; hand = Some f } in
+    let thief : Pathed → Worker = λ p. record { path = p; hand = Some task } in
     let both : Core → Worker → Worker → List Worker = λ x y z. set (set x.workers v y) w z in
     record {
       victim = h.victim.worker;
@@ -261,9 +266,12 @@ steal_code s old v w read now other path hand task b view lawful is does at seen
       at_thief = h.thief.at;
       idle = h.thief.idle;
       empty = h.thief.empty;
-      takes = subst (λ (x : Core). Takes x.book (with_given c) b) view does.3;
-      workers = ap (λ (x : Core). both x now (thief path task)) view ∙ ap (λ (y : Worker). both old y (thief path task)) (does.4 ∙ ap (λ (x : Worker). holding x (held_behind_cut c)) same)
-          ∙ ap (λ (p : Pathed). both old (holding h.victim.worker (held_behind_cut c)) (thief p task)) same_path ∙ ap (λ (f : Frontier). both old (holding h.victim.worker (held_behind_cut c)) (thief h.thief.worker.path f)) does.2;
+      takes = subst (λ (x : Core). Takes x.book (with_given c) b) view does.4;
+      task = task;
+      part = does.2;
+      near = subst (λ (x : Worker). IfSome task.near (IsNearOf x.path)) same does.3;
+      workers = ap (λ (x : Core). both x now (thief path)) view ∙ ap (λ (y : Worker). both old y (thief path)) (does.5 ∙ ap (λ (x : Worker). holding x (held_behind_cut c)) same)
+          ∙ ap (λ (p : Pathed). both old (holding h.victim.worker (held_behind_cut c)) (thief p)) same_path;
     }
 
 -- ---- what is learnt
@@ -272,7 +280,7 @@ told_in : (mode : Mode) (recorded : List (List ℤ)) (i : ℕ) (a : List ℤ) �
 told_in All recorded i a within is = absurd (omega (arith, ltb-true i 0 within))
 told_in Best recorded i a within is = slice_get_read recorded (length recorded) i a refl (ltb-true i (length recorded) within) is
 
-pub learn_code : (s old : Core) (i number : ℕ) (read : Worker) (path new : Pathed) (hand : Option Frontier) (recorded : List (List ℤ)) (a : List ℤ) (learned : Learned) (answer : Outcome) → s ≡ old → is_lawful old (Learn i number) ≡ true → read ≡ get_or s.workers i read
+pub learn_code : (s old : Core) (i number : ℕ) (read : Worker) (path new : Pathed) (hand : Option Tasked) (recorded : List (List ℤ)) (a : List ℤ) (learned : Learned) (answer : Outcome) → s ≡ old → is_lawful old (Learn i number) ≡ true → read ≡ get_or s.workers i read
     → (let seen : Worker = record { path = path; hand = hand } in seen ≡ read) → recorded ≡ s.book.recorded → a ≡ get_or recorded number a → Learns learned path a new → learned_outcome learned ≡ answer
     → LearnsAt i number answer old (record { workers = set s.workers i (record { path = new; hand = hand }); book = s.book })
 learn_code s old i number read path new hand recorded a learned answer view lawful is seen reads at learns answers =
@@ -280,7 +288,7 @@ learn_code s old i number read path new hand recorded a learned answer view lawf
     let w = some_is_there (worker_at old i) parts.0 in
     let same : record { path = path; hand = hand } ≡ w.0 = seen ∙ read_is s old i w.0 read view w.1 is in
     let list : recorded ≡ old.book.recorded = reads ∙ ap (λ (x : Core). x.book.recorded) view in
-    let made : Core → Option Frontier → Core = λ x h. record { workers = set x.workers i (record { path = new; hand = h }); book = x.book } in
+    let made : Core → Option Tasked → Core = λ x h. record { workers = set x.workers i (record { path = new; hand = h }); book = x.book } in
     record {
       worker = w.0;
       at = w.1;
@@ -293,14 +301,14 @@ learn_code s old i number read path new hand recorded a learned answer view lawf
       is = ap (λ (x : Core). made x hand) view ∙ ap (made old) (ap (λ (x : Worker). x.hand) same);
     }
 
-pub unlearned_code : (s old : Core) (i : ℕ) (read : Worker) (path new : Pathed) (hand : Option Frontier) → s ≡ old → read ≡ get_or s.workers i read → (let seen : Worker = record { path = path; hand = hand } in seen ≡ read) → new ≡ path
+pub unlearned_code : (s old : Core) (i : ℕ) (read : Worker) (path new : Pathed) (hand : Option Tasked) → s ≡ old → read ≡ get_or s.workers i read → (let seen : Worker = record { path = path; hand = hand } in seen ≡ read) → new ≡ path
     → (let now : Core = record { workers = set s.workers i (record { path = new; hand = hand }); book = s.book } in now ≡ old)
 unlearned_code s old i read path new hand view is seen same =
     let made : Pathed → Worker = λ p. record { path = p; hand = hand } in
     unchanged_code s old i read (made new) s.book view is (ap made same ∙ seen) refl
 
 -- a step keeps the law, whatever it answered
-pub step_law : {E : Type 0} (s old : Core) (i : ℕ) (read : Worker) (path new : Pathed) (hand : Option Frontier) (r : Result stepping.Step E) → CoreLaw s → s ≡ old → is_lawful old (Step i) ≡ true → read ≡ get_or s.workers i read
+pub step_law : {E : Type 0} (s old : Core) (i : ℕ) (read : Worker) (path new : Pathed) (hand : Option Tasked) (r : Result stepping.Step E) → CoreLaw s → s ≡ old → is_lawful old (Step i) ≡ true → read ≡ get_or s.workers i read
     → (let seen : Worker = record { path = path; hand = hand } in seen ≡ read) → IfOk r (λ step. Steps step path.held new.held) → IfOk r (λ step. FallsFrom step path.held new.held) → OnErr r (Stays path.held new.held) → new ≡ with_held path new.held
     → CoreLaw (record { workers = set s.workers i (record { path = new; hand = hand }); book = s.book })
 step_law s old i read path new hand (Ok step) law view lawful is seen does falls err rest =
@@ -351,3 +359,38 @@ pub learns_recorded : (s old : Core) (w i : ℕ) (recorded : List (List ℤ)) �
 learns_recorded s old w i recorded view lawful is =
     let low = ltb-true i (length (improving old.book)) (and_parts (is_some (worker_at old w)) (nat_lt i (length (improving old.book))) lawful).1 in
     rw is (improving_within s.book.mode s.book.recorded i (subst (λ (x : Core). i < length (improving x.book)) (sym view) low))
+
+pub starts_within : (s old : Core) (i : ℕ) → s ≡ old → is_lawful old (Start i) ≡ true → i < length s.workers
+starts_within s old i view lawful =
+    let r = ready (worker_at old i) lawful in
+    slice_get_within s.workers i r.worker (subst (λ (x : Core). worker_at x i ≡ Some r.worker) (sym view) r.at)
+
+busy_within : (s old : Core) (i : ℕ) → s ≡ old → is_busy (worker_at old i) ≡ true → i < length s.workers
+busy_within s old i view lawful =
+    let b = busy (worker_at old i) lawful in
+    slice_get_within s.workers i b.worker (subst (λ (x : Core). worker_at x i ≡ Some b.worker) (sym view) b.at)
+
+pub steps_within : (s old : Core) (i : ℕ) → s ≡ old → is_lawful old (Step i) ≡ true → i < length s.workers
+steps_within s old i view lawful = busy_within s old i view lawful
+
+pub reports_within : (s old : Core) (i : ℕ) → s ≡ old → is_lawful old (Report i) ≡ true → i < length s.workers
+reports_within s old i view lawful = busy_within s old i view lawful
+
+-- ---- whether a part can be stolen
+
+steal_by : (s old : Core) (event : Event) (v w : ℕ) (answer : Bool) → s ≡ old → event ≡ Steal v w → (v ≡ w → ⊥) → (can_be_cut (worker_at s v) && is_free (worker_at s w)) ≡ answer → answer ≡ is_lawful old event
+steal_by s old event v w answer view is other both =
+    let differ : eqb v w ≡ false = ne_eqb v w other in
+    let lawful : is_lawful s (Steal v w) ≡ answer = ap (λ b. not b && (can_be_cut (worker_at s v) && is_free (worker_at s w))) differ ∙ both in
+    sym lawful ∙ ap (λ (x : Core). is_lawful x (Steal v w)) view ∙ sym (ap (is_lawful old) is)
+
+pub steal_lawful : (s old : Core) (event : Event) (v w : ℕ) (ws us : List Worker) (cut free : Bool) → s ≡ old → event ≡ Steal v w → (v ≡ w → ⊥) → ws ≡ s.workers → cut ≡ can_be_cut (slice_get ws v) → cut ≡ true → us ≡ s.workers → free ≡ is_free (slice_get us w)
+    → free ≡ is_lawful old event
+steal_lawful s old event v w ws us cut free view is other one can cuts_off two frees =
+    let cuts : can_be_cut (worker_at s v) ≡ true = sym (ap (λ (l : List Worker). can_be_cut (slice_get l v)) one) ∙ sym can ∙ cuts_off in
+    steal_by s old event v w free view is other (ap (λ b. b && is_free (worker_at s w)) cuts ∙ sym (frees ∙ ap (λ (l : List Worker). is_free (slice_get l w)) two))
+
+pub steal_unlawful : (s old : Core) (event : Event) (v w : ℕ) (ws : List Worker) (cut : Bool) → s ≡ old → event ≡ Steal v w → (v ≡ w → ⊥) → ws ≡ s.workers → cut ≡ can_be_cut (slice_get ws v) → cut ≡ false → cut ≡ is_lawful old event
+steal_unlawful s old event v w ws cut view is other one can uncut =
+    let cuts : can_be_cut (worker_at s v) ≡ false = sym (ap (λ (l : List Worker). can_be_cut (slice_get l v)) one) ∙ sym can ∙ uncut in
+    steal_by s old event v w cut view is other (ap (λ b. b && is_free (worker_at s w)) cuts ∙ sym uncut)

@@ -16,7 +16,8 @@ use Rattle.fz_tree.specs.Measure.{weight}
 use Rattle.fz_tree.proofs.Measures.{closed_lowers, cut_adds_up}
 use Rattle.fz_path.specs.declared.step.Step.{Step}
 use Rattle.fz_path.specs.declared.step.Step.TheVariants.{Expanded, Found, Closed, Idle}
-use Rattle.fz_path.specs.Paths.{started, held_behind}
+use Rattle.fz_path.specs.Paths.{Pathed, held_behind}
+use Rattle.fz_path.specs.Tasks.{bare_task}
 use Rattle.fz_path.specs.Steps.{at_node, added, NodeTo, StepsTo, Falls}
 use Rattle.fz_core.specs.declared.event.Outcome.{Outcome}
 use Rattle.fz_core.specs.Cores.{Worker, Core, CoreLaw}
@@ -26,7 +27,7 @@ use Rattle.fz_machine.proofs.Scores.{score_most, better_less}
 use Rattle.fz_core.proofs.Sums.{set_adds}
 use Rattle.fz_core.proofs.Steps.{step_follows}
 use Rattle.fz_core.proofs.Keeping.{worker_of, get_set_other, taken_claimed}
-use Rattle.fz_core.proofs.Workers.{held_by}
+use Rattle.fz_core.proofs.Workers.{held_by, taking_worker}
 
 -- ---- frontiers
 
@@ -115,13 +116,13 @@ replaced_less old new i w v at is less =
 pub claim_less : (w : ℕ) (old new : Core) → ClaimsAt w old new → core_left new < core_left old
 claim_less w old new s =
     let m = old.book.model in
-    let v : Worker = record { path = s.worker.path; hand = Some s.task } in
-    let parts : new.book.parts ≡ set old.book.parts s.claims.place (claimed_part s.task) = ap (λ (b : Book). b.parts) s.claims.is in
+    let v : Worker = record { path = s.worker.path; hand = Some (bare_task s.frontier) } in
+    let parts : new.book.parts ≡ set old.book.parts s.claims.place (claimed_part s.frontier) = ap (λ (b : Book). b.parts) s.claims.is in
     omega (
       arith,
       left_by old new (set old.workers w v) s.workers (ap (λ (b : Book). b.model) s.claims.is),
       ap (λ (ps : List Part). sum_by (part_left m) ps) parts,
-      claimed_less m old.book.parts s.task s.claims.place s.claims.open_at s.claims.first.unclaimed,
+      claimed_less m old.book.parts s.frontier s.claims.place s.claims.open_at s.claims.first.unclaimed,
       set_adds (worker_left m) old.workers w s.worker v s.at,
       ap (hand_left m) s.empty,
     )
@@ -134,8 +135,10 @@ known_sound s i w law at =
 pub start_less : (w : ℕ) (old new : Core) → CoreLaw old → IsModel old.book.model → StartsAt w old new → core_left new < core_left old
 start_less w old new law model s =
     let m = old.book.model in
-    replaced_less old new w s.worker (record { path = started s.worker.path s.task; hand = None }) s.at s.is
-    (omega (arith, ap (path_left m) s.idle, ap (hand_left m) s.full, score_most m s.worker.path.known model (known_sound old w s.worker law s.at)))
+    let of_t = taking_worker m s.worker s.task s.path (worker_of old w s.worker law s.at) s.takes in
+    let sound : IfSome s.takes.path.known (Satisfies m) = subst (λ (n : Instance). IfSome s.takes.path.known (Satisfies n)) of_t.model of_t.law.known in
+    replaced_less old new w s.worker (record { path = s.path; hand = None }) s.at s.is
+    (omega (arith, ap (λ (p : Pathed). path_left m p.held) s.takes.is, ap (path_left m) s.idle, ap (hand_left m) s.full, score_most m s.takes.path.known model sound))
 
 -- ---- steps
 
@@ -237,7 +240,7 @@ steal_less v w old new law s =
     let m = old.book.model in
     let taken = with_given s.account in
     let left = holding s.victim (held_behind taken) in
-    let thief : Worker = record { path = s.thief.path; hand = Some (part_of s.account.after) } in
+    let thief : Worker = record { path = s.thief.path; hand = Some s.task } in
     let between = set old.workers v left in
     let is = held_by m s.victim s.account (worker_of old v s.victim law s.at_victim) s.holds in
     let same = takes_same old v s.victim s.account taken new.book law s.at_victim s.holds refl s.takes in
@@ -250,6 +253,7 @@ steal_less v w old new law s =
       set_adds (worker_left m) between w s.thief thief at_thief,
       behind_at m taken (has_rest taken.after),
       cut_leaves m s.account.after is.law.edges.2 s.can,
+      ap (frontier_left m) s.part,
       ap (path_left m) s.holds,
       ap (path_left m) s.idle,
       ap (hand_left m) s.empty,

@@ -10,10 +10,11 @@ use Rattle.fz_model.specs.Kept.{IsModel}
 use Rattle.fz_tree.specs.declared.mode.Mode.{Mode}
 use Rattle.fz_tree.specs.declared.mode.Mode.TheVariants.{All, Best}
 use Rattle.fz_tree.specs.Better.{Betters, mode_of}
-use Rattle.fz_tree.specs.Frontier.{Frontier, has_rest}
+use Rattle.fz_tree.specs.Frontier.{has_rest}
 use Rattle.fz_tree.specs.Account.{Account}
 use Rattle.fz_tree.specs.Book.{incumbent_of, is_claimed}
 use Rattle.fz_path.specs.Paths.{Pathed, is_spent, can_cut_held, found_held}
+use Rattle.fz_path.specs.Tasks.{Tasked}
 use Rattle.fz_path.specs.Learns.{IsNews, Learns, held_with, with_known}
 use Rattle.fz_account.specs.declared.account.Learned.{Learned}
 use Rattle.fz_account.specs.declared.account.Learned.TheVariants as learned
@@ -26,6 +27,7 @@ use Rattle.fz_core.specs.Events.{LearnsAt, Happens}
 use Rattle.fz_core.specs.Laws.{IsIdle}
 use Rattle.fz_machine.specs.Schedule.{is_to_report, HasNews, can, first_cut, IsNext, NoneActs}
 use Rattle.fz_machine.specs.Measure.{score_left, path_left, core_left}
+use Rattle.fz_machine.proofs.Tests.{is_there}
 use Rattle.fz_machine.proofs.Scores.{better_less}
 use Rattle.fz_core.proofs.Ends.{closes}
 use Rattle.fz_core.proofs.Keeping.{worker_of}
@@ -78,9 +80,9 @@ free_by None true ready busy = absurd (cc ready)
 free_by None false ready busy = refl
 free_by (Some c) hand ready busy = absurd (cc busy)
 
-none_by : (hand : Option Frontier) → not (is_some hand) ≡ is_none hand
+none_by : (hand : Option Tasked) → not (is_some hand) ≡ is_none hand
 none_by None = refl
-none_by (Some f) = refl
+none_by (Some t) = refl
 
 -- a worker that isn't ready and isn't busy is free
 free_of : (o : Option Worker) → is_some o ≡ true → is_ready o ≡ false → is_busy o ≡ false → is_free o ≡ true
@@ -103,11 +105,6 @@ cut_by (Some c) can = refl
 cut_busy : (o : Option Worker) → can_be_cut o ≡ true → is_busy o ≡ true
 cut_busy None can = absurd (cc can)
 cut_busy (Some w) can = cut_by w.path.held can
-
-there : (ws : List Worker) (i : ℕ) → i < length ws → is_some (slice_get ws i) ≡ true
-there [] i within = absurd (omega (arith, within))
-there (w ∷ ws) zero within = refl
-there (w ∷ ws) (suc i) within = there ws i (omega (arith, within))
 
 busy_there : (o : Option Worker) → is_busy o ≡ true → is_some o ≡ true
 busy_there None busy = absurd (cc busy)
@@ -172,7 +169,7 @@ news_of s (Some w) news = recorded_some s.book.mode s.book.recorded (λ (a : Lis
 pub next_lawful : (s : Core) (enough : Option ℕ) (w : ℕ) (event : Event) → w < length s.workers → IsNext s enough w (Some event) → is_lawful s event ≡ true
 next_lawful s enough w (Claim v) within n =
     let y = next_because s enough w (Some (Claim v)) n in
-    and_from (is_free (worker_at s v)) (has_unclaimed s.book) (at_worker s v w (λ o. is_free o ≡ true) y.0 (free_of (worker_at s w) (there s.workers w within) y.1 y.2)) y.3
+    and_from (is_free (worker_at s v)) (has_unclaimed s.book) (at_worker s v w (λ o. is_free o ≡ true) y.0 (free_of (worker_at s w) (is_there s.workers w within) y.1 y.2)) y.3
 next_lawful s enough w (Start v) within n =
     let y = next_because s enough w (Some (Start v)) n in
     at_worker s v w (λ o. is_ready o ≡ true) y.0 y.1
@@ -187,7 +184,7 @@ next_lawful s enough w (Steal u v) within n =
     let can_u = first_can s u y.3 in
     let busy_v = at_worker s v w (λ o. is_busy o ≡ false) y.0 y.2 in
     and_from (not (u == v)) (can_be_cut (worker_at s u) && is_free (worker_at s v)) (not_from_false (u == v) (other_than s u v (cut_busy (worker_at s u) can_u) busy_v))
-    (and_from (can_be_cut (worker_at s u)) (is_free (worker_at s v)) can_u (at_worker s v w (λ o. is_free o ≡ true) y.0 (free_of (worker_at s w) (there s.workers w within) y.1 y.2)))
+    (and_from (can_be_cut (worker_at s u)) (is_free (worker_at s v)) can_u (at_worker s v w (λ o. is_free o ≡ true) y.0 (free_of (worker_at s w) (is_there s.workers w within) y.1 y.2)))
 next_lawful s enough w (Learn v k) within n =
     let y = next_because s enough w (Some (Learn v k)) n in
     let some = news_of s (worker_at s w) (n.told.0 y.3) in
@@ -275,9 +272,9 @@ next_leaves_less s t enough w (Learn v k) outcome law model n h =
 
 -- ---- where nobody has a next event
 
-idle_by : (w : Worker) (held : Option Account) (hand : Option Frontier) → w.path.held ≡ held → w.hand ≡ hand → (is_none held && is_some hand) ≡ false → is_some held ≡ false → IsIdle w
+idle_by : (w : Worker) (held : Option Account) (hand : Option Tasked) → w.path.held ≡ held → w.hand ≡ hand → (is_none held && is_some hand) ≡ false → is_some held ≡ false → IsIdle w
 idle_by w None None holds has ready busy = record { holds = holds; hand = has }
-idle_by w None (Some f) holds has ready busy = absurd (cc ready)
+idle_by w None (Some t) holds has ready busy = absurd (cc ready)
 idle_by w (Some c) hand holds has ready busy = absurd (cc busy)
 
 idle_of : (s : Core) (i : ℕ) (w : Worker) → slice_get s.workers i ≡ Some w → is_ready (worker_at s i) ≡ false → is_busy (worker_at s i) ≡ false → IsIdle w

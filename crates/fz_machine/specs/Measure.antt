@@ -5,6 +5,7 @@ use Rattle.fz_tree.specs.Frontier.{Frontier}
 use Rattle.fz_tree.specs.Account.{Account}
 use Rattle.fz_tree.specs.Book.{Part}
 use Rattle.fz_tree.specs.Measure.{weight}
+use Rattle.fz_path.specs.Tasks.{Tasked}
 use Rattle.fz_core.specs.Cores.{Worker, Core}
 
 -- more than the score of any satisfying assignment
@@ -27,9 +28,9 @@ path_left m None = 0
 path_left m (Some c) = 1 + frontier_left m c.after + length c.found + score_left m c.witness
 
 -- a task counts more than a path that has taken it up
-abbrev pub hand_left : Instance → Option Frontier → ℕ
+abbrev pub hand_left : Instance → Option Tasked → ℕ
 hand_left m None = 0
-hand_left m (Some f) = SCORES + 2 + frontier_left m f
+hand_left m (Some t) = SCORES + 2 + frontier_left m t.frontier
 
 abbrev pub worker_left : Instance → Worker → ℕ
 worker_left m w = path_left m w.path.held + hand_left m w.hand

@@ -3,6 +3,7 @@ ghost use Rattle.std.specs.Prelude.{◌≡◌, ◌≤◌, ◌<◌, true, length,
 ghost use Rattle.std.specs.Arc.{arc_value};
 ghost use Rattle.fz_tree.specs.Better.{mode_of};
 ghost use Rattle.fz_tree.specs.Book.{BookLaw};
+ghost use Rattle.fz_path.specs.Paths.{bare};
 ghost use Rattle.fz_core.specs.Cores.{CoreLaw, starting, worker_at};
 ghost use Rattle.fz_core.specs.Lawful.{is_lawful, has_unclaimed, improving};
 ghost use Rattle.fz_core.specs.Events.{Happens, Refuses};
@@ -13,8 +14,7 @@ use fz_account::Mode;
 use fz_book::Book;
 use fz_core::event::{Answer, Event, Outcome, outcome_of_learned, outcome_of_step};
 use fz_model::Assignment;
-use fz_path::Path;
-use fz_region::Frontier;
+use fz_path::{Path, Task};
 use fz_search_space::SearchSpace;
 use std::alloc::{AllocError, AllocFailed, Global};
 use std::marker::Model;
@@ -159,10 +159,10 @@ impl<S: SearchSpace> Machine<S> {
             Happens (Event.Claim worker) outcome self.old self.new) }
         ensures err { OnErr result (self.new ≡ self.old) }
     {
-        let Some(task) = self.book.claim()? else {
+        let Some(frontier) = self.book.claim()? else {
             unreachable!()
         };
-        self.workers[worker as usize].hand = Some(task);
+        self.workers[worker as usize].hand = Some(Task::of(frontier));
         Ok(Outcome::Moved)
     }
 
@@ -249,13 +249,13 @@ impl<S: SearchSpace> Machine<S> {
     /// The path of a worker.
     pub fn path(&self, worker: u32) -> &Path<S>
         requires { worker < length self.now.workers }
-        ensures { option_map (λ w. w.path) (worker_at self.now worker) ≡ Some result.now }
+        ensures { option_map (λ w. w.path) (worker_at self.now worker) ≡ Some (bare result.now) }
     {
         &self.workers[worker as usize].path
     }
 
     /// The task in the hand of a worker.
-    pub fn hand(&self, worker: u32) -> Option<&Frontier>
+    pub fn hand(&self, worker: u32) -> Option<&Task<S>>
         requires { worker < length self.now.workers }
         ensures { option_map (λ w. w.hand) (worker_at self.now worker)
             ≡ Some (option_copied result) }

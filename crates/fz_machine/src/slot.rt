@@ -6,10 +6,11 @@ ghost use Rattle.fz_tree.specs.Better.{mode_of};
 ghost use Rattle.fz_tree.specs.Account as accounts;
 ghost use Rattle.fz_tree.specs.Account.{with_given};
 ghost use Rattle.fz_tree.specs.Book.{Takes};
-ghost use Rattle.fz_tree.specs.Frontier as frontiers;
 ghost use Rattle.fz_tree.specs.Frontier.{part_of};
-ghost use Rattle.fz_path.specs.Paths.{started, held_behind, can_cut_held};
-ghost use Rattle.fz_path.specs.Cuts.{held_behind_cut};
+ghost use Rattle.fz_path.specs.Paths.{held_behind, can_cut_held};
+ghost use Rattle.fz_path.specs.Tasks as tasks;
+ghost use Rattle.fz_path.specs.Starts.{TakesUp};
+ghost use Rattle.fz_path.specs.Cuts.{IsNearOf, held_behind_cut};
 ghost use Rattle.fz_core.specs.Cores.{idle};
 ghost use Rattle.fz_core.specs.Events.{holding};
 ghost use Rattle.fz_core.specs.Lawful.{is_free, is_ready, is_busy, can_be_cut};
@@ -17,8 +18,7 @@ ghost use Rattle.fz_book.specs.Reports.{IsReportable};
 
 use fz_account::Mode;
 use fz_book::Book;
-use fz_path::{Path, Start};
-use fz_region::Frontier;
+use fz_path::{Path, Start, Task};
 use fz_search_space::SearchSpace;
 use std::alloc::{AllocError, Global};
 use std::marker::Model;
@@ -28,15 +28,16 @@ use std::sync::Arc;
 #[derive(Drop)]
 pub struct Slot<S: SearchSpace> {
     pub path: Path<S>,
-    pub hand: Option<Frontier>,
+    pub hand: Option<Task<S>>,
 }
 
 impl<S: SearchSpace> Model for Slot<S> {
+    ghost use Rattle.fz_path.specs.Paths.{bare};
     ghost use Rattle.fz_core.specs.Cores.{Worker};
 
     ghost Value = { Worker };
 
-    ghost view = { λ w. record { path = w.path; hand = w.hand } };
+    ghost view = { λ w. record { path = bare w.path; hand = w.hand } };
 }
 
 impl<S: SearchSpace> Slot<S> {
@@ -68,21 +69,21 @@ impl<S: SearchSpace> Slot<S> {
         Ok(Slot { path, hand: None })
     }
 
-    /// Takes up the task in its hand.
+    /// Takes up the task in its hand, and learns before what comes with it.
     ///
     /// # Errors
     /// `AllocError` where there is no memory; the worker is as before.
     pub fn start(&mut self) -> Result<(), AllocError>
         requires idle { self.old.path.held ≡ None }
         requires full { is_some self.old.hand ≡ true }
-        ensures started { OnOk result ((task : frontiers.Frontier) × (self.old.hand ≡ Some task)
-            × (self.new ≡ record { path = started self.old.path task; hand = None })) }
+        ensures started { OnOk result ((task : tasks.Tasked) × (self.old.hand ≡ Some task)
+            × TakesUp self.old.path self.new.path task × (self.new.hand ≡ None)) }
         ensures err { OnErr result (self.new ≡ self.old) }
     {
         let Some(task) = self.hand.take() else {
             unreachable!()
         };
-        match self.path.start(task) {
+        match self.path.start_near(task) {
             Start::Started => Ok(()),
             Start::Busy(_) => unreachable!(),
             Start::NoMemory(task) => {
@@ -118,11 +119,12 @@ impl<S: SearchSpace> Slot<S> {
     ///
     /// # Errors
     /// `AllocError` where there is no memory; the worker is as before, and so is the book, but for its room.
-    pub fn cut(&mut self, book: &mut Book) -> Result<Frontier, AllocError>
+    pub fn cut(&mut self, book: &mut Book) -> Result<Task<S>, AllocError>
         requires can { can_cut_held self.old.path.held ≡ true }
         requires reportable { IfSome self.old.path.held (IsReportable book.old.book) }
         ensures cut { IfOk result (λ task. (c : accounts.Account) × (self.old.path.held ≡ Some c)
-            × (task ≡ part_of c.after) × Takes book.old.book (with_given c) book.new.book
+            × (task.frontier ≡ part_of c.after) × IfSome task.near (IsNearOf self.old.path)
+            × Takes book.old.book (with_given c) book.new.book
             × (self.new ≡ holding self.old (held_behind_cut c))) }
         ensures same { OnErr result (self.new ≡ self.old) }
         ensures book { OnErr result (book.new.book ≡ book.old.book) }

@@ -5,3 +5,7 @@ mod Leaving
 pub mod Paths
 pub mod Falls
 pub mod Cuts
+pub mod Commits
+pub mod Parts
+pub mod Told
+pub mod Takes

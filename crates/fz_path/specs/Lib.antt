@@ -3,3 +3,5 @@ pub mod Paths
 pub mod Starts
 pub mod Cuts
 pub mod Learns
+pub mod Tasks
+pub mod Commits

@@ -32,6 +32,8 @@ pub fn beginning_of<S: SearchSpace>(
     ensures plan { IfOk result (λ b. b.plan ≡ plan_of (arc_value model.now)) }
     ensures distances { IfOk result (λ b. (b.trail.distance ≡ commit_distance)
         × (b.trail.adaptive ≡ adaptive_distance)) }
+    ensures begun { IfOk result (λ b. (b.trail.copies.items ≡ []) × (b.trail.current ≡ None)
+        × (b.trail.sparse ≡ 0)) }
     ensures spaces { IfOk result (λ b.
         IsTrail S.spaced (arc_value model.now) None [] b.trail) }
 {

@@ -7,10 +7,15 @@
 
 mod beginning;
 mod expand;
+pub mod laws;
+mod near;
 pub mod path;
 pub mod start;
 pub mod step;
+pub mod task;
 
+pub use fz_trail::Steps;
 pub use path::Path;
 pub use start::Start;
 pub use step::Step;
+pub use task::{Cut, Near, Task};

@@ -1,12 +1,11 @@
-//! What becomes of a frontier.
-use fz_region::Frontier;
+//! What becomes of a task.
 
-/// What became of a frontier that a path was to start with. One that wasn't started is handed back.
+/// What became of a frontier, or of a task, that a path was to start with. One that wasn't started is handed back.
 #[derive(Drop)]
-pub enum Start {
+pub enum Start<T> {
     Started,
     /// The path holds another.
-    Busy(Frontier),
+    Busy(T),
     /// There is no memory.
-    NoMemory(Frontier),
+    NoMemory(T),
 }

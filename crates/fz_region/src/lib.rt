@@ -6,7 +6,7 @@
 pub mod choice;
 pub mod edge;
 pub mod frontier;
-mod places;
+pub mod places;
 
 pub use choice::Choice;
 pub use edge::Edge;

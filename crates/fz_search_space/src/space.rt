@@ -76,6 +76,10 @@ pub trait SearchSpace: Drop {
         ensures narrower { OnOk result (IsNarrower (spaced self.new) (spaced self.old)) }
         ensures answer { IfOk result (λ status. IsStatus status (spaced self.new)) };
 
+    /// The model that it is a space of.
+    fn model(&self) -> &Model
+        ensures { result.now ≡ (spaced self.now).model };
+
     /// A domain for each variable.
     fn doms(&self) -> &[Dom]
         ensures doms { result.now ≡ (spaced self.now).doms }

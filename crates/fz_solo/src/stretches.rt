@@ -1,7 +1,7 @@
 //! A stretch of a search: up to something that is found, or as long as nobody waits.
 ghost use Rattle.std.specs.Prelude.{◌≡◌, ◌≢◌, ◌<◌, ◌⊎◌, true, IsTrue, IsFalse, is_some, IfOk};
 ghost use Rattle.fz_path.specs.Paths as paths;
-ghost use Rattle.fz_path.specs.Paths.{PathLaw};
+ghost use Rattle.fz_path.specs.Paths.{PathLaw, bare};
 ghost use Rattle.fz_solo.specs.Walks.{weight_held};
 ghost use Rattle.fz_solo.specs.Stretches.{AlwaysKept, Pauses};
 
@@ -54,7 +54,8 @@ pub fn stretch<S: SearchSpace, K: Sink>(
     ensures never { IfOk result (λ pause. halt ≡ Halt.Never → pause ≡ Pause.Closed) }
     ensures falls { IfOk result (λ pause. (pause ≡ Pause.Closed)
         ⊎ (weight_held path.new.held < weight_held path.old.held)) }
-    ensures searched { IfOk result (λ pause. Pauses halt pause path.old path.new) }
+    ensures searched { IfOk result
+        (λ pause. Pauses halt pause (bare path.old) (bare path.new)) }
     ensures path { path.new.model ≡ path.old.model }
 {
     'steps: loop {
@@ -76,7 +77,7 @@ fn is_reached<S: SearchSpace>(path: &Path<S>, halt: Halt, step: Step) -> bool
     ensures found { IsTrue result → step ≡ Step.Found }
     ensures each { IsFalse result → step ≡ Step.Found → halt ≢ Halt.Each }
     ensures never { IsTrue result → halt ≢ Halt.Never }
-    ensures law { PathLaw path.now }
+    ensures law { PathLaw (bare path.now) }
 {
     let _ = path.model();
     match (step, halt) {

@@ -142,6 +142,10 @@ impl fz_search_space::SearchSpace for Space {
         )
     }
 
+    fn model(&self) -> &fz_model::Model {
+        self.network.model()
+    }
+
     fn doms(&self) -> &[Dom] {
         self.store.doms()
     }

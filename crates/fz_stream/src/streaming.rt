@@ -3,7 +3,7 @@ ghost use Rattle.std.specs.Prelude.{◌≡◌, ◌≢◌, ◌↔◌, ◌<◌, �
 ghost use Rattle.fz_tree.specs.declared.mode.Mode.TheVariants as modes;
 ghost use Rattle.fz_tree.specs.Book.{BookLaw, Takes};
 ghost use Rattle.fz_book.specs.Reports.{IsReportable};
-ghost use Rattle.fz_path.specs.Paths.{held_behind, with_held};
+ghost use Rattle.fz_path.specs.Paths.{bare, held_behind, with_held};
 ghost use Rattle.fz_printing.specs.declared.printer.Stop.TheVariants as stops;
 ghost use Rattle.fz_printer.specs.Printed.{as_found_of, book_of, printed_of, stopped_of, CountsMark, Grew, IsReady, KeepsPrinting};
 ghost use Rattle.fz_solo.specs.declared.stretches.Halt.TheVariants as halts;
@@ -40,8 +40,8 @@ pub fn stream<S: SearchSpace, K: Sink>(
     requires faults { K.faults sink.old < 2 ^ 64 - 1 }
     requires held { IfSome path.old.held (IsReportable (book_of printer.old)) }
     requires model { path.old.model ≡ (book_of printer.old).model }
-    ensures streams { Streams printer.old path.old (K.taken sink.old)
-        printer.new path.new (K.taken sink.new) }
+    ensures streams { Streams printer.old (bare path.old) (K.taken sink.old)
+        printer.new (bare path.new) (K.taken sink.new) }
     ensures ended { stopped_of printer.new ≡ None
         → IsFilled printer.new ⊎ ((book_of printer.new).parts ≡ []) }
     ensures ready { stopped_of printer.new ≡ None → IsReady printer.new }
@@ -86,7 +86,8 @@ fn takes_up<S: SearchSpace>(printer: &mut Printer, path: &mut Path<S>) -> bool
     ensures holds { IsTrue result → (printer.new ≡ printer.old)
         × IsSomeAnd path.new.held (IsReportable (book_of printer.old)) }
     ensures nothing { IsFalse result → NothingOpen printer.old printer.new }
-    ensures moved { OnNoMemory printer.new (HasTakenUp (book_of printer.old) path.old path.new) }
+    ensures moved { OnNoMemory printer.new
+        (HasTakenUp (book_of printer.old) (bare path.old) (bare path.new)) }
     ensures path { path.new.model ≡ path.old.model }
 {
     match take_up(printer.book(), path) {
@@ -111,8 +112,8 @@ fn search_part<S: SearchSpace, K: Sink>(
     requires held { IsSomeAnd path.old.held (IsReportable (book_of printer.old)) }
     requires model { path.old.model ≡ (book_of printer.old).model }
     requires more { IsFilled printer.old → ⊥ }
-    ensures streams { Streams printer.old path.old (K.taken sink.old)
-        printer.new path.new (K.taken sink.new) }
+    ensures streams { Streams printer.old (bare path.old) (K.taken sink.old)
+        printer.new (bare path.new) (K.taken sink.new) }
     ensures goes_on { IsTrue result → (stopped_of printer.new ≡ None) × (path.new.held ≡ None)
         × (length (book_of printer.new).parts < length (book_of printer.old).parts) }
     ensures ended { IsFalse result → stopped_of printer.new ≡ None → IsFilled printer.new }
@@ -162,8 +163,8 @@ fn advance<S: SearchSpace, K: Sink>(
     requires held { IsSomeAnd path.old.held (IsReportable (book_of printer.old)) }
     requires model { path.old.model ≡ (book_of printer.old).model }
     requires more { IsFilled printer.old → ⊥ }
-    ensures streams { Streams printer.old path.old (K.taken sink.old)
-        printer.new path.new (K.taken sink.new) }
+    ensures streams { Streams printer.old (bare path.old) (K.taken sink.old)
+        printer.new (bare path.new) (K.taken sink.new) }
     ensures advanced { stopped_of printer.new ≡ None → HasAdvanced
         (book_of printer.old) path.old.held (book_of printer.new) path.new.held }
     ensures ready { stopped_of printer.new ≡ None → IsReady printer.new }
@@ -259,7 +260,7 @@ fn report<S: SearchSpace, K: Sink>(
     requires held { IsSomeAnd path.old.held (IsReportable (book_of printer.old)) }
     ensures taken { OnNoMemory printer.new (IsSomeAnd path.old.held
         (λ c. Takes (book_of printer.old) c (book_of printer.new)
-        × (path.new ≡ with_held path.old (held_behind c)))) }
+        × (bare path.new ≡ with_held (bare path.old) (held_behind c)))) }
     ensures grew { Grew printer.old printer.new (K.taken sink.old) (K.taken sink.new) }
     ensures ready { stopped_of printer.new ≡ None → IsReady printer.new }
     ensures cause { CountsMark (K.faults sink.old) (K.faults sink.new) (stopped_of printer.new) }

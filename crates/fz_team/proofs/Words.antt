@@ -1,12 +1,12 @@
 -- The word and the assignments that were put, one after the other.
-use Rattle.std.proofs.Common.{◌≡◌, ℕ, ◌+◌, ◌≤◌, min, zero, suc, List, [], ◌∷◌, ◌++◌, length, refl, sym, ap, ◌∙◌, subst, arith, Option, Some, None, IfSome}
+use Rattle.std.proofs.Common.{◌≡◌, ℕ, ◌+◌, ◌≤◌, ◌<◌, min, zero, suc, List, [], ◌∷◌, ◌++◌, length, refl, sym, ap, ◌∙◌, subst, arith, Option, Some, None, IfSome}
 use Rattle.std.specs.Prelude.{ℤ, nat_abs, All}
 use Rattle.fz_spec.specs.Instance.{Instance, Satisfies, score}
-use Rattle.fz_bound.specs.Rule.{UNSET}
+use Rattle.fz_bound.specs.Rule.{UNSET, PARTS}
 use Rattle.fz_team.specs.Members.{IsScoreOf, least_score, listed}
 use Rattle.std.proofs.lemmas.List.{length-append}
 use Rattle.atomic_table.specs.Seated.{TableId}
-use Rattle.fz_bound.specs.Seats.{Seated, joined}
+use Rattle.fz_bound.specs.Seats.{Seated, joined, split_from, split_off}
 use Rattle.fz_team.specs.declared.member.Member.{Member}
 use Rattle.fz_team.specs.Members.{IsMember}
 use Rattle.fz_team.specs.Ends.{IsWordOf, IsTeam}
@@ -19,14 +19,17 @@ pub least_snoc : (m : Instance) (l : List (List ℤ)) (a : List ℤ) → least_s
 least_snoc m [] a = omega arith
 least_snoc m (x ∷ xs) a = let h = least_snoc m xs a in omega arith
 
-all_snoc : (P : List ℤ → Type 0) (l : List (List ℤ)) (a : List ℤ) → All P l → P a → All P (l ++ a ∷ [])
+all_snoc : {X : Type 0} (P : X → Type 0) (l : List X) (a : X) → All P l → P a → All P (l ++ a ∷ [])
 all_snoc P [] a all p zero d h = p
 all_snoc P [] a all p (suc k) d h = absurd (omega arith)
 all_snoc P (x ∷ xs) a all p zero d h = all 0 d (omega arith)
 all_snoc P (x ∷ xs) a all p (suc k) d h = all_snoc P xs a (λ i e t. all (suc i) e (omega arith)) p k d (omega arith)
 
-pub word_begins : (m : Instance) → IsWordOf m [] UNSET
+word_begins : (m : Instance) → IsWordOf m [] UNSET
 word_begins m = record { sound = λ k d h. absurd (omega arith); least = refl }
+
+pub word_begun : (m : Instance) (l : List (List ℤ)) (least : ℕ) → l ≡ [] → least ≡ UNSET → IsWordOf m l least
+word_begun m l least none fresh = rw (none, fresh) (word_begins m)
 
 -- one worker more
 pub word_goes_on : (m : Instance) (l : List (List ℤ)) (least k : ℕ) (best : Option (List ℤ)) → IsWordOf m l least → IsScoreOf m k best → IsWordOf m (l ++ listed best) (min least k)
@@ -44,19 +47,33 @@ word_goes_on m l least k (Some a) word is = record {
 }
 
 -- one worker's seat is joined, and what it found is listed
-pub joins_one : (m : Instance) (word : TableId) (n total : ℕ) (seat new : Seated) (x : Member) (l more : List (List ℤ)) (before : List Member) → IsMember m word n x → new ≡ joined seat x.seat → more ≡ l ++ listed x.best
+pub joins_one : {S : Type 0} (m : Instance) (word : TableId) (n total : ℕ) (seat new : Seated) (x : Member S) (l more : List (List ℤ)) (before : List (Member S)) → IsMember m word n x → new ≡ joined seat x.seat → more ≡ l ++ listed x.best
     → seat.bound ≡ word → seat.parts ≡ total + length before → IsWordOf m l seat.least
     → (new.bound ≡ word) × (new.parts ≡ total + length (before ++ x ∷ [])) × IsWordOf m more new.least
-joins_one m word n total seat new x l more before of joins lists bound parts is =
+joins_one {S} m word n total seat new x l more before of joins lists bound parts is =
     rw (joins, lists) (bound, omega (arith, length-append before (x ∷ []), of.parts, parts), word_goes_on m l seat.least x.seat.least x.best is of.best)
 
+-- one worker more, with one part of the word
+pub one_joins : {S : Type 0} (m : Instance) (word : TableId) (n k : ℕ) (seat rest mine : Seated) (x : Member S) (before after : List (Member S)) → rest ≡ split_from seat → mine ≡ split_off seat → x.worker ≡ k → x.seat ≡ mine → x.best ≡ None → k < n → n ≤ 64
+    → after ≡ before ++ x ∷ [] → seat.bound ≡ word → seat.least ≡ UNSET → seat.parts + k ≡ PARTS → All (IsMember m word n) before
+    → (rest.bound ≡ word) × (rest.least ≡ UNSET) × (rest.parts + (k + 1) ≡ PARTS) × All (IsMember m word n) after
+one_joins {S} m word n k seat rest mine x before after left off numbered sits none low few grows bound fresh parts all =
+    let at : x.seat ≡ split_off seat = sits ∙ off in
+    let scored : IsScoreOf m x.seat.least x.best = subst (λ (o : Option (List ℤ)). IsScoreOf m x.seat.least o) (sym none) (ap (λ (s : Seated). s.least) at) in
+    let of : IsMember m word n x = record { numbered = omega (arith, numbered, low); bound = ap (λ (s : Seated). s.bound) at ∙ bound; parts = ap (λ (s : Seated). s.parts) at; best = scored } in (
+      ap (λ (s : Seated). s.bound) left ∙ bound,
+      ap (λ (s : Seated). s.least) left ∙ fresh,
+      omega (arith, ap (λ (s : Seated). s.parts) left, parts, low, few),
+      subst (λ (l : List (Member S)). All (IsMember m word n) l) (sym grows) (all_snoc (IsMember m word n) before x all of),
+    )
+
 -- the workers of a team came back
-pub came_back : (m : Instance) (word : TableId) (n : ℕ) (left : Seated) (before after : List Member) → IsTeam m word n left before → All (IsMember m word n) after → length after ≡ length before → IsTeam m word n left after
-came_back m word n left before after team all len = record { bound = team.bound; fresh = team.fresh; parts = ap (λ (k : ℕ). left.parts + k) len ∙ team.parts; members = all }
+pub came_back : {S : Type 0} (m : Instance) (word : TableId) (n : ℕ) (left : Seated) (before after : List (Member S)) → IsTeam m word n left before → All (IsMember m word n) after → length after ≡ length before → IsTeam m word n left after
+came_back {S} m word n left before after team all len = record { bound = team.bound; fresh = team.fresh; parts = ap (λ (k : ℕ). left.parts + k) len ∙ team.parts; members = all }
 
 -- the same as a round answers it
-pub round_back : (m : Instance) (word : TableId) (n : ℕ) (left : Seated) (before : List Member) {V : Type 0} (items : V → List Member) (o : Option V) (after : V) → o ≡ Some after → IsTeam m word n left before
+pub round_back : {S : Type 0} (m : Instance) (word : TableId) (n : ℕ) (left : Seated) (before : List (Member S)) {V : Type 0} (items : V → List (Member S)) (o : Option V) (after : V) → o ≡ Some after → IsTeam m word n left before
     → IfSome o (λ (v : V). All (IsMember m word n) (items v)) → IfSome o (λ (v : V). length (items v) ≡ length before) → IsTeam m word n left (items after)
-round_back m word n left before {V} items o after is team all len =
+round_back {S} m word n left before {V} items o after is team all len =
     came_back m word n left before (items after) team (subst (λ (p : Option V). IfSome p (λ (v : V). All (IsMember m word n) (items v))) is all)
     (subst (λ (p : Option V). IfSome p (λ (v : V). length (items v) ≡ length before)) is len)

@@ -35,7 +35,7 @@ HasBests Short m bests word = Unit {0}
 HasBests Stopped m bests word = Unit {0}
 
 -- its workers are of this model and word, and together with the seat that is left they have all parts
-pub record IsTeam (m : Instance) (word : TableId) (workers : ℕ) (left : Seated) (all : List Member) : Type 0 where
+pub record IsTeam {S : Type 0} (m : Instance) (word : TableId) (workers : ℕ) (left : Seated) (all : List (Member S)) : Type 0 where
   pub bound : left.bound ≡ word
   pub fresh : left.least ≡ UNSET
   pub parts : left.parts + length all ≡ PARTS

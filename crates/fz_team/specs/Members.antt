@@ -11,7 +11,7 @@ IsScoreOf m least None = least ≡ UNSET
 IsScoreOf m least (Some a) = Satisfies m a × (least ≡ nat_abs (score m a))
 
 -- a worker of so many, of this model and this word
-pub record IsMember (m : Instance) (word : TableId) (workers : ℕ) (x : Member) : Type 0 where
+pub record IsMember {S : Type 0} (m : Instance) (word : TableId) (workers : ℕ) (x : Member S) : Type 0 where
   pub numbered : x.worker < workers
   pub bound : x.seat.bound ≡ word
   pub parts : x.seat.parts ≡ 1

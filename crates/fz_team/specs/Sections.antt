@@ -1,10 +1,10 @@
 -- What critical sections make of the values behind the locks that they hold.
-use Rattle.std.specs.Prelude.{◌≡◌, true, false, Option, Some, None, IfSome}
-use Rattle.fz_tree.specs.Frontier.{can_cut, part_of}
-use Rattle.fz_tree.specs.Account.{Account, with_given}
+use Rattle.std.specs.Prelude.{◌≡◌, false, Option, Some, None, IfSome}
+use Rattle.fz_tree.specs.Account.{Account}
 use Rattle.fz_tree.specs.Book.{Book, Takes, IsOpen}
-use Rattle.fz_path.specs.Paths.{Pathed, with_held, held_behind, can_cut_held}
-use Rattle.fz_path.specs.Cuts.{held_behind_cut}
+use Rattle.fz_path.specs.Paths.{Pathed, Walked, bare, with_held, held_behind, can_cut_held}
+use Rattle.fz_path.specs.declared.task.Cut.{Cut}
+use Rattle.fz_path.specs.Cuts.{IsCutOf, held_behind_cut}
 use Rattle.fz_team.specs.declared.section.Handed.{Handed}
 use Rattle.fz_team.specs.declared.section.Handed.TheVariants.{Taken, Dropped}
 use Rattle.fz_team.specs.declared.section.Reported.{Reported}
@@ -31,16 +31,15 @@ abbrev pub Reports : Option Reported → Pathed → Book → Pathed → Book →
 Reports (Some reported) path book path' book' = HasReported reported path book path' book'
 Reports None path book path' book' = (path.held ≡ None) × (path' ≡ path) × (book' ≡ book)
 
--- a part is cut off what the path holds, and the account that names it as given is handed in and copied
-pub record HasCut (off : CutOff) (path : Pathed) (book : Book) (path' : Pathed) (book' : Book) : Type 0 where
-  pub account : Account
-  pub holds : path.held ≡ Some account
-  pub can : can_cut account.after ≡ true
-  pub task_is : off.task ≡ part_of account.after
-  pub path_is : path' ≡ with_held path (held_behind_cut account)
-  pub hands : HandsIn off.handed (with_given account) book book'
-  pub copied : IfSome off.copy (λ c. c ≡ with_given account)
+-- what is cut off the path is handed out, and the account that names it as given is handed in and copied
+pub record HasCut {S : Type 0} (off : CutOff S) (path : Walked) (book : Book) (path' : Pathed) (book' : Book) : Type 0 where
+  pub cut : Cut S
+  pub is_cut : IsCutOf cut path
+  pub task_is : off.task ≡ cut.task
+  pub path_is : path' ≡ with_held (bare path) (held_behind_cut is_cut.account)
+  pub hands : HandsIn off.handed cut.account book book'
+  pub copied : IfSome off.copy (λ c. c ≡ cut.account)
 
-abbrev pub Cuts : Option CutOff → Pathed → Book → Pathed → Book → Type 0
+abbrev pub Cuts : {S : Type 0} → Option (CutOff S) → Walked → Book → Pathed → Book → Type 0
 Cuts (Some off) path book path' book' = HasCut off path book path' book'
-Cuts None path book path' book' = (can_cut_held path.held ≡ false) × (path' ≡ path) × (book' ≡ book)
+Cuts None path book path' book' = (can_cut_held path.held ≡ false) × (path' ≡ bare path) × (book' ≡ book)

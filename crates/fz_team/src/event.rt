@@ -11,8 +11,7 @@ use fz_account::Account;
 use fz_book::{Book, Offered, has_enough};
 use fz_io::gate::{EventKind, Gate};
 use fz_model::Assignment;
-use fz_path::{Path, Start, Step};
-use fz_region::Frontier;
+use fz_path::{Path, Start, Step, Task};
 use fz_search_space::SearchSpace;
 use fz_solo::is_report_due;
 use fz_stream::Told;
@@ -72,7 +71,7 @@ fn is_done(book: &Book, enough: Option<u32>) -> bool {
 pub fn step<R: Wait, S: SearchSpace, G: Gate>(
     rt: &R,
     crew: &Crew<S, G>,
-    member: &mut Member,
+    member: &mut Member<S>,
 ) -> Result<Next, AllocError>
     requires { IsMember crew.now.model.now crew.now.bound.now (length crew.now.paths.now) member.old }
     ensures { IsMember crew.now.model.now crew.now.bound.now (length crew.now.paths.now) member.new }
@@ -132,7 +131,7 @@ fn offer<R: Wait, S: SearchSpace, G: Gate>(
 }
 
 /// Puts the score of an assignment that satisfies, and keeps it where its score is the least that this worker put.
-fn put<S: SearchSpace, G: Gate>(crew: &Crew<S, G>, member: &mut Member, found: Assignment)
+fn put<S: SearchSpace, G: Gate>(crew: &Crew<S, G>, member: &mut Member<S>, found: Assignment)
     requires { IsMember crew.now.model.now crew.now.bound.now (length crew.now.paths.now) member.old }
     ensures { IsMember crew.now.model.now crew.now.bound.now (length crew.now.paths.now) member.new }
 {
@@ -149,7 +148,7 @@ fn put<S: SearchSpace, G: Gate>(crew: &Crew<S, G>, member: &mut Member, found: A
 }
 
 /// The least score that a worker put.
-fn least_of<S: SearchSpace, G: Gate>(crew: &Crew<S, G>, member: &Member) -> u64
+fn least_of<S: SearchSpace, G: Gate>(crew: &Crew<S, G>, member: &Member<S>) -> u64
     requires { IsMember crew.now.model.now crew.now.bound.now (length crew.now.paths.now) member.now }
     ensures { result ≡ member.now.seat.least }
 {
@@ -163,7 +162,7 @@ fn least_of<S: SearchSpace, G: Gate>(crew: &Crew<S, G>, member: &Member) -> u64
 pub fn learn<R: Wait, S: SearchSpace, G: Gate>(
     rt: &R,
     crew: &Crew<S, G>,
-    member: &mut Member,
+    member: &mut Member<S>,
 ) -> Result<(), AllocError>
     requires { IsMember crew.now.model.now crew.now.bound.now (length crew.now.paths.now) member.old }
     ensures { IsMember crew.now.model.now crew.now.bound.now (length crew.now.paths.now) member.new }
@@ -211,7 +210,7 @@ fn tell<R: Wait, S: SearchSpace, G: Gate>(
 pub fn report<R: Wait, S: SearchSpace, G: Gate>(
     rt: &R,
     crew: &Crew<S, G>,
-    member: &mut Member,
+    member: &mut Member<S>,
 ) -> Result<Next, AllocError>
     requires { IsMember crew.now.model.now crew.now.bound.now (length crew.now.paths.now) member.old }
     ensures { IsMember crew.now.model.now crew.now.bound.now (length crew.now.paths.now) member.new }
@@ -261,11 +260,11 @@ fn taken(handed: Handed) -> Result<(), AllocError>
     }
 }
 
-/// The worker takes up the task in its hand.
+/// The worker takes up the task in its hand. What its path learned with it is put.
 pub fn start<R: Wait, S: SearchSpace, G: Gate>(
     rt: &R,
     crew: &Crew<S, G>,
-    member: &mut Member,
+    member: &mut Member<S>,
 ) -> Result<Next, AllocError>
     requires { IsMember crew.now.model.now crew.now.bound.now (length crew.now.paths.now) member.old }
     ensures { IsMember crew.now.model.now crew.now.bound.now (length crew.now.paths.now) member.new }
@@ -273,16 +272,34 @@ pub fn start<R: Wait, S: SearchSpace, G: Gate>(
     let Some(task) = member.hand.take() else {
         return Ok(Next::Gain);
     };
+    let (known, next) = take_up(rt, crew, member, task)?;
+    if let Some(known) = known {
+        put(crew, member, known);
+    }
+    Ok(next)
+}
+
+/// The start itself, and a copy of what the path knows then.
+fn take_up<R: Wait, S: SearchSpace, G: Gate>(
+    rt: &R,
+    crew: &Crew<S, G>,
+    member: &mut Member<S>,
+    task: Task<S>,
+) -> Result<(Option<Assignment>, Next), AllocError>
+    requires { IsMember crew.now.model.now crew.now.bound.now (length crew.now.paths.now) member.old }
+    ensures { IsMember crew.now.model.now crew.now.bound.now (length crew.now.paths.now) member.new }
+{
     crew.gate.before(member.worker, EventKind::Start);
     let mut path = crew.paths[member.worker as usize].lock(rt);
-    match path.start(task) {
+    match path.start_near(task) {
         Start::Started => {
             crew.gate.at(member.worker, EventKind::Start);
-            Ok(next_of(crew, &path, member.heard))
+            let known = known(&path)?;
+            Ok((known, next_of(crew, &path, member.heard)))
         }
         Start::Busy(task) => {
             member.hand = Some(task);
-            Ok(next_of(crew, &path, member.heard))
+            Ok((None, next_of(crew, &path, member.heard)))
         }
         Start::NoMemory(task) => {
             member.hand = Some(task);
@@ -295,7 +312,7 @@ pub fn start<R: Wait, S: SearchSpace, G: Gate>(
 pub fn gain<R: Wait, S: SearchSpace, G: Gate>(
     rt: &R,
     crew: &Crew<S, G>,
-    member: &mut Member,
+    member: &mut Member<S>,
 ) -> Result<bool, AllocError>
     requires { IsMember crew.now.model.now crew.now.bound.now (length crew.now.paths.now) member.old }
     ensures { IsMember crew.now.model.now crew.now.bound.now (length crew.now.paths.now) member.new }
@@ -326,14 +343,14 @@ fn claim<R: Wait, S: SearchSpace, G: Gate>(
     rt: &R,
     crew: &Crew<S, G>,
     worker: u32,
-) -> Result<Option<Frontier>, AllocError> {
+) -> Result<Option<Task<S>>, AllocError> {
     crew.gate.before(worker, EventKind::Claim);
     let mut book = crew.book.lock(rt);
-    let task = book.claim()?;
-    if task.is_some() {
-        crew.gate.at(worker, EventKind::Claim);
-    }
-    Ok(task)
+    let Some(frontier) = book.claim()? else {
+        return Ok(None);
+    };
+    crew.gate.at(worker, EventKind::Claim);
+    Ok(Some(Task::of(frontier)))
 }
 
 /// Tries the paths behind the worker's own, around.
@@ -341,7 +358,7 @@ fn steal_any<R: Wait, S: SearchSpace, G: Gate>(
     rt: &R,
     crew: &Crew<S, G>,
     worker: u32,
-) -> Result<Option<Frontier>, AllocError>
+) -> Result<Option<Task<S>>, AllocError>
     requires { worker < length crew.now.paths.now }
 {
     let own = worker as usize;
@@ -366,7 +383,7 @@ fn steal<R: Wait, S: SearchSpace, G: Gate>(
     crew: &Crew<S, G>,
     worker: u32,
     victim: usize,
-) -> Result<Option<Frontier>, AllocError>
+) -> Result<Option<Task<S>>, AllocError>
     requires { victim < length crew.now.paths.now }
 {
     if !can_cut(rt, crew, victim) {

@@ -1,13 +1,12 @@
 //! Critical sections: what a worker does to the values behind the locks that it holds.
 ghost use Rattle.std.specs.Prelude.{◌≡◌, ◌≤◌, ◌+◌, IfOk, IfSome, OnOk, OnErr};
 ghost use Rattle.fz_book.specs.Needs.{found_needed, given_needed};
-ghost use Rattle.fz_path.specs.Paths.{found_held};
+ghost use Rattle.fz_path.specs.Paths.{bare, found_held};
 ghost use Rattle.fz_team.specs.Sections.{HandsIn, Reports, Cuts};
 
-use fz_account::{Account, Cut};
+use fz_account::Account;
 use fz_book::{Book, Taken};
-use fz_path::Path;
-use fz_region::Frontier;
+use fz_path::{Path, Task};
 use fz_search_space::SearchSpace;
 use std::alloc::AllocError;
 
@@ -29,8 +28,8 @@ pub struct Reported {
 
 /// A part that was cut off, what became of the account that names it, and a copy of that.
 #[derive(Drop)]
-pub struct CutOff {
-    pub task: Frontier,
+pub struct CutOff<S: SearchSpace> {
+    pub task: Task<S>,
     pub handed: Handed,
     pub copy: Option<Account>,
 }
@@ -80,7 +79,7 @@ pub fn report<S: SearchSpace>(
     book: &mut Book,
 ) -> Result<Option<Reported>, AllocError>
     ensures reported { IfOk result (λ reported.
-        Reports reported path.old book.old.book path.new book.new.book) }
+        Reports reported (bare path.old) book.old.book (bare path.new) book.new.book) }
     ensures path { OnErr result (path.new ≡ path.old) }
     ensures book { OnErr result (book.new.book ≡ book.old.book) }
 {
@@ -104,17 +103,22 @@ pub fn report<S: SearchSpace>(
 pub fn cut<S: SearchSpace>(
     path: &mut Path<S>,
     book: &mut Book,
-) -> Result<Option<CutOff>, AllocError>
-    ensures cut { IfOk result (λ off. Cuts off path.old book.old.book path.new book.new.book) }
+) -> Result<Option<CutOff<S>>, AllocError>
+    ensures cut { IfOk result
+        (λ off. Cuts off path.old book.old.book (bare path.new) book.new.book) }
     ensures path { OnErr result (path.new ≡ path.old) }
     ensures book { OnErr result (book.new.book ≡ book.old.book) }
 {
     let _ = path.model();
     make_room(book, path)?;
-    let Some(Cut { task, account }) = path.cut()? else {
+    let Some(cut) = path.cut()? else {
         return Ok(None);
     };
-    let copy = copy_of(&account);
-    let handed = hand_in(book, account);
-    Ok(Some(CutOff { task, handed, copy }))
+    let copy = copy_of(&cut.account);
+    let handed = hand_in(book, cut.account);
+    Ok(Some(CutOff {
+        task: cut.task,
+        handed,
+        copy,
+    }))
 }

@@ -32,7 +32,7 @@ struct Team<S: SearchSpace> {
     paths: Vec<CachePadded<Mutex<Path<S>>>>,
     bound: Bound,
     seat: Seat,
-    members: Vec<Member>,
+    members: Vec<Member<S>>,
 }
 
 /// Lets one worker for each path search what is open in a book, each in a thread where one can be made, until nothing is open or as
@@ -136,13 +136,13 @@ fn locked<S: SearchSpace>(
 }
 
 /// So many workers, each with one part of the bound word.
-fn members_of(
+fn members_of<S: SearchSpace>(
     alloc: Global,
     count: usize,
     model: &Model,
     bound: &Bound,
     seat: &mut Seat,
-) -> Result<Vec<Member>, AllocError>
+) -> Result<Vec<Member<S>>, AllocError>
     requires bound { seat.old.bound ≡ bound.now }
     requires fresh { (seat.old.parts ≡ PARTS) × (seat.old.least ≡ UNSET) }
     requires count { count ≤ 64 }
@@ -175,7 +175,7 @@ fn rounds<R: Threads + Wait + Sync, S: SearchSpace + Send, G: Gate + Sync>(
     paths: &[CachePadded<Mutex<Path<S>>>],
     bound: Bound,
     seat: Seat,
-    members: Vec<Member>,
+    members: Vec<Member<S>>,
     enough: Option<u32>,
     gate: &G,
     outbox: &Outbox,
@@ -213,11 +213,11 @@ fn round<R: Threads + Wait + Sync, S: SearchSpace + Send, G: Gate + Sync>(
     paths: &[CachePadded<Mutex<Path<S>>>],
     bound: &Bound,
     book: Book,
-    members: Vec<Member>,
+    members: Vec<Member<S>>,
     enough: Option<u32>,
     gate: &G,
     outbox: &Outbox,
-) -> (Book, Option<Vec<Member>>)
+) -> (Book, Option<Vec<Member<S>>>)
     requires { All (IsMember model.now bound.now (length paths.now)) members.items }
     ensures all { IfSome result.1 (λ v. All (IsMember model.now bound.now (length paths.now)) v.items) }
     ensures len { IfSome result.1 (λ v. length v.items ≡ length members.items) }
@@ -246,8 +246,8 @@ fn round<R: Threads + Wait + Sync, S: SearchSpace + Send, G: Gate + Sync>(
 fn in_threads<R: Threads + Wait + Sync, S: SearchSpace + Send, G: Gate + Sync>(
     rt: &R,
     crew: &Crew<S, G>,
-    members: Vec<Member>,
-) -> Result<Vec<Member>, AllocError>
+    members: Vec<Member<S>>,
+) -> Result<Vec<Member<S>>, AllocError>
     requires { All (IsMember crew.now.model.now crew.now.bound.now (length crew.now.paths.now)) members.items }
     ensures all { IfOk result (λ v. All (IsMember crew.now.model.now crew.now.bound.now (length crew.now.paths.now)) v.items) }
     ensures len { IfOk result (λ v. length v.items ≡ length members.items) }
@@ -255,7 +255,7 @@ fn in_threads<R: Threads + Wait + Sync, S: SearchSpace + Send, G: Gate + Sync>(
     thread::map_vec(
         rt,
         members,
-        &|member: Member| -> Member
+        &|member: Member<S>| -> Member<S>
             requires { IsMember crew.now.model.now crew.now.bound.now (length crew.now.paths.now) member }
             ensures { IsMember crew.entry.now.model.now crew.entry.now.bound.now (length crew.entry.now.paths.now) result }
         { work(rt, crew, member) },
@@ -279,13 +279,13 @@ fn end_of(book: &Book, model: &Model, enough: Option<u32>) -> Option<End>
 }
 
 /// What is left at the end: all seats are joined, and the word is closed.
-fn closing(
+fn closing<S: SearchSpace>(
     alloc: Global,
     book: Book,
     model: &Model,
     bound: Bound,
     seat: Seat,
-    members: Vec<Member>,
+    members: Vec<Member<S>>,
     end: End,
 ) -> TeamEnd
     requires team { (count : _) × IsTeam model.now bound count seat members.items }
@@ -307,12 +307,12 @@ fn closing(
 }
 
 /// All seats in one, and what the workers found.
-fn gathered(
+fn gathered<S: SearchSpace>(
     alloc: Global,
     model: &Model,
     bound: &Bound,
     seat: Seat,
-    members: Vec<Member>,
+    members: Vec<Member<S>>,
 ) -> Result<(Seat, Vec<Assignment>), AllocError>
     requires team { (count : _) × IsTeam model.now bound.now count seat members.items }
     ensures seat { IfOk result (λ r. (r.0.bound ≡ bound.now) × (r.0.parts ≡ PARTS)) }

@@ -16,8 +16,8 @@ use std::sync::atomic::Ordering;
 pub fn work<R: Wait, S: SearchSpace, G: Gate>(
     rt: &R,
     crew: &Crew<S, G>,
-    mut member: Member,
-) -> Member
+    mut member: Member<S>,
+) -> Member<S>
     requires { IsMember crew.now.model.now crew.now.bound.now (length crew.now.paths.now) member }
     ensures { IsMember crew.now.model.now crew.now.bound.now (length crew.now.paths.now) result }
 {
@@ -42,7 +42,7 @@ pub fn work<R: Wait, S: SearchSpace, G: Gate>(
 fn turn<R: Wait, S: SearchSpace, G: Gate>(
     rt: &R,
     crew: &Crew<S, G>,
-    member: &mut Member,
+    member: &mut Member<S>,
     next: Next,
     rest: &mut Rest,
 ) -> Result<Next, AllocError>

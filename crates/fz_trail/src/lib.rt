@@ -4,7 +4,9 @@
 #![tactic(auto)]
 
 pub mod kept;
+pub mod steps;
 pub mod trail;
 
 pub use kept::Kept;
+pub use steps::Steps;
 pub use trail::Trail;

@@ -1,5 +1,5 @@
 //! The spaces beside a path.
-ghost use Rattle.std.specs.Prelude.{◌≡◌, ◌⊎◌, ◌↔◌, ◌≤◌, ◌<◌, ◌+◌, ◌-◌, ◌*◌, ◌++◌, ◌∷◌, [], ℕ, ℤ, List, length, take, false, IsTrue, Option, Some, None, IfNone, is_some, IfOk, IfSome, IsSomeAnd, OnOk, OnErr};
+ghost use Rattle.std.specs.Prelude.{◌≡◌, ◌⊎◌, ◌↔◌, ◌≤◌, ◌<◌, ◌+◌, ◌-◌, ◌*◌, ◌++◌, ◌∷◌, [], ℕ, ℤ, List, length, take, false, IsTrue, Option, Some, None, IfNone, is_some, option_map, MatchOption, IfOk, IfSome, IsSomeAnd, OnOk, OnErr};
 ghost use Rattle.std.specs.List.{AllByRecursion};
 ghost use Rattle.std.specs.Vec.{vec_len, vec_capacity};
 ghost use Rattle.fz_spec.specs.Instance.{Instance};
@@ -8,16 +8,18 @@ ghost use Rattle.fz_tree.specs.Frontier as frontier;
 ghost use Rattle.fz_tree.specs.Frontier.{AreEdges, next_edges};
 ghost use Rattle.fz_search_space.specs.Spaces.{Covers};
 ghost use Rattle.fz_trail.specs.Nodes.{IsAt, decisions_of};
-ghost use Rattle.fz_trail.specs.Places.{IsNear, AreLeftDownTo, IsOneMore, IsUsedUp, HasUsedCopy, with_room, without_seconds, IsWayLong, IsOneBetween, IsDueBetween, AreBehind, half_down, nearest_node, last_of};
+ghost use Rattle.fz_trail.specs.Places.{IsNear, AreLeftDownTo, IsOneMore, IsUsedUp, HasUsedCopy, with_room, without_seconds, IsWayLong, IsOneBetween, IsDueBetween, AreBehind, half_down, nearest_node, last_of, commits_for, depths_of, deepest_to, AreBelow, IsLastAbove};
 ghost use Rattle.fz_trail.specs.Trails.{IsTrail, IsKept, AreKept};
 ghost use Rattle.fz_trail.specs.declared.kept.TheConstants.{COPIES_MOST, COPIES_GONE};
 
 use crate::kept::{COPIES_GONE, COPIES_MOST, Kept};
+use crate::steps::Steps;
 use fz_region::Edge;
 use fz_search_space::SearchSpace;
 use std::alloc::{AllocError, Global};
+use std::sync::ledger::Ledger;
 
-/// The space of the root, copies of spaces at nodes of the path, and the space of the node below its edges, if that is at hand.
+/// The space of the root, copies of spaces at nodes of the path, and the space of the node above its last edge, if that is at hand.
 /// Spaces that are done with are written over.
 #[derive(Drop)]
 pub struct Trail<S> {
@@ -36,9 +38,11 @@ impl<S: SearchSpace> Trail<S> {
     pub fn new(alloc: Global, root: S, distance: u32, adaptive: u32) -> Trail<S>
         requires { (1 ≤ distance) × (1 ≤ adaptive) }
         ensures distances { (result.distance ≡ distance) × (result.adaptive ≡ adaptive) }
-        ensures trail { (m : Instance) (known : Option (List ℤ)) (es : List frontier.Edge)
+        ensures begun { (result.copies.items ≡ []) × (result.current ≡ None)
+            × (result.sparse ≡ 0) }
+        ensures trail { (m : Instance) (known : Option (List ℤ))
             → IsAt m known [] (S.spaced root)
-            → IsTrail S.spaced m known es result }
+            → IsTrail S.spaced m known [] result }
     {
         Trail {
             root,
@@ -51,25 +55,110 @@ impl<S: SearchSpace> Trail<S> {
         }
     }
 
-    /// Forgets all but the root.
-    pub fn clear(&mut self)
+    /// Forgets all but the root. The path that is begun has so many edges.
+    pub fn clear(&mut self, edges: usize)
         ensures distances { (self.new.distance ≡ self.old.distance)
             × (self.new.adaptive ≡ self.old.adaptive) }
-        ensures trail { (m : Instance) (known : Option (List ℤ)) (es fs : List frontier.Edge)
-            → IsTrail S.spaced m known es self.old
-            → IsTrail S.spaced m known fs self.new }
+        ensures begun { (self.new.copies.items ≡ []) × (self.new.current ≡ None)
+            × (self.new.sparse ≡ edges) }
+        ensures trail { (m : Instance) (known : Option (List ℤ))
+            (es fs : List frontier.Edge) → IsTrail S.spaced m known es self.old
+            → edges ≡ length fs → IsTrail S.spaced m known fs self.new }
     {
         self.copies.clear();
         self.current = None;
-        self.sparse = 0;
+        self.sparse = edges;
+    }
+
+    /// Room for one copy.
+    ///
+    /// # Errors
+    /// `AllocError` where there is no memory.
+    pub fn room(&self) -> Result<Vec<Kept<S>>, AllocError>
+        ensures { IfOk result (λ v. (v.items ≡ []) × (1 ≤ vec_capacity v)) }
+    {
+        Vec::with_capacity(*self.copies.allocator(), 1)
+    }
+
+    /// Forgets all but the root and a space of a node of the path that is begun, which has so many edges.
+    pub fn begin_near(&mut self, room: Vec<Kept<S>>, edges: usize, kept: Kept<S>)
+        requires room { (room.items ≡ []) × (1 ≤ vec_capacity room) }
+        ensures distances { (self.new.distance ≡ self.old.distance)
+            × (self.new.adaptive ≡ self.old.adaptive) }
+        ensures copies { self.new.copies.items ≡ kept ∷ [] }
+        ensures begun { (self.new.current ≡ None) × (self.new.sparse ≡ edges) }
+        ensures trail { (m : Instance) (known : Option (List ℤ))
+            (es fs : List frontier.Edge) → IsTrail S.spaced m known es self.old
+            → edges ≡ length fs → IsKept S.spaced m known fs kept
+            → IsTrail S.spaced m known fs self.new }
+    {
+        let mut copies = room;
+        copies.push_reserved(kept);
+        self.copies = copies;
+        self.current = None;
+        self.sparse = edges;
+    }
+
+    /// A copy of the nearest copy that stands at a node or above it. None where none does.
+    ///
+    /// # Errors
+    /// `AllocError` where there is no memory.
+    pub fn copy_above(&self, node: usize) -> Result<Option<Kept<S>>, AllocError>
+        requires { (m : Instance) × (known : Option (List ℤ)) × (es : List frontier.Edge)
+            × IsTrail S.spaced m known es self.now }
+        ensures depth { IfOk result (λ o. option_map (λ (k : Kept S). k.depth) o
+            ≡ deepest_to (depths_of self.now.copies.items) node) }
+        ensures space { IfOk result (λ o. IfSome o (λ k. (m : Instance)
+            (known : Option (List ℤ)) (es : List frontier.Edge)
+            → IsTrail S.spaced m known es self.now → IsKept S.spaced m known es k)) }
+    {
+        let Some(i) = self.place_above(node) else {
+            return Ok(None);
+        };
+        let kept = &self.copies[i];
+        let space = kept.space.copy()?;
+        Ok(Some(Kept {
+            depth: kept.depth,
+            space,
+        }))
+    }
+
+    /// How many edges are above the nearest copy that stands at a node or above it. None where none does.
+    pub fn depth_above(&self, node: u64) -> Option<u64>
+        requires { (m : Instance) × (known : Option (List ℤ)) × (es : List frontier.Edge)
+            × IsTrail S.spaced m known es self.now }
+        ensures { result ≡ deepest_to (depths_of self.now.copies.items) node }
+    {
+        match self.place_above(node as usize) {
+            Some(i) => Some(self.copies[i].depth as u64),
+            None => None,
+        }
+    }
+
+    /// The place of the nearest copy that stands at a node or above it.
+    fn place_above(&self, node: usize) -> Option<usize>
+        ensures { MatchOption result (AreBelow self.now.copies.items node)
+            (IsLastAbove self.now.copies.items node) }
+    {
+        for i in (0..self.copies.len()).rev() {
+            if self.copies[i].depth <= node {
+                return Some(i);
+            }
+        }
+        None
     }
 
     /// The path has moved to these edges: what isn't above them goes.
     pub fn retreat(&mut self, edges: &[Edge])
         ensures distances { (self.new.distance ≡ self.old.distance)
             × (self.new.adaptive ≡ self.old.adaptive) }
+        ensures sparse { self.new.sparse ≡ self.old.sparse }
         ensures left { AreLeftDownTo
             (length edges.now - 1) self.old.copies.items self.new.copies.items }
+        ensures above { (m : Instance) (known : Option (List ℤ)) (es : List frontier.Edge)
+            → IsTrail S.spaced m known es self.old → AllByRecursion
+            (λ (k : Kept S). k.depth ≤ length edges.now - 1) self.new.copies.items }
+        ensures current { self.new.current ≡ None }
         ensures trail { (m : Instance) (known : Option (List ℤ)) (es : List frontier.Edge)
             → edges.now ≡ next_edges es
             → IsTrail S.spaced m known es self.old → IsTrail S.spaced m known edges.now self.new }
@@ -79,16 +168,21 @@ impl<S: SearchSpace> Trail<S> {
         drop_below(&mut self.copies, &mut self.spare, depth);
     }
 
-    /// The space of the node below the edges.
+    /// The space of the node below the edges. A tick is a commit.
     ///
     /// # Errors
     /// `AllocError` where there is no memory.
-    pub fn take_at(&mut self, edges: &[Edge]) -> Result<S, AllocError>
+    pub fn take_at<L: Ledger>(
+        &mut self,
+        edges: &[Edge],
+        steps: &mut Steps<L>,
+    ) -> Result<S, AllocError>
         requires edges { AreEdges edges.now }
         requires trail { (m : Instance) × (known : Option (List ℤ))
             × IsTrail S.spaced m known edges.now self.old }
         ensures distances { (self.new.distance ≡ self.old.distance)
             × (self.new.adaptive ≡ self.old.adaptive) }
+        ensures sparse { self.new.sparse ≡ self.old.sparse }
         ensures copies { AreBehind
             self.old.adaptive edges.now self.old.copies.items self.new.copies.items }
         ensures due { OnOk result (self.old.current ≡ None → IsDueBetween self.old.adaptive
@@ -100,20 +194,27 @@ impl<S: SearchSpace> Trail<S> {
         ensures kept { (m : Instance) (known : Option (List ℤ))
             → IsTrail S.spaced m known edges.now self.old
             → IsTrail S.spaced m known edges.now self.new }
+        ensures current { self.new.current ≡ None }
+        ensures count { steps.new ≤ steps.old + commits_for
+            (is_some self.old.current) (nearest_node self.old.copies.items) (length edges.now) }
+        ensures exact { OnOk result (steps.new ≡ steps.old + commits_for
+            (is_some self.old.current) (nearest_node self.old.copies.items) (length edges.now)) }
     {
         if let Some(space) = self.current.take() {
-            return Ok(space);
+            return came_down(space, edges, steps);
         }
-        self.remade(edges)
+        self.remade(edges, steps)
     }
 
     /// The space of a node, made anew from the nearest copy by the decisions behind it.
-    fn remade(&mut self, edges: &[Edge]) -> Result<S, AllocError>
+    fn remade<L: Ledger>(&mut self, edges: &[Edge], steps: &mut Steps<L>) -> Result<S, AllocError>
         requires edges { AreEdges edges.now }
         requires trail { (m : Instance) × (known : Option (List ℤ))
             × IsTrail S.spaced m known edges.now self.old }
         ensures distances { (self.new.distance ≡ self.old.distance)
             × (self.new.adaptive ≡ self.old.adaptive) }
+        ensures sparse { self.new.sparse ≡ self.old.sparse }
+        ensures current { self.new.current ≡ self.old.current }
         ensures copies { AreBehind
             self.old.adaptive edges.now self.old.copies.items self.new.copies.items }
         ensures due { OnOk result (IsDueBetween self.old.adaptive
@@ -125,20 +226,30 @@ impl<S: SearchSpace> Trail<S> {
         ensures kept { (m : Instance) (known : Option (List ℤ))
             → IsTrail S.spaced m known edges.now self.old
             → IsTrail S.spaced m known edges.now self.new }
+        ensures count { steps.new ≤ steps.old
+            + (length edges.now - nearest_node self.old.copies.items) }
+        ensures exact { OnOk result (steps.new ≡ steps.old
+            + (length edges.now - nearest_node self.old.copies.items)) }
     {
-        let kept = self.near(edges)?;
+        let kept = self.near(edges, steps)?;
         let mut space = kept.space;
-        commit_all(&mut space, &edges[kept.depth..])?;
+        commit_all(&mut space, &edges[kept.depth..], steps)?;
         Ok(space)
     }
 
     /// A space above the node below the edges: the nearest one, brought half of the way down where that is long.
-    fn near(&mut self, edges: &[Edge]) -> Result<Kept<S>, AllocError>
+    fn near<L: Ledger>(
+        &mut self,
+        edges: &[Edge],
+        steps: &mut Steps<L>,
+    ) -> Result<Kept<S>, AllocError>
         requires edges { AreEdges edges.now }
         requires trail { (m : Instance) × (known : Option (List ℤ))
             × IsTrail S.spaced m known edges.now self.old }
         ensures distances { (self.new.distance ≡ self.old.distance)
             × (self.new.adaptive ≡ self.old.adaptive) }
+        ensures sparse { self.new.sparse ≡ self.old.sparse }
+        ensures current { self.new.current ≡ self.old.current }
         ensures copies { AreBehind
             self.old.adaptive edges.now self.old.copies.items self.new.copies.items }
         ensures due { OnOk result (IsDueBetween self.old.adaptive
@@ -151,17 +262,28 @@ impl<S: SearchSpace> Trail<S> {
         ensures kept { (m : Instance) (known : Option (List ℤ))
             → IsTrail S.spaced m known edges.now self.old
             → IsTrail S.spaced m known edges.now self.new }
+        ensures count { steps.new ≤ steps.old
+            + (length edges.now - nearest_node self.old.copies.items) }
+        ensures exact { IfOk result (λ k. steps.new + (length edges.now - k.depth)
+            ≡ steps.old + (length edges.now - nearest_node self.old.copies.items)) }
     {
         let kept = self.nearest(edges)?;
-        self.brought_down(edges, kept)
+        self.brought_down(edges, kept, steps)
     }
 
     /// Brings a space half of the way down to the node below the edges, and keeps a copy of it there, where the way is long.
-    fn brought_down(&mut self, edges: &[Edge], kept: Kept<S>) -> Result<Kept<S>, AllocError>
+    fn brought_down<L: Ledger>(
+        &mut self,
+        edges: &[Edge],
+        kept: Kept<S>,
+        steps: &mut Steps<L>,
+    ) -> Result<Kept<S>, AllocError>
         requires edges { AreEdges edges.now }
         requires above { kept.depth ≤ length edges.now }
         ensures distances { (self.new.distance ≡ self.old.distance)
             × (self.new.adaptive ≡ self.old.adaptive) }
+        ensures sparse { self.new.sparse ≡ self.old.sparse }
+        ensures current { self.new.current ≡ self.old.current }
         ensures copies { (self.new.copies.items ≡ self.old.copies.items)
             ⊎ IsOneBetween self.old.adaptive kept.depth (length edges.now)
             self.old.copies.items self.new.copies.items }
@@ -176,32 +298,39 @@ impl<S: SearchSpace> Trail<S> {
             → IfSome (last_of self.old.copies.items) (λ k. k.depth ≤ kept.depth)
             → IsTrail S.spaced m known edges.now self.old
             → IsTrail S.spaced m known edges.now self.new }
+        ensures count { steps.new ≤ steps.old + (length edges.now - kept.depth) }
+        ensures exact { IfOk result (λ k. steps.new + (length edges.now - k.depth)
+            ≡ steps.old + (length edges.now - kept.depth)) }
     {
         if !self.is_way_long(kept.depth, edges.len()) {
             return Ok(kept);
         }
-        self.go_halfway(edges, kept)
+        self.go_halfway(edges, kept, steps)
     }
 
-    /// Whether a way has a middle and is as long as the adaptive distance, and some copy stands above it.
+    /// Whether a way has a middle and is as long as the adaptive distance, and there is room for a copy.
     fn is_way_long(&self, from: usize, to: usize) -> bool
         requires { from ≤ to }
         ensures { IsTrue result ↔ IsWayLong self.now.adaptive from to self.now.copies.items }
     {
         let count = to - from;
-        count >= 2
-            && count >= self.adaptive as usize
-            && !self.copies.is_empty()
-            && self.copies.len() < COPIES_MOST
+        count >= 2 && count >= self.adaptive as usize && self.copies.len() < COPIES_MOST
     }
 
     /// Brings a space half of a long way down, and keeps a copy of it there.
-    fn go_halfway(&mut self, edges: &[Edge], kept: Kept<S>) -> Result<Kept<S>, AllocError>
+    fn go_halfway<L: Ledger>(
+        &mut self,
+        edges: &[Edge],
+        kept: Kept<S>,
+        steps: &mut Steps<L>,
+    ) -> Result<Kept<S>, AllocError>
         requires edges { AreEdges edges.now }
         requires long { IsWayLong
             self.old.adaptive kept.depth (length edges.now) self.old.copies.items }
         ensures distances { (self.new.distance ≡ self.old.distance)
             × (self.new.adaptive ≡ self.old.adaptive) }
+        ensures sparse { self.new.sparse ≡ self.old.sparse }
+        ensures current { self.new.current ≡ self.old.current }
         ensures copies { (self.new.copies.items ≡ self.old.copies.items)
             ⊎ IsOneBetween self.old.adaptive kept.depth (length edges.now)
             self.old.copies.items self.new.copies.items }
@@ -216,9 +345,12 @@ impl<S: SearchSpace> Trail<S> {
             → IfSome (last_of self.old.copies.items) (λ k. k.depth ≤ kept.depth)
             → IsTrail S.spaced m known edges.now self.old
             → IsTrail S.spaced m known edges.now self.new }
+        ensures count { steps.new ≤ steps.old + (length edges.now - kept.depth) }
+        ensures exact { IfOk result (λ k. steps.new + (length edges.now - k.depth)
+            ≡ steps.old + (length edges.now - kept.depth)) }
     {
         let depth = kept.depth + (edges.len() - kept.depth) / 2;
-        let space = brought_to(edges, kept, depth)?;
+        let space = brought_to(edges, kept, depth, steps)?;
         self.put(depth, &space)?;
         Ok(Kept { depth, space })
     }
@@ -242,6 +374,8 @@ impl<S: SearchSpace> Trail<S> {
     fn nearest(&mut self, edges: &[Edge]) -> Result<Kept<S>, AllocError>
         ensures distances { (self.new.distance ≡ self.old.distance)
             × (self.new.adaptive ≡ self.old.adaptive) }
+        ensures sparse { self.new.sparse ≡ self.old.sparse }
+        ensures current { self.new.current ≡ self.old.current }
         ensures copies { (self.new.copies.items ≡ self.old.copies.items)
             ⊎ IsUsedUp edges.now self.old.copies.items self.new.copies.items }
         ensures nearest { IfOk result (λ k. k.depth ≡ nearest_node self.old.copies.items) }
@@ -262,6 +396,8 @@ impl<S: SearchSpace> Trail<S> {
     fn used_copy(&mut self, edges: &[Edge]) -> Option<Kept<S>>
         ensures distances { (self.new.distance ≡ self.old.distance)
             × (self.new.adaptive ≡ self.old.adaptive) }
+        ensures sparse { self.new.sparse ≡ self.old.sparse }
+        ensures current { self.new.current ≡ self.old.current }
         ensures copies { (self.new.copies.items ≡ self.old.copies.items)
             ⊎ IsUsedUp edges.now self.old.copies.items self.new.copies.items }
         ensures nearest { IfSome result (λ k. k.depth ≡ nearest_node self.old.copies.items) }
@@ -284,6 +420,8 @@ impl<S: SearchSpace> Trail<S> {
     fn copy_of_nearest(&mut self) -> Result<Kept<S>, AllocError>
         ensures distances { (self.new.distance ≡ self.old.distance)
             × (self.new.adaptive ≡ self.old.adaptive) }
+        ensures sparse { self.new.sparse ≡ self.old.sparse }
+        ensures current { self.new.current ≡ self.old.current }
         ensures copies { self.new.copies.items ≡ self.old.copies.items }
         ensures nearest { IfOk result (λ k. k.depth ≡ nearest_node self.old.copies.items) }
         ensures space { IfOk result (λ k. (m : Instance) (known : Option (List ℤ))
@@ -315,6 +453,8 @@ impl<S: SearchSpace> Trail<S> {
     pub fn keep(&mut self, depth: usize, space: &S) -> Result<(), AllocError>
         ensures distances { (self.new.distance ≡ self.old.distance)
             × (self.new.adaptive ≡ self.old.adaptive) }
+        ensures sparse { length self.old.copies.items < COPIES_MOST
+            → self.new.sparse ≡ self.old.sparse }
         ensures copies { (self.new.copies.items ≡ with_room self.old.copies.items)
             ⊎ IsOneMore S.spaced depth space.now
             (with_room self.old.copies.items) self.new.copies.items }
@@ -339,6 +479,8 @@ impl<S: SearchSpace> Trail<S> {
     fn make_room(&mut self)
         ensures distances { (self.new.distance ≡ self.old.distance)
             × (self.new.adaptive ≡ self.old.adaptive) }
+        ensures sparse { length self.old.copies.items < COPIES_MOST
+            → self.new.sparse ≡ self.old.sparse }
         ensures copies { self.new.copies.items ≡ with_room self.old.copies.items }
         ensures room { length self.old.copies.items ≤ COPIES_MOST
             → length self.new.copies.items < COPIES_MOST }
@@ -366,15 +508,16 @@ impl<S: SearchSpace> Trail<S> {
         }
     }
 
-    /// The path goes on below one edge more, and this is the space there.
+    /// The path goes on below one edge more, and this is the space above it.
     pub fn descend(&mut self, space: S)
         ensures distances { (self.new.distance ≡ self.old.distance)
             × (self.new.adaptive ≡ self.old.adaptive) }
+        ensures sparse { self.new.sparse ≡ self.old.sparse }
         ensures copies { self.new.copies.items ≡ self.old.copies.items }
         ensures current { self.new.current ≡ Some space }
         ensures trail { (m : Instance) (known : Option (List ℤ))
             (es : List frontier.Edge) (e : frontier.Edge)
-            → IsAt m known (es ++ e ∷ []) (S.spaced space)
+            → IsAt m known es (S.spaced space)
             → IsNear self.old.distance self.old.copies.items (length es)
             → IsTrail S.spaced m known es self.old
             → IsTrail S.spaced m known (es ++ e ∷ []) self.new }
@@ -386,6 +529,7 @@ impl<S: SearchSpace> Trail<S> {
     pub fn release(&mut self, space: S)
         ensures distances { (self.new.distance ≡ self.old.distance)
             × (self.new.adaptive ≡ self.old.adaptive) }
+        ensures sparse { self.new.sparse ≡ self.old.sparse }
         ensures copies { self.new.copies.items ≡ self.old.copies.items }
         ensures current { self.new.current ≡ self.old.current }
         ensures spare { (self.new.spare.items ≡ self.old.spare.items)
@@ -480,28 +624,61 @@ fn copy_of<S: SearchSpace>(
 }
 
 /// The space of a node brought down to another by the decisions between, as far as propagation takes it there.
-fn brought_to<S: SearchSpace>(edges: &[Edge], kept: Kept<S>, depth: usize) -> Result<S, AllocError>
+fn brought_to<S: SearchSpace, L: Ledger>(
+    edges: &[Edge],
+    kept: Kept<S>,
+    depth: usize,
+    steps: &mut Steps<L>,
+) -> Result<S, AllocError>
     requires edges { AreEdges edges.now }
     requires below { (kept.depth ≤ depth) × (depth ≤ length edges.now) }
-    ensures { IfOk result (λ s. (m : Instance) (known : Option (List ℤ))
+    ensures space { IfOk result (λ s. (m : Instance) (known : Option (List ℤ))
         → IsKept S.spaced m known edges.now kept
         → IsAt m known (take depth edges.now) (S.spaced s)) }
+    ensures count { steps.new ≤ steps.old + (depth - kept.depth) }
+    ensures exact { OnOk result (steps.new ≡ steps.old + (depth - kept.depth)) }
 {
     let mut space = kept.space;
-    commit_all(&mut space, &edges[kept.depth..depth])?;
+    commit_all(&mut space, &edges[kept.depth..depth], steps)?;
     space.status()?;
     Ok(space)
 }
 
+/// The space of the node above the last edge brought down that edge.
+fn came_down<S: SearchSpace, L: Ledger>(
+    space: S,
+    edges: &[Edge],
+    steps: &mut Steps<L>,
+) -> Result<S, AllocError>
+    requires edges { AreEdges edges.now }
+    ensures space { IfOk result (λ s. (m : Instance) (known : Option (List ℤ))
+        → IsAt m known (take (length edges.now - 1) edges.now) (S.spaced space)
+        → IsAt m known edges.now (S.spaced s)) }
+    ensures count { steps.new ≤ steps.old + (length edges.now - (length edges.now - 1)) }
+    ensures exact { OnOk result
+        (steps.new ≡ steps.old + (length edges.now - (length edges.now - 1))) }
+{
+    let mut space = space;
+    commit_all(&mut space, &edges[count_above(edges)..], steps)?;
+    Ok(space)
+}
+
 /// Takes the decisions of some edges, one after the other.
-fn commit_all<S: SearchSpace>(space: &mut S, edges: &[Edge]) -> Result<(), AllocError>
+fn commit_all<S: SearchSpace, L: Ledger>(
+    space: &mut S,
+    edges: &[Edge],
+    steps: &mut Steps<L>,
+) -> Result<(), AllocError>
     requires { AreEdges edges.now }
+    ensures count { steps.new ≤ steps.old + length edges.now }
+    ensures exact { OnOk result (steps.new ≡ steps.old + length edges.now) }
     ensures model { (S.spaced space.new).model ≡ (S.spaced space.old).model }
     ensures covers { OnOk result ((known : Option (List ℤ)) (ds : List Decision)
         → Covers known ds (S.spaced space.old)
         → Covers known (ds ++ decisions_of edges.now) (S.spaced space.new)) }
 {
     'edges: for edge in edges {
+        steps.tick();
         space.commit(&edge.choice, edge.taken)?;
     }
     Ok(())

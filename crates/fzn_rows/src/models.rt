@@ -6,7 +6,7 @@ ghost use Rattle.fz_spec.specs.Constraints as meaning;
 ghost use Rattle.fz_model.specs.Kept.{IsVariable};
 ghost use Rattle.fz_tree.specs.Better.{mode_of};
 ghost use Rattle.fz_tree.specs.Book.{opening};
-ghost use Rattle.fz_path.specs.Paths.{idle_path};
+ghost use Rattle.fz_path.specs.Paths.{bare, idle_path};
 
 use fz_account::Mode;
 use fz_book::Book;
@@ -123,7 +123,7 @@ fn mode(goal: &Goal) -> Mode
 
 /// An idle path of a model.
 pub fn path(alloc: Global, model: &Arc<Model>) -> Result<Path<Space>, AllocError>
-    ensures { IfOk result (λ p. p
+    ensures { IfOk result (λ p. bare p
         ≡ idle_path (arc_value model.now) (mode_of (arc_value model.now).goal) 8 2) }
 {
     let mode = mode(model.goal());

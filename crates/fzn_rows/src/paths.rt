@@ -1,8 +1,8 @@
 //! Paths.
-use crate::models::{least_of_three, path, two_values};
+use crate::models::{least_of_three, path, two_by_two, two_values};
 use crate::show::{show_account, show_part, show_values};
 use fz_model::Assignment;
-use fz_path::{Path, Start};
+use fz_path::{Path, Start, Task};
 use fz_region::Frontier;
 use fz_space::Space;
 use std::alloc::{AllocError, Global};
@@ -15,6 +15,22 @@ fn start(rt: &HostRuntime, path: &mut Path<Space>) {
         Start::NoMemory(_) => "NoMemory",
     };
     let _ = println!(rt; "start: {answer}");
+}
+
+/// The path takes up a task of the whole tree.
+fn start_near(rt: &HostRuntime, path: &mut Path<Space>) {
+    match path.start_near(Task::of(Frontier::root(rt.alloc()))) {
+        Start::Started => {
+            let _ = println!(rt; "start_near: Started");
+        }
+        Start::Busy(task) => {
+            let edges = task.frontier().edges().len();
+            let _ = println!(rt; "start_near: Busy, a task of {edges} edges");
+        }
+        Start::NoMemory(_) => {
+            let _ = println!(rt; "start_near: NoMemory");
+        }
+    }
 }
 
 /// So many steps.
@@ -41,7 +57,7 @@ fn report(rt: &HostRuntime, path: &mut Path<Space>) -> Result<(), AllocError> {
 fn cut(rt: &HostRuntime, path: &mut Path<Space>) -> Result<(), AllocError> {
     match path.cut()? {
         Some(cut) => {
-            show_part(rt, &cut.task);
+            show_part(rt, cut.task.frontier());
             show_account(rt, &cut.account);
         }
         None => {
@@ -84,6 +100,43 @@ fn parted(rt: &HostRuntime, path: &mut Path<Space>) -> Result<(), AllocError> {
     cut(rt, path)?;
     let idle = path.is_idle();
     let _ = println!(rt; "idle: {idle}");
+    Ok(())
+}
+
+/// A path that holds a frontier hands a task back.
+fn taken_up(rt: &HostRuntime) -> Result<(), AllocError> {
+    let mut path = over_two_values(rt.alloc())?;
+    let _ = println!(rt; "-- a path that takes up tasks");
+    start_near(rt, &mut path);
+    start_near(rt, &mut path);
+    Ok(())
+}
+
+/// Where the nearest copied space is above the first nodes.
+fn show_kept(rt: &HostRuntime, path: &Path<Space>) {
+    let _ = print!(rt; "kept:");
+    for node in 0..4u64 {
+        match path.kept(node) {
+            Some(depth) => {
+                let _ = print!(rt; " {depth}");
+            }
+            None => {
+                let _ = print!(rt; " none");
+            }
+        }
+    }
+    let _ = println!(rt; "");
+}
+
+/// Copies stand at the first node and at each so many edges; another one in the middle of a long way.
+fn copied(rt: &HostRuntime) -> Result<(), AllocError> {
+    let alloc = rt.alloc();
+    let mut path = path(alloc, &two_by_two(alloc)?)?;
+    let _ = println!(rt; "-- a path and its copies");
+    start_near(rt, &mut path);
+    show_kept(rt, &path);
+    steps(rt, &mut path, 3)?;
+    show_kept(rt, &path);
     Ok(())
 }
 
@@ -131,5 +184,7 @@ fn learning(rt: &HostRuntime) -> Result<(), AllocError> {
 pub fn all(rt: &HostRuntime) -> Result<(), AllocError> {
     whole(rt)?;
     halved(rt)?;
+    taken_up(rt)?;
+    copied(rt)?;
     learning(rt)
 }

@@ -6,7 +6,7 @@ use fz_account::Account;
 use fz_book::Book;
 use fz_machine::{Event, Machine};
 use fz_model::Model;
-use fz_path::{Path, Start};
+use fz_path::{Path, Start, Task};
 use fz_region::Frontier;
 use fz_space::Space;
 use std::alloc::{AllocError, Global};
@@ -31,6 +31,18 @@ fn show_open(rt: &HostRuntime, book: &Book) {
     }
 }
 
+/// At which node the space stands that a task carries.
+fn show_near(rt: &HostRuntime, task: &Task<Space>) {
+    match task.near_depth() {
+        Some(depth) => {
+            let _ = println!(rt; "a space of the node below {depth} edges");
+        }
+        None => {
+            let _ = println!(rt; "no space");
+        }
+    }
+}
+
 /// The first worker divides the tree, and the second one steals a part of it.
 fn divided(rt: &HostRuntime, machine: &mut Machine<Space>) -> Result<(), AllocError> {
     let events = [
@@ -46,7 +58,8 @@ fn divided(rt: &HostRuntime, machine: &mut Machine<Space>) -> Result<(), AllocEr
         return Ok(());
     }
     if let Some(task) = machine.hand(1) {
-        show_frontier(rt, "in the hand of the second", task);
+        show_frontier(rt, "in the hand of the second", task.frontier());
+        show_near(rt, task);
     }
     Ok(())
 }
@@ -82,8 +95,8 @@ fn first(rt: &HostRuntime, machine: &mut Machine<Space>) -> Result<(), AllocErro
 }
 
 /// The account of a path that has searched a part.
-fn searched(path: &mut Path<Space>, part: Frontier) -> Result<Option<Account>, AllocError> {
-    match path.start(part) {
+fn searched(path: &mut Path<Space>, part: Task<Space>) -> Result<Option<Account>, AllocError> {
+    match path.start_near(part) {
         Start::Started => {}
         _ => return Ok(None),
     }

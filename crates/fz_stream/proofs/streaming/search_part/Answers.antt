@@ -1,6 +1,7 @@
 use Rattle.std.proofs.Common.{arith, ◌≡◌, ◌∙◌, ap, length, None, refl, sym, subst, IsSomeAnd}
 use Rattle.fz_tree.specs.Book.{Book}
 use Rattle.fz_book.specs.Reports.{IsReportable}
+use Rattle.fz_path.specs.Paths.{bare}
 use Rattle.fz_printer.specs.Printed.{stopped_of}
 use Rattle.fz_stream.specs.Streamed.{IsFilled}
 use Rattle.fz_stream.proofs.Moves.{begins, both_stream, handed_on, more_kept, ready_kept, same_count}
@@ -16,22 +17,22 @@ stretches-init g c = record {
   path = refl;
   faults = refl;
   parts = refl;
-  streams = begins c.args.printer.now c.args.path.now (g.K.Sink.taken c.args.sink.now) c.requires.ready;
+  streams = begins c.args.printer.now (bare c.args.path.now) (g.K.Sink.taken c.args.sink.now) c.requires.ready;
 }
 
 pub returns-then-has_stopped-clause-streams : goal.returns-then-has_stopped-clause-streams
 returns-then-has_stopped-clause-streams g c =
-    both_stream c.args.printer.now c.stretches.printer c.advance.new.printer c.args.path.now c.stretches.path c.advance.new.path (g.K.Sink.taken c.args.sink.now) (g.K.Sink.taken c.stretches.sink) (g.K.Sink.taken c.advance.new.sink)
+    both_stream c.args.printer.now c.stretches.printer c.advance.new.printer (bare c.args.path.now) (bare c.stretches.path) (bare c.advance.new.path) (g.K.Sink.taken c.args.sink.now) (g.K.Sink.taken c.stretches.sink) (g.K.Sink.taken c.advance.new.sink)
     c.stretches.invariant.streams c.stretches.invariant.working c.advance.ensures.streams
 
 pub returns-then-is_filled-clause-streams : goal.returns-then-is_filled-clause-streams
 returns-then-is_filled-clause-streams g c =
-    both_stream c.args.printer.now c.stretches.printer c.advance.new.printer c.args.path.now c.stretches.path c.advance.new.path (g.K.Sink.taken c.args.sink.now) (g.K.Sink.taken c.stretches.sink) (g.K.Sink.taken c.advance.new.sink)
+    both_stream c.args.printer.now c.stretches.printer c.advance.new.printer (bare c.args.path.now) (bare c.stretches.path) (bare c.advance.new.path) (g.K.Sink.taken c.args.sink.now) (g.K.Sink.taken c.stretches.sink) (g.K.Sink.taken c.advance.new.sink)
     c.stretches.invariant.streams c.stretches.invariant.working c.advance.ensures.streams
 
 pub returns-then-is_idle-clause-streams : goal.returns-then-is_idle-clause-streams
 returns-then-is_idle-clause-streams g c =
-    both_stream c.args.printer.now c.stretches.printer c.advance.new.printer c.args.path.now c.stretches.path c.advance.new.path (g.K.Sink.taken c.args.sink.now) (g.K.Sink.taken c.stretches.sink) (g.K.Sink.taken c.advance.new.sink)
+    both_stream c.args.printer.now c.stretches.printer c.advance.new.printer (bare c.args.path.now) (bare c.stretches.path) (bare c.advance.new.path) (g.K.Sink.taken c.args.sink.now) (g.K.Sink.taken c.stretches.sink) (g.K.Sink.taken c.advance.new.sink)
     c.stretches.invariant.streams c.stretches.invariant.working c.advance.ensures.streams
 
 pub returns-then-is_idle-clause-goes_on : goal.returns-then-is_idle-clause-goes_on
@@ -46,9 +47,9 @@ pub returns-then-has_stopped-2-clause-streams : goal.returns-then-has_stopped-2-
 returns-then-has_stopped-2-clause-streams g c =
     let none : stopped_of c.advance.new.printer ≡ None = c.if-has_stopped.ensures.0 refl in
     let more : IsFilled c.advance.new.printer → ⊥ = λ f. (let e = c.if-is_filled.ensures.1 f in cc) in
-    let streams = both_stream c.args.printer.now c.stretches.printer c.advance.new.printer c.args.path.now c.stretches.path c.advance.new.path (g.K.Sink.taken c.args.sink.now) (g.K.Sink.taken c.stretches.sink) (g.K.Sink.taken c.advance.new.sink)
+    let streams = both_stream c.args.printer.now c.stretches.printer c.advance.new.printer (bare c.args.path.now) (bare c.stretches.path) (bare c.advance.new.path) (g.K.Sink.taken c.args.sink.now) (g.K.Sink.taken c.stretches.sink) (g.K.Sink.taken c.advance.new.sink)
     c.stretches.invariant.streams c.stretches.invariant.working c.advance.ensures.streams in
-    handed_on c.args.printer.now c.advance.new.printer c.hand_on_if_due.new.printer c.args.path.now c.advance.new.path (g.K.Sink.taken c.args.sink.now) (g.K.Sink.taken c.advance.new.sink) (g.K.Sink.taken c.hand_on_if_due.new.sink)
+    handed_on c.args.printer.now c.advance.new.printer c.hand_on_if_due.new.printer (bare c.args.path.now) (bare c.advance.new.path) (g.K.Sink.taken c.args.sink.now) (g.K.Sink.taken c.advance.new.sink) (g.K.Sink.taken c.hand_on_if_due.new.sink)
     streams none (c.advance.ensures.ready none) more c.hand_on_if_due.ensures.keeps c.hand_on_if_due.ensures.book c.hand_on_if_due.ensures.printed c.hand_on_if_due.ensures.taken
 
 pub stretches-preserved : goal.stretches-preserved
@@ -57,7 +58,7 @@ stretches-preserved g c =
     let more : IsFilled c.advance.new.printer → ⊥ = λ f. (let e = c.if-is_filled.ensures.1 f in cc) in
     let goes : c.advance.new.path.held ≡ None → ⊥ = λ i. (let e = c.if-is_idle.ensures.1 i in cc) in
     let on = c.advance.ensures.advanced none in
-    let streams = both_stream c.args.printer.now c.stretches.printer c.advance.new.printer c.args.path.now c.stretches.path c.advance.new.path (g.K.Sink.taken c.args.sink.now) (g.K.Sink.taken c.stretches.sink) (g.K.Sink.taken c.advance.new.sink)
+    let streams = both_stream c.args.printer.now c.stretches.printer c.advance.new.printer (bare c.args.path.now) (bare c.stretches.path) (bare c.advance.new.path) (g.K.Sink.taken c.args.sink.now) (g.K.Sink.taken c.stretches.sink) (g.K.Sink.taken c.advance.new.sink)
     c.stretches.invariant.streams c.stretches.invariant.working c.advance.ensures.streams in
     let still : stopped_of c.hand_on_if_due.new.printer ≡ None = c.if-has_stopped-2.ensures.0 refl in
     record {
@@ -71,6 +72,6 @@ stretches-preserved g c =
           same_count (stopped_of c.hand_on_if_due.new.printer) (g.K.Sink.faults c.advance.new.sink) (g.K.Sink.faults c.hand_on_if_due.new.sink) c.hand_on_if_due.ensures.cause still
           ∙ same_count (stopped_of c.advance.new.printer) (g.K.Sink.faults c.stretches.sink) (g.K.Sink.faults c.advance.new.sink) c.advance.ensures.cause none ∙ c.stretches.invariant.faults;
       parts = ap (λ (b : Book). length b.parts) c.hand_on_if_due.ensures.book ∙ on.as_many goes ∙ c.stretches.invariant.parts;
-      streams = handed_on c.args.printer.now c.advance.new.printer c.hand_on_if_due.new.printer c.args.path.now c.advance.new.path (g.K.Sink.taken c.args.sink.now) (g.K.Sink.taken c.advance.new.sink) (g.K.Sink.taken c.hand_on_if_due.new.sink)
+      streams = handed_on c.args.printer.now c.advance.new.printer c.hand_on_if_due.new.printer (bare c.args.path.now) (bare c.advance.new.path) (g.K.Sink.taken c.args.sink.now) (g.K.Sink.taken c.advance.new.sink) (g.K.Sink.taken c.hand_on_if_due.new.sink)
           streams none (c.advance.ensures.ready none) more c.hand_on_if_due.ensures.keeps c.hand_on_if_due.ensures.book c.hand_on_if_due.ensures.printed c.hand_on_if_due.ensures.taken;
     }

@@ -1,5 +1,6 @@
 use Rattle.std.proofs.Common.{◌≡◌, IsSomeAnd, None, length}
 use Rattle.fz_book.specs.Reports.{IsReportable}
+use Rattle.fz_path.specs.Paths.{bare}
 use Rattle.fz_printer.specs.Printed.{book_of, stopped_of, IsReady}
 use Rattle.fz_solo.specs.Walks.{weight_held}
 use Rattle.fz_stream.specs.Streamed.{IsFilled, Streams}
@@ -15,7 +16,7 @@ invariant-stretches g l = record {
   path : l.path.model ≡ l.initial.path.model;
   faults : g.K.Sink.faults l.sink ≡ g.K.Sink.faults l.initial.sink;
   parts : length (book_of l.printer).parts ≡ length (book_of l.initial.printer).parts;
-  streams : Streams l.initial.printer l.initial.path (g.K.Sink.taken l.initial.sink) l.printer l.path (g.K.Sink.taken l.sink);
+  streams : Streams l.initial.printer (bare l.initial.path) (g.K.Sink.taken l.initial.sink) l.printer (bare l.path) (g.K.Sink.taken l.sink);
 }
 
 abbrev pub decreases-stretches : goal.decreases-stretches

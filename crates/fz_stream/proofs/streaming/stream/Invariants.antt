@@ -1,5 +1,6 @@
 use Rattle.std.proofs.Common.{◌≡◌, IfSome, None, length}
 use Rattle.fz_book.specs.Reports.{IsReportable}
+use Rattle.fz_path.specs.Paths.{bare}
 use Rattle.fz_printer.specs.Printed.{book_of, stopped_of, IsReady}
 use Rattle.fz_stream.specs.Streamed.{Streams}
 use Rattle.fz_stream.proofs.streaming.stream.Given as goal
@@ -11,7 +12,7 @@ invariant-parts g l = record {
   held : IfSome l.path.held (IsReportable (book_of l.printer));
   model : l.path.model ≡ (book_of l.printer).model;
   faults : g.K.Sink.faults l.sink ≡ g.K.Sink.faults l.initial.sink;
-  streams : Streams l.initial.printer l.initial.path (g.K.Sink.taken l.initial.sink) l.printer l.path (g.K.Sink.taken l.sink);
+  streams : Streams l.initial.printer (bare l.initial.path) (g.K.Sink.taken l.initial.sink) l.printer (bare l.path) (g.K.Sink.taken l.sink);
 }
 
 abbrev pub decreases-parts : goal.decreases-parts

@@ -6,5 +6,5 @@ use Rattle.fz_team.specs.Members.{IsMember}
 use Rattle.fz_team.proofs.team.members_of.Given as goal
 
 abbrev pub invariant-workers : goal.invariant-workers
-invariant-workers l =
+invariant-workers g l =
     (l.seat.bound ≡ l.bound) × (l.seat.least ≡ UNSET) × (l.seat.parts + l.worker ≡ PARTS) × (vec_len l.members ≡ l.worker) × All (IsMember l.model l.bound l.count) l.members.items

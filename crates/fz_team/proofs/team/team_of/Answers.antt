@@ -1,7 +1,10 @@
-use Rattle.std.proofs.Common.{ℕ, subst}
+use Rattle.std.proofs.Common.{◌∙◌, ℕ, subst}
 use Rattle.std.specs.Prelude.{All}
 use Rattle.fz_team.specs.Members.{IsMember}
 use Rattle.fz_team.proofs.team.team_of.Goals as goal
+
+pub returns-clause-model : goal.returns-clause-model
+returns-clause-model g c = c.in_ok-model.ensures ∙ c.model.ensures.model
 
 pub returns-clause-team : goal.returns-clause-team
 returns-clause-team g c =

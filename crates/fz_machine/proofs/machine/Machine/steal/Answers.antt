@@ -1,6 +1,7 @@
 use Rattle.std.proofs.Common.{refl, subst}
 use Rattle.fz_core.specs.declared.event.Event.TheVariants as event
 use Rattle.fz_core.specs.declared.event.Outcome.TheVariants.{Moved}
+use Rattle.fz_path.specs.Paths.{bare}
 use Rattle.fz_core.specs.Cores.{Core, CoreLaw}
 use Rattle.fz_core.proofs.Keeping.{event_keeps}
 use Rattle.std.proofs.Common.{arith}
@@ -36,9 +37,9 @@ pub invariant_of-self-2 : goal.invariant_of-self-2
 invariant_of-self-2 g c =
     let s : Core = record { workers = c.self.inside.workers.items; book = c.self.inside.book.book } in
     event_keeps (event.Steal c.args.victim c.args.thief) Moved c.args.self.now _ (subst CoreLaw c.self.view_is c.self.invariant)
-    (refl, steal_code s c.args.self.now c.args.victim c.args.thief c.index_mut.result.now c.cut.new.self c.index_mut-2.result.now c.behind-self.inside.path c.behind-self.inside.hand c.in_ok-task.task c.cut.new.book.book c.self.view_is c.requires c.index_mut.ensures.value c.in_ok-task.ensures.cut c.index_mut-2.ensures.value c.behind-self.view_is)
+    (refl, steal_code s c.args.self.now c.args.victim c.args.thief c.index_mut.result.now c.cut.new.self c.index_mut-2.result.now (bare c.behind-self.inside.path) c.behind-self.inside.hand c.in_ok-task.task c.cut.new.book.book c.self.view_is c.requires c.index_mut.ensures.value c.in_ok-task.ensures.cut c.index_mut-2.ensures.value c.behind-self.view_is)
 
 pub returns-clause-ok : goal.returns-clause-ok
 returns-clause-ok g c =
     let s : Core = record { workers = c.self.inside.workers.items; book = c.self.inside.book.book } in
-    (refl, steal_code s c.args.self.now c.args.victim c.args.thief c.index_mut.result.now c.cut.new.self c.index_mut-2.result.now c.behind-self.inside.path c.behind-self.inside.hand c.in_ok-task.task c.cut.new.book.book c.self.view_is c.requires c.index_mut.ensures.value c.in_ok-task.ensures.cut c.index_mut-2.ensures.value c.behind-self.view_is)
+    (refl, steal_code s c.args.self.now c.args.victim c.args.thief c.index_mut.result.now c.cut.new.self c.index_mut-2.result.now (bare c.behind-self.inside.path) c.behind-self.inside.hand c.in_ok-task.task c.cut.new.book.book c.self.view_is c.requires c.index_mut.ensures.value c.in_ok-task.ensures.cut c.index_mut-2.ensures.value c.behind-self.view_is)

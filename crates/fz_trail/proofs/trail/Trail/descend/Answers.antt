@@ -1,4 +1,4 @@
-use Rattle.fz_trail.proofs.Trails.{kept_deeper}
+use Rattle.fz_trail.proofs.Trails.{kept_deeper, above_last}
 use Rattle.fz_trail.proofs.Places.{near_deeper}
 use Rattle.fz_trail.proofs.trail.Trail.descend.Goals as goal
 
@@ -9,5 +9,5 @@ returns-clause-trail g c = λ m known es e at near t. record {
   copies = kept_deeper g.S.SearchSpace.spaced m known es e 0 c.args.self.now.copies.items t.copies;
   few = t.few;
   near = near_deeper c.args.self.now.distance c.args.self.now.sparse es e c.args.self.now.copies.items near t.near;
-  current = at;
+  current = above_last m known es e (g.S.SearchSpace.spaced c.args.space) at;
 }

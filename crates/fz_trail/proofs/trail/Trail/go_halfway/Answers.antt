@@ -11,10 +11,10 @@ returns-clause-copies g c =
 pub returns-clause-space : goal.returns-clause-space
 returns-clause-space g c = λ m known kept. record {
   above = (half_within c.args.kept.depth (length c.args.edges.now) c.requires.long.1).1;
-  is_at = c.in_ok-space.ensures m known kept;
+  is_at = c.in_ok-space.ensures.space m known kept;
 }
 
 pub returns-clause-kept : goal.returns-clause-kept
 returns-clause-kept g c = λ m known kept above t.
     trail_between g.S.SearchSpace.spaced m known c.args.edges.now c.args.self.now c.put.new.self c.args.kept.depth (half_down c.args.kept.depth (length c.args.edges.now)) c.in_ok-space.space c.put.ensures.rest c.put.ensures.distances
-    c.in_ok-put.ensures.copies c.requires.long refl (c.in_ok-space.ensures m known kept) above t
+    c.in_ok-put.ensures.copies c.requires.long refl (c.in_ok-space.ensures.space m known kept) above t

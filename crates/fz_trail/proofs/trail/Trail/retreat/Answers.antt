@@ -1,4 +1,4 @@
-use Rattle.std.proofs.Common.{List, arith, subst, sym, Option, IfSome}
+use Rattle.std.proofs.Common.{◌-◌, List, length, take, arith, subst, sym, Option, IfSome}
 use Rattle.fz_trail.specs.Nodes.{IsAt}
 use Rattle.fz_trail.specs.Places.{AreLeftDownTo}
 use Rattle.fz_trail.specs.Trails.{AreKept}
@@ -24,5 +24,5 @@ returns-clause-trail g c = λ m known es is t.
       copies = kept_beside spaced m known es fs depth 0 new (retreat_code es fs depth c.count_above-depth.ensures is) (omega (arith, c.count_above-depth.ensures)) (c.drop_below.ensures.above m known es t.copies) front;
       few = few_left depth old new left t.few;
       near = near_left distance c.args.self.now.sparse es fs depth old new is c.count_above-depth.ensures left t.near;
-      current = subst (λ (o : Option _). IfSome o (λ s. IsAt m known fs (spaced s))) (sym c.drop_current.ensures) tt;
+      current = subst (λ (o : Option _). IfSome o (λ s. IsAt m known (take (length fs - 1) fs) (spaced s))) (sym c.drop_current.ensures) tt;
     }
