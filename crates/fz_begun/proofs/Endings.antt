@@ -14,8 +14,10 @@ use Rattle.fz_spec.specs.Run.{PrintsAll, block, blocks, closing}
 use Rattle.fz_tree.proofs.Counts.{one_if, count_append}
 use Rattle.fz_cmd.specs.Meaning.{Options}
 use Rattle.fz_print.specs.Ending.{statistics_text}
-use Rattle.fz_runs.specs.Runs.{AreSome, PrintsWanted, PrintsGoal, PrintsFor, wanted, counted}
+use Rattle.fz_model.specs.Kept.{IsModel}
+use Rattle.fz_runs.specs.Runs.{AreSome, PrintsWanted, PrintsGoal, PrintsFor, wanted, counted, certified}
 use Rattle.fz_begun.specs.Begun.{IsBelow, AreFound, AreBegun, IsShort, CanEnd}
+use Rattle.fz_begun.proofs.Certifying.{certifiable, certificate_exists}
 use Rattle.fz_begun.proofs.Extensions.{ListsAll, lists_all, GoesUp, goes_up_from}
 
 -- ---- pieces of a list
@@ -141,13 +143,21 @@ shows o m (Maximize t) l begun =
 front_some : (front end : List ℕ) → 0 < length front → 0 < length (front ++ end)
 front_some front end h = omega (arith, h, length-append front end)
 
-pub can_end : (o : Options) (m : Instance) (l : List (List ℤ)) → AreBegun m.goal o m l → CanEnd o m l
-can_end o m l begun =
+pub can_end : (o : Options) (m : Instance) (l : List (List ℤ)) → IsModel m → AreBegun m.goal o m l → CanEnd o m l
+can_end o m l is begun =
     let s = shows o m m.goal l begun in
     let behind = statistics_text (counted o.stats s.listed) in
+    let certificate = certificate_exists m (certified o.certificate m.goal s.listed) is (certifiable m o s.listed (blocks m l ++ s.rest) s.prints) in
+    let parted : (blocks m l ++ s.rest) ++ behind ≡ blocks m l ++ (s.rest ++ behind) = append_assoc (blocks m l) s.rest behind in
     record {
       listed = s.listed;
-      more = s.rest ++ behind;
-      run = record { shown = blocks m l ++ s.rest; prints = s.prints; text = sym (append_assoc (blocks m l) s.rest behind) };
-      some = λ short. front_some s.rest behind (s.some short);
+      more = (s.rest ++ behind) ++ certificate.0;
+      run = record {
+        shown = blocks m l ++ s.rest;
+        prints = s.prints;
+        certificate = certificate.0;
+        certifies = certificate.1;
+        text = sym (append_assoc (blocks m l) (s.rest ++ behind) certificate.0) ∙ ap (λ u. u ++ certificate.0) (sym parted);
+      };
+      some = λ short. front_some (s.rest ++ behind) certificate.0 (front_some s.rest behind (s.some short));
     }

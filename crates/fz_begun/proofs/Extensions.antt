@@ -9,7 +9,7 @@ use Rattle.fz_tree.proofs.Counts.{one_if, count_append, count_cons}
 use Rattle.fz_tree.proofs.Same.{same_means, same_self, all_push}
 use Rattle.fz_tree.proofs.Orders.{better_transitive}
 use Rattle.fz_runs.specs.Runs.{EndsBest}
-use Rattle.fz_begun.proofs.Decisions.{satisfies, better}
+use Rattle.fz_certain.proofs.Decisions.{satisfies, better}
 use Rattle.fz_begun.proofs.Among.{IsAmong, declared_among}
 
 -- ---- all solutions

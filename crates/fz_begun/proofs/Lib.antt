@@ -1,5 +1,5 @@
-pub mod Decisions
 pub mod Among
 pub mod Extensions
+pub mod Certifying
 pub mod Endings
 pub mod Recorded

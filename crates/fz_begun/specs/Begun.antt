@@ -5,6 +5,9 @@ use Rattle.fz_spec.specs.declared.goal.Goal.{Goal}
 use Rattle.fz_spec.specs.declared.goal.Goal.TheVariants.{Satisfy, Minimize, Maximize}
 use Rattle.fz_spec.specs.Instance.{Instance, Satisfies, AreImproving, occurrences}
 use Rattle.fz_spec.specs.Run.{blocks}
+use Rattle.fz_model.specs.Kept.{IsModel}
+use Rattle.fz_refutes.specs.Texts.{IsHead}
+use Rattle.fz_refutes.specs.Makers.{HasNoBetter}
 use Rattle.fz_cmd.specs.Meaning.{Options}
 use Rattle.fz_runs.specs.Runs.{IsRunText, wanted}
 
@@ -50,4 +53,9 @@ pub record CanEnd (o : Options) (m : Instance) (l : List (List ℤ)) : Type 0 wh
   pub some : IsShort m.goal o (length l) → 0 < length more
 
 abbrev pub BegunCanEnd : Type 0
-BegunCanEnd = (o : Options) (m : Instance) (l : List (List ℤ)) → AreBegun m.goal o m l → CanEnd o m l
+BegunCanEnd = (o : Options) (m : Instance) (l : List (List ℤ)) → IsModel m → AreBegun m.goal o m l → CanEnd o m l
+
+-- what is to be certified holds: an assignment is best, or none satisfies
+abbrev pub IsCertifiable : Instance → Option (Option (List ℤ)) → Type 0
+IsCertifiable m None = Unit {0}
+IsCertifiable m (Some head) = IsHead m head × HasNoBetter m head

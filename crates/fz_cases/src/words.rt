@@ -15,6 +15,7 @@ struct Given {
     adaptive_distance: u32,
     interleave: Option<u64>,
     stats: bool,
+    certificate: bool,
     generate: Option<u32>,
     file: &'static str,
 }
@@ -29,11 +30,12 @@ const NONE: Given = Given {
     adaptive_distance: 2,
     interleave: None,
     stats: false,
+    certificate: false,
     generate: None,
     file: "-",
 };
 
-const GIVEN: [Given; 20] = [
+const GIVEN: [Given; 22] = [
     NONE,
     Given {
         words: &["-a", "-"],
@@ -123,6 +125,18 @@ const GIVEN: [Given; 20] = [
         ..NONE
     },
     Given {
+        words: &["--certificate"],
+        certificate: true,
+        ..NONE
+    },
+    Given {
+        words: &["-p", "2", "--certificate", "m.fzn"],
+        workers: 2,
+        certificate: true,
+        file: "m.fzn",
+        ..NONE
+    },
+    Given {
         words: &["--generate", "1"],
         generate: Some(1),
         ..NONE
@@ -141,7 +155,7 @@ const GIVEN: [Given; 20] = [
     },
 ];
 
-const REFUSED: [&[&str]; 31] = [
+const REFUSED: [&[&str]; 36] = [
     &["-a", "-a"],
     &["-n"],
     &["-n", "-1"],
@@ -169,6 +183,11 @@ const REFUSED: [&[&str]; 31] = [
     &["--generate", "4", "m.fzn"],
     &["--generate", "4", "-"],
     &["-s", "-s"],
+    &["--certificate", "-a"],
+    &["-n", "1", "--certificate"],
+    &["--certificate", "-s"],
+    &["--certificate", "--generate", "4"],
+    &["--certificate", "--certificate"],
     &["--all"],
     &["-z"],
     &["--help"],
@@ -191,6 +210,7 @@ fn is_given(options: &Options, given: &Given) -> bool {
         && options.adaptive_distance() == given.adaptive_distance
         && options.interleave() == given.interleave
         && options.stats() == given.stats
+        && options.certificate() == given.certificate
         && options.generate() == given.generate
         && options.file().as_str() == given.file
 }

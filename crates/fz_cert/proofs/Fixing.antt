@@ -11,8 +11,8 @@ use Rattle.fz_sets.specs.Sets.{single}
 use Rattle.fz_dom.specs.Shape.{least}
 use Rattle.fz_spec.specs.declared.term.Term.{Term}
 use Rattle.std.proofs.lemmas.Bool.{cases_eq}
-use Rattle.fz_cert.specs.Smalls.{HasFixed}
-use Rattle.fz_cert.proofs.Agreeing.{value_put, value_kept}
+use Rattle.fz_refutes.specs.Smalls.{HasFixed}
+use Rattle.fz_refutes.proofs.Agreeing.{value_put, value_kept}
 
 -- each has its number, and there is room for one of each variable
 pub record AreFixed (box : List (List (ℤ × ℤ))) (a : List ℤ) (vs : List ℕ) : Type 0 where

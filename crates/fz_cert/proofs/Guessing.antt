@@ -15,7 +15,8 @@ use Rattle.fz_refutes.specs.Texts.{comment, line_text}
 use Rattle.fz_cert.specs.declared.step.Step.{Step}
 use Rattle.fz_cert.specs.declared.step.Step.TheVariants as steps
 use Rattle.fz_cert.specs.Guesses.{EndsWord, IsInWord, HasWords, IsGuessed}
-use Rattle.fz_cert.proofs.Wording.{decimal_word, signed_word, word_fits, word_limits}
+use Rattle.fz_cert.proofs.Wording.{decimal_word, signed_word, word_fits}
+use Rattle.fz_refutes.proofs.Within.{word_limits}
 
 -- ---- what stands behind a piece
 

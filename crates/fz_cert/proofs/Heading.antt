@@ -1,26 +1,24 @@
 -- Where a certificate begins in an output, and the values of its head.
 use Rattle.std.proofs.Common.{◌≡◌, ℕ, zero, suc, ◌+◌, ◌<◌, ◌^◌, List, [], ◌∷◌, ◌++◌, refl, sym, ap, subst, ◌∙◌, arith, length, take, drop, get_or, append_assoc, codes}
-use Rattle.std.specs.Prelude.{ℤ, pos, decimal, Option, Some, None, flat_map, slice_get}
+use Rattle.std.specs.Prelude.{ℤ, decimal, Option, Some, None, flat_map, slice_get}
 use Rattle.std.specs.Fmt.{signed_decimal}
 use Rattle.std.specs.List.{AllByRecursion}
-use Rattle.std.proofs.lemmas.Int.{ints}
 use Rattle.std.specs.Int.{w32}
 use Rattle.std.proofs.Common.{to_z, of_z}
 use Rattle.std.proofs.Math.Facts.{to_z-of_z}
-use Rattle.fz_sets.specs.Sets.{IsWithinLimits, IsInSet}
+use Rattle.fz_sets.specs.Sets.{IsWithinLimits}
 use Rattle.fz_sets.proofs.Lists.{all_both}
-use Rattle.fz_dom.proofs.Ranges.{within_limits}
-use Rattle.fz_spec.specs.declared.kind.Kind.{Kind}
-use Rattle.fz_spec.specs.declared.kind.Kind.TheVariants as kinds
 use Rattle.fz_spec.specs.Constraints.{Constraint}
 use Rattle.fz_spec.specs.Instance.{Instance, Variable, AreDeclared}
-use Rattle.fz_model.specs.Kept.{IsModel, IsVariable, HasSetOf, AreNumbers}
+use Rattle.fz_model.specs.Kept.{IsModel, IsVariable, AreNumbers}
 use Rattle.fz_refutes.specs.Boxes.{declared_box, low_half, high_half}
 use Rattle.fz_refutes.specs.Refuted.{RefutesIfThere}
+use Rattle.fz_refutes.proofs.Insides.{declared_length}
 use Rattle.fz_refutes.specs.Trees.{Tree, Empty, Failing, Worse, Split, IsRefutedBy, Line, IsEmpty, Fails, IsBehind, Splits, lines_of, AreRefutedBy}
 use Rattle.fz_refutes.specs.Texts.{comment, line_text, head_text, lines_text, front_text, IsHead, ProvesHead}
 use Rattle.fz_cert.specs.Guesses.{AreBeforeZ, EndsWord, HasWords}
-use Rattle.fz_cert.proofs.Wording.{IsOfNumber, all_weaker, decimal_bytes, signed_bytes, word_fits, word_limits}
+use Rattle.fz_cert.proofs.Wording.{IsOfNumber, all_weaker, decimal_bytes, signed_bytes, word_fits}
+use Rattle.fz_refutes.proofs.Within.{set_limits, word_limits}
 
 -- ---- values, a blank before each
 
@@ -133,16 +131,6 @@ first_words m head (box ∷ boxes) IsBehind lines is out = tt
 first_words m head (box ∷ boxes) (Splits v n) lines is out = let few = is.few in let less = out.0.0 in (omega (arith, few, less), out.0.1)
 
 -- ---- the values of a declared assignment
-
-pub declared_length : (vs : List Variable) (a : List ℤ) → AreDeclared vs a → length a ≡ length vs
-declared_length [] [] are = refl
-declared_length [] (x ∷ xs) are = absurd are
-declared_length (v ∷ vs) [] are = absurd are
-declared_length (v ∷ vs) (x ∷ xs) are = ap suc (declared_length vs xs are.1)
-
-set_limits : (kind : Kind) (set : List (ℤ × ℤ)) (x : ℤ) → HasSetOf kind set → IsInSet set x → IsWithinLimits x
-set_limits kinds.Bool set x is inside = within_limits ((pos 0, pos 1) ∷ []) x ((omega (arith, ints), omega (arith, ints)), (omega (arith, ints), omega (arith, ints)), tt) (subst (λ (s : List (ℤ × ℤ)). IsInSet s x) is inside)
-set_limits kinds.Int set x is inside = within_limits set x is.within inside
 
 pub declared_numbers : (vs : List Variable) (a : List ℤ) → AllByRecursion IsVariable vs → AreDeclared vs a → AreNumbers a
 declared_numbers [] [] fits are = tt

@@ -5,8 +5,7 @@ mod Calls
 mod Reading
 mod Proving
 mod Trying
-mod Agreeing
-mod Opening
+mod Counting
 mod Fixing
 mod Wording
 mod Guessing

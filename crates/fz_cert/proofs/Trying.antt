@@ -10,7 +10,7 @@ use Rattle.fz_dom.proofs.Ranges.{within_limits}
 use Rattle.fz_dom.specs.Shape.{IsNextFrom, IsNextAbove, IsNoneFrom, IsNoneAbove}
 use Rattle.fz_spec.specs.Constraints.{Constraint}
 use Rattle.fz_refutes.specs.Boxes.{set_at}
-use Rattle.fz_cert.specs.Smalls.{NeverFrom}
+use Rattle.fz_refutes.specs.Smalls.{NeverFrom}
 
 -- below the next number, which is in the set; or anywhere, where there is none
 abbrev pub IsPast : Option ℤ → ℤ → Type 0

@@ -11,7 +11,6 @@ use Rattle.std.proofs.lemmas.Fmt.{decimal_by_steps, parse-decimal, parse-signed_
 use Rattle.std.proofs.lemmas.Str.{IsUtf8-from_ascii}
 use Rattle.std.proofs.lemmas.Int.{ints}
 use Rattle.fz_sets.proofs.Lists.{all_both}
-use Rattle.fz_sets.specs.Sets.{IsWithinLimits}
 use Rattle.fz_refutes.specs.Boxes.{IsWord}
 use Rattle.fz_cert.specs.Guesses.{EndsWord, IsInWord}
 
@@ -110,7 +109,3 @@ signed_text n word small is = IsUtf8-from_ascii word (subst IsAscii (sym is) (Is
 
 pub signed_parsed : {E : Type 0} (n : ℤ) (word digits : List ℕ) (r : Result ℤ E) → IsWord n → word ≡ signed_decimal n → digits ≡ word → ParsesSigned w32 10 digits r → result_ok r ≡ Some n
 signed_parsed n word digits r small is same parses = ap result_ok (parse-signed_decimal w32 n digits r (word_fits n small) (small_mag n small) (same ∙ is) parses)
-
-pub word_limits : (n : ℤ) → IsWithinLimits n → IsWord n
-word_limits (pos n) is = let high = is.1 in (omega (arith, ints), omega (arith, ints, high))
-word_limits (negsuc n) is = let low = is.0 in (omega (arith, ints, low), omega (arith, ints))

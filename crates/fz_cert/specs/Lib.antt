@@ -1,4 +1,3 @@
 pub mod Walks
 pub mod Steps
-pub mod Smalls
 pub mod Guesses

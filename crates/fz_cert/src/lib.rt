@@ -1,19 +1,20 @@
 //! The checker of certificates: whether an output proves that its last block is best, or that no assignment satisfies.
+//! The boxes, walks and lines of certificates stand here, too, for what makes them.
 //! It stands on the definitions, on domains and models, and on the judge of constraints; on no propagation and no search.
 #![tactic(auto)]
 
 pub mod area;
 pub mod checker;
-mod ends;
+pub mod ends;
 mod guess;
 mod half;
 pub mod refute;
 mod small;
-mod step;
-mod text;
+pub mod step;
+pub mod text;
 mod tree;
-mod variables;
-mod walk;
+pub mod variables;
+pub mod walk;
 mod word;
 
 pub use area::Area;

@@ -5,7 +5,7 @@ ghost use Rattle.fz_sets.specs.Sets.{set_size};
 ghost use Rattle.fz_model.specs.Arguments.{argument_of};
 ghost use Rattle.fz_refutes.specs.Boxes.{set_at};
 ghost use Rattle.fz_refutes.specs.Refuted.{IsEmptyAmong, choices_of, open_after, terms_of, variable_of, variables_of, with_open};
-ghost use Rattle.fz_cert.specs.Smalls.{HasFixed};
+ghost use Rattle.fz_refutes.specs.Smalls.{HasFixed};
 
 use crate::area::Area;
 use crate::ends::is_none_of;
@@ -119,7 +119,7 @@ fn add_open(
 }
 
 /// How many numbers are left of a variable.
-fn size_at(area: &Area, variable: u32) -> u64
+pub fn size_at(area: &Area, variable: u32) -> u64
     ensures size { result ≡ set_size (set_at area.now variable) }
     ensures bound { result ≤ 4294967293 }
 {

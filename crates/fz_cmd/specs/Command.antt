@@ -40,6 +40,10 @@ interleave_rule = number_rule (codes "interleave") 0 18446744073709551615
 abbrev pub stats_rule : Rule
 stats_rule = record (new_rule (codes "stats")) { short = Some 115; action = Some SetTrue }
 
+-- --certificate
+abbrev pub certificate_rule : Rule
+certificate_rule = record (new_rule (codes "certificate")) { long = Some (codes "certificate"); action = Some SetTrue }
+
 -- --generate 1..1000
 abbrev pub generate_rule : Rule
 generate_rule = number_rule (codes "generate") ITEMS_LEAST ITEMS_MOST
@@ -53,4 +57,4 @@ abbrev pub plain_app : App
 plain_app = on_top (λ s. record s { no_binary_name = true; disable_help_flag = true }) (new_app (codes "fzn"))
 
 abbrev pub fzn_app : App
-fzn_app = fold with_rule plain_app (all_rule ∷ limit_rule ∷ workers_rule ∷ distance_rule ∷ adaptive_rule ∷ interleave_rule ∷ stats_rule ∷ generate_rule ∷ file_rule ∷ [])
+fzn_app = fold with_rule plain_app (all_rule ∷ limit_rule ∷ workers_rule ∷ distance_rule ∷ adaptive_rule ∷ interleave_rule ∷ stats_rule ∷ certificate_rule ∷ generate_rule ∷ file_rule ∷ [])

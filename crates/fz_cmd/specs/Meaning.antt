@@ -1,5 +1,5 @@
 -- What the words of a command line mean.
-use Rattle.std.specs.Prelude.{ℕ, Bool, false, ◌≤◌, ◌&&◌, Option, Some, None, IfSome, List, codes, cond, bytes_eq, is_some, option_map, option_and_then, unwrap_or}
+use Rattle.std.specs.Prelude.{ℕ, Bool, false, ◌≤◌, ◌&&◌, ◌||◌, Option, Some, None, IfSome, List, codes, cond, bytes_eq, is_some, option_map, option_and_then, unwrap_or}
 use Rattle.std.specs.Option.{option_map_or}
 use Rattle.std.specs.Str.Parse.{digits_value, without_leading_plus}
 use Rattle.clap.specs.Words.{Row, Text, first_of, matches_of, fault_of}
@@ -11,7 +11,7 @@ use Rattle.fz_cmd.specs.declared.options.TheConstants.{ADAPTIVE_DISTANCE, ADAPTI
 use Rattle.fz_cmd.specs.Command.{fzn_app}
 
 -- All solutions or not, how many of them, by how many workers, the commit distance, the adaptive distance, the seed of the workers' turns,
--- whether statistics are printed, of how many items a model is generated, and the text that is read.
+-- whether statistics are printed, whether a certificate is, of how many items a model is generated, and the text that is read.
 pub record Options : Type 0 where
   pub all : Bool
   pub limit : Option ℕ
@@ -20,6 +20,7 @@ pub record Options : Type 0 where
   pub adaptive_distance : ℕ
   pub interleave : Option ℕ
   pub stats : Bool
+  pub certificate : Bool
   pub generate : Option ℕ
   pub file : List ℕ
 
@@ -73,9 +74,14 @@ numbers_of rows =
     (number_at rows (codes "workers") WORKERS_LEAST WORKERS_MOST))
     (number_at rows (codes "limit") 0 4294967295)
 
--- the options that the numbers, the flags and the name of a file give; where a model is generated no file may be named
+-- A certificate is of one best solution of a model that is read, or of none, and nothing else is printed behind it.
+abbrev pub suits_no_certificate : List Row → Numbers → Bool
+suits_no_certificate rows n = is_on (codes "all") rows || is_some n.limit || is_on (codes "stats") rows || is_some n.generate
+
+-- The options that the numbers, the flags and the name of a file give. Where a model is generated no file may be named; beside a certificate
+-- stands no option that it doesn't suit.
 abbrev pub with_file : List Row → Numbers → Option Text → Option Options
-with_file rows n file = cond (is_some n.generate && is_some file) None (Some (record {
+with_file rows n file = cond ((is_some n.generate && is_some file) || (is_on (codes "certificate") rows && suits_no_certificate rows n)) None (Some (record {
   all = is_on (codes "all") rows;
   limit = n.limit;
   workers = n.workers;
@@ -83,6 +89,7 @@ with_file rows n file = cond (is_some n.generate && is_some file) None (Some (re
   adaptive_distance = n.adaptive_distance;
   interleave = n.interleave;
   stats = is_on (codes "stats") rows;
+  certificate = is_on (codes "certificate") rows;
   generate = n.generate;
   file = unwrap_or file (codes "-");
 }))

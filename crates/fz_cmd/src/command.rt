@@ -1,7 +1,7 @@
 //! The command that clap reads the words by.
 ghost use Rattle.std.specs.Prelude.{◌≡◌, false, IfOk, map, string_bytes};
 ghost use Rattle.clap.specs.Words.{app_of, rule_of, rows_of, found_of, matches_of, fault_of, FailsBy};
-ghost use Rattle.fz_cmd.specs.Command.{all_rule, limit_rule, workers_rule, number_rule, stats_rule, file_rule, plain_app, fzn_app};
+ghost use Rattle.fz_cmd.specs.Command.{all_rule, limit_rule, workers_rule, number_rule, stats_rule, certificate_rule, file_rule, plain_app, fzn_app};
 
 use crate::options::{
     ADAPTIVE_DISTANCE_LEAST, ADAPTIVE_DISTANCE_MOST, COMMIT_DISTANCE_LEAST, COMMIT_DISTANCE_MOST,
@@ -63,6 +63,16 @@ fn stats_arg<'a>(alloc: Global) -> Arg<'a>
         .action(ArgAction::SetTrue)
 }
 
+/// `--certificate`
+fn certificate_arg<'a>(alloc: Global) -> Arg<'a>
+    ensures rule { rule_of result ≡ certificate_rule }
+    ensures local { result.global ≡ false }
+{
+    Arg::new(alloc, "certificate")
+        .long("certificate")
+        .action(ArgAction::SetTrue)
+}
+
 /// FILE
 fn file_arg<'a>(alloc: Global) -> Arg<'a>
     ensures rule { rule_of result ≡ file_rule }
@@ -100,6 +110,7 @@ fn command<'a>(alloc: Global) -> Result<Command<'a>, AllocError>
     );
     let interleave = number_arg(alloc, "interleave", 0, u64::MAX);
     let stats = stats_arg(alloc);
+    let certificate = certificate_arg(alloc);
     let generate = number_arg(alloc, "generate", ITEMS_LEAST as u64, ITEMS_MOST as u64);
     let file = file_arg(alloc);
     let with_all = plain(alloc).arg(all)?;
@@ -109,7 +120,8 @@ fn command<'a>(alloc: Global) -> Result<Command<'a>, AllocError>
     let with_adaptive = with_distance.arg(adaptive)?;
     let with_interleave = with_adaptive.arg(interleave)?;
     let with_stats = with_interleave.arg(stats)?;
-    let with_generate = with_stats.arg(generate)?;
+    let with_certificate = with_stats.arg(certificate)?;
+    let with_generate = with_certificate.arg(generate)?;
     let with_file = with_generate.arg(file)?;
     Ok(with_file)
 }

@@ -36,6 +36,7 @@ pub struct Options {
     pub(crate) adaptive_distance: u32,
     pub(crate) interleave: Option<u64>,
     pub(crate) stats: bool,
+    pub(crate) certificate: bool,
     pub(crate) generate: Option<u32>,
     pub(crate) file: Name,
 }
@@ -103,6 +104,13 @@ impl Options {
         ensures { result ≡ self.now.stats }
     {
         self.stats
+    }
+
+    /// Whether `--certificate` was given: a certificate behind a best solution, or behind the line that says that there is none.
+    pub fn certificate(&self) -> bool
+        ensures { result ≡ self.now.certificate }
+    {
+        self.certificate
     }
 
     /// The number of `--generate`: no text is read, but a model of so many items generated.

@@ -67,7 +67,10 @@ fn with_file(
     ensures { IfOk result (λ r. r ≡ meaning.with_file (rows_of (found_of matches.now)) numbers
         (option_map (λ s. s.now) file.entry)) }
 {
-    if numbers.generate.is_some() && file.is_some() {
+    let certificate = is_on(matches, "certificate");
+    if numbers.generate.is_some() && file.is_some()
+        || certificate && suits_no_certificate(matches, numbers)
+    {
         return Ok(None);
     }
     let file = Name::new(alloc, file.unwrap_or("-"))?;
@@ -79,9 +82,20 @@ fn with_file(
         adaptive_distance: numbers.adaptive_distance,
         interleave: numbers.interleave,
         stats: is_on(matches, "stats"),
+        certificate,
         generate: numbers.generate,
         file,
     }))
+}
+
+/// Whether an option was given that a certificate can't stand beside.
+fn suits_no_certificate(matches: &ArgMatches<'_>, numbers: Numbers) -> bool
+    ensures { result ≡ meaning.suits_no_certificate (rows_of (found_of matches.now)) numbers }
+{
+    is_on(matches, "all")
+        || numbers.limit.is_some()
+        || is_on(matches, "stats")
+        || numbers.generate.is_some()
 }
 
 /// The numbers that the matches give, each within its bounds.

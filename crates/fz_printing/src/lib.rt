@@ -3,4 +3,4 @@
 
 pub mod printer;
 
-pub use printer::{Stop, print_blocks, print_end, print_refusal, print_run};
+pub use printer::{Stop, print_blocks, print_end, print_refusal, print_run, put};

@@ -277,7 +277,8 @@ pub fn print_refusal<S: Sink>(alloc: Global, sink: &mut S, refused: &Refusal) ->
     }
 }
 
-fn put<S: Sink>(sink: &mut S, piece: &[u8]) -> Result<(), Stop>
+/// Prints one piece.
+pub fn put<S: Sink>(sink: &mut S, piece: &[u8]) -> Result<(), Stop>
     requires { S.faults sink.old < 2 ^ 64 - 1 }
     ensures taken { OnOk result (S.taken sink.new ≡ with_more (S.taken sink.old) piece.now) }
     ensures front { OnErr result (TakesFront piece.now (S.taken sink.old) (S.taken sink.new)) }

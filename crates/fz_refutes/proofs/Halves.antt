@@ -8,10 +8,10 @@ use Rattle.fz_dom.proofs.Ranges.{AreRanges-head, AreRanges-tail, above_gap}
 use Rattle.fz_refutes.specs.Boxes.{up_to, above}
 
 -- an interval is a range or nothing
-whole : (l u : ℤ) → l ≤ℤ u → interval l u ≡ (l, u) ∷ []
+pub whole : (l u : ℤ) → l ≤ℤ u → interval l u ≡ (l, u) ∷ []
 whole l u h = let t : int_le l u ≡ true = grind (arith, ints) in rw t refl
 
-none : (l u : ℤ) → u <ℤ l → interval l u ≡ []
+pub none : (l u : ℤ) → u <ℤ l → interval l u ≡ []
 none l u h = let t : int_le l u ≡ false = grind (arith, ints) in rw t refl
 
 -- a range before ranges that lie above it

@@ -21,6 +21,12 @@ declared_in [] (x ∷ xs) i = i
 declared_in (v ∷ vs) [] i = i
 declared_in (v ∷ vs) (x ∷ xs) i = (i.0, declared_in vs xs i.1)
 
+pub declared_length : (vs : List Variable) (a : List ℤ) → AreDeclared vs a → length a ≡ length vs
+declared_length [] [] are = refl
+declared_length [] (x ∷ xs) are = absurd are
+declared_length (v ∷ vs) [] are = absurd are
+declared_length (v ∷ vs) (x ∷ xs) are = ap suc (declared_length vs xs are.1)
+
 in_single : (x : ℤ) → IsInSet (single x) x
 in_single x = inl (omega (arith, ints), omega (arith, ints))
 

@@ -3,3 +3,5 @@ pub mod Refuted
 pub mod Trees
 pub mod Texts
 pub mod Laws
+pub mod Smalls
+pub mod Makers

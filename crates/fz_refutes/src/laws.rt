@@ -1,5 +1,6 @@
 //! Laws that the definitions keep: each is the clause of a function that does nothing, so that the clause is proved.
 ghost use Rattle.fz_refutes.specs.Laws.{RefutedHasNone, BestIsProved, NoneIsProved, ProvingShows, CertProves, CertIsOne, LinesAreChecked, CheckedIsRefuted};
+ghost use Rattle.fz_refutes.specs.Makers.{SomeIsOpen, FitsBefore, FitsShorten, TreesCertify};
 
 /// Where a tree refutes a box, no assignment in the box satisfies and betters the head.
 pub fn refuted_has_none()
@@ -39,4 +40,24 @@ pub fn lines_are_checked()
 /// What is refuted line by line is refuted by a tree of these lines.
 pub fn checked_is_refuted()
     ensures { CheckedIsRefuted }
+{}
+
+/// Where no other line fits a box, several numbers are left of some variable.
+pub fn some_is_open()
+    ensures { SomeIsOpen }
+{}
+
+/// A line that fits the first of some boxes, before the lines of trees of the boxes that it leaves, is of trees of them all.
+pub fn fits_before()
+    ensures { FitsBefore }
+{}
+
+/// Behind a line that fits fewer lines can come.
+pub fn fits_shorten()
+    ensures { FitsShorten }
+{}
+
+/// The lines of the tree of the declared sets make the certificate.
+pub fn trees_certify()
+    ensures { TreesCertify }
 {}

@@ -1,5 +1,5 @@
 -- What a run prints, by what is asked for.
-use Rattle.std.specs.Prelude.{◌≡◌, ◌⊎◌, ℕ, zero, suc, ◌<◌, ◌≤◌, ℤ, Bool, true, false, Option, Some, None, List, [], ◌∷◌, ◌++◌, length}
+use Rattle.std.specs.Prelude.{◌≡◌, ◌⊎◌, ℕ, zero, suc, ◌<◌, ◌≤◌, ◌-◌, ℤ, Bool, true, false, Option, Some, None, List, [], ◌∷◌, ◌++◌, length, slice_get}
 use Rattle.std.specs.List.{AllByRecursion}
 use Rattle.fz_spec.specs.Constraints.{term_value}
 use Rattle.fz_spec.specs.declared.term.Term.{Term}
@@ -7,6 +7,7 @@ use Rattle.fz_spec.specs.declared.goal.Goal.{Goal}
 use Rattle.fz_spec.specs.declared.goal.Goal.TheVariants.{Satisfy, Minimize, Maximize}
 use Rattle.fz_spec.specs.Instance.{Instance, Satisfies, AreImproving, IsBest, occurrences}
 use Rattle.fz_spec.specs.Run.{PrintsAll, blocks, closing}
+use Rattle.fz_refutes.specs.Texts.{IsCert}
 use Rattle.fz_cmd.specs.Meaning.{Options}
 use Rattle.fz_print.specs.Ending.{statistics_text, summary_text}
 
@@ -81,8 +82,24 @@ abbrev pub counted : Bool → List (List ℤ) → Option ℕ
 counted true l = Some (length l)
 counted false l = None
 
+-- What is certified where that is asked for: that the last of a list is best, or that nothing satisfies. Of a model without a goal solutions
+-- speak for themselves.
+abbrev pub certified : Bool → Goal → List (List ℤ) → Option (Option (List ℤ))
+certified false goal l = None
+certified true Satisfy [] = Some None
+certified true Satisfy (a ∷ l) = None
+certified true (Minimize goal) l = Some (slice_get l (length l - 1))
+certified true (Maximize goal) l = Some (slice_get l (length l - 1))
+
+-- the certificate of that, where there is something to certify
+abbrev pub IsCertificate : Instance → Option (Option (List ℤ)) → List ℕ → Type 0
+IsCertificate m None text = text ≡ []
+IsCertificate m (Some head) text = IsCert m head text
+
 -- the text of a whole run that lists these assignments, by the goal and the options
 pub record IsRunText (m : Instance) (o : Options) (l : List (List ℤ)) (printed : List ℕ) : Type 0 where
   pub shown : List ℕ
   pub prints : PrintsFor m.goal o m l shown
-  pub text : printed ≡ shown ++ statistics_text (counted o.stats l)
+  pub certificate : List ℕ
+  pub certifies : IsCertificate m (certified o.certificate m.goal l) certificate
+  pub text : printed ≡ (shown ++ statistics_text (counted o.stats l)) ++ certificate

@@ -1,6 +1,6 @@
 -- What is printed of a search that has ended.
-use Rattle.std.proofs.Common.{◌≡◌, ◌∙◌, ◌≤◌, arith, inl, inr, ℕ, List, ◌++◌, length, take, Option, None, Some, Result, Ok, Err, OnErr, Bool, true, false, refl, sym, ap, subst, append_assoc}
-use Rattle.std.specs.Prelude.{ℤ, IfOk, OnOk}
+use Rattle.std.proofs.Common.{◌≡◌, ◌≢◌, ◌∙◌, ◌≤◌, ◌-◌, arith, inl, inr, ℕ, List, [], ◌∷◌, ◌++◌, length, take, Option, None, Some, Result, Ok, Err, OnErr, Bool, true, false, refl, sym, ap, subst, append_assoc}
+use Rattle.std.specs.Prelude.{ℤ, IfOk, slice_get}
 use Rattle.fz_spec.specs.Instance.{Instance}
 use Rattle.fz_spec.specs.Run.{blocks}
 use Rattle.fz_spec.specs.declared.goal.Goal.{Goal}
@@ -8,18 +8,28 @@ use Rattle.fz_spec.specs.declared.goal.Goal.TheVariants.{Satisfy, Minimize, Maxi
 use Rattle.fz_spec.specs.declared.term.Term.{Term}
 use Rattle.fz_cmd.specs.Meaning.{Options}
 use Rattle.fz_print.specs.Ending.{statistics_text}
-use Rattle.fz_runs.specs.Runs.{counted}
+use Rattle.fz_model.specs.Kept.{IsModel}
+use Rattle.fz_tree.specs.declared.mode.Mode.{Mode}
+use Rattle.fz_tree.specs.declared.mode.Mode.TheVariants as modes
+use Rattle.fz_tree.specs.Better.{mode_of}
+use Rattle.fz_tree.specs.Book.{Book, BookLaw, incumbent, incumbent_of}
+use Rattle.fz_runs.specs.Runs.{IsCertificate, IsRunText, certified, counted}
+use Rattle.fz_begun.specs.Begun.{IsCertifiable}
+use Rattle.fz_begun.proofs.Certifying.{certifiable, certificate_exists}
 use Rattle.fz_io.specs.Outside.{with_more, with_more-none, with_more-with_more}
 use Rattle.fz_printing.specs.declared.printer.Stop.{Stop}
 use Rattle.fz_printing.specs.Texts.{TakesFront, best_text, end_text, ending, listing_text, run_text, shown_text}
-use Rattle.fz_printing.proofs.Fronts.{front_after}
+use Rattle.fz_printing.proofs.Fronts.{front_after, front_more}
+use Rattle.fz_certify.specs.Taken.{TakesOne, TakesFrontOfOne}
 use Rattle.fz_printer.specs.declared.printer.Printer.{Printer}
 use Rattle.fz_printer.specs.Printed.{as_found_of, book_of, due_among, due_of, printed_of, stopped_of, wanted_of, CountsMark, HasPrinted, HasPrintedAt}
-use Rattle.fz_search.specs.Searched.{enough_for, shows_found, HasEnded, IsPrinted, IsShown, PrintsAsAsked}
+use Rattle.fz_search.specs.Searched.{enough_for, first_shown, shows_found, HasEnded, IsPrinted, IsShown, PrintsAsAsked}
+use Rattle.fz_search.proofs.Searches.{all_due}
 use Rattle.fzn.specs.declared.status.Status.{Status}
 use Rattle.fzn.specs.declared.status.Status.TheVariants.{Done, SinkFault, NoMemory}
-use Rattle.fzn.specs.Steps.{Flushes, HasSearched, IsEnded, PrintsModel, Shows}
-use Rattle.fzn.proofs.Outcomes.{prints_wanted}
+use Rattle.fzn.specs.Steps.{Flushes, HasSearched, IsEnded, PrintsModel, ShowsFront, ShowsWhole, certified_after}
+use Rattle.fzn.proofs.Outcomes.{prints_front, prints_whole}
+use Rattle.fzn.proofs.Printed.{shown_prints}
 use Rattle.fzn.proofs.Stops.{asks_all}
 
 -- ---- what a search leaves, as the code says it
@@ -89,52 +99,113 @@ listed o p l complete before middle e is first h =
           }
     ]
 
-pub ends : (result : Result (Unit {0}) Stop) (o : Options) (p : Printer) (l : List (List ℤ)) (complete : Bool) (before middle after : Option (List ℕ)) → IsEnded o p → as_found_of p ≡ true
-    → IsShown (book_of p).model.goal o (book_of p).model l complete → IsFirst o p l
-    → OnOk result (after ≡ with_more middle (end_text o l complete)) → OnErr result (TakesFront (end_text o l complete) middle after) → HasPrinted p before middle → Shows result (book_of p).model o before after
-ends (Ok u) o p l complete before middle after e is shown first taken front h =
+-- the blocks and what stands behind them
+pub whole_behind : (o : Options) (p : Printer) (l : List (List ℤ)) (complete : Bool) (before middle after : Option (List ℕ)) → IsEnded o p → as_found_of p ≡ true → IsFirst o p l → HasPrinted p before middle
+    → after ≡ with_more middle (end_text o l complete) → after ≡ with_more before (run_text o (book_of p).model l complete)
+whole_behind o p l complete before middle after e is first h taken =
     let k = listed o p l complete before middle e is first h in
-    let m = (book_of p).model in
-    (l, complete, shown, taken ∙ ap (λ (t : Option (List ℕ)). with_more t (end_text o l complete)) k.printed ∙ with_more-with_more before (blocks m l) (end_text o l complete) ∙ ap (with_more before) (sym k.parted))
-ends (Err stop) o p l complete before middle after e is shown first taken front h =
+    taken ∙ ap (λ (t : Option (List ℕ)). with_more t (end_text o l complete)) k.printed ∙ with_more-with_more before (blocks (book_of p).model l) (end_text o l complete) ∙ ap (with_more before) (sym k.parted)
+
+-- and a front of that
+pub front_behind : (o : Options) (p : Printer) (l : List (List ℤ)) (complete : Bool) (before middle after : Option (List ℕ)) → IsEnded o p → as_found_of p ≡ true → IsFirst o p l → HasPrinted p before middle
+    → TakesFront (end_text o l complete) middle after → TakesFront (run_text o (book_of p).model l complete) before after
+front_behind o p l complete before middle after e is first h front =
     let k = listed o p l complete before middle e is first h in
-    let m = (book_of p).model in (
-      l,
-      complete,
-      shown,
-      subst (λ (u : List ℕ). TakesFront u before after) (sym k.parted)
-          (front_after (blocks m l) (end_text o l complete) before after (subst (λ (t : Option (List ℕ)). TakesFront (end_text o l complete) t after) k.printed front)),
-    )
+    subst (λ (u : List ℕ). TakesFront u before after) (sym k.parted)
+    (front_after (blocks (book_of p).model l) (end_text o l complete) before after (subst (λ (t : Option (List ℕ)). TakesFront (end_text o l complete) t after) k.printed front))
 
 -- ---- where nothing was printed on the way
 
-untaken : (o : Options) (p : Printer) (before middle : Option (List ℕ)) → IsEnded o p → as_found_of p ≡ false → HasPrinted p before middle → middle ≡ before
+pub untaken : (o : Options) (p : Printer) (before middle : Option (List ℕ)) → IsEnded o p → as_found_of p ≡ false → HasPrinted p before middle → middle ≡ before
 untaken o p before middle e not h =
     let b = book_of p in
     let none : due_of p ≡ 0 = ap (λ f. due_among f (wanted_of p) (length b.recorded)) not in
     printed_whole o p before middle e h ∙ ap (λ n. with_more before (blocks b.model (take n b.recorded))) none ∙ with_more-none before
 
-pub prints_all : (result : Result (Unit {0}) Stop) (o : Options) (p : Printer) (l : List (List ℤ)) (complete : Bool) (before middle after : Option (List ℕ)) → IsEnded o p → as_found_of p ≡ false
-    → IsShown (book_of p).model.goal o (book_of p).model l complete
-    → OnOk result (after ≡ with_more middle (run_text o (book_of p).model l complete)) → OnErr result (TakesFront (run_text o (book_of p).model l complete) middle after) → HasPrinted p before middle → Shows result (book_of p).model o before after
-prints_all (Ok u) o p l complete before middle after e not shown taken front h =
-    (l, complete, shown, taken ∙ ap (λ (t : Option (List ℕ)). with_more t (run_text o (book_of p).model l complete)) (untaken o p before middle e not h))
-prints_all (Err stop) o p l complete before middle after e not shown taken front h =
-    (l, complete, shown, subst (λ (t : Option (List ℕ)). TakesFront (run_text o (book_of p).model l complete) t after) (untaken o p before middle e not h) front)
+-- ---- the certificate behind it
+
+run_is : (m : Instance) (o : Options) (l : List (List ℤ)) (complete : Bool) (text : List ℕ) → IsShown m.goal o m l complete → IsCertificate m (certified o.certificate m.goal l) text → IsRunText m o l (run_text o m l complete ++ text)
+run_is m o l complete text shown certifies =
+    record { shown = shown_text m.goal o.generate m l complete; prints = shown_prints m.goal m o l complete shown; certificate = text; certifies = certifies; text = refl }
+
+pub shown_certifiable : (m : Instance) (o : Options) (l : List (List ℤ)) (complete : Bool) → IsShown m.goal o m l complete → IsCertifiable m (certified o.certificate m.goal l)
+shown_certifiable m o l complete shown = certifiable m o l (shown_text m.goal o.generate m l complete) (shown_prints m.goal m o l complete shown)
+
+-- before it
+pub cut_short : (m : Instance) (o : Options) (l : List (List ℤ)) (complete : Bool) (before after : Option (List ℕ)) → IsModel m → IsShown m.goal o m l complete → TakesFront (run_text o m l complete) before after → ShowsFront m o before after
+cut_short m o l complete before after is shown front =
+    let c = certificate_exists m (certified o.certificate m.goal l) is (shown_certifiable m o l complete shown) in
+    (l, record { text = run_text o m l complete ++ c.0; is = run_is m o l complete c.0 shown c.1; front = front_more (run_text o m l complete) c.0 before after front })
+
+-- within it
+pub cut_within : (m : Instance) (o : Options) (l : List (List ℤ)) (complete : Bool) (head : Option (Option (List ℤ))) (before middle after : Option (List ℕ)) → head ≡ certified o.certificate m.goal l → IsShown m.goal o m l complete
+    → middle ≡ with_more before (run_text o m l complete) → TakesFrontOfOne (IsCertificate m head) middle after → ShowsFront m o before after
+cut_within m o l complete head before middle after is shown taken one = (
+  l,
+  record {
+    text = run_text o m l complete ++ one.text;
+    is = run_is m o l complete one.text shown (subst (λ (h : Option (Option (List ℤ))). IsCertificate m h one.text) is one.is);
+    front = front_after (run_text o m l complete) one.text before after (subst (λ (t : Option (List ℕ)). TakesFront one.text t after) taken one.front);
+  },
+)
+
+-- with it
+pub whole_run : (m : Instance) (o : Options) (l : List (List ℤ)) (complete : Bool) (head : Option (Option (List ℤ))) (before middle after : Option (List ℕ)) → head ≡ certified o.certificate m.goal l → IsShown m.goal o m l complete
+    → middle ≡ with_more before (run_text o m l complete) → TakesOne (IsCertificate m head) middle after → ShowsWhole m o before after
+whole_run m o l complete head before middle after is shown taken one = (
+  l,
+  record {
+    text = run_text o m l complete ++ one.text;
+    is = run_is m o l complete one.text shown (subst (λ (h : Option (Option (List ℤ))). IsCertificate m h one.text) is one.is);
+    taken = one.taken ∙ ap (λ (t : Option (List ℕ)). with_more t one.text) taken ∙ with_more-with_more before (run_text o m l complete) one.text;
+  },
+)
+
+-- what is certified is so of what is listed
+pub certified_by_count : (asked : Bool) (goal : Goal) (l : List (List ℤ)) (n : ℕ) (last : Option (List ℤ)) → length l ≡ n → (goal ≢ Satisfy → last ≡ slice_get l (length l - 1)) → certified_after asked goal n last ≡ certified asked goal l
+certified_by_count false goal l n last count is = refl
+certified_by_count true Satisfy [] n last count is = rw (← count) refl
+certified_by_count true Satisfy (a ∷ l) n last count is = rw (← count) refl
+certified_by_count true (Minimize t) l n last count is = ap Some (is (λ e. cc e))
+certified_by_count true (Maximize t) l n last count is = ap Some (is (λ e. cc e))
+
+last_by : (goal : Goal) (o : Options) (mode : Mode) (l : List (List ℤ)) → mode ≡ mode_of goal → goal ≢ Satisfy
+    → incumbent_of mode l ≡ slice_get (take (due_among true (enough_for goal o) (length l)) l) (length (take (due_among true (enough_for goal o) (length l)) l) - 1)
+last_by Satisfy o mode l is other = absurd (other refl)
+last_by (Minimize t) o modes.Best l is other = ap (λ (k : List (List ℤ)). slice_get k (length k - 1)) (all_due l)
+last_by (Minimize t) o modes.All l is other = absurd (cc is)
+last_by (Maximize t) o modes.Best l is other = ap (λ (k : List (List ℤ)). slice_get k (length k - 1)) (all_due l)
+last_by (Maximize t) o modes.All l is other = absurd (cc is)
+
+-- the last of those that are shown as they are recorded is the best so far
+pub last_shown : (o : Options) (b : Book) → BookLaw b → b.model.goal ≢ Satisfy → incumbent b ≡ slice_get (first_shown o b) (length (first_shown o b) - 1)
+last_shown o b law other = last_by b.model.goal o b.mode b.recorded law.own_mode other
+
+pub head_found : (o : Options) (p : Printer) (b : Book) (m : Instance) (goal : Goal) (count : ℕ) (last : Option (List ℤ)) (head : Option (Option (List ℤ))) → b ≡ book_of p → m ≡ b.model → goal ≡ m.goal → BookLaw b
+    → length (first_shown o b) ≡ count → last ≡ incumbent b → head ≡ certified_after o.certificate goal count last → head ≡ certified o.certificate (book_of p).model.goal (first_shown o (book_of p))
+head_found o p b m goal count last head same of is law counted best made =
+    let own : goal ≡ b.model.goal = is ∙ ap (λ (x : Instance). x.goal) of in
+    subst (λ (x : Book). head ≡ certified o.certificate x.model.goal (first_shown o x)) same
+    (made ∙ ap (λ (g : Goal). certified_after o.certificate g count last) own ∙ certified_by_count o.certificate b.model.goal (first_shown o b) count last counted (λ other. best ∙ last_shown o b law other))
+
+pub head_listed : (o : Options) (p : Printer) (b : Book) (m : Instance) (goal : Goal) (l : List (List ℤ)) (last : Option (List ℤ)) (head : Option (Option (List ℤ))) → b ≡ book_of p → m ≡ b.model → goal ≡ m.goal
+    → last ≡ slice_get l (length l - 1) → head ≡ certified_after o.certificate goal (length l) last → head ≡ certified o.certificate (book_of p).model.goal l
+head_listed o p b m goal l last head same of is best made =
+    let own : goal ≡ (book_of p).model.goal = is ∙ ap (λ (x : Instance). x.goal) of ∙ ap (λ (x : Book). x.model.goal) same in
+    made ∙ ap (λ (g : Goal). certified_after o.certificate g (length l) last) own ∙ certified_by_count o.certificate (book_of p).model.goal l (length l) last refl (λ other. best)
 
 -- ---- and what is answered
 
-pub concluded : (u : Unit {0}) (s : Status) (m : Instance) (o : Options) (before middle after : Option (List ℕ)) (flushed c d : ℕ) → Shows (Ok u) m o before middle → after ≡ middle → Flushes Done s after flushed c d → PrintsModel s m o before after
-concluded u s m o before middle after flushed c d h same cases text reads =
-    prints_wanted s text m o h.0 h.1 before after reads h.2 (inl (elim cases [ inl done ↦ inl done.0 | inr fault ↦ inr fault.0 ], same ∙ h.3))
+pub concluded : (s : Status) (m : Instance) (o : Options) (before middle after : Option (List ℕ)) (flushed c d : ℕ) → ShowsWhole m o before middle → after ≡ middle → Flushes Done s after flushed c d → PrintsModel s m o before after
+concluded s m o before middle after flushed c d h same cases text reads =
+    prints_whole s text m o before after reads (subst (λ (t : Option (List ℕ)). ShowsWhole m o before t) (sym same) h) (elim cases [ inl done ↦ inl done.0 | inr fault ↦ inr fault.0 ])
 
-pub refused : (stop : Stop) (s : Status) (m : Instance) (o : Options) (before middle after : Option (List ℕ)) (flushed c d : ℕ) → Shows (Err stop) m o before middle → after ≡ middle → Flushes NoMemory s after flushed c d → PrintsModel s m o before after
-refused stop s m o before middle after flushed c d h same cases text reads =
-    let front = subst (λ (t : Option (List ℕ)). TakesFront (run_text o m h.0 h.1) before t) (sym same) h.3 in
-    prints_wanted s text m o h.0 h.1 before after reads h.2 (inr (elim cases [ inl short ↦ inr short.0 | inr fault ↦ inl fault.0 ], front))
+pub refused : (s : Status) (m : Instance) (o : Options) (before middle after : Option (List ℕ)) (flushed c d : ℕ) → ShowsFront m o before middle → after ≡ middle → Flushes NoMemory s after flushed c d → PrintsModel s m o before after
+refused s m o before middle after flushed c d h same cases text reads =
+    prints_front s text m o before after reads (subst (λ (t : Option (List ℕ)). ShowsFront m o before t) (sym same) h) (elim cases [ inl short ↦ inr short.0 | inr fault ↦ inl fault.0 ])
 
-pub failed : (stop : Stop) (m : Instance) (o : Options) (before after : Option (List ℕ)) → Shows (Err stop) m o before after → PrintsModel SinkFault m o before after
-failed stop m o before after h text reads = prints_wanted SinkFault text m o h.0 h.1 before after reads h.2 (inr (inl refl, h.3))
+pub failed : (m : Instance) (o : Options) (before after : Option (List ℕ)) → ShowsFront m o before after → PrintsModel SinkFault m o before after
+failed m o before after h text reads = prints_front SinkFault text m o before after reads h (inl refl)
 
 -- ---- what is gone is printed
 

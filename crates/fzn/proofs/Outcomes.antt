@@ -1,5 +1,5 @@
 -- What the answers of a run say of its text.
-use Rattle.std.specs.Prelude.{ℤ, Bool}
+use Rattle.std.specs.Prelude.{ℤ}
 use Rattle.std.proofs.Common.{◌≡◌, ◌≤◌, ◌∙◌, ◌≢◌, ℕ, ◌+◌, List, [], ◌++◌, Option, None, Some, IfSome, ap, sym, refl, subst, inl, inr, append_assoc, append-nil, arith, codes, decimal, ◌⊎◌, unwrap_or, take, length}
 use Rattle.std.specs.Fmt.{digits}
 use Rattle.fz_spec.specs.declared.code.Code.{Code}
@@ -21,12 +21,11 @@ use Rattle.fzn.specs.declared.status.Status.TheVariants.{Done, Refused, Usage, S
 use Rattle.fz_gen.specs.declared.text.TheConstants.{ITEMS_LEAST, ITEMS_MOST}
 use Rattle.fz_generated.proofs.Law.{each_is_accepted}
 use Rattle.fzn.specs.Promises.{AnswersAccepted, AnswersRefused, HasItsCause, HasReadAll, IsDoneOrShort, IsFlushed, IsFront, IsRefusedOrShort, IsRefusedRun, IsUnrefused, IsRun, IsStrictFront, IsWholeRun, Prints, Runs, generated_or, text_for}
-use Rattle.fzn.specs.Steps.{Answers, HasSinkCause, IsReadOf, LeavesNothing, PrintsOf}
-use Rattle.fz_search.specs.Searched.{IsShown}
+use Rattle.fz_runs.specs.Runs.{IsRunText}
+use Rattle.fzn.specs.Steps.{Answers, HasSinkCause, IsReadOf, LeavesNothing, PrintsOf, ShowsFront, ShowsWhole}
 use Rattle.fz_reader.specs.Refusals.{IsRefusal}
-use Rattle.fz_printing.specs.Texts.{TakesFront, run_text, shown_text}
+use Rattle.fz_printing.specs.Texts.{TakesFront}
 use Rattle.fz_reader.proofs.Readings.{read_of_front}
-use Rattle.fzn.proofs.Printed.{shown_prints}
 
 pub no_more : (taken : Option (List ℕ)) → taken ≡ with_more taken []
 no_more None = refl
@@ -69,25 +68,25 @@ unflushed : (s : Status) (text whole : List ℕ) (o : Options) (before after : O
     → ((printed : List ℕ) → whole ≡ printed → IsWholeRun text o printed) → PrintsOf s text o before after
 unflushed s text whole o before after e t w = at_status s SinkFault text o before after e (whole, t, inr ([], w (whole ++ []) (sym (append-nil whole))))
 
--- what is shown of a model's search is what is printed of its text
-pub prints_wanted : (s : Status) (text : List ℕ) (m : Instance) (o : Options) (l : List (List ℤ)) (complete : Bool) (before after : Option (List ℕ)) → Reads text (reads.Accepted m) → IsShown m.goal o m l complete
-    → Answers s Done (run_text o m l complete) before after → PrintsOf s text o before after
-prints_wanted s text m o l complete before after r shown a =
-    let whole = run_text o m l complete in
-    let run : (u : List ℕ) → whole ≡ u → IsRun text o u =
-    λ u e. record {
-      model = m;
-      listed = l;
-      accepted = r;
-      run = record { shown = shown_text m.goal o.generate m l complete; prints = shown_prints m.goal m o l complete shown; text = sym e };
-    } in
-    elim a [
-      | inl all ↦ elim all.0 [
-        | inl done ↦ at_status s Done text o before after done (whole, all.1, run whole refl)
-        | inr fault ↦ unflushed s text whole o before after fault all.1 (λ u e. inl (run u e))
-      ]
-      | inr part ↦ stopped s text whole o before after part.0 part.1 (λ u e. inl (run u e))
+-- the run of a text that is read so
+run_of : (text whole : List ℕ) (m : Instance) (o : Options) (l : List (List ℤ)) → Reads text (reads.Accepted m) → IsRunText m o l whole → IsRun text o whole
+run_of text whole m o l r run = record { model = m; listed = l; accepted = r; run = run }
+
+-- the text of a whole run is what is printed of a text
+pub prints_whole : (s : Status) (text : List ℕ) (m : Instance) (o : Options) (before after : Option (List ℕ)) → Reads text (reads.Accepted m) → ShowsWhole m o before after → (s ≡ Done) ⊎ (s ≡ SinkFault) → PrintsOf s text o before after
+prints_whole s text m o before after r shows e =
+    let one = shows.1 in
+    let run : (u : List ℕ) → one.text ≡ u → IsRun text o u = λ u is. run_of text u m o shows.0 r (subst (λ (v : List ℕ). IsRunText m o shows.0 v) is one.is) in
+    elim e [
+      | inl done ↦ at_status s Done text o before after done (one.text, one.taken, run one.text refl)
+      | inr fault ↦ unflushed s text one.text o before after fault one.taken (λ u is. inl (run u is))
     ]
+
+-- and a front of one, where a fault or want of memory is answered
+pub prints_front : (s : Status) (text : List ℕ) (m : Instance) (o : Options) (before after : Option (List ℕ)) → Reads text (reads.Accepted m) → ShowsFront m o before after → (s ≡ SinkFault) ⊎ (s ≡ NoMemory) → PrintsOf s text o before after
+prints_front s text m o before after r shows e =
+    let one = shows.1 in
+    stopped s text one.text o before after e one.front (λ u is. inl (run_of text u m o shows.0 r (subst (λ (v : List ℕ). IsRunText m o shows.0 v) is one.is)))
 
 pub prints_refusal : (s : Status) (text : List ℕ) (r : Refusal) (o : Options) (before after : Option (List ℕ)) → IsRefusal text r → Answers s (Refused r) (text_of r) before after
     → PrintsOf s text o before after

@@ -6,6 +6,7 @@ use Rattle.fz_spec.specs.Run.{blocks}
 use Rattle.fz_spec.specs.declared.goal.Goal.{Goal}
 use Rattle.fz_spec.specs.declared.goal.Goal.TheVariants.{Satisfy, Minimize, Maximize}
 use Rattle.fz_language.specs.Reads.{Reads, Accepted}
+use Rattle.fz_model.specs.Kept.{IsModel}
 use Rattle.fz_cmd.specs.Meaning.{Options}
 use Rattle.fz_tree.specs.Better.{mode_of}
 use Rattle.fz_tree.specs.Book.{Book, BookLaw}
@@ -59,16 +60,16 @@ run_of : (text whole : List ℕ) (o : Options) (m : Instance) (l : List (List �
 run_of text whole o m l reads run = inl (record { model = m; listed = l; accepted = reads; run = run })
 
 -- whole blocks, of fewer than are asked for
-whole_blocks : (text : List ℕ) (o : Options) (m : Instance) (l : List (List ℤ)) (before after : Option (List ℕ)) → Reads text (Accepted m) → AreBegun m.goal o m l → IsShort m.goal o (length l) → after ≡ with_more before (blocks m l)
+whole_blocks : (text : List ℕ) (o : Options) (m : Instance) (l : List (List ℤ)) (before after : Option (List ℕ)) → Reads text (Accepted m) → IsModel m → AreBegun m.goal o m l → IsShort m.goal o (length l) → after ≡ with_more before (blocks m l)
     → PrintsOf NoMemory text o before after
-whole_blocks text o m l before after reads begun short taken =
-    let e = can_end o m l begun in (blocks m l, taken, inr (e.more, e.some short, run_of text (blocks m l ++ e.more) o m e.listed reads e.run))
+whole_blocks text o m l before after reads kept begun short taken =
+    let e = can_end o m l kept begun in (blocks m l, taken, inr (e.more, e.some short, run_of text (blocks m l ++ e.more) o m e.listed reads e.run))
 
 -- a front of the blocks
-front_of_blocks : (text : List ℕ) (o : Options) (m : Instance) (l : List (List ℤ)) (before after : Option (List ℕ)) → Reads text (Accepted m) → AreBegun m.goal o m l → TakesFront (blocks m l) before after
+front_of_blocks : (text : List ℕ) (o : Options) (m : Instance) (l : List (List ℤ)) (before after : Option (List ℕ)) → Reads text (Accepted m) → IsModel m → AreBegun m.goal o m l → TakesFront (blocks m l) before after
     → PrintsOf NoMemory text o before after
-front_of_blocks text o m l before after reads begun f =
-    let e = can_end o m l begun in
+front_of_blocks text o m l before after reads kept begun f =
+    let e = can_end o m l kept begun in
     let same : blocks m l ++ e.more ≡ f.printed ++ (f.more ++ e.more) = ap (λ u. u ++ e.more) f.front ∙ append_assoc f.printed f.more e.more in
     let run = subst (λ (u : List ℕ). IsRunText m o e.listed u) same e.run in
     let some : 0 < length (f.more ++ e.more) = omega (arith, f.some, length-append f.more e.more) in
@@ -88,17 +89,17 @@ first_begun o p n a few =
     let b = book_of p in
     begun_by b.model.goal o b n a.law a.law.own_mode a.shows (subst (λ (w : Option ℕ). IsWithin w n) a.wants (few_enough (as_found_of p) (wanted_of p) (length b.recorded) n few))
 
-found_stopped : (text : List ℕ) (o : Options) (p : Printer) (stop : Stop) (before after : Option (List ℕ)) → Reads text (Accepted (book_of p).model) → AsFound o p → HasPrintedAt (Some stop) p before after
+found_stopped : (text : List ℕ) (o : Options) (p : Printer) (stop : Stop) (before after : Option (List ℕ)) → Reads text (Accepted (book_of p).model) → IsModel (book_of p).model → AsFound o p → HasPrintedAt (Some stop) p before after
     → PrintsOf NoMemory text o before after
-found_stopped text o p stop before after reads a h =
+found_stopped text o p stop before after reads kept a h =
     let b = book_of p in
     elim h [
       | inl whole ↦
           let size = length-take (printed_of p) b.recorded in
           let fewer : length (take (printed_of p) b.recorded) ≤ printed_of p = omega (arith, size) in
           let short = short_by b.model.goal o (printed_of p) (length (take (printed_of p) b.recorded)) (subst (λ (w : Option ℕ). printed.IsBelow w (printed_of p)) a.wants whole.1) fewer in
-          whole_blocks text o b.model (take (printed_of p) b.recorded) before after reads (first_begun o p (printed_of p) a a.within) short whole.0
-      | inr front ↦ front_of_blocks text o b.model (take (due_of p) b.recorded) before after reads (first_begun o p (due_of p) a (omega arith)) front
+          whole_blocks text o b.model (take (printed_of p) b.recorded) before after reads kept (first_begun o p (printed_of p) a a.within) short whole.0
+      | inr front ↦ front_of_blocks text o b.model (take (due_of p) b.recorded) before after reads kept (first_begun o p (due_of p) a (omega arith)) front
     ]
 
 -- where nothing is printed on the way
@@ -119,31 +120,31 @@ unfound_stopped text o p stop before after unfound within h =
       | inr front ↦ absurd (none_of_none before after (subst (λ n. TakesFront (blocks b.model (take n b.recorded)) before after) none front))
     ]
 
-by_asked : (found : Bool) (text : List ℕ) (o : Options) (p : Printer) (stop : Stop) (before after : Option (List ℕ)) → as_found_of p ≡ found → Reads text (Accepted (book_of p).model) → BookLaw (book_of p)
+by_asked : (found : Bool) (text : List ℕ) (o : Options) (p : Printer) (stop : Stop) (before after : Option (List ℕ)) → as_found_of p ≡ found → Reads text (Accepted (book_of p).model) → IsModel (book_of p).model → BookLaw (book_of p)
     → PrintsAsAsked (book_of p).model o p → printed_of p ≤ due_of p → HasPrintedAt (Some stop) p before after → PrintsOf NoMemory text o before after
-by_asked false text o p stop before after is reads law asked within h = unfound_stopped text o p stop before after is within h
-by_asked true text o p stop before after is reads law asked within h =
+by_asked false text o p stop before after is reads kept law asked within h = unfound_stopped text o p stop before after is within h
+by_asked true text o p stop before after is reads kept law asked within h =
     elim asked [
       | inl not ↦ absurd (cc (is, not))
-      | inr shown ↦ found_stopped text o p stop before after reads (record { law = law; shows = sym shown.0 ∙ is; wants = shown.1; within = within }) h
+      | inr shown ↦ found_stopped text o p stop before after reads kept (record { law = law; shows = sym shown.0 ∙ is; wants = shown.1; within = within }) h
     ]
 
 -- what the sink took, of a search that was stopped, is a front that lacks something
-pub stopped_short : (m : Instance) (o : Options) (p : Printer) (stop : Stop) (before after : Option (List ℕ)) → IsPrinted m o p before after → stopped_of p ≡ Some stop → PrintsModel NoMemory m o before after
-stopped_short m o p stop before after h is text reads =
-    by_asked (as_found_of p) text o p stop before after refl (subst (λ (x : Instance). Reads text (Accepted x)) (sym h.model) reads) h.law (subst (λ (x : Instance). PrintsAsAsked x o p) (sym h.model) h.prints) h.within
+pub stopped_short : (m : Instance) (o : Options) (p : Printer) (stop : Stop) (before after : Option (List ℕ)) → IsModel m → IsPrinted m o p before after → stopped_of p ≡ Some stop → PrintsModel NoMemory m o before after
+stopped_short m o p stop before after kept h is text reads =
+    by_asked (as_found_of p) text o p stop before after refl (subst (λ (x : Instance). Reads text (Accepted x)) (sym h.model) reads) (subst IsModel (sym h.model) kept) h.law (subst (λ (x : Instance). PrintsAsAsked x o p) (sym h.model) h.prints) h.within
     (subst (λ (s : Option Stop). HasPrintedAt s p before after) is h.printed)
 
 -- and so it is a front, where the sink failed
 fault_of_short : (text : List ℕ) (o : Options) (before after : Option (List ℕ)) → PrintsOf NoMemory text o before after → PrintsOf SinkFault text o before after
 fault_of_short text o before after p = (p.0, p.1, elim p.2 [ inl none ↦ inl none | inr more ↦ inr (more.0, more.2) ])
 
-pub stopped_fault : (m : Instance) (o : Options) (p : Printer) (stop : Stop) (before after : Option (List ℕ)) → IsPrinted m o p before after → stopped_of p ≡ Some stop → PrintsModel SinkFault m o before after
-stopped_fault m o p stop before after h is text reads = fault_of_short text o before after (stopped_short m o p stop before after h is text reads)
+pub stopped_fault : (m : Instance) (o : Options) (p : Printer) (stop : Stop) (before after : Option (List ℕ)) → IsModel m → IsPrinted m o p before after → stopped_of p ≡ Some stop → PrintsModel SinkFault m o before after
+stopped_fault m o p stop before after kept h is text reads = fault_of_short text o before after (stopped_short m o p stop before after kept h is text reads)
 
 -- what was printed before memory was refused is flushed
-pub stopped_flushed : (s : Status) (m : Instance) (o : Options) (p : Printer) (stop : Stop) (before middle after : Option (List ℕ)) (flushed c d : ℕ) → IsPrinted m o p before middle → stopped_of p ≡ Some stop → after ≡ middle
+pub stopped_flushed : (s : Status) (m : Instance) (o : Options) (p : Printer) (stop : Stop) (before middle after : Option (List ℕ)) (flushed c d : ℕ) → IsModel m → IsPrinted m o p before middle → stopped_of p ≡ Some stop → after ≡ middle
     → Flushes NoMemory s after flushed c d → PrintsModel s m o before after
-stopped_flushed s m o p stop before middle after flushed c d h is same cases text reads =
-    let short : PrintsOf NoMemory text o before after = subst (λ (t : Option (List ℕ)). PrintsOf NoMemory text o before t) (sym same) (stopped_short m o p stop before middle h is text reads) in
+stopped_flushed s m o p stop before middle after flushed c d kept h is same cases text reads =
+    let short : PrintsOf NoMemory text o before after = subst (λ (t : Option (List ℕ)). PrintsOf NoMemory text o before t) (sym same) (stopped_short m o p stop before middle kept h is text reads) in
     elim cases [ inl refused ↦ at_status s NoMemory text o before after refused.0 short | inr fault ↦ at_status s SinkFault text o before after fault.0 (fault_of_short text o before after short) ]

@@ -1,7 +1,9 @@
 -- What the steps of a run say, within this crate.
-use Rattle.std.specs.Prelude.{◌≡◌, ℕ, ℤ, ◌+◌, ◌<◌, ◌≤◌, ◌⊎◌, Bool, IsTrue, take, Option, None, IfSome, Result, MatchResult, List, []}
+use Rattle.std.specs.Prelude.{◌≡◌, ℕ, zero, suc, ℤ, ◌+◌, ◌<◌, ◌≤◌, ◌⊎◌, Bool, true, false, IsTrue, take, Option, None, Some, IfSome, Result, MatchResult, List, []}
 use Rattle.fz_spec.specs.declared.limits.TheConstants.{TEXT_LIMIT}
 use Rattle.fz_spec.specs.Instance.{Instance}
+use Rattle.fz_spec.specs.declared.goal.Goal.{Goal}
+use Rattle.fz_spec.specs.declared.goal.Goal.TheVariants.{Satisfy, Minimize, Maximize}
 use Rattle.fz_cmd.specs.Meaning.{Options}
 use Rattle.fz_io.specs.Outside.{with_more, AllFlushed}
 use Rattle.fzn.specs.declared.status.Status.{Status}
@@ -9,11 +11,13 @@ use Rattle.fzn.specs.declared.status.Status.TheVariants.{Done, Refused, Usage, S
 use Rattle.fz_printing.specs.declared.printer.Stop.{Stop}
 use Rattle.fz_printing.specs.declared.printer.Stop.TheVariants.{Memory, Fault}
 use Rattle.fzn.specs.Promises.{Prints}
-use Rattle.fz_printing.specs.Texts.{TakesFront, run_text}
+use Rattle.fz_printing.specs.Texts.{TakesFront}
+use Rattle.fz_certify.specs.Taken.{TakesOne, TakesFrontOfOne}
+use Rattle.fz_runs.specs.Runs.{IsRunText}
 use Rattle.fz_language.specs.Reads.{Reads, Accepted}
 use Rattle.fz_printer.specs.declared.printer.Printer.{Printer}
 use Rattle.fz_printer.specs.Printed.{book_of, stopped_of, CountsMark, IsReady}
-use Rattle.fz_search.specs.Searched.{enough_for, IsPrinted, IsSearched, IsShown, PrintsAsAsked}
+use Rattle.fz_search.specs.Searched.{enough_for, IsPrinted, IsSearched, PrintsAsAsked}
 
 -- the file is selected, unless the source failed
 abbrev pub SelectsAtStop : Bool → Stop → Type 0
@@ -67,11 +71,21 @@ pub record IsEnded (o : Options) (p : Printer) : Type 0 where
   pub stopped : stopped_of p ≡ None
   pub ready : IsReady p
 
--- The sink took all that is shown of a model's search; where printing stopped, a front of that.
-abbrev pub Shows : Result (Unit {0}) Stop → Instance → Options → Option (List ℕ) → Option (List ℕ) → Type 0
-Shows result m o before after =
-    (l : List (List ℤ)) × (complete : Bool) × IsShown m.goal o m l complete
-    × MatchResult result (λ _. after ≡ with_more before (run_text o m l complete)) (λ _. TakesFront (run_text o m l complete) before after)
+-- the sink took the text of a whole run of a model
+abbrev pub ShowsWhole : Instance → Options → Option (List ℕ) → Option (List ℕ) → Type 0
+ShowsWhole m o before after = (l : List (List ℤ)) × TakesOne (IsRunText m o l) before after
+
+-- or a front of one
+abbrev pub ShowsFront : Instance → Options → Option (List ℕ) → Option (List ℕ) → Type 0
+ShowsFront m o before after = (l : List (List ℤ)) × TakesFrontOfOne (IsRunText m o l) before after
+
+-- what is certified, by how many are listed and the last of them
+abbrev pub certified_after : Bool → Goal → ℕ → Option (List ℤ) → Option (Option (List ℤ))
+certified_after false goal count last = None
+certified_after true Satisfy zero last = Some None
+certified_after true Satisfy (suc n) last = None
+certified_after true (Minimize term) count last = Some last
+certified_after true (Maximize term) count last = Some last
 
 -- all is flushed and the answer is as it was to be, or the sink failed
 abbrev pub Flushes : Status → Status → Option (List ℕ) → ℕ → ℕ → ℕ → Type 0

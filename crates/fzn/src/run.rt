@@ -1,16 +1,20 @@
 //! The top call.
 ghost use Rattle.std.specs.Arc.{arc_value};
-ghost use Rattle.std.specs.Prelude.{◌≡◌, ◌≢◌, ◌⊎◌, ℕ, ◌-◌, ◌^◌, ◌<◌, ◌≤◌, List, Option, None, IfSome, IfOk, length, map, string_bytes};
+ghost use Rattle.std.specs.Prelude.{◌≡◌, ◌≢◌, ◌⊎◌, ℕ, ◌-◌, ◌^◌, ◌<◌, ◌≤◌, List, Option, None, true, false, IfSome, IfOk, OnOk, OnErr, length, map, option_copied, option_map, string_bytes};
 ghost use Rattle.fz_io.specs.Outside.{one_more, AllFlushed};
 ghost use Rattle.fz_print.specs.Refusal.{text_of};
 ghost use Rattle.fz_cmd.specs.Meaning.{options_of};
 ghost use Rattle.fz_gen.specs.Knapsack as texts;
 ghost use Rattle.fzn.specs.Promises.{AnswersAccepted, AnswersRefused, HasItsCause, HasReadAll, HasSelected, IsDoneOrShort, IsFlushed, IsUnrefused, Runs, SelectsOnce, text_for};
-ghost use Rattle.fzn.specs.Steps.{Answers, Flushes, HasSearched, HasSinkCause, IsEnded, IsReadOf, LeavesNothing, PrintsModel, PrintsOf, SelectsAt, Shows};
-ghost use Rattle.fz_printer.specs.Printed.{book_of, HasPrinted};
+ghost use Rattle.fzn.specs.Steps.{Answers, Flushes, HasSearched, HasSinkCause, IsEnded, IsReadOf, LeavesNothing, PrintsModel, PrintsOf, SelectsAt, ShowsFront, ShowsWhole, certified_after};
+ghost use Rattle.fz_printer.specs.Printed.{as_found_of, book_of, HasPrinted};
+ghost use Rattle.fz_begun.specs.Begun.{IsCertifiable};
+ghost use Rattle.fz_certify.specs.Taken.{TakesOne, TakesFrontOfOne};
+ghost use Rattle.fz_runs.specs.Runs.{IsCertificate};
 ghost use Rattle.fz_printing.specs.Texts.{HasStopCause};
 
 use crate::status::Status;
+use fz_certify::print_certificate;
 use fz_cmd::Options;
 use fz_cmd::words::options;
 use fz_gen::knapsack;
@@ -18,6 +22,7 @@ use fz_gen::text::{ITEMS_LEAST, ITEMS_MOST};
 use fz_io::gate::Gate;
 use fz_io::outside::{Sink, Source};
 use fz_io::whole::{Whole, read_all};
+use fz_model::assignment::Assignment;
 use fz_model::model::Model;
 use fz_print::refusal::Refusal;
 use fz_printer::Printer;
@@ -25,6 +30,7 @@ use fz_printing::{Stop, print_end, print_refusal, print_run};
 use fz_reader::model_of;
 use fz_search::{listing_of, search, search_in_threads, tally_of};
 use fz_space::Space;
+use fz_spec::goal::Goal;
 use fz_spec::limits::TEXT_LIMIT;
 use std::alloc::{AllocError, Global};
 use std::sync::{Arc, Wait};
@@ -35,14 +41,15 @@ use std::thread::Threads;
 /// `words` are the arguments of the program: `-a` for all solutions, `-n N` for N of them (0 for all), one where neither is given;
 /// `--commit-distance N` for how often a copy of a node is kept, `--adaptive-distance N` for how long a way has a copy in its
 /// middle; `-p N` for a search by so many workers (1 where it isn't given); `--interleave SEED` for workers that take turns on one
-/// thread by a schedule which the seed begins; `-s` for statistics; `--generate N` for a model that is generated, a knapsack of N
+/// thread by a schedule which the seed begins; `-s` for statistics; `--certificate` for a certificate; `--generate N` for a model that is generated, a knapsack of N
 /// items, in place of one that is read; and FILE. The text is that of FILE; no FILE is `-`, standard input. A text may have
 /// 67,108,864 bytes. Printed is a block for each satisfying assignment, in any order, and
 /// `==========`; of `-n N` N different blocks alone, where so many satisfy; of a model with a goal the block of a best assignment
 /// and `==========`, with `-a` maybe behind others, each better than the one before it; of a generated model `items=N best=V` in
 /// place of both; where none satisfies, `=====UNSATISFIABLE=====` alone; of a text that is refused, the place, the code and
-/// `=====ERROR=====`. Behind all but a refusal `-s` prints how many assignments were listed. Each block, each last line, the two
-/// lines of statistics and each refusal is one piece for the sink, and one flush comes last, whenever something was written.
+/// `=====ERROR=====`. Behind all but a refusal `-s` prints how many assignments were listed; behind `==========` of a model with a
+/// goal, and where none satisfies, `--certificate` prints the certificate of that. Each block, each last line, the two lines of
+/// statistics, each line of a certificate and each refusal is one piece for the sink, and one flush comes last, whenever something was written.
 /// Each block is handed to the sink as the solution is found, and handed on where that is due; workers that take turns hand on theirs
 /// at the end.
 ///
@@ -377,6 +384,7 @@ fn run_model<F: Fn(Arc<Model>, &mut S) -> Result<Printer, AllocError>, S: Sink>(
     ensures flushed { IsFlushed result (S.taken sink.old) (S.taken sink.new) (S.flushed sink.new) }
     ensures cause { HasSinkCause result (S.faults sink.old) (S.faults sink.new) }
 {
+    let _ = model.goal();
     let Ok(printer) = searched(alloc, search_by, model, options, sink) else {
         return Status::NoMemory;
     };
@@ -426,7 +434,7 @@ fn conclude<S: Sink>(alloc: Global, printer: &Printer, options: &Options, sink: 
     }
 }
 
-/// Prints what isn't printed yet: all that is shown, or what stands behind the blocks where these were printed as they were found.
+/// Prints what isn't printed yet, and behind it the certificate where one is asked for.
 fn print_rest<S: Sink>(
     alloc: Global,
     printer: &Printer,
@@ -435,24 +443,109 @@ fn print_rest<S: Sink>(
 ) -> Result<(), Stop>
     requires ended { IsEnded options.now printer.now }
     requires faults { S.faults sink.old < 2 ^ 64 - 1 }
-    ensures shows { (before : Option (List ℕ)) → HasPrinted printer.now before (S.taken sink.old)
-        → Shows result (book_of printer.now).model options.now before (S.taken sink.new) }
+    ensures whole { (before : Option (List ℕ)) → HasPrinted printer.now before (S.taken sink.old)
+        → OnOk result (ShowsWhole (book_of printer.now).model options.now before (S.taken sink.new)) }
+    ensures front { (before : Option (List ℕ)) → HasPrinted printer.now before (S.taken sink.old)
+        → OnErr result (ShowsFront (book_of printer.now).model options.now before (S.taken sink.new)) }
+    ensures cause { HasStopCause (S.faults sink.old) (S.faults sink.new) result }
+{
+    if printer.as_found() {
+        print_behind(alloc, printer, options, sink)
+    } else {
+        print_all(alloc, printer, options, sink)
+    }
+}
+
+/// Prints what stands behind the blocks where these were printed as they were found.
+fn print_behind<S: Sink>(
+    alloc: Global,
+    printer: &Printer,
+    options: &Options,
+    sink: &mut S,
+) -> Result<(), Stop>
+    requires ended { IsEnded options.now printer.now }
+    requires found { as_found_of printer.now ≡ true }
+    requires faults { S.faults sink.old < 2 ^ 64 - 1 }
+    ensures whole { (before : Option (List ℕ)) → HasPrinted printer.now before (S.taken sink.old)
+        → OnOk result (ShowsWhole (book_of printer.now).model options.now before (S.taken sink.new)) }
+    ensures front { (before : Option (List ℕ)) → HasPrinted printer.now before (S.taken sink.old)
+        → OnErr result (ShowsFront (book_of printer.now).model options.now before (S.taken sink.new)) }
     ensures cause { HasStopCause (S.faults sink.old) (S.faults sink.new) result }
 {
     let book = printer.book();
-    if printer.as_found() {
-        let tally = tally_of(book, options);
-        return print_end(alloc, sink, options, tally.count as u64, tally.complete);
-    }
+    let model = book.model();
+    let tally = tally_of(book, options);
+    let head = to_certify(options, model.goal(), tally.count, book.incumbent());
+    print_end(alloc, sink, options, tally.count as u64, tally.complete)?;
+    certify(alloc, sink, model, head)
+}
+
+/// Prints all that is shown.
+fn print_all<S: Sink>(
+    alloc: Global,
+    printer: &Printer,
+    options: &Options,
+    sink: &mut S,
+) -> Result<(), Stop>
+    requires ended { IsEnded options.now printer.now }
+    requires unfound { as_found_of printer.now ≡ false }
+    requires faults { S.faults sink.old < 2 ^ 64 - 1 }
+    ensures whole { (before : Option (List ℕ)) → HasPrinted printer.now before (S.taken sink.old)
+        → OnOk result (ShowsWhole (book_of printer.now).model options.now before (S.taken sink.new)) }
+    ensures front { (before : Option (List ℕ)) → HasPrinted printer.now before (S.taken sink.old)
+        → OnErr result (ShowsFront (book_of printer.now).model options.now before (S.taken sink.new)) }
+    ensures cause { HasStopCause (S.faults sink.old) (S.faults sink.new) result }
+{
+    let book = printer.book();
+    let model = book.model();
     let listing = listing_of(book, options);
-    print_run(
-        alloc,
-        sink,
-        book.model(),
-        options,
-        listing.found,
-        listing.complete,
-    )
+    let found = listing.found;
+    let head = to_certify(options, model.goal(), found.len(), found.last());
+    print_run(alloc, sink, model, options, found, listing.complete)?;
+    certify(alloc, sink, model, head)
+}
+
+/// What is certified, where that is asked for: that the last of so many is best, or that none satisfies.
+fn to_certify<'a>(
+    options: &Options,
+    goal: &Goal,
+    count: usize,
+    last: Option<&'a Assignment>,
+) -> Option<Option<&'a Assignment>>
+    ensures { option_map (λ h. option_copied h) result
+        ≡ certified_after options.now.certificate goal.now count (option_copied last.entry) }
+{
+    if !options.certificate() {
+        return None;
+    }
+    match goal {
+        Goal::Satisfy if count > 0 => None,
+        Goal::Satisfy => Some(None),
+        Goal::Minimize(_) | Goal::Maximize(_) => Some(last),
+    }
+}
+
+/// Prints the certificate, where something is certified.
+fn certify<S: Sink>(
+    alloc: Global,
+    sink: &mut S,
+    model: &Model,
+    head: Option<Option<&Assignment>>,
+) -> Result<(), Stop>
+    requires faults { S.faults sink.old < 2 ^ 64 - 1 }
+    requires certifiable { IsCertifiable model.now (option_map (λ h. option_copied h) head) }
+    ensures taken { OnOk result
+        (TakesOne (IsCertificate model.now (option_map (λ h. option_copied h) head.entry))
+        (S.taken sink.old) (S.taken sink.new)) }
+    ensures front { OnErr result
+        (TakesFrontOfOne (IsCertificate model.now (option_map (λ h. option_copied h) head.entry))
+        (S.taken sink.old) (S.taken sink.new)) }
+    ensures cause { HasStopCause (S.faults sink.old) (S.faults sink.new) result }
+{
+    match head {
+        Some(head) => print_certificate(alloc, sink, model, head),
+        None => Ok(()),
+    }
 }
 
 /// Prints a refusal.

@@ -133,7 +133,7 @@ fn a_file_that_is_not_there_is_a_fault(rt: HostRuntime) -> Result<(), Fail> {
 }
 
 /// Words, and whether they are options and at most one file.
-const WORDS: [(&[&str], bool); 20] = [
+const WORDS: [(&[&str], bool); 22] = [
     (&[], true),
     (&["-a"], true),
     (&["-a", "-"], true),
@@ -144,7 +144,9 @@ const WORDS: [(&[&str], bool); 20] = [
     (&["--commit-distance=1000000", "m.fzn"], true),
     (&["-a", "-p", "64"], true),
     (&["-p", "64", "--interleave", "18446744073709551615"], true),
+    (&["--certificate", "m.fzn"], true),
     (&["-a", "-a"], false),
+    (&["--certificate", "-a"], false),
     (&["-z"], false),
     (&["-n"], false),
     (&["-n", "-1"], false),

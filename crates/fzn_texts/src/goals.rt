@@ -79,3 +79,38 @@ fn a_best_solution_is_printed_alone_or_last(rt: HostRuntime) -> Result<(), Fail>
     }
     Ok(())
 }
+
+/// A text, and what is printed of it with its certificate.
+const CERTIFIED: [Row; 5] = [
+    (
+        "var 0..10: x :: output_var; var 0..10: y :: output_var; constraint int_lin_le([3,2],[x,y],12); solve maximize x;",
+        "x = 4;\ny = 0;\n----------\n==========\n%c fzcert 1\n%c best 4 0\n%c s 0 5\n%c s 0 2\n%c g\n%c s 0 4\n%c g\n%c f 0\n%c f 0\n%c end\n",
+    ),
+    (
+        "var 1..3: a; var 1..3: b; var 1..3: c; var 1..3: d; constraint fzn_all_different_int([a,b,c,d]); solve satisfy;",
+        "=====UNSATISFIABLE=====\n%c fzcert 1\n%c none\n%c f 0\n%c end\n",
+    ),
+    (
+        "var 3..1: x; solve satisfy;",
+        "=====UNSATISFIABLE=====\n%c fzcert 1\n%c none\n%c e\n%c end\n",
+    ),
+    ("solve satisfy;", "----------\n"),
+    (
+        "solve minimize 3;",
+        "----------\n==========\n%c fzcert 1\n%c best\n%c g\n%c end\n",
+    ),
+];
+
+fn certified() -> &'static [Row] {
+    &CERTIFIED
+}
+
+#[test]
+fn a_certificate_stands_behind(rt: HostRuntime) -> Result<(), Fail> {
+    for (text, printed) in certified() {
+        let outcome = run(&rt, rt.alloc(), text.as_bytes(), &["--certificate"])?;
+        assert_eq!(rt; outcome.status, Status::Done);
+        assert_eq!(rt; outcome.printed.as_slice(), printed.as_bytes());
+    }
+    Ok(())
+}

@@ -2,7 +2,7 @@ use Rattle.std.proofs.Common.{◌≡◌, [], rules}
 use Rattle.std.specs.Prelude.{◌≤ℤ◌, ◌↔◌, IsTrue}
 use Rattle.fz_dom.specs.Shape.{least}
 use Rattle.fz_refutes.specs.Boxes.{set_of}
-use Rattle.fz_cert.proofs.Calls.{below_is}
+use Rattle.fz_refutes.proofs.Hulls.{below_is}
 use Rattle.fz_refutes.proofs.Insides.{ranges_of_term}
 use Rattle.fz_cert.proofs.ends.is_below.Goals as goal
 

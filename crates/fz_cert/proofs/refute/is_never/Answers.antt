@@ -1,9 +1,9 @@
 use Rattle.std.proofs.Common.{List, ℕ, subst}
 use Rattle.std.specs.List.{AllByRecursion}
 use Rattle.fz_refutes.specs.Refuted.{variables_of}
-use Rattle.fz_cert.specs.Smalls.{HasFixed}
-use Rattle.fz_cert.proofs.Opening.{below_all}
-use Rattle.fz_cert.proofs.Agreeing.{small_is}
+use Rattle.fz_refutes.specs.Smalls.{HasFixed}
+use Rattle.fz_refutes.proofs.Opening.{below_all}
+use Rattle.fz_refutes.proofs.Agreeing.{small_is}
 use Rattle.fz_cert.proofs.refute.is_never.Goals as goal
 
 pub none_holds-requires-clause-places : goal.none_holds-requires-clause-places

@@ -7,7 +7,7 @@ use Rattle.fz_sets.specs.Sets.{AreWithinLimits, single}
 use Rattle.fz_sets.proofs.Lists.{same_at}
 use Rattle.fz_dom.specs.Shape.{IsNoneFrom, IsNextFrom, IsNoneAbove, IsNextAbove}
 use Rattle.fz_refutes.specs.Boxes.{set_at}
-use Rattle.fz_cert.specs.Smalls.{NeverFrom}
+use Rattle.fz_refutes.specs.Smalls.{NeverFrom}
 use Rattle.fz_cert.proofs.Trying.{AreTried, first_tried, next_tried, restored, fits_member}
 use Rattle.fz_cert.proofs.small.+none_holds.Goals as goal
 

@@ -1,4 +1,4 @@
-use Rattle.fz_cert.proofs.Opening.{added}
+use Rattle.fz_refutes.proofs.Opening.{added}
 use Rattle.fz_cert.proofs.variables.add_open.Goals as goal
 
 pub returns-clause-choices : goal.returns-clause-choices

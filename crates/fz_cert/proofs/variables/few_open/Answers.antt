@@ -1,6 +1,6 @@
 use Rattle.std.proofs.Common.{get_or}
 use Rattle.fz_sets.proofs.Lists.{same_at}
-use Rattle.fz_cert.proofs.Opening.{too_many}
+use Rattle.fz_cert.proofs.Counting.{too_many}
 use Rattle.fz_cert.proofs.variables.few_open.Goals as goal
 
 pub returns-then-choices-gt256-clause-none : goal.returns-then-choices-gt256-clause-none

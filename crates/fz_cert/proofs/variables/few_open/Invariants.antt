@@ -1,4 +1,4 @@
-use Rattle.fz_cert.proofs.Opening.{AreFew}
+use Rattle.fz_cert.proofs.Counting.{AreFew}
 use Rattle.fz_cert.proofs.variables.few_open.Given as goal
 
 -- what was found so far, and its choices

@@ -4,14 +4,14 @@ use Rattle.fzn.proofs.run.conclude.Goals as goal
 
 pub returns-in-Ok-clause-printed : goal.returns-in-Ok-clause-printed
 returns-in-Ok-clause-printed g c = λ before printed.
-    concluded c.in-Ok.field-0 c.flush.result (book_of c.args.printer.now).model c.args.options.now before (g.S.Sink.taken c.print_rest.new.sink) (g.S.Sink.taken c.flush.new.sink) _ _ _
-    (c.in-Ok.ensures.shows before printed) c.flush.ensures.taken c.flush.ensures.cases
+    concluded c.flush.result (book_of c.args.printer.now).model c.args.options.now before (g.S.Sink.taken c.print_rest.new.sink) (g.S.Sink.taken c.flush.new.sink) _ _ _
+    (c.in-Ok.ensures.whole before printed) c.flush.ensures.taken c.flush.ensures.cases
 
 pub returns-in-Err-Memory-clause-printed : goal.returns-in-Err-Memory-clause-printed
 returns-in-Err-Memory-clause-printed g c = λ before printed.
-    refused c.in-Err-Memory.field-0 c.flush-in-Err-Memory.result (book_of c.args.printer.now).model c.args.options.now before (g.S.Sink.taken c.print_rest.new.sink) (g.S.Sink.taken c.flush-in-Err-Memory.new.sink) _ _ _
-    (c.in-Err-Memory.ensures.shows before printed) c.flush-in-Err-Memory.ensures.taken c.flush-in-Err-Memory.ensures.cases
+    refused c.flush-in-Err-Memory.result (book_of c.args.printer.now).model c.args.options.now before (g.S.Sink.taken c.print_rest.new.sink) (g.S.Sink.taken c.flush-in-Err-Memory.new.sink) _ _ _
+    (c.in-Err-Memory.ensures.front before printed) c.flush-in-Err-Memory.ensures.taken c.flush-in-Err-Memory.ensures.cases
 
 pub returns-in-Err-Fault-clause-printed : goal.returns-in-Err-Fault-clause-printed
 returns-in-Err-Fault-clause-printed g c = λ before printed.
-    failed c.in-Err-Fault.field-0 (book_of c.args.printer.now).model c.args.options.now before (g.S.Sink.taken c.print_rest.new.sink) (c.in-Err-Fault.ensures.shows before printed)
+    failed (book_of c.args.printer.now).model c.args.options.now before (g.S.Sink.taken c.print_rest.new.sink) (c.in-Err-Fault.ensures.front before printed)

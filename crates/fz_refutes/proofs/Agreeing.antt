@@ -11,8 +11,8 @@ use Rattle.fz_refutes.specs.Boxes.{AreSets, set_at}
 use Rattle.fz_refutes.specs.Refuted.{IsAt, IsEmptyAmong, IsRefutedSmall, choices_of, open_after, variables_of}
 use Rattle.fz_refutes.proofs.Truths.{IsSameAt, truth_stays}
 use Rattle.fz_refutes.proofs.Insides.{ranges_of}
-use Rattle.fz_cert.specs.Smalls.{HasFixed, NeverFrom}
-use Rattle.fz_cert.proofs.Opening.{Among, by_among, is_open, only_open, are_open, all_within}
+use Rattle.fz_refutes.specs.Smalls.{HasFixed, NeverFrom}
+use Rattle.fz_refutes.proofs.Opening.{Among, by_among, is_open, only_open, are_open, all_within}
 
 -- ---- numbers that are put
 
@@ -44,14 +44,14 @@ more_zero n more = omega (arith, more)
 more_two : (a b c : ℕ) → 1 < (a + 1) + ((b + 1) + c)
 more_two a b c = omega arith
 
-one_number : (d : List (ℤ × ℤ)) → AreRanges d → (d ≡ [] → ⊥) → (1 < set_size d → ⊥) → (x : ℤ) × (d ≡ (x, x) ∷ [])
+pub one_number : (d : List (ℤ × ℤ)) → AreRanges d → (d ≡ [] → ⊥) → (1 < set_size d → ⊥) → (x : ℤ) × (d ≡ (x, x) ∷ [])
 one_number [] are some one = absurd (some refl)
 one_number (r ∷ []) are some one =
     let same = only r are (elim (cases_lt 1 (range_size r)) [ inl lt ↦ absurd (one (more_zero (range_size r) lt)) | inr le ↦ le ]) in
     (r.0, ap (λ (y : ℤ). (r.0, y) ∷ []) same)
 one_number (r ∷ s ∷ rs) are some one = absurd (one (more_two (nat_abs (r.1 -ℤ r.0)) (nat_abs (s.1 -ℤ s.0)) (set_size rs)))
 
-in_one : (x y : ℤ) → IsInSet ((x, x) ∷ []) y → y ≡ x
+pub in_one : (x y : ℤ) → IsInSet ((x, x) ∷ []) y → y ≡ x
 in_one x y (inl p) = let low = p.0 in let high = p.1 in omega (arith, ints, low, high)
 in_one x y (inr p) = absurd p
 

@@ -20,19 +20,19 @@ use Rattle.fz_language.proofs.Decisions.{Decided, by, both, from_test}
 
 -- ---- of what is decided
 
-never : Decided ⊥
+pub never : Decided ⊥
 never = inr (λ h. h)
 
-either : {P Q : Type 0} → Decided P → Decided Q → Decided (P ⊎ Q)
+pub either : {P Q : Type 0} → Decided P → Decided Q → Decided (P ⊎ Q)
 either (inl p) _ = inl (inl p)
 either (inr n) (inl q) = inl (inr q)
 either {P} {Q} (inr n) (inr m) = inr (λ h. elim h [ inl p ↦ n p | inr q ↦ m q ])
 
-without : {P : Type 0} → Decided P → Decided (P → ⊥)
+pub without : {P : Type 0} → Decided P → Decided (P → ⊥)
 without (inl p) = inr (λ n. n p)
 without (inr n) = inl n
 
-implied : {P Q : Type 0} → Decided P → Decided Q → Decided (P → Q)
+pub implied : {P Q : Type 0} → Decided P → Decided Q → Decided (P → Q)
 implied (inl p) (inl q) = inl (λ _. q)
 implied (inl p) (inr m) = inr (λ h. m (h p))
 implied (inr n) _ = inl (λ p. absurd (n p))
@@ -57,14 +57,14 @@ at_most_by : (x y d : ℤ) → y -ℤ x ≡ d → Decided (x ≤ℤ y)
 at_most_by x y (pos n) e = inl (omega (arith, ints, e))
 at_most_by x y (negsuc n) e = inr (λ h. omega (arith, ints, e, h))
 
-at_most : (x y : ℤ) → Decided (x ≤ℤ y)
+pub at_most : (x y : ℤ) → Decided (x ≤ℤ y)
 at_most x y = at_most_by x y (y -ℤ x) refl
 
 below_by : (x y : ℤ) → Decided (y ≤ℤ x) → Decided (x <ℤ y)
 below_by x y (inl h) = inr (λ less. omega (arith, ints, h, less))
 below_by x y (inr n) = elim (at_most (x +ℤ pos 1) y) [ inl h ↦ inl (omega (arith, ints, h)) | inr m ↦ inr (λ less. m (omega (arith, ints, less))) ]
 
-below : (x y : ℤ) → Decided (x <ℤ y)
+pub below : (x y : ℤ) → Decided (x <ℤ y)
 below x y = below_by x y (at_most y x)
 
 -- ---- lists of numbers
@@ -227,7 +227,7 @@ of_tasks FznCumulative tasks bound = by (λ h. (h.0, h.1.0, h.1.1)) (λ h. (h.0,
     (all (λ (t : Task). pos 0 <ℤ t.duration → load_at t.start tasks ≤ℤ bound) (λ (t : Task). implied (below (pos 0) t.duration) (at_most (load_at t.start tasks) bound)) tasks)))
 of_tasks name tasks bound = never
 
-holds : (name : Builtin) (arguments : List Argument) (a : List ℤ) → Decided (Holds name arguments a)
+pub holds : (name : Builtin) (arguments : List Argument) (a : List ℤ) → Decided (Holds name arguments a)
 holds name (One x ∷ One y ∷ []) a = two name (term_value a x) (term_value a y)
 holds name (One x ∷ One y ∷ One z ∷ []) a = three name (term_value a x) (term_value a y) (term_value a z)
 holds name (One m ∷ Terms xs ∷ []) a = extreme name (term_value a m) (term_values a xs)

@@ -1,0 +1,5 @@
+pub mod Decisions
+mod Trying
+mod Refuting
+mod Fitting
+pub mod Growing

@@ -1,0 +1,3 @@
+mod Fitting
+mod Stages
+mod Rests

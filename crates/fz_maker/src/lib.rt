@@ -1,0 +1,8 @@
+//! The maker of certificates: their lines one after another, none of them held.
+#![tactic(auto)]
+
+mod fit;
+mod make;
+pub mod maker;
+
+pub use maker::Maker;
