@@ -360,36 +360,29 @@ impl Account {
         requires { can_cut self.now.after ≡ true }
         ensures { IfOk result (λ c. c ≡ rest_begun (with_given self.now)) }
     {
-        let model = self.model.clone()?;
-        let witness = copy_of(&self.witness)?;
         let mut after = self.after.copy()?;
         after.drop_part();
-        Ok(Account {
-            found: Vec::new(*self.found.allocator()),
-            given: Vec::new(*self.given.allocator()),
-            model,
-            mode: self.mode,
-            before: after.copy()?,
-            witness,
-            after,
-        })
+        self.begun_anew(after)
     }
 
     /// An account of what is left.
     fn rest(&self) -> Result<Account, AllocError>
         ensures { IfOk result (λ c. c ≡ rest_begun self.now) }
     {
+        self.begun_anew(self.after.copy()?)
+    }
+
+    /// An account of a frontier, begun with what is known here.
+    fn begun_anew(&self, frontier: Frontier) -> Result<Account, AllocError>
+        ensures { IfOk result
+            (λ c. c ≡ begun self.now.model self.now.mode frontier self.now.witness) }
+    {
         let model = self.model.clone()?;
         let witness = copy_of(&self.witness)?;
-        Ok(Account {
-            found: Vec::new(*self.found.allocator()),
-            given: Vec::new(*self.given.allocator()),
-            model,
-            mode: self.mode,
-            before: self.after.copy()?,
-            witness,
-            after: self.after.copy()?,
-        })
+        match Account::begin(model, self.mode, frontier, witness) {
+            Ok(account) => Ok(account),
+            Err(_) => Err(AllocError),
+        }
     }
 }
 

@@ -1,19 +1,46 @@
 //! Domains.
-ghost use Rattle.fz_sets.specs.Sets.{AreWithinLimits};
+ghost use Rattle.fz_sets.specs.Sets.{IsWithinLimits};
 
 use fz_dom::{Change, Dom};
 use std::alloc::Global;
 use std::process::Abort;
-use std::test::Fail;
 
 fn may_be_shared<T: Send + Sync>(_value: &T) -> bool {
     true
 }
 
-fn dom_of(alloc: Global, ranges: &[(i32, i32)]) -> Result<Dom, Fail>
-    requires { AreWithinLimits ranges.now }
+/// The number within the limits that is nearest.
+fn near(value: i32) -> i32
+    ensures { IsWithinLimits result }
 {
-    Ok(Dom::from_ranges(alloc, ranges)?)
+    if value < -2_147_483_646 {
+        -2_147_483_646
+    } else if 2_147_483_646 < value {
+        2_147_483_646
+    } else {
+        value
+    }
+}
+
+fn near_range(range: (i32, i32)) -> (i32, i32)
+    ensures low { IsWithinLimits result.0 }
+    ensures high { IsWithinLimits result.1 }
+{
+    (near(range.0), near(range.1))
+}
+
+/// The union of at most three ranges.
+fn dom_of(alloc: Global, ranges: &[(i32, i32)]) -> Option<Dom> {
+    match ranges {
+        [] => Dom::from_ranges(alloc, &[]).ok(),
+        [a] => Dom::from_ranges(alloc, &[near_range(*a)]).ok(),
+        [a, b] => Dom::from_ranges(alloc, &[near_range(*a), near_range(*b)]).ok(),
+        [a, b, c] => {
+            let ranges = [near_range(*a), near_range(*b), near_range(*c)];
+            Dom::from_ranges(alloc, &ranges).ok()
+        }
+        _ => None,
+    }
 }
 
 fn range(dom: &Dom, index: usize) -> Option<(i32, i32)> {
@@ -41,65 +68,63 @@ fn check_ranges(rt: &impl Abort, dom: &Dom, wanted: &[(i32, i32)], size: u64) {
     assert_eq!(rt; dom.size(), size);
     assert_eq!(rt; dom.is_empty(), wanted.is_empty());
     assert_eq!(rt; dom.is_fixed(), size == 1);
+    assert_eq!(rt;
+        ends(dom),
+        match wanted {
+            [] => None,
+            [first, ..] => Some((first.0, wanted[wanted.len() - 1].1)),
+        }
+    );
 }
 
-/// That the iterator of a domain gives these ranges.
-fn check_list(
-    rt: &impl Abort,
-    alloc: Global,
-    dom: &Dom,
-    wanted: &[(i32, i32)],
-) -> Result<(), Fail> {
-    let ranges: Vec<(i32, i32)> = dom.ranges().collect(alloc)?;
-    assert_eq!(rt; ranges.as_slice(), wanted);
-    Ok(())
-}
-
-fn check_copy(rt: &impl Abort, dom: &Dom) -> Result<(), Fail> {
-    let copy = dom.copy()?;
+/// That a copy of a domain is the same.
+fn check_copy(rt: &impl Abort, dom: &Dom) {
+    let copy = dom.copy().ok().expect(rt, "a copy");
     assert!(rt; copy.same(dom));
     assert_eq!(rt; ends(&copy), ends(dom));
-    Ok(())
 }
 
-fn removed(mut dom: Dom, low: i32, high: i32) -> Result<(Change, Dom), Fail> {
-    let change = if low == high {
-        dom.remove(low)?
-    } else {
-        dom.remove_range(low, high)?
-    };
-    Ok((change, dom))
+/// Ranges, those of their union, and its size.
+type Union = (&'static [(i32, i32)], &'static [(i32, i32)], u64);
+
+static UNIONS: [Union; 9] = [
+    (&[(5, 7), (1, 3), (4, 4)], &[(1, 7)], 7),
+    (&[(500, 700), (1, 3), (4, 499)], &[(1, 700)], 700),
+    (&[(1, 3), (5, 7)], &[(1, 3), (5, 7)], 6),
+    (
+        &[(-2147483646, 2147483646)],
+        &[(-2147483646, 2147483646)],
+        4_294_967_293,
+    ),
+    (&[], &[], 0),
+    (&[(3, 1)], &[], 0),
+    (&[(3, 1), (2, 0)], &[], 0),
+    (&[(4, 4)], &[(4, 4)], 1),
+    (&[(4, 5)], &[(4, 5)], 2),
+];
+
+fn unions() -> &'static [Union] {
+    &UNIONS
 }
 
-fn kept(mut dom: Dom, other: &Dom, shift: i32) -> Result<(Change, Dom), Fail> {
-    let change = if shift == 0 {
-        dom.keep(other)?
-    } else {
-        dom.keep_shifted(other, shift)?
-    };
-    Ok((change, dom))
-}
-
-#[test]
-fn ranges_that_touch_are_one(rt: HostRuntime) -> Result<(), Fail> {
-    let dom = dom_of(rt.alloc(), &[(5, 7), (1, 3), (4, 4)])?;
+fn check_union(rt: &impl Abort, alloc: Global, union: &Union) {
+    let dom = dom_of(alloc, union.0).expect(rt, "a domain");
     assert!(rt; may_be_shared(&dom));
-    check_ranges(&rt, &dom, &[(1, 7)], 7);
-    check_copy(&rt, &dom)?;
-    check_ranges(
-        &rt,
-        &dom_of(rt.alloc(), &[(500, 700), (1, 3), (4, 499)])?,
-        &[(1, 700)],
-        700,
-    );
-    Ok(())
+    check_ranges(rt, &dom, union.1, union.2);
+    assert!(rt; dom.ranges().eq(union.1.iter().copied()));
+    check_copy(rt, &dom);
 }
 
 #[test]
-fn a_gap_is_not_in_the_set(rt: HostRuntime) -> Result<(), Fail> {
-    let dom = dom_of(rt.alloc(), &[(1, 3), (5, 7)])?;
-    check_ranges(&rt, &dom, &[(1, 3), (5, 7)], 6);
-    check_list(&rt, rt.alloc(), &dom, &[(1, 3), (5, 7)])?;
+fn ranges_are_joined(rt: HostRuntime) {
+    for union in unions() {
+        check_union(&rt, rt.alloc(), union);
+    }
+}
+
+#[test]
+fn a_gap_is_not_in_the_set(rt: HostRuntime) {
+    let dom = dom_of(rt.alloc(), &[(1, 3), (5, 7)]).expect(&rt, "a domain");
     for (value, is_in, from, above) in [
         (3, true, Some(3), Some(5)),
         (4, false, Some(5), Some(5)),
@@ -111,152 +136,201 @@ fn a_gap_is_not_in_the_set(rt: HostRuntime) -> Result<(), Fail> {
         assert_eq!(rt; dom.next_from(value), from);
         assert_eq!(rt; dom.next_above(value), above);
     }
-    check_copy(&rt, &dom)?;
-    Ok(())
 }
 
-#[test]
-fn a_removed_number_leaves_a_gap(rt: HostRuntime) -> Result<(), Fail> {
-    let (change, dom) = removed(dom_of(rt.alloc(), &[(5, 7), (1, 3), (4, 4)])?, 4, 4)?;
-    assert_eq!(rt; change, Change::Changed);
-    check_ranges(&rt, &dom, &[(1, 3), (5, 7)], 6);
-    Ok(())
+/// A call that changes a domain, beside another one.
+#[derive(Clone, Copy)]
+enum Call {
+    From(i32),
+    To(i32),
+    Only(i32),
+    Remove(i32),
+    RemoveRange(i32, i32),
+    Keep,
+    KeepShifted(i32),
 }
 
-#[test]
-fn a_shift_past_the_limits_keeps_what_is_within(rt: HostRuntime) -> Result<(), Fail> {
-    let dom = dom_of(rt.alloc(), &[(-2147483646, -1), (1, 2147483646)])?;
-    let others = dom_of(rt.alloc(), &[(5, 5), (7, 300)])?;
-    let (change, dom) = kept(dom, &others, i32::MAX)?;
-    assert_eq!(rt; change, Change::Wiped);
-    let (change, dom) = kept(dom, &others, i32::MIN)?;
-    assert_eq!(rt; change, Change::Changed);
-    check_ranges(
-        &rt,
-        &dom,
-        &[(-2147483643, -2147483643), (-2147483641, -2147483348)],
-        295,
-    );
-    Ok(())
-}
-
-#[test]
-fn the_limits_are_one_range(rt: HostRuntime) -> Result<(), Fail> {
-    let dom = dom_of(rt.alloc(), &[(-2147483646, 2147483646)])?;
-    check_ranges(&rt, &dom, &[(-2147483646, 2147483646)], 4_294_967_293);
-    assert_eq!(rt; ends(&dom), Some((-2147483646, 2147483646)));
-    Ok(())
-}
-
-#[test]
-fn no_range_and_an_inverted_range_are_empty(rt: HostRuntime) -> Result<(), Fail> {
-    check_ranges(&rt, &dom_of(rt.alloc(), &[])?, &[], 0);
-    check_ranges(&rt, &dom_of(rt.alloc(), &[(3, 1)])?, &[], 0);
-    check_ranges(&rt, &dom_of(rt.alloc(), &[(3, 1), (2, 0)])?, &[], 0);
-    Ok(())
-}
-
-#[test]
-fn one_number_is_fixed(rt: HostRuntime) -> Result<(), Fail> {
-    check_ranges(&rt, &dom_of(rt.alloc(), &[(4, 4)])?, &[(4, 4)], 1);
-    check_ranges(&rt, &dom_of(rt.alloc(), &[(4, 5)])?, &[(4, 5)], 2);
-    Ok(())
-}
-
-fn kept_from(mut dom: Dom, value: i32) -> (Change, Dom) {
-    let change = dom.keep_from(value);
-    (change, dom)
-}
-
-fn kept_only(mut dom: Dom, value: i32) -> (Change, Dom) {
-    let change = dom.keep_only(value);
-    (change, dom)
-}
-
-#[test]
-fn what_leaves_nothing_changes_nothing(rt: HostRuntime) -> Result<(), Fail> {
-    let (change, dom) = removed(dom_of(rt.alloc(), &[(1, 3), (5, 7)])?, 4, 4)?;
-    assert_eq!(rt; change, Change::Same);
-    let (change, dom) = kept_only(dom, 4);
-    assert_eq!(rt; change, Change::Wiped);
-    let (change, dom) = kept_from(dom, 6);
-    assert_eq!(rt; change, Change::Changed);
-    let (change, dom) = removed(dom, 6, 7)?;
-    assert_eq!(rt; change, Change::Wiped);
-    check_ranges(&rt, &dom, &[(6, 7)], 2);
-    Ok(())
-}
-
-#[test]
-fn what_is_kept_by_another_is_in_both(rt: HostRuntime) -> Result<(), Fail> {
-    let others = dom_of(rt.alloc(), &[(7, 9)])?;
-    let mut dom = dom_of(rt.alloc(), &[(6, 7)])?;
-    for (shift, change) in [(0, Change::Changed), (-2, Change::Same), (2, Change::Wiped)] {
-        let (given, left) = kept(dom, &others, shift)?;
-        assert_eq!(rt; given, change);
-        check_copy(&rt, &left)?;
-        dom = left;
+/// What a call answers; `None` where memory is refused.
+fn answer(dom: &mut Dom, call: Call, other: &Dom) -> Option<Change> {
+    match call {
+        Call::From(value) => Some(dom.keep_from(value)),
+        Call::To(value) => Some(dom.keep_to(value)),
+        Call::Only(value) => Some(dom.keep_only(value)),
+        Call::Remove(value) => dom.remove(value).ok(),
+        Call::RemoveRange(low, high) => dom.remove_range(low, high).ok(),
+        Call::Keep => dom.keep(other).ok(),
+        Call::KeepShifted(shift) => dom.keep_shifted(other, shift).ok(),
     }
-    check_ranges(&rt, &dom, &[(7, 7)], 1);
-    Ok(())
 }
 
-fn check_copy_over(rt: &impl Abort, mut copy: Dom, dom: &Dom) -> Result<(), Fail> {
+/// The ranges of a domain and of another one, calls with their answers, and the ranges and the size that the domain has then.
+#[derive(Clone, Copy)]
+struct Changes {
+    ranges: &'static [(i32, i32)],
+    other: &'static [(i32, i32)],
+    calls: &'static [(Call, Change)],
+    left: &'static [(i32, i32)],
+    size: u64,
+}
+
+static CHANGES: [Changes; 4] = [
+    Changes {
+        ranges: &[(5, 7), (1, 3), (4, 4)],
+        other: &[],
+        calls: &[(Call::Remove(4), Change::Changed)],
+        left: &[(1, 3), (5, 7)],
+        size: 6,
+    },
+    // what lies past the limits is left out
+    Changes {
+        ranges: &[(-2147483646, -1), (1, 2147483646)],
+        other: &[(5, 5), (7, 300)],
+        calls: &[
+            (Call::KeepShifted(i32::MAX), Change::Wiped),
+            (Call::KeepShifted(i32::MIN), Change::Changed),
+        ],
+        left: &[(-2147483643, -2147483643), (-2147483641, -2147483348)],
+        size: 295,
+    },
+    // what leaves nothing changes nothing
+    Changes {
+        ranges: &[(1, 3), (5, 7)],
+        other: &[],
+        calls: &[
+            (Call::Remove(4), Change::Same),
+            (Call::Only(4), Change::Wiped),
+            (Call::From(6), Change::Changed),
+            (Call::RemoveRange(6, 7), Change::Wiped),
+        ],
+        left: &[(6, 7)],
+        size: 2,
+    },
+    Changes {
+        ranges: &[(6, 7)],
+        other: &[(7, 9)],
+        calls: &[
+            (Call::Keep, Change::Changed),
+            (Call::KeepShifted(-2), Change::Same),
+            (Call::KeepShifted(2), Change::Wiped),
+        ],
+        left: &[(7, 7)],
+        size: 1,
+    },
+];
+
+fn rows() -> &'static [Changes] {
+    &CHANGES
+}
+
+fn check_changes(rt: &impl Abort, alloc: Global, changes: &Changes) {
+    let mut dom = dom_of(alloc, changes.ranges).expect(rt, "a domain");
+    let other = dom_of(alloc, changes.other).expect(rt, "another");
+    for (call, change) in changes.calls {
+        assert_eq!(rt; answer(&mut dom, *call, &other), Some(*change));
+        check_copy(rt, &dom);
+    }
+    check_ranges(rt, &dom, changes.left, changes.size);
+}
+
+#[test]
+fn a_change_says_what_it_leaves(rt: HostRuntime) {
+    for changes in rows() {
+        check_changes(&rt, rt.alloc(), changes);
+    }
+}
+
+fn check_copy_over(rt: &impl Abort, mut copy: Dom, dom: &Dom) {
     assert!(rt; !copy.same(dom));
-    copy.copy_from(dom)?;
+    assert!(rt; copy.copy_from(dom).is_ok());
     assert!(rt; copy.same(dom));
-    Ok(())
 }
 
 #[test]
-fn a_copy_is_written_over_ranges(rt: HostRuntime) -> Result<(), Fail> {
-    let dom = dom_of(rt.alloc(), &[(1, 3), (5, 7)])?;
-    check_copy_over(&rt, dom_of(rt.alloc(), &[(1, 3), (100, 200)])?, &dom)?;
-    check_copy_over(&rt, dom_of(rt.alloc(), &[(1, 7)])?, &dom)?;
-    Ok(())
-}
-
-/// Where the numbers 0 to 5 of a table stand: side by side, at both ends of the limits, and more than 64 apart; the first
-/// of them, and the step from one to the next.
-const PLACES: [(i32, i32); 4] = [(-3, 1), (-2147483646, 1), (2147483641, 1), (-100, 40)];
-
-fn at(place: (i32, i32), i: u32) -> i32 {
-    let mut value = place.0;
-    for _step in 0..i {
-        value = value.saturating_add(place.1);
+fn a_copy_is_written_over_ranges(rt: HostRuntime) {
+    let dom = dom_of(rt.alloc(), &[(1, 3), (5, 7)]).expect(&rt, "a domain");
+    let others: [&[(i32, i32)]; 2] = [&[(1, 3), (100, 200)], &[(1, 7)]];
+    for ranges in others {
+        let copy = dom_of(rt.alloc(), ranges).expect(&rt, "another");
+        check_copy_over(&rt, copy, &dom);
     }
-    value
 }
 
-fn has(bits: u32, i: u32) -> bool {
-    bits.wrapping_shr(i) & 1 == 1
+/// Six numbers, the one that comes next, and the six less a shift.
+#[derive(Clone, Copy)]
+struct Place {
+    numbers: [i32; 6],
+    next: i32,
+    shift: i32,
+    shifted: [i32; 6],
 }
 
-fn from_bit(i: u32) -> u32 {
-    63u32.wrapping_shl(i)
+/// Side by side, at both ends of the limits, and more than 64 apart.
+static PLACES: [Place; 4] = [
+    Place {
+        numbers: [-3, -2, -1, 0, 1, 2],
+        next: 3,
+        shift: -7,
+        shifted: [4, 5, 6, 7, 8, 9],
+    },
+    Place {
+        numbers: [
+            -2147483646,
+            -2147483645,
+            -2147483644,
+            -2147483643,
+            -2147483642,
+            -2147483641,
+        ],
+        next: -2147483640,
+        shift: -7,
+        shifted: [
+            -2147483639,
+            -2147483638,
+            -2147483637,
+            -2147483636,
+            -2147483635,
+            -2147483634,
+        ],
+    },
+    Place {
+        numbers: [
+            2147483641, 2147483642, 2147483643, 2147483644, 2147483645, 2147483646,
+        ],
+        next: 2147483647,
+        shift: 7,
+        shifted: [
+            2147483634, 2147483635, 2147483636, 2147483637, 2147483638, 2147483639,
+        ],
+    },
+    Place {
+        numbers: [-100, -60, -20, 20, 60, 100],
+        next: 140,
+        shift: -7,
+        shifted: [-93, -53, -13, 27, 67, 107],
+    },
+];
+
+fn places() -> &'static [Place] {
+    &PLACES
 }
 
-fn to_bit(i: u32) -> u32 {
-    !from_bit(i.saturating_add(1))
-}
-
-fn subset(alloc: Global, bits: u32, place: (i32, i32)) -> Result<Dom, Fail> {
+/// Those of six numbers whose bit is set, the least by the lowest.
+fn subset(alloc: Global, bits: u32, numbers: &[i32; 6]) -> Option<Dom> {
     if bits == 0 {
-        return Ok(Dom::from_ranges(alloc, &[])?);
+        return dom_of(alloc, &[]);
     }
-    let mut dom = Dom::from_ranges(alloc, &[(-2147483646, 2147483646)])?;
-    let _ends = dom.keep_range(at(place, 0), at(place, 5));
-    for i in 0..5 {
-        let low = at(place, i).saturating_add(1);
-        let high = at(place, i.saturating_add(1)).saturating_sub(1);
-        dom.remove_range(low, high)?;
-    }
-    for i in 0..6 {
-        if !has(bits, i) {
-            dom.remove(at(place, i))?;
+    let mut dom = dom_of(alloc, &[(numbers[0], numbers[5])])?;
+    let mut last = numbers[0];
+    let mut rest = bits;
+    for number in numbers {
+        let _ = dom.remove_range(last.saturating_add(1), number.saturating_sub(1));
+        if rest % 2 == 0 {
+            let _ = dom.remove(*number);
         }
+        last = *number;
+        rest /= 2;
     }
-    Ok(dom)
+    Some(dom)
 }
 
 fn wanted_change(before: u32, wanted: u32) -> Change {
@@ -269,109 +343,107 @@ fn wanted_change(before: u32, wanted: u32) -> Change {
     }
 }
 
-/// That a domain has these of its numbers.
-fn agree(rt: &impl Abort, dom: &Dom, left: u32, place: (i32, i32)) {
+/// That a domain has these of six numbers.
+fn agree(rt: &impl Abort, dom: &Dom, left: u32, numbers: &[i32; 6]) {
     assert_eq!(rt; dom.size(), u64::from(left.count_ones()));
-    for i in 0..6 {
-        assert_eq!(rt; dom.contains(at(place, i)), has(left, i));
+    let mut rest = left;
+    for number in numbers {
+        assert_eq!(rt; dom.contains(*number), rest % 2 == 1);
+        rest /= 2;
     }
 }
 
-/// That a change is told as it is, and leaves what it should.
-fn check_change(
+/// That a call on some of six numbers is answered as it is to be, and leaves those of a mask.
+fn check_call(
     rt: &impl Abort,
-    change: Change,
-    dom: &Dom,
-    before: u32,
+    mut dom: Dom,
+    call: Call,
+    other: &Dom,
+    bits: u32,
     mask: u32,
-    place: (i32, i32),
+    numbers: &[i32; 6],
 ) {
-    let wanted = before & mask;
-    assert_eq!(rt; change, wanted_change(before, wanted));
-    agree(rt, dom, if wanted == 0 { before } else { wanted }, place);
+    let wanted = bits & mask;
+    assert_eq!(rt;
+        answer(&mut dom, call, other),
+        Some(wanted_change(bits, wanted))
+    );
+    agree(rt, &dom, if wanted == 0 { bits } else { wanted }, numbers);
 }
 
-fn try_bounds(
+/// Of six numbers, those from one on, up to it, it alone, all but it, and all but it and the next.
+static MASKS: [[u32; 5]; 6] = [
+    [63, 1, 1, 62, 60],
+    [62, 3, 2, 61, 57],
+    [60, 7, 4, 59, 51],
+    [56, 15, 8, 55, 39],
+    [48, 31, 16, 47, 15],
+    [32, 63, 32, 31, 31],
+];
+
+fn masks() -> &'static [[u32; 5]] {
+    &MASKS
+}
+
+fn check_number(
     rt: &impl Abort,
-    mut dom: Dom,
+    alloc: Global,
     bits: u32,
-    place: (i32, i32),
-    k: u32,
-) -> Result<(), Fail> {
-    let mut low = dom.copy()?;
-    let change = low.keep_from(at(place, k));
-    check_change(rt, change, &low, bits, from_bit(k), place);
-    let change = dom.keep_to(at(place, k));
-    check_change(rt, change, &dom, bits, to_bit(k), place);
-    Ok(())
-}
-
-fn try_numbers(
-    rt: &impl Abort,
-    mut dom: Dom,
-    bits: u32,
-    place: (i32, i32),
-    k: u32,
-) -> Result<(), Fail> {
-    let mut one = dom.copy()?;
-    let change = one.keep_only(at(place, k));
-    check_change(rt, change, &one, bits, 1u32.wrapping_shl(k), place);
-    let change = dom.remove(at(place, k))?;
-    check_change(rt, change, &dom, bits, !1u32.wrapping_shl(k), place);
-    Ok(())
-}
-
-fn try_pairs(
-    rt: &impl Abort,
-    mut dom: Dom,
-    bits: u32,
-    place: (i32, i32),
-    k: u32,
-) -> Result<(), Fail> {
-    let change = dom.remove_range(at(place, k), at(place, k.saturating_add(1)))?;
-    check_change(rt, change, &dom, bits, !3u32.wrapping_shl(k), place);
-    Ok(())
-}
-
-fn try_subset(rt: &impl Abort, alloc: Global, bits: u32, place: (i32, i32)) -> Result<(), Fail> {
-    for k in 0..6 {
-        try_bounds(rt, subset(alloc, bits, place)?, bits, place, k)?;
-        try_numbers(rt, subset(alloc, bits, place)?, bits, place, k)?;
-        try_pairs(rt, subset(alloc, bits, place)?, bits, place, k)?;
+    place: &Place,
+    number: i32,
+    next: i32,
+    masks: &[u32; 5],
+) {
+    let calls = [
+        Call::From(number),
+        Call::To(number),
+        Call::Only(number),
+        Call::Remove(number),
+        Call::RemoveRange(number, next),
+    ];
+    for (call, mask) in calls.iter().zip(masks) {
+        let dom = subset(alloc, bits, &place.numbers).expect(rt, "a domain");
+        let other = subset(alloc, 0, &place.numbers).expect(rt, "another");
+        check_call(rt, dom, *call, &other, bits, *mask, &place.numbers);
     }
-    Ok(())
+}
+
+fn check_subset(rt: &impl Abort, alloc: Global, bits: u32, place: &Place) {
+    let [a, b, c, d, e, f] = place.numbers;
+    let pairs = [(a, b), (b, c), (c, d), (d, e), (e, f), (f, place.next)];
+    for ((number, next), masks) in pairs.iter().zip(masks()) {
+        check_number(rt, alloc, bits, place, *number, *next, masks);
+    }
 }
 
 #[test]
-fn every_change_of_every_subset(rt: HostRuntime) -> Result<(), Fail> {
-    for place in PLACES {
+fn every_change_of_every_subset(rt: HostRuntime) {
+    for place in places() {
         for bits in 0..64 {
-            try_subset(&rt, rt.alloc(), bits, place)?;
+            check_subset(&rt, rt.alloc(), bits, place);
         }
     }
-    Ok(())
 }
 
-fn try_others(rt: &impl Abort, alloc: Global, bits: u32, place: (i32, i32)) -> Result<(), Fail> {
-    let shift = if place.0 > 0 { 7 } else { -7 };
-    let from = (place.0.saturating_sub(shift), place.1);
-    for other in 0..64 {
-        let mut dom = subset(alloc, bits, place)?;
-        let change = dom.keep(&subset(alloc, other, place)?)?;
-        check_change(rt, change, &dom, bits, other, place);
-        let mut dom = subset(alloc, bits, place)?;
-        let change = dom.keep_shifted(&subset(alloc, other, from)?, shift)?;
-        check_change(rt, change, &dom, bits, other, place);
+fn check_other(rt: &impl Abort, alloc: Global, bits: u32, mask: u32, place: &Place) {
+    let calls = [
+        (Call::Keep, place.numbers),
+        (Call::KeepShifted(place.shift), place.shifted),
+    ];
+    for (call, numbers) in calls {
+        let dom = subset(alloc, bits, &place.numbers).expect(rt, "a domain");
+        let other = subset(alloc, mask, &numbers).expect(rt, "another");
+        check_call(rt, dom, call, &other, bits, mask, &place.numbers);
     }
-    Ok(())
 }
 
 #[test]
-fn every_subset_with_every_other(rt: HostRuntime) -> Result<(), Fail> {
-    for place in PLACES {
+fn every_subset_with_every_other(rt: HostRuntime) {
+    for place in places() {
         for bits in 0..64 {
-            try_others(&rt, rt.alloc(), bits, place)?;
+            for mask in 0..64 {
+                check_other(&rt, rt.alloc(), bits, mask, place);
+            }
         }
     }
-    Ok(())
 }

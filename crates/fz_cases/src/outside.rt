@@ -12,6 +12,7 @@ use fz_io::texts::NamedText;
 use fz_io::whole::{Whole, put_all, read_all};
 use std::alloc::{AllocError, Global};
 use std::io::{ErrorKind, Write};
+use std::process::Abort;
 use std::rt::Files;
 use std::test::Fail;
 use std::{fs, io};
@@ -167,53 +168,56 @@ fn sure_ones_take_every_name_and_piece(rt: HostRuntime) -> Result<(), Fail> {
     Ok(())
 }
 
-/// The text of the file of a name; `None` where it can't be selected.
+/// The text of the file of a name, or what is left of what is selected; `None` where it can't be selected.
 fn text_of<R: Files + Input>(
     alloc: Global,
     source: &mut FileSource<R>,
-    name: &str,
-) -> Result<Option<Vec<u8>>, AllocError> {
-    if source.fault_count() > 9 || source.select(name).is_err() || source.fault_count() > 9 {
-        return Ok(None);
+    name: Option<&str>,
+) -> Option<Vec<u8>> {
+    if let Some(name) = name {
+        if source.fault_count() > 9 || source.select(name).is_err() {
+            return None;
+        }
     }
-    Ok(Some(shown(alloc, read_all(alloc, source, 100)?)?))
-}
-
-/// Reads four bytes of what is selected.
-fn read_four<R: Files + Input>(source: &mut FileSource<R>) -> Option<usize> {
     if source.fault_count() > 9 {
         return None;
     }
-    source.read(&mut [0u8; 4]).ok()
+    shown(alloc, read_all(alloc, source, 100).ok()?).ok()
 }
 
-const FILES: [(&str, &str); 4] = [
+static FILES: [(&str, &str); 4] = [
     ("other.fzn", "0123456789"),
     ("a", "letters"),
     ("two words.fzn", "blank"),
     ("-a", "dash"),
 ];
 
+fn files() -> &'static [(&'static str, &'static str)] {
+    &FILES
+}
+
+fn check_text(rt: &impl Abort, given: Option<Vec<u8>>, text: &str) {
+    assert_eq!(rt; given.as_deref(), Some(text.as_bytes()), "{text}");
+}
+
 #[test]
-fn a_file_is_read_by_its_whole_name_and_stays(rt: HostRuntime) -> Result<(), Fail> {
+fn a_file_is_read_by_its_whole_name_and_stays(rt: HostRuntime) {
     let alloc = rt.alloc();
-    for (name, text) in FILES {
-        fs::write(&rt, name, text)?;
+    for (name, text) in files() {
+        assert!(rt; fs::write(&rt, *name, *text).is_ok());
     }
     let mut source = FileSource::new(rt);
-    assert_eq!(rt; read_four(&mut source), Some(0), "nothing is selected yet");
+    // nothing is selected yet
+    check_text(&rt, text_of(alloc, &mut source, None), "");
     for name in ["b", "other", "two", ""] {
-        assert!(rt; text_of(alloc, &mut source, name)?.is_none(), "{name}");
+        assert!(rt; text_of(alloc, &mut source, Some(name)).is_none(), "{name}");
     }
     assert_eq!(rt; source.fault_count(), 4);
-    for (name, text) in FILES {
-        let given = text_of(alloc, &mut source, name)?;
-        assert_eq!(rt; given.as_deref(), Some(text.as_bytes()), "{name}");
-        let stays = fs::read(&rt, name)?;
-        assert_eq!(rt; stays.as_slice(), text.as_bytes(), "{name}");
+    for (name, text) in files() {
+        check_text(&rt, text_of(alloc, &mut source, Some(*name)), text);
+        check_text(&rt, fs::read(&rt, *name).ok(), text);
     }
     assert_eq!(rt; source.fault_count(), 4);
-    Ok(())
 }
 
 /// A writer that takes no bytes.

@@ -11,3 +11,4 @@ mod Wording
 mod Guessing
 mod Heading
 mod Unread
+mod Emptying

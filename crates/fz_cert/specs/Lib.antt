@@ -1,3 +1,4 @@
 pub mod Walks
 pub mod Steps
 pub mod Guesses
+pub mod Areas

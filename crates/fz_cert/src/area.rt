@@ -1,27 +1,27 @@
 //! Boxes.
 ghost use Rattle.std.specs.Prelude.{◌≡◌, ◌↔◌, ◌<◌, IfOk, IsTrue, length, slice_set};
-ghost use Rattle.fz_dom.specs.Shape.{IsDomain};
 ghost use Rattle.fz_refutes.specs.Boxes.{AreSets, HasEmpty, declared_box, set_at};
 
 use fz_dom::Dom;
 use std::alloc::{AllocError, Global};
 use std::marker::Model;
 
-/// A set for each variable.
+/// A set for each variable. It counts those that are empty.
 #[derive(Drop)]
 pub struct Area {
     sets: Vec<Dom>,
+    empty: usize,
 }
 
 impl Model for Area {
     ghost use Rattle.std.specs.Prelude.{ℤ, List};
-    ghost use Rattle.fz_refutes.specs.Boxes.{AreSets};
+    ghost use Rattle.fz_cert.specs.Areas.{IsArea};
 
     ghost Value = { List (List (ℤ × ℤ)) };
 
     ghost view = { λ a. a.sets.items };
 
-    ghost invariant = { λ a. AreSets a.sets.items };
+    ghost invariant = { λ a. IsArea a.sets.items a.empty };
 }
 
 impl Area {
@@ -31,12 +31,15 @@ impl Area {
     {
         let variables = model.variables();
         let mut sets = Vec::with_capacity(alloc, variables.len())?;
+        let mut empty = 0;
         for variable in variables {
             let set = variable.set();
-            let _ = set.is_empty();
+            if set.is_empty() {
+                empty += 1;
+            }
             sets.push(set.copy()?)?;
         }
-        Ok(Area { sets })
+        Ok(Area { sets, empty })
     }
 
     /// The sets, one for each variable.
@@ -51,12 +54,7 @@ impl Area {
     pub fn has_empty(&self) -> bool
         ensures { IsTrue result ↔ HasEmpty self.now }
     {
-        for set in &self.sets {
-            if set.is_empty() {
-                return true;
-            }
-        }
-        false
+        self.empty > 0
     }
 
     /// Puts another set in the place of a variable's, and hands that one back.
@@ -65,7 +63,13 @@ impl Area {
         ensures before { result ≡ set_at self.old variable }
         ensures after { self.new ≡ slice_set self.old variable set }
     {
-        let _ = set.is_empty();
-        std::mem::replace(&mut self.sets[variable as usize], set)
+        if set.is_empty() {
+            self.empty += 1;
+        }
+        let before = std::mem::replace(&mut self.sets[variable as usize], set);
+        if before.is_empty() {
+            self.empty -= 1;
+        }
+        before
     }
 }

@@ -94,34 +94,34 @@ fn command<'a>(alloc: Global) -> Result<Command<'a>, AllocError>
     ensures { IfOk result (λ c. app_of c ≡ fzn_app) }
 {
     let all = all_arg(alloc);
+    let with_all = plain(alloc).arg(all)?;
     let limit = limit_arg(alloc);
+    let with_limit = with_all.arg(limit)?;
     let workers = workers_arg(alloc);
+    let with_workers = with_limit.arg(workers)?;
     let distance = number_arg(
         alloc,
         "commit-distance",
         COMMIT_DISTANCE_LEAST as u64,
         COMMIT_DISTANCE_MOST as u64,
     );
+    let with_distance = with_workers.arg(distance)?;
     let adaptive = number_arg(
         alloc,
         "adaptive-distance",
         ADAPTIVE_DISTANCE_LEAST as u64,
         ADAPTIVE_DISTANCE_MOST as u64,
     );
-    let interleave = number_arg(alloc, "interleave", 0, u64::MAX);
-    let stats = stats_arg(alloc);
-    let certificate = certificate_arg(alloc);
-    let generate = number_arg(alloc, "generate", ITEMS_LEAST as u64, ITEMS_MOST as u64);
-    let file = file_arg(alloc);
-    let with_all = plain(alloc).arg(all)?;
-    let with_limit = with_all.arg(limit)?;
-    let with_workers = with_limit.arg(workers)?;
-    let with_distance = with_workers.arg(distance)?;
     let with_adaptive = with_distance.arg(adaptive)?;
+    let interleave = number_arg(alloc, "interleave", 0, u64::MAX);
     let with_interleave = with_adaptive.arg(interleave)?;
+    let stats = stats_arg(alloc);
     let with_stats = with_interleave.arg(stats)?;
+    let certificate = certificate_arg(alloc);
     let with_certificate = with_stats.arg(certificate)?;
+    let generate = number_arg(alloc, "generate", ITEMS_LEAST as u64, ITEMS_MOST as u64);
     let with_generate = with_certificate.arg(generate)?;
+    let file = file_arg(alloc);
     let with_file = with_generate.arg(file)?;
     Ok(with_file)
 }

@@ -592,7 +592,7 @@ impl Dom {
     }
 
     /// Its numbers as bits, where bit 0 stands for a base.
-    fn word_at(&self, base: i64) -> u64
+    pub fn word_at(&self, base: i64) -> u64
         requires floor { neg_ℤ (pos (2 ^ 40)) ≤ℤ base }
         requires ceiling { base ≤ℤ pos (2 ^ 40) }
         ensures { (i : ℕ) → i < 64 → (bit_at result i ≡ 1) ↔ IsInSet self.now (base +ℤ pos i) }

@@ -1,9 +1,10 @@
 -- What the steps of the reading say.
-use Rattle.std.specs.Prelude.{◌≡◌, ◌≢◌, ℕ, ◌<◌, ◌≤◌, ◌⊎◌, ℤ, pos, ◌-ℤ◌, Bool, true, false, IsTrue, ◌||◌, ◌==◌, ◌+◌, min, List, length, slice_index, slice_range}
+use Rattle.std.specs.Prelude.{◌≡◌, ◌≢◌, ℕ, ◌<◌, ◌≤◌, ◌⊎◌, ℤ, pos, ◌-ℤ◌, Bool, true, false, IsTrue, ◌||◌, ◌==◌, ◌+◌, min, if◌then◌else◌, Option, Some, None, List, length, slice_index, slice_range}
 use Rattle.std.specs.Char.{is_ascii_digit, is_ascii_hexdigit}
 use Rattle.fz_language.specs.declared.sign.Sign.{Sign}
 use Rattle.fz_language.specs.declared.sign.Sign.TheVariants.{Colon}
 use Rattle.fz_language.specs.declared.keyword.Keyword.{Keyword}
+use Rattle.fz_language.specs.declared.keyword.Keyword.TheVariants as keyword
 use Rattle.fz_language.specs.Tokens.{is_blank, is_octal_digit, digits_value, sign_bytes, keyword_bytes, IsToken, IsFine, IsBased, IsInside}
 use Rattle.fz_lex.specs.Lexed.{lexeme_of, IsBounded}
 use Rattle.fz_lex.specs.declared.run.DigitRun.{DigitRun}
@@ -101,6 +102,19 @@ pub record StepsInside (text : List ℕ) (at next : ℕ) : Type 0 where
 -- no word of the language
 abbrev pub IsFree : List ℕ → Type 0
 IsFree bytes = (k : Keyword) → bytes ≢ keyword_bytes k
+
+-- The word of the language that these can be the length and the second byte of; no two words share both.
+abbrev pub candidate_of : ℕ → ℕ → Option Keyword
+candidate_of length second =
+    if length == 2 then (if second == 102 then Some keyword.Of else None)
+    else if length == 3 then (if second == 97 then Some keyword.Var else if second == 101 then Some keyword.Set else if second == 110 then Some keyword.Int else None)
+    else if length == 4 then (if second == 111 then Some keyword.Bool else if second == 114 then Some keyword.True else None)
+    else if length == 5 then (if second == 97 then Some keyword.False else if second == 108 then Some keyword.Float else if second == 111 then Some keyword.Solve else if second == 114 then Some keyword.Array else None)
+    else if length == 7 then (if second == 97 then Some keyword.Satisfy else None)
+    else if length == 8 then (if second == 97 then Some keyword.Maximize else if second == 105 then Some keyword.Minimize else None)
+    else if length == 9 then (if second == 114 then Some keyword.Predicate else None)
+    else if length == 10 then (if second == 111 then Some keyword.Constraint else None)
+    else None
 
 -- the sign has the first byte, and the second if it has two, and is the longest such sign
 pub record FitsSign (s : Sign) (first second : ℕ) : Type 0 where

@@ -2,8 +2,9 @@
 ghost use Rattle.std.specs.Prelude.{◌≡◌, ℕ, length, MatchOption};
 ghost use Rattle.fz_language.specs.Tokens.{sign_bytes, keyword_bytes};
 ghost use Rattle.fz_language.specs.Tokens as spec;
-ghost use Rattle.fz_lex.specs.Steps.{FitsSign, FitsNoSign, IsFree};
+ghost use Rattle.fz_lex.specs.Steps.{FitsSign, FitsNoSign, IsFree, candidate_of};
 
+use crate::run::byte_at;
 use fz_language::keyword::Keyword;
 use fz_language::sign::Sign;
 
@@ -18,23 +19,62 @@ pub(crate) fn is_word_start(byte: u8) -> bool
 pub(crate) fn keyword_of(bytes: &[u8]) -> Option<Keyword>
     ensures { MatchOption result (IsFree bytes.now) (λ k. bytes.now ≡ keyword_bytes k) }
 {
-    match bytes {
-        b"array" => Some(Keyword::Array),
-        b"bool" => Some(Keyword::Bool),
-        b"constraint" => Some(Keyword::Constraint),
-        b"false" => Some(Keyword::False),
-        b"float" => Some(Keyword::Float),
-        b"int" => Some(Keyword::Int),
-        b"maximize" => Some(Keyword::Maximize),
-        b"minimize" => Some(Keyword::Minimize),
-        b"of" => Some(Keyword::Of),
-        b"predicate" => Some(Keyword::Predicate),
-        b"satisfy" => Some(Keyword::Satisfy),
-        b"set" => Some(Keyword::Set),
-        b"solve" => Some(Keyword::Solve),
-        b"true" => Some(Keyword::True),
-        b"var" => Some(Keyword::Var),
+    match candidate(bytes.len(), byte_at(bytes, 1)) {
+        Some(keyword) => {
+            if bytes == spelling(keyword) {
+                Some(keyword)
+            } else {
+                None
+            }
+        }
+        None => None,
+    }
+}
+
+/// The only word of the language of this length and this second byte, if there is one.
+fn candidate(length: usize, second: u8) -> Option<Keyword>
+    ensures { result ≡ candidate_of length second }
+{
+    match (length, second) {
+        (2, b'f') => Some(Keyword::Of),
+        (3, b'a') => Some(Keyword::Var),
+        (3, b'e') => Some(Keyword::Set),
+        (3, b'n') => Some(Keyword::Int),
+        (4, b'o') => Some(Keyword::Bool),
+        (4, b'r') => Some(Keyword::True),
+        (5, b'a') => Some(Keyword::False),
+        (5, b'l') => Some(Keyword::Float),
+        (5, b'o') => Some(Keyword::Solve),
+        (5, b'r') => Some(Keyword::Array),
+        (7, b'a') => Some(Keyword::Satisfy),
+        (8, b'a') => Some(Keyword::Maximize),
+        (8, b'i') => Some(Keyword::Minimize),
+        (9, b'r') => Some(Keyword::Predicate),
+        (10, b'o') => Some(Keyword::Constraint),
         _ => None,
+    }
+}
+
+/// The bytes of a word of the language.
+fn spelling(keyword: Keyword) -> &'static [u8]
+    ensures { result.now ≡ keyword_bytes keyword }
+{
+    match keyword {
+        Keyword::Array => b"array",
+        Keyword::Bool => b"bool",
+        Keyword::Constraint => b"constraint",
+        Keyword::False => b"false",
+        Keyword::Float => b"float",
+        Keyword::Int => b"int",
+        Keyword::Maximize => b"maximize",
+        Keyword::Minimize => b"minimize",
+        Keyword::Of => b"of",
+        Keyword::Predicate => b"predicate",
+        Keyword::Satisfy => b"satisfy",
+        Keyword::Set => b"set",
+        Keyword::Solve => b"solve",
+        Keyword::True => b"true",
+        Keyword::Var => b"var",
     }
 }
 

@@ -10,4 +10,5 @@ pub mod Factors
 pub mod Gaps
 pub mod Differences
 pub mod Pruning
+pub mod Whole
 pub mod Told

@@ -1,33 +1,36 @@
 //! Choices for x over {1, 3, 5, 9} and y over 1..2.
+ghost use Rattle.fz_sets.specs.Sets.{AreWithinLimits};
+
 use crate::reading::model_of;
 use fz_branch::{Plan, choose_among};
 use fz_dom::Dom;
 use fz_region::{Comparison, Decision};
 use std::alloc::Global;
 use std::process::Abort;
-use std::test::Fail;
 
 /// The two alternatives that the plan of these words has among domains, if any.
 fn chosen(
+    rt: &impl Abort,
     alloc: Global,
     pick: &str,
     value: &str,
     doms: &[Dom],
-) -> Result<Option<(Decision, Decision)>, Fail> {
+) -> Option<(Decision, Decision)> {
     let text = format!(in alloc;
         "var 1..9: x; var 1..2: y; solve :: int_search([x, y], {pick}, {value}) satisfy;"
-    )?;
-    let plan = Plan::of(alloc, &model_of(alloc, &text)?)?;
+    );
+    let model = model_of(rt, alloc, &text.ok()?);
+    let plan = Plan::of(alloc, &model).ok()?;
     match choose_among(&plan, doms, 0) {
-        Some(choice) if choice.len() == 2 => Ok(Some((choice.decision(0), choice.decision(1)))),
-        _ => Ok(None),
+        Some(choice) if choice.len() == 2 => Some((choice.decision(0), choice.decision(1))),
+        _ => None,
     }
 }
 
 /// Words, and the first of the two alternatives that they lead to: the variable, the comparison and its opposite, the number.
 type Row = (&'static str, &'static str, u32, Comparison, Comparison, i32);
 
-const ROWS: [Row; 9] = [
+static ROWS: [Row; 9] = [
     (
         "input_order",
         "indomain_min",
@@ -102,8 +105,12 @@ const ROWS: [Row; 9] = [
     ),
 ];
 
-fn check_row(rt: &impl Abort, alloc: Global, doms: &[Dom], row: Row) -> Result<(), Fail> {
-    let (pick, word, variable, comparison, opposite, value) = row;
+fn rows() -> &'static [Row] {
+    &ROWS
+}
+
+fn check_row(rt: &impl Abort, alloc: Global, doms: &[Dom], row: &Row) {
+    let (pick, word, variable, comparison, opposite, value) = *row;
     let first = Decision {
         variable,
         comparison,
@@ -114,35 +121,29 @@ fn check_row(rt: &impl Abort, alloc: Global, doms: &[Dom], row: Row) -> Result<(
         comparison: opposite,
         value,
     };
-    let found = chosen(alloc, pick, word, doms)?;
+    let found = chosen(rt, alloc, pick, word, doms);
     assert!(rt; found == Some((first, second)), "{pick}, {word}");
-    Ok(())
 }
 
-fn two(first: Dom, second: Dom) -> [Dom; 2] {
-    [first, second]
+fn dom_of(rt: &impl Abort, alloc: Global, ranges: &[(i32, i32)]) -> Dom
+    requires { AreWithinLimits ranges.now }
+{
+    Dom::from_ranges(alloc, ranges).ok().expect(rt, "memory")
 }
 
 #[test]
-fn words_lead_to_alternatives(rt: HostRuntime) -> Result<(), Fail> {
+fn words_lead_to_alternatives(rt: HostRuntime) {
     let alloc = rt.alloc();
-    let doms = two(
-        Dom::from_ranges(alloc, &[(1, 1), (3, 3), (5, 5), (9, 9)])?,
-        Dom::from_ranges(alloc, &[(1, 2)])?,
-    );
-    for row in ROWS {
-        check_row(&rt, alloc, &doms, row)?;
+    let x = dom_of(&rt, alloc, &[(1, 1), (3, 3), (5, 5), (9, 9)]);
+    let doms = [x, dom_of(&rt, alloc, &[(1, 2)])];
+    for row in rows() {
+        check_row(&rt, alloc, &doms, row);
     }
-    Ok(())
 }
 
 #[test]
-fn where_all_are_fixed_nothing_is_chosen(rt: HostRuntime) -> Result<(), Fail> {
+fn where_all_are_fixed_nothing_is_chosen(rt: HostRuntime) {
     let alloc = rt.alloc();
-    let doms = two(
-        Dom::from_ranges(alloc, &[(5, 5)])?,
-        Dom::from_ranges(alloc, &[(2, 2)])?,
-    );
-    assert!(rt; chosen(alloc, "first_fail", "indomain_min", &doms)?.is_none());
-    Ok(())
+    let doms = [dom_of(&rt, alloc, &[(5, 5)]), dom_of(&rt, alloc, &[(2, 2)])];
+    assert!(rt; chosen(&rt, alloc, "first_fail", "indomain_min", &doms).is_none());
 }

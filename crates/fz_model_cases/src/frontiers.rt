@@ -1,10 +1,10 @@
 //! Cuts and moves at one edge: the first variable is 1, or it isn't.
 ghost use Rattle.std.specs.Prelude.{◌≡◌, length};
 
-use fz_model::Assignment;
+use crate::reading::assignment_of;
 use fz_region::{Choice, Comparison, Decision, Frontier};
-use std::alloc::{AllocError, Global};
-use std::test::Fail;
+use std::alloc::Global;
+use std::process::Abort;
 
 /// The first variable is 1, or it isn't.
 fn one_or_not(alloc: Global) -> Choice
@@ -21,54 +21,54 @@ fn one_or_not(alloc: Global) -> Choice
 }
 
 /// The frontier below the first alternative, with the other one open too.
-fn below_one(alloc: Global) -> Result<Frontier, AllocError> {
+fn below_one(rt: &impl Abort, alloc: Global) -> Frontier {
     let mut frontier = Frontier::root(alloc);
-    frontier.push(one_or_not(alloc), 0, 1)?;
-    Ok(frontier)
+    assert!(rt; frontier.push(one_or_not(alloc), 0, 1).is_ok());
+    frontier
 }
 
 /// Which of (1, 2), (2, 2) and the empty assignment are in the frontier, and whether anything is open.
-fn open(alloc: Global, frontier: &Frontier) -> Result<[bool; 4], AllocError> {
-    Ok([
-        frontier.contains(&Assignment::new(alloc, &[1, 2])?),
-        frontier.contains(&Assignment::new(alloc, &[2, 2])?),
-        frontier.contains(&Assignment::new(alloc, &[])?),
+fn open(rt: &impl Abort, alloc: Global, frontier: &Frontier) -> [bool; 4] {
+    [
+        frontier.contains(&assignment_of(rt, alloc, &[1, 2])),
+        frontier.contains(&assignment_of(rt, alloc, &[2, 2])),
+        frontier.contains(&assignment_of(rt, alloc, &[])),
         frontier.has_rest(),
-    ])
+    ]
+}
+
+fn copy_of(rt: &impl Abort, frontier: &Frontier) -> Frontier {
+    frontier.copy().ok().expect(rt, "memory")
 }
 
 #[test]
-fn the_root_contains_every_assignment(rt: HostRuntime) -> Result<(), Fail> {
+fn the_root_contains_every_assignment(rt: HostRuntime) {
     let root = Frontier::root(rt.alloc());
-    assert_eq!(rt; open(rt.alloc(), &root)?, [true, true, true, true]);
-    Ok(())
+    assert_eq!(rt; open(&rt, rt.alloc(), &root), [true, true, true, true]);
 }
 
 #[test]
-fn an_edge_contains_what_has_its_variable(rt: HostRuntime) -> Result<(), Fail> {
-    let frontier = below_one(rt.alloc())?;
-    assert_eq!(rt; open(rt.alloc(), &frontier)?, [true, true, false, true]);
-    assert!(rt; frontier.copy()?.same(&frontier));
-    Ok(())
+fn an_edge_contains_what_has_its_variable(rt: HostRuntime) {
+    let frontier = below_one(&rt, rt.alloc());
+    assert_eq!(rt; open(&rt, rt.alloc(), &frontier), [true, true, false, true]);
+    assert!(rt; copy_of(&rt, &frontier).same(&frontier));
 }
 
-/// A part that is cut off, and what is left.
-fn cut(mut frontier: Frontier) -> Result<(Option<Frontier>, Frontier), AllocError> {
-    let part = frontier.cut_last()?;
-    Ok((part, frontier))
+/// A part that is cut off, where there is one.
+fn cut(rt: &impl Abort, frontier: &mut Frontier) -> Option<Frontier> {
+    frontier.cut_last().ok().expect(rt, "memory")
 }
 
 #[test]
-fn a_cut_parts_an_edge_once(rt: HostRuntime) -> Result<(), Fail> {
+fn a_cut_parts_an_edge_once(rt: HostRuntime) {
     let alloc = rt.alloc();
-    let (part, rest) = cut(below_one(alloc)?)?;
-    let part = part.ok_or("no part")?;
-    assert_eq!(rt; open(alloc, &part)?, [false, true, false, true]);
-    assert_eq!(rt; open(alloc, &part.copy()?)?, [false, true, false, true]);
-    assert_eq!(rt; open(alloc, &rest)?, [true, false, false, true]);
-    let (part, _rest) = cut(rest)?;
-    assert!(rt; part.is_none());
-    Ok(())
+    let mut rest = below_one(&rt, alloc);
+    let part = cut(&rt, &mut rest).expect(&rt, "a part");
+    assert_eq!(rt; open(&rt, alloc, &part), [false, true, false, true]);
+    let copy = copy_of(&rt, &part);
+    assert_eq!(rt; open(&rt, alloc, &copy), [false, true, false, true]);
+    assert_eq!(rt; open(&rt, alloc, &rest), [true, false, false, true]);
+    assert!(rt; cut(&rt, &mut rest).is_none());
 }
 
 /// Whether there is an alternative to move to, and the frontier then.
@@ -84,15 +84,14 @@ fn closed(mut frontier: Frontier) -> Frontier {
 }
 
 #[test]
-fn advancing_takes_the_next_alternative(rt: HostRuntime) -> Result<(), Fail> {
+fn advancing_takes_the_next_alternative(rt: HostRuntime) {
     let alloc = rt.alloc();
-    let frontier = closed(below_one(alloc)?);
-    assert_eq!(rt; open(alloc, &frontier)?, [false, true, false, true]);
+    let frontier = closed(below_one(&rt, alloc));
+    assert_eq!(rt; open(&rt, alloc, &frontier), [false, true, false, true]);
     let (has_moved, frontier) = moved(frontier);
     assert!(rt; has_moved);
-    assert_eq!(rt; open(alloc, &frontier)?, [false, true, false, true]);
+    assert_eq!(rt; open(&rt, alloc, &frontier), [false, true, false, true]);
     let (has_moved, frontier) = moved(closed(frontier));
     assert!(rt; !has_moved);
-    assert_eq!(rt; open(alloc, &frontier)?, [false, false, false, false]);
-    Ok(())
+    assert_eq!(rt; open(&rt, alloc, &frontier), [false, false, false, false]);
 }

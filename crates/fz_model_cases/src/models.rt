@@ -1,19 +1,17 @@
 //! Copies of models and of their parts, and a model that threads share.
-use crate::reading::model_of;
-use fz_model::{Argument, Assignment, Goal, Kind, Model, Output, Part, SearchPart, Term};
+use crate::reading::{assignment_of, model_of};
+use fz_model::{Argument, Constraint, Goal, Kind, Model, Output, Part, SearchPart, Term};
 use fz_spec::builtin::Builtin;
 use fz_spec::search::{Pick, Value};
-use std::alloc::AllocError;
 use std::process::Abort;
 use std::sync::Arc;
-use std::test::Fail;
 use std::thread::join;
 
 const TWO_VARIABLES: &str =
     "var 1..3: x; var bool: b; array [1..2] of var int: xs :: output_array([1..2]) = [x, 7]; constraint int_lin_le([2, 3], [x, 7], 25); solve :: int_search([x, b], first_fail, indomain_max) maximize x;";
 
 /// Texts of models that differ from that one in one place.
-const OTHERS: [&str; 6] = [
+static OTHERS: [&str; 6] = [
     "solve satisfy;",
     "var 1..4: x; var bool: b; array [1..2] of var int: xs :: output_array([1..2]) = [x, 7]; constraint int_lin_le([2, 3], [x, 7], 25); solve :: int_search([x, b], first_fail, indomain_max) maximize x;",
     "var 1..3: x; var bool: b; array [1..2] of var int: ys :: output_array([1..2]) = [x, 7]; constraint int_lin_le([2, 3], [x, 7], 25); solve :: int_search([x, b], first_fail, indomain_max) maximize x;",
@@ -22,14 +20,21 @@ const OTHERS: [&str; 6] = [
     "var 1..3: x; var bool: b; array [1..2] of var int: xs :: output_array([1..2]) = [x, 7]; constraint int_lin_le([2, 3], [x, 7], 25); solve :: int_search([x, b], first_fail, indomain_max) minimize x;",
 ];
 
+fn others() -> &'static [&'static str] {
+    &OTHERS
+}
+
+fn copy_of(rt: &impl Abort, model: &Model) -> Model {
+    model.copy().ok().expect(rt, "memory")
+}
+
 #[test]
-fn a_copy_is_the_same_model(rt: HostRuntime) -> Result<(), Fail> {
-    let model = model_of(rt.alloc(), TWO_VARIABLES)?;
-    assert!(rt; model.same(&model.copy()?));
-    for other in OTHERS {
-        assert!(rt; !model.same(&model_of(rt.alloc(), other)?), "{other}");
+fn a_copy_is_the_same_model(rt: HostRuntime) {
+    let model = model_of(&rt, rt.alloc(), TWO_VARIABLES);
+    assert!(rt; model.same(&copy_of(&rt, &model)));
+    for other in others() {
+        assert!(rt; !model.same(&model_of(&rt, rt.alloc(), other)), "{other}");
     }
-    Ok(())
 }
 
 fn is_output(output: &Output) -> bool {
@@ -62,60 +67,61 @@ fn check_model(rt: &impl Abort, model: &Model) {
 }
 
 #[test]
-fn a_copy_has_the_parts_of_the_text(rt: HostRuntime) -> Result<(), Fail> {
-    check_model(&rt, &model_of(rt.alloc(), TWO_VARIABLES)?.copy()?);
-    Ok(())
+fn a_copy_has_the_parts_of_the_text(rt: HostRuntime) {
+    let model = model_of(&rt, rt.alloc(), TWO_VARIABLES);
+    check_model(&rt, &copy_of(&rt, &model));
 }
 
 /// Whether the copy of an argument is the same as another one.
-fn copy_is(this: &Argument, that: &Argument) -> Result<bool, AllocError> {
-    Ok(this.copy()?.same(that))
+fn copy_is(rt: &impl Abort, this: &Argument, that: &Argument) -> bool {
+    this.copy().ok().expect(rt, "memory").same(that)
 }
 
 /// That each argument is the same as its own copy alone.
-fn check_arguments(rt: &impl Abort, these: &[Argument], those: &[Argument]) -> Result<(), Fail> {
+fn check_arguments(rt: &impl Abort, these: &[Argument], those: &[Argument]) {
     for (i, this) in these.iter().enumerate() {
         for (j, that) in those.iter().enumerate() {
-            assert_eq!(rt; copy_is(this, that)?, i == j);
+            assert_eq!(rt; copy_is(rt, this, that), i == j);
         }
     }
-    Ok(())
+}
+
+fn check_constraint(rt: &impl Abort, constraint: &Constraint) {
+    let copy = constraint.copy().ok().expect(rt, "memory");
+    assert!(rt; constraint.same(&copy));
+    assert_eq!(rt; copy.name(), Builtin::IntLinLe);
+    assert_eq!(rt; copy.arguments().len(), 3);
+    check_arguments(rt, constraint.arguments(), copy.arguments());
 }
 
 #[test]
-fn a_copy_is_the_same_constraint(rt: HostRuntime) -> Result<(), Fail> {
-    let model = model_of(rt.alloc(), TWO_VARIABLES)?;
+fn a_copy_is_the_same_constraint(rt: HostRuntime) {
+    let model = model_of(&rt, rt.alloc(), TWO_VARIABLES);
     for constraint in model.constraints() {
-        let copy = constraint.copy()?;
-        assert!(rt; constraint.same(&copy));
-        assert_eq!(rt; copy.name(), Builtin::IntLinLe);
-        assert_eq!(rt; copy.arguments().len(), 3);
-        check_arguments(&rt, constraint.arguments(), copy.arguments())?;
+        check_constraint(&rt, constraint);
     }
-    Ok(())
 }
 
 #[test]
-fn a_copy_is_the_same_assignment(rt: HostRuntime) -> Result<(), Fail> {
+fn a_copy_is_the_same_assignment(rt: HostRuntime) {
     let alloc = rt.alloc();
-    let assignment = Assignment::new(alloc, &[2, -2_147_483_646])?;
-    let copy = assignment.copy()?;
+    let assignment = assignment_of(&rt, alloc, &[2, -2_147_483_646]);
+    let copy = assignment.copy().ok().expect(&rt, "memory");
     assert!(rt; assignment.same(&copy));
     assert_eq!(rt; copy.values(), [2, -2_147_483_646].as_slice());
-    assert!(rt; !assignment.same(&Assignment::new(alloc, &[2])?));
-    Ok(())
+    assert!(rt; !assignment.same(&assignment_of(&rt, alloc, &[2])));
 }
 
 #[test]
-fn a_model_is_read_by_two_threads(rt: HostRuntime) -> Result<(), Fail> {
+fn a_model_is_read_by_two_threads(rt: HostRuntime) {
     let alloc = rt.alloc();
-    let model = Arc::new(alloc, model_of(alloc, TWO_VARIABLES)?)?;
-    let other = Arc::try_clone(&model)?;
+    let model = Arc::new(alloc, model_of(&rt, alloc, TWO_VARIABLES)).ok();
+    let model = model.expect(&rt, "memory");
+    let other = Arc::try_clone(&model).ok().expect(&rt, "memory");
     let counts = join(
         &rt,
         || model.variables().len(),
         move || other.outputs().len(),
     );
     assert_eq!(rt; counts, (2, 1));
-    Ok(())
 }

@@ -1,16 +1,15 @@
 //! The truth of constraints, and which assignments satisfy.
-use crate::reading::model_of;
+use crate::reading::{assignment_of, model_of};
 use fz_model::{Argument, Assignment, Constraint, Model, Term};
 use fz_spec::builtin::Builtin;
 use fz_truth::{holds, is_true};
 use std::alloc::Global;
 use std::process::Abort;
-use std::test::Fail;
 
 /// A constraint over numbers, and whether it is true.
 type Row = (&'static str, bool);
 
-const OF_NUMBERS: [Row; 59] = [
+static OF_NUMBERS: [Row; 59] = [
     ("int_eq(3, 3)", true),
     ("int_eq(3, -3)", false),
     ("int_ne(3, -3)", true),
@@ -75,7 +74,7 @@ const OF_NUMBERS: [Row; 59] = [
     ("bool_lin_le([2, 3], [true, true], 4)", false),
 ];
 
-const OF_LISTS: [Row; 60] = [
+static OF_LISTS: [Row; 60] = [
     ("array_int_minimum(-2, [4, -2, 0])", true),
     ("array_int_minimum(0, [4, -2, 0])", false),
     ("array_int_minimum(-3, [4, -2, 0])", false),
@@ -152,7 +151,7 @@ const OF_LISTS: [Row; 60] = [
 ];
 
 /// Reified constraints, which are to say of r what stands behind them.
-const REIFIED: [Row; 19] = [
+static REIFIED: [Row; 19] = [
     ("int_eq_reif(2, 2, r)", true),
     ("int_eq_reif(2, 3, r)", false),
     ("int_ne_reif(2, 3, r)", true),
@@ -174,10 +173,22 @@ const REIFIED: [Row; 19] = [
     ("set_in_reif(5, {1, 2, 3, 5}, r)", true),
 ];
 
+fn of_numbers() -> &'static [Row] {
+    &OF_NUMBERS
+}
+
+fn of_lists() -> &'static [Row] {
+    &OF_LISTS
+}
+
+fn reified() -> &'static [Row] {
+    &REIFIED
+}
+
 /// The model of some declarations and a constraint.
-fn model_with(alloc: Global, declarations: &str, constraint: &str) -> Result<Model, Fail> {
-    let text = format!(in alloc; "{declarations} constraint {constraint}; solve satisfy;")?;
-    model_of(alloc, &text)
+fn model_with(rt: &impl Abort, alloc: Global, declarations: &str, constraint: &str) -> Model {
+    let text = format!(in alloc; "{declarations} constraint {constraint}; solve satisfy;");
+    model_of(rt, alloc, &text.ok().expect(rt, "memory"))
 }
 
 fn check(rt: &impl Abort, model: &Model, assignment: &Assignment, row: Row) {
@@ -185,43 +196,43 @@ fn check(rt: &impl Abort, model: &Model, assignment: &Assignment, row: Row) {
     assert_eq!(rt; holds(model, assignment), truth, "{constraint}");
 }
 
-fn expect(rt: &impl Abort, alloc: Global, row: Row) -> Result<(), Fail> {
-    let model = model_with(alloc, "", row.0)?;
-    check(rt, &model, &Assignment::new(alloc, &[])?, row);
-    Ok(())
+fn expect(rt: &impl Abort, alloc: Global, row: Row) {
+    let model = model_with(rt, alloc, "", row.0);
+    check(rt, &model, &assignment_of(rt, alloc, &[]), row);
 }
 
 #[test]
-fn constraints_over_numbers(rt: HostRuntime) -> Result<(), Fail> {
-    for row in OF_NUMBERS {
-        expect(&rt, rt.alloc(), row)?;
+fn constraints_over_numbers(rt: HostRuntime) {
+    for row in of_numbers() {
+        expect(&rt, rt.alloc(), *row);
     }
-    Ok(())
 }
 
 #[test]
-fn constraints_over_lists(rt: HostRuntime) -> Result<(), Fail> {
-    for row in OF_LISTS {
-        expect(&rt, rt.alloc(), row)?;
+fn constraints_over_lists(rt: HostRuntime) {
+    for row in of_lists() {
+        expect(&rt, rt.alloc(), *row);
     }
-    Ok(())
 }
 
-fn expect_reified(rt: &impl Abort, alloc: Global, row: Row) -> Result<(), Fail> {
+fn expect_reified(rt: &impl Abort, alloc: Global, row: Row) {
     let (constraint, truth) = row;
-    let model = model_with(alloc, "var bool: r;", constraint)?;
-    check(rt, &model, &Assignment::new(alloc, &[1])?, row);
-    let opposite = (constraint, !truth);
-    check(rt, &model, &Assignment::new(alloc, &[0])?, opposite);
-    Ok(())
+    let model = model_with(rt, alloc, "var bool: r;", constraint);
+    for (r, truth) in [(1, truth), (0, !truth)] {
+        check(
+            rt,
+            &model,
+            &assignment_of(rt, alloc, &[r]),
+            (constraint, truth),
+        );
+    }
 }
 
 #[test]
-fn reified_constraints(rt: HostRuntime) -> Result<(), Fail> {
-    for row in REIFIED {
-        expect_reified(&rt, rt.alloc(), row)?;
+fn reified_constraints(rt: HostRuntime) {
+    for row in reified() {
+        expect_reified(&rt, rt.alloc(), *row);
     }
-    Ok(())
 }
 
 /// An argument by its values.
@@ -233,7 +244,7 @@ enum Shown {
 }
 
 /// What no model has: a name with arguments that it doesn't ask for.
-const STRANGE: [(Builtin, &[Shown]); 4] = [
+static STRANGE: [(Builtin, &[Shown]); 4] = [
     (Builtin::IntEq, &[Shown::One(3)]),
     (Builtin::IntEq, &[Shown::Terms(&[1]), Shown::One(1)]),
     (
@@ -246,40 +257,53 @@ const STRANGE: [(Builtin, &[Shown]); 4] = [
     ),
 ];
 
-fn constraint(alloc: Global, name: Builtin, shown: &[Shown]) -> Result<Constraint, Fail> {
-    let mut arguments = Vec::new(alloc);
-    for argument in shown {
-        arguments.push(match argument {
-            Shown::One(number) => Argument::One(Term::Num(*number)),
-            Shown::Numbers(numbers) => Argument::Numbers(Vec::from_slice(alloc, numbers)?),
-            Shown::Terms(numbers) => {
-                let terms = numbers.iter().map(|number| Term::Num(*number));
-                Argument::Terms(terms.collect(alloc)?)
-            }
-        })?;
+fn strange() -> &'static [(Builtin, &'static [Shown])] {
+    &STRANGE
+}
+
+fn argument(rt: &impl Abort, alloc: Global, shown: &Shown) -> Argument {
+    match shown {
+        Shown::One(number) => Argument::One(Term::Num(*number)),
+        Shown::Numbers(numbers) => {
+            Argument::Numbers(Vec::from_slice(alloc, numbers).ok().expect(rt, "memory"))
+        }
+        Shown::Terms(numbers) => {
+            let terms = numbers.iter().map(|number| Term::Num(*number));
+            Argument::Terms(terms.collect(alloc).ok().expect(rt, "memory"))
+        }
     }
-    Ok(Constraint::new(name, arguments))
+}
+
+fn constraint(rt: &impl Abort, alloc: Global, name: Builtin, shown: &[Shown]) -> Constraint {
+    let mut arguments = Vec::new(alloc);
+    for one in shown {
+        assert!(rt; arguments.push(argument(rt, alloc, one)).is_ok());
+    }
+    Constraint::new(name, arguments)
 }
 
 #[test]
-fn constraints_of_other_forms_are_false(rt: HostRuntime) -> Result<(), Fail> {
-    for (name, shown) in STRANGE {
-        let constraint = constraint(rt.alloc(), name, shown)?;
+fn constraints_of_other_forms_are_false(rt: HostRuntime) {
+    for (name, shown) in strange() {
+        let constraint = constraint(&rt, rt.alloc(), *name, shown);
         assert!(rt; !is_true(&constraint, &[]), "{name:?}");
     }
-    Ok(())
 }
 
 #[test]
-fn an_assignment_satisfies_a_model(rt: HostRuntime) -> Result<(), Fail> {
+fn an_assignment_satisfies_a_model(rt: HostRuntime) {
     let alloc = rt.alloc();
     let constraint = "int_div(-7, b, c)";
-    let model = model_with(alloc, "var -2..2: b; var int: c;", constraint)?;
-    let (yes, no) = ((constraint, true), (constraint, false));
-    check(&rt, &model, &Assignment::new(alloc, &[2, -3])?, yes);
-    check(&rt, &model, &Assignment::new(alloc, &[0, 0])?, no);
-    check(&rt, &model, &Assignment::new(alloc, &[2])?, no);
-    check(&rt, &model, &Assignment::new(alloc, &[3, -2])?, no);
-    check(&rt, &model, &Assignment::new(alloc, &[2, -3, 0])?, no);
-    Ok(())
+    let model = model_with(&rt, alloc, "var -2..2: b; var int: c;", constraint);
+    let rows: [(&[i32], bool); 5] = [
+        (&[2, -3], true),
+        (&[0, 0], false),
+        (&[2], false),
+        (&[3, -2], false),
+        (&[2, -3, 0], false),
+    ];
+    for (values, truth) in rows {
+        let assignment = assignment_of(&rt, alloc, values);
+        check(&rt, &model, &assignment, (constraint, truth));
+    }
 }

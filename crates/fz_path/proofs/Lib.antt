@@ -9,3 +9,5 @@ pub mod Commits
 pub mod Parts
 pub mod Told
 pub mod Takes
+mod Copies
+mod Walking

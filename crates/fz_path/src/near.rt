@@ -4,8 +4,10 @@ ghost use Rattle.fz_trail.specs.Places.{deepest_to, depths_of};
 ghost use Rattle.fz_trail.specs.Trails.{AreBeside, IsKept};
 ghost use Rattle.fz_path.specs.Tasks.{depth_of_near, IsNearAt};
 
+use crate::expand::tell;
 use crate::task::Near;
 use fz_account::Account;
+use fz_model::Assignment;
 use fz_search_space::SearchSpace;
 use fz_trail::{Kept, Trail};
 use std::alloc::AllocError;
@@ -38,16 +40,21 @@ fn told<S: SearchSpace>(account: &Account, kept: Kept<S>) -> Result<Near<S>, All
     ensures near { IfOk result (IsNearAt account.now) }
 {
     let Kept { depth, mut space } = kept;
-    let known = match account.witness() {
-        Some(known) => {
-            space.tell_bound(known)?;
-            Some(known.copy()?)
-        }
-        None => None,
-    };
+    tell(account, &mut space)?;
+    let known = known_of(account)?;
     Ok(Near {
         space,
         depth,
         known,
     })
+}
+
+/// A copy of what an account knows.
+fn known_of(account: &Account) -> Result<Option<Assignment>, AllocError>
+    ensures { IfOk result (λ known. known ≡ account.now.witness) }
+{
+    match account.witness() {
+        Some(known) => Ok(Some(known.copy()?)),
+        None => Ok(None),
+    }
 }

@@ -10,7 +10,6 @@ ghost use Rattle.fz_prop.specs.Stores.{IsTermOf};
 ghost use Rattle.fz_varelement.specs.Matching.{AreAllMatched, AreFound};
 
 use fz_bits::word::{common, either, run_of};
-use fz_dom::Dom;
 use fz_prop::Store;
 use fz_prop::terms::{greatest_of, least_of};
 use fz_spec::term::Term;
@@ -80,20 +79,9 @@ fn word_of(store: &Store, term: Term, base: i32) -> u64
     ensures { AreOnes result (λ j. IsInSet (term_set store.now.doms term) (base +ℤ pos j)) }
 {
     match term {
-        Term::Var(variable) => word_in(store.dom(variable), base),
+        Term::Var(variable) => store.dom(variable).word_at(i64::from(base)),
         Term::Num(number) => window_of(number, number, base),
     }
-}
-
-/// The bits of the numbers of a domain, where bit 0 stands for a base.
-fn word_in(dom: &Dom, base: i32) -> u64
-    ensures { AreOnes result (λ j. IsInSet dom.now (base +ℤ pos j)) }
-{
-    let mut word = 0;
-    for (low, high) in dom.ranges() {
-        word = either(word, window_of(low, high, base));
-    }
-    word
 }
 
 /// The bits of the numbers from a low to a high, both among them, where bit 0 stands for a base.

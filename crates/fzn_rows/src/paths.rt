@@ -1,190 +1,164 @@
 //! Paths.
-use crate::models::{least_of_three, path, two_by_two, two_values};
-use crate::show::{show_account, show_part, show_values};
-use fz_model::Assignment;
-use fz_path::{Path, Start, Task};
-use fz_region::Frontier;
+use crate::reading::{LEAST_OF_THREE, TWO_BY_TWO, TWO_VALUES, one, path_of};
+use crate::wanted::{Told, check_account, check_part};
+use fz_account::Learned;
+use fz_path::{Path, Start, Step, Task};
+use fz_region::{Comparison, Frontier};
 use fz_space::Space;
-use std::alloc::{AllocError, Global};
+use std::alloc::Global;
+use std::process::Abort;
 
-/// The path takes up the whole tree.
-fn start(rt: &HostRuntime, path: &mut Path<Space>) {
-    let answer = match path.start(Frontier::root(rt.alloc())) {
-        Start::Started => "Started",
-        Start::Busy(_) => "Busy",
-        Start::NoMemory(_) => "NoMemory",
-    };
-    let _ = println!(rt; "start: {answer}");
+/// Whether the path takes up the whole tree; false where it is busy.
+fn starts(rt: &impl Abort, alloc: Global, path: &mut Path<Space>) -> bool {
+    match path.start(Frontier::root(alloc)) {
+        Start::Started => true,
+        Start::Busy(_) => false,
+        Start::NoMemory(_) => panic!(rt; "memory"),
+    }
 }
 
-/// The path takes up a task of the whole tree.
-fn start_near(rt: &HostRuntime, path: &mut Path<Space>) {
-    match path.start_near(Task::of(Frontier::root(rt.alloc()))) {
-        Start::Started => {
-            let _ = println!(rt; "start_near: Started");
-        }
+/// Whether the path takes up a task of the whole tree; where it is busy the task comes back.
+fn starts_near(rt: &impl Abort, alloc: Global, path: &mut Path<Space>) -> bool {
+    match path.start_near(Task::of(Frontier::root(alloc))) {
+        Start::Started => true,
         Start::Busy(task) => {
-            let edges = task.frontier().edges().len();
-            let _ = println!(rt; "start_near: Busy, a task of {edges} edges");
+            assert!(rt; task.frontier().edges().is_empty());
+            false
         }
-        Start::NoMemory(_) => {
-            let _ = println!(rt; "start_near: NoMemory");
-        }
+        Start::NoMemory(_) => panic!(rt; "memory"),
     }
 }
 
-/// So many steps.
-fn steps(rt: &HostRuntime, path: &mut Path<Space>, count: u32) -> Result<(), AllocError> {
-    for _step in 0..count {
-        let step = path.step()?;
-        let _ = println!(rt; "step: {step:?}");
+/// What each of some steps answers.
+pub(crate) fn check_steps(rt: &impl Abort, path: &mut Path<Space>, steps: &[Step]) {
+    for step in steps {
+        assert_eq!(rt; path.step().ok(), Some(*step));
     }
-    Ok(())
 }
 
 /// What a path reports.
-fn report(rt: &HostRuntime, path: &mut Path<Space>) -> Result<(), AllocError> {
-    match path.report()? {
-        Some(account) => show_account(rt, &account),
-        None => {
-            let _ = println!(rt; "report: None");
-        }
-    }
-    Ok(())
+fn check_report(rt: &impl Abort, path: &mut Path<Space>, told: Told) {
+    let account = path.report().ok().expect(rt, "memory");
+    check_account(rt, &account.expect(rt, "an account"), told);
 }
 
-/// What a path is cut into.
-fn cut(rt: &HostRuntime, path: &mut Path<Space>) -> Result<(), AllocError> {
-    match path.cut()? {
-        Some(cut) => {
-            show_part(rt, cut.task.frontier());
-            show_account(rt, &cut.account);
-        }
-        None => {
-            let _ = println!(rt; "cut: None");
-        }
-    }
-    Ok(())
+fn has_no_report(rt: &impl Abort, path: &mut Path<Space>) -> bool {
+    path.report().ok().expect(rt, "memory").is_none()
 }
 
-/// An idle path of `var 1..2: x; solve satisfy;`.
-fn over_two_values(alloc: Global) -> Result<Path<Space>, AllocError> {
-    path(alloc, &two_values(alloc)?)
+fn has_no_cut(rt: &impl Abort, path: &mut Path<Space>) -> bool {
+    path.cut().ok().expect(rt, "memory").is_none()
 }
 
-/// A path takes up one frontier at a time, and isn't cut where no alternative is open.
-fn started(rt: &HostRuntime, path: &mut Path<Space>) -> Result<(), AllocError> {
-    start(rt, path);
-    start(rt, path);
-    cut(rt, path)
+/// What a path is cut into: a part of one edge, and an account.
+fn check_cut(rt: &impl Abort, path: &mut Path<Space>, part: (Comparison, i32), told: Told) {
+    let cut = path.cut().ok().expect(rt, "memory").expect(rt, "a cut");
+    check_part(rt, cut.task.frontier(), &[part]);
+    check_account(rt, &cut.account, told);
 }
 
-/// A path through the whole tree reports once.
-fn searched(rt: &HostRuntime, path: &mut Path<Space>) -> Result<(), AllocError> {
-    steps(rt, path, 5)?;
-    report(rt, path)?;
-    report(rt, path)
-}
-
-fn whole(rt: &HostRuntime) -> Result<(), AllocError> {
-    let mut path = over_two_values(rt.alloc())?;
-    let _ = println!(rt; "-- a path over two values");
-    steps(rt, &mut path, 1)?;
-    started(rt, &mut path)?;
-    searched(rt, &mut path)
+/// A path takes up one frontier at a time, isn't cut where no alternative is open, and reports once.
+#[test]
+fn a_path_searches_two_values(rt: HostRuntime) {
+    let mut path = path_of(&rt, rt.alloc(), TWO_VALUES);
+    check_steps(&rt, &mut path, &[Step::Idle]);
+    assert!(rt; starts(&rt, rt.alloc(), &mut path));
+    assert!(rt; !starts(&rt, rt.alloc(), &mut path));
+    assert!(rt; has_no_cut(&rt, &mut path));
+    let steps = [
+        Step::Expanded,
+        Step::Found,
+        Step::Found,
+        Step::Closed,
+        Step::Closed,
+    ];
+    check_steps(&rt, &mut path, &steps);
+    let told = Told {
+        found: &[&[1], &[2]],
+        knows: None,
+        given: 0,
+        has_rest: false,
+    };
+    check_report(&rt, &mut path, told);
+    assert!(rt; has_no_report(&rt, &mut path));
 }
 
 /// A path whose one open alternative is cut off holds nothing more.
-fn parted(rt: &HostRuntime, path: &mut Path<Space>) -> Result<(), AllocError> {
-    steps(rt, path, 2)?;
-    cut(rt, path)?;
-    let idle = path.is_idle();
-    let _ = println!(rt; "idle: {idle}");
-    Ok(())
+#[test]
+fn a_path_is_cut(rt: HostRuntime) {
+    let mut path = path_of(&rt, rt.alloc(), TWO_VALUES);
+    assert!(rt; starts(&rt, rt.alloc(), &mut path));
+    check_steps(&rt, &mut path, &[Step::Expanded, Step::Found]);
+    let told = Told {
+        found: &[&[1]],
+        knows: None,
+        given: 1,
+        has_rest: false,
+    };
+    check_cut(&rt, &mut path, (Comparison::NotEqual, 1), told);
+    assert!(rt; path.is_idle());
 }
 
-/// A path that holds a frontier hands a task back.
-fn taken_up(rt: &HostRuntime) -> Result<(), AllocError> {
-    let mut path = over_two_values(rt.alloc())?;
-    let _ = println!(rt; "-- a path that takes up tasks");
-    start_near(rt, &mut path);
-    start_near(rt, &mut path);
-    Ok(())
+#[test]
+fn a_busy_path_hands_a_task_back(rt: HostRuntime) {
+    let mut path = path_of(&rt, rt.alloc(), TWO_VALUES);
+    assert!(rt; starts_near(&rt, rt.alloc(), &mut path));
+    assert!(rt; !starts_near(&rt, rt.alloc(), &mut path));
 }
 
 /// Where the nearest copied space is above the first nodes.
-fn show_kept(rt: &HostRuntime, path: &Path<Space>) {
-    let _ = print!(rt; "kept:");
+fn check_kept(rt: &impl Abort, path: &Path<Space>, depth: Option<u64>) {
     for node in 0..4u64 {
-        match path.kept(node) {
-            Some(depth) => {
-                let _ = print!(rt; " {depth}");
-            }
-            None => {
-                let _ = print!(rt; " none");
-            }
-        }
+        assert_eq!(rt; path.kept(node), depth);
     }
-    let _ = println!(rt; "");
 }
 
 /// Copies stand at the first node and at each so many edges; another one in the middle of a long way.
-fn copied(rt: &HostRuntime) -> Result<(), AllocError> {
-    let alloc = rt.alloc();
-    let mut path = path(alloc, &two_by_two(alloc)?)?;
-    let _ = println!(rt; "-- a path and its copies");
-    start_near(rt, &mut path);
-    show_kept(rt, &path);
-    steps(rt, &mut path, 3)?;
-    show_kept(rt, &path);
-    Ok(())
+#[test]
+fn a_path_has_its_copies(rt: HostRuntime) {
+    let mut path = path_of(&rt, rt.alloc(), TWO_BY_TWO);
+    assert!(rt; starts_near(&rt, rt.alloc(), &mut path));
+    check_kept(&rt, &path, None);
+    check_steps(
+        &rt,
+        &mut path,
+        &[Step::Expanded, Step::Expanded, Step::Found],
+    );
+    check_kept(&rt, &path, Some(0));
 }
 
-fn halved(rt: &HostRuntime) -> Result<(), AllocError> {
-    let mut path = over_two_values(rt.alloc())?;
-    let _ = println!(rt; "-- a path that is cut");
-    start(rt, &mut path);
-    parted(rt, &mut path)
-}
-
-/// Values of one variable, of which the path takes in those that are better than what it knows.
-fn learn(rt: &HostRuntime, path: &mut Path<Space>) -> Result<(), AllocError> {
-    for value in [2, 3, 2, 9] {
-        let learned = path.learn(&Assignment::new(rt.alloc(), &[value])?)?;
-        let _ = println!(rt; "learn {value}: {learned:?}");
+/// What a path makes of values of one variable.
+fn check_learning(rt: &impl Abort, alloc: Global, path: &mut Path<Space>, rows: &[(i32, Learned)]) {
+    for (value, learned) in rows {
+        let known = one(rt, alloc, *value);
+        assert_eq!(rt; path.learn(&known).ok(), Some(*learned));
     }
-    Ok(())
 }
 
-/// What a path knows.
-fn show_known(rt: &HostRuntime, path: &Path<Space>) {
-    if let Some(known) = path.known() {
-        let _ = print!(rt; "known:");
-        show_values(rt, known);
-        let _ = println!(rt; "");
-    }
+fn check_known(rt: &impl Abort, path: &Path<Space>, values: &[i32]) {
+    let known = path.known().map(|known| known.values());
+    assert_eq!(rt; known, Some(values));
 }
 
 /// Of what is left only the better one is looked at.
-fn bettered(rt: &HostRuntime, path: &mut Path<Space>) -> Result<(), AllocError> {
-    start(rt, path);
-    steps(rt, path, 2)?;
-    report(rt, path)
-}
-
-fn learning(rt: &HostRuntime) -> Result<(), AllocError> {
-    let alloc = rt.alloc();
-    let mut path = path(alloc, &least_of_three(alloc)?)?;
-    let _ = println!(rt; "-- a path that learns");
-    learn(rt, &mut path)?;
-    show_known(rt, &path);
-    bettered(rt, &mut path)
-}
-
-pub fn all(rt: &HostRuntime) -> Result<(), AllocError> {
-    whole(rt)?;
-    halved(rt)?;
-    taken_up(rt)?;
-    copied(rt)?;
-    learning(rt)
+#[test]
+fn a_path_learns(rt: HostRuntime) {
+    let mut path = path_of(&rt, rt.alloc(), LEAST_OF_THREE);
+    let rows = [
+        (2, Learned::Learned),
+        (3, Learned::Ignored),
+        (2, Learned::Ignored),
+        (9, Learned::Ignored),
+    ];
+    check_learning(&rt, rt.alloc(), &mut path, &rows);
+    check_known(&rt, &path, &[2]);
+    assert!(rt; starts(&rt, rt.alloc(), &mut path));
+    check_steps(&rt, &mut path, &[Step::Found, Step::Closed]);
+    let told = Told {
+        found: &[],
+        knows: Some(&[1]),
+        given: 0,
+        has_rest: false,
+    };
+    check_report(&rt, &mut path, told);
 }

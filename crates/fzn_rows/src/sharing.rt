@@ -1,155 +1,123 @@
 //! Two workers on two variables of two values each: the parts behind a steal, what each worker finds, and a whole run.
-use crate::books::take;
-use crate::machines::{apply, show};
-use crate::models::{machine, path, two_by_two};
+use crate::machines::{Row, check_events};
+use crate::paths::check_steps;
+use crate::reading::{TWO_BY_TWO, machine_of, path_of};
+use crate::wanted::{check_book, check_edge, take};
 use fz_account::Account;
-use fz_book::Book;
-use fz_machine::{Event, Machine};
-use fz_model::Model;
-use fz_path::{Path, Start, Task};
+use fz_book::{Book, End};
+use fz_machine::{Event, Machine, Outcome};
+use fz_path::{Start, Step, Task};
 use fz_region::Frontier;
 use fz_space::Space;
-use std::alloc::{AllocError, Global};
-use std::sync::Arc;
+use std::alloc::Global;
+use std::process::Abort;
 
-/// The alternatives of a frontier's edges, and whether the node below them is open.
-fn show_frontier(rt: &HostRuntime, what: &str, frontier: &Frontier) {
-    let _ = print!(rt; "{what}:");
-    for edge in frontier.edges() {
-        let _ = print!(rt; " taken {}, last {},", edge.taken, edge.last);
-    }
-    let open = frontier.is_current_open();
-    let _ = println!(rt; " current open {open}");
+/// How many parts of a book are open, and the alternatives of the one edge of the first.
+fn check_open(rt: &impl Abort, book: &Book, count: u64, taken: u32, last: u32) {
+    assert_eq!(rt; book.open_count(), count);
+    check_edge(rt, book.first_open().expect(rt, "a part"), taken, last);
 }
 
-/// How many parts of a book are open, and the first of them.
-fn show_open(rt: &HostRuntime, book: &Book) {
-    let count = book.open_count();
-    let _ = println!(rt; "open: {count}");
-    if let Some(frontier) = book.first_open() {
-        show_frontier(rt, "the first", frontier);
-    }
-}
-
-/// At which node the space stands that a task carries.
-fn show_near(rt: &HostRuntime, task: &Task<Space>) {
-    match task.near_depth() {
-        Some(depth) => {
-            let _ = println!(rt; "a space of the node below {depth} edges");
-        }
-        None => {
-            let _ = println!(rt; "no space");
-        }
-    }
+/// The task in the hand of the second worker: the second alternative, and the space of the root.
+fn check_hand(rt: &impl Abort, machine: &Machine<Space>) {
+    assert!(rt; 1 < machine.workers());
+    let task = machine.hand(1).expect(rt, "a task");
+    check_edge(rt, task.frontier(), 1, 1);
+    assert_eq!(rt; task.near_depth(), Some(0));
 }
 
 /// The first worker divides the tree, and the second one steals a part of it.
-fn divided(rt: &HostRuntime, machine: &mut Machine<Space>) -> Result<(), AllocError> {
-    let events = [
-        Event::Step(1),
-        Event::Claim(0),
-        Event::Start(0),
-        Event::Step(0),
-        Event::Steal(0, 1),
-    ];
-    apply(rt, machine, &events)?;
-    show_open(rt, machine.book());
-    if machine.workers() < 2 {
-        return Ok(());
-    }
-    if let Some(task) = machine.hand(1) {
-        show_frontier(rt, "in the hand of the second", task.frontier());
-        show_near(rt, task);
-    }
-    Ok(())
-}
+static DIVIDED: [Row; 5] = [
+    (Event::Step(1), None),
+    (Event::Claim(0), Some(Outcome::Moved)),
+    (Event::Start(0), Some(Outcome::Moved)),
+    (Event::Step(0), Some(Outcome::Expanded)),
+    (Event::Steal(0, 1), Some(Outcome::Moved)),
+];
 
 /// The second worker searches its part.
-fn second(rt: &HostRuntime, machine: &mut Machine<Space>) -> Result<(), AllocError> {
-    let events = [
-        Event::Start(1),
-        Event::Step(1),
-        Event::Step(1),
-        Event::Step(1),
-        Event::Step(1),
-        Event::Report(1),
-    ];
-    apply(rt, machine, &events)?;
-    show(rt, machine.book());
-    show_open(rt, machine.book());
-    Ok(())
-}
+static SECOND: [Row; 6] = [
+    (Event::Start(1), Some(Outcome::Moved)),
+    (Event::Step(1), Some(Outcome::Expanded)),
+    (Event::Step(1), Some(Outcome::Found)),
+    (Event::Step(1), Some(Outcome::Found)),
+    (Event::Step(1), Some(Outcome::Closed)),
+    (Event::Report(1), Some(Outcome::Moved)),
+];
 
 /// The first worker searches what was left to it.
-fn first(rt: &HostRuntime, machine: &mut Machine<Space>) -> Result<(), AllocError> {
-    let events = [
-        Event::Step(0),
-        Event::Step(0),
-        Event::Step(0),
-        Event::Step(0),
-        Event::Report(0),
-    ];
-    apply(rt, machine, &events)?;
-    show(rt, machine.book());
-    Ok(())
+static FIRST: [Row; 5] = [
+    (Event::Step(0), Some(Outcome::Expanded)),
+    (Event::Step(0), Some(Outcome::Found)),
+    (Event::Step(0), Some(Outcome::Found)),
+    (Event::Step(0), Some(Outcome::Closed)),
+    (Event::Report(0), Some(Outcome::Moved)),
+];
+
+fn divided() -> &'static [Row] {
+    &DIVIDED
 }
 
-/// The account of a path that has searched a part.
-fn searched(path: &mut Path<Space>, part: Task<Space>) -> Result<Option<Account>, AllocError> {
-    match path.start_near(part) {
-        Start::Started => {}
-        _ => return Ok(None),
-    }
-    for _step in 0..4u32 {
-        let _ = path.step()?;
-    }
-    path.report()
+fn second() -> &'static [Row] {
+    &SECOND
+}
+
+fn first() -> &'static [Row] {
+    &FIRST
+}
+
+/// What a path over the whole tree gives where it is cut behind its first step.
+fn part_of(rt: &impl Abort, alloc: Global) -> Task<Space> {
+    let mut victim = path_of(rt, alloc, TWO_BY_TWO);
+    assert!(rt; matches!(victim.start(Frontier::root(alloc)), Start::Started));
+    check_steps(rt, &mut victim, &[Step::Expanded]);
+    victim
+        .cut()
+        .ok()
+        .expect(rt, "memory")
+        .expect(rt, "a cut")
+        .task
 }
 
 /// The account of the part that the second worker was given.
-fn second_account(alloc: Global, model: &Arc<Model>) -> Result<Option<Account>, AllocError> {
-    let mut victim = path(alloc, model)?;
-    match victim.start(Frontier::root(alloc)) {
-        Start::Started => {}
-        _ => return Ok(None),
+fn second_account(rt: &impl Abort, alloc: Global) -> Account {
+    let mut thief = path_of(rt, alloc, TWO_BY_TWO);
+    assert!(rt; matches!(thief.start_near(part_of(rt, alloc)), Start::Started));
+    for _step in 0..4u32 {
+        assert!(rt; thief.step().is_ok());
     }
-    let _ = victim.step()?;
-    let Some(cut) = victim.cut()? else {
-        return Ok(None);
-    };
-    let mut thief = path(alloc, model)?;
-    searched(&mut thief, cut.task)
+    thief
+        .report()
+        .ok()
+        .expect(rt, "memory")
+        .expect(rt, "an account")
 }
 
-/// An account that a book has taken is a stranger to it.
-fn taken_again(
-    rt: &HostRuntime,
-    machine: Machine<Space>,
-    model: &Arc<Model>,
-) -> Result<(), AllocError> {
+#[test]
+fn two_workers_share_a_tree(rt: HostRuntime) {
+    let mut machine = machine_of(&rt, rt.alloc(), TWO_BY_TWO);
+    check_events(&rt, &mut machine, divided());
+    check_open(&rt, machine.book(), 2, 1, 1);
+    check_hand(&rt, &machine);
+    check_events(&rt, &mut machine, second());
+    check_book(&rt, machine.book(), &[&[2, 1], &[2, 2]], false);
+    check_open(&rt, machine.book(), 1, 0, 0);
+    check_events(&rt, &mut machine, first());
+    let all: [&[i32]; 4] = [&[2, 1], &[2, 2], &[1, 1], &[1, 2]];
+    check_book(&rt, machine.book(), &all, true);
+    // an account that a book has taken is a stranger to it
     let mut book = machine.into_book();
-    if let Some(account) = second_account(rt.alloc(), model)? {
-        take(rt, &mut book, account);
-    }
-    Ok(())
+    assert_eq!(rt;
+        take(&mut book, second_account(&rt, rt.alloc())),
+        "Stranger"
+    );
+    check_book(&rt, &book, &all, true);
 }
 
-/// A run by a schedule.
-fn by_turns(rt: &HostRuntime, model: &Arc<Model>) -> Result<(), AllocError> {
-    let mut machine = machine(rt.alloc(), model, 2)?;
-    let end = machine.run(1, None)?;
-    let _ = println!(rt; "run: {end:?}");
-    show(rt, machine.book());
-    Ok(())
-}
-
-pub fn all(rt: &HostRuntime) -> Result<(), AllocError> {
-    let model = two_by_two(rt.alloc())?;
-    let mut machine = machine(rt.alloc(), &model, 2)?;
-    let _ = println!(rt; "-- two workers on two variables");
-    divided(rt, &mut machine)?;
-    second(rt, &mut machine)?;
-    first(rt, &mut machine)?;
-    taken_again(rt, machine, &model)?;
-    by_turns(rt, &model)
+#[test]
+fn two_workers_run_by_a_schedule(rt: HostRuntime) {
+    let mut machine = machine_of(&rt, rt.alloc(), TWO_BY_TWO);
+    assert!(rt; machine.run(1, None).ok() == Some(End::Closed));
+    let all: [&[i32]; 4] = [&[1, 1], &[1, 2], &[2, 1], &[2, 2]];
+    check_book(&rt, machine.book(), &all, true);
 }

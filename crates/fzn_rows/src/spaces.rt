@@ -1,76 +1,86 @@
 //! Spaces.
-ghost use Rattle.std.specs.Prelude.{◌≡◌, IfOk};
-ghost use Rattle.std.specs.Arc.{arc_value};
-
-use crate::models::{equals, least_of_three, one_of, two_that_differ};
-use fz_model::{Assignment, Goal, Model};
+use crate::reading::{LEAST_OF_THREE, NO_VALUE, TWO_THAT_DIFFER, one, space_of};
+use fz_dom::Dom;
+use fz_region::{Choice, Comparison, Decision};
 use fz_search_space::{SearchSpace, Status};
 use fz_space::Space;
-use std::alloc::AllocError;
-use std::sync::Arc;
+use std::alloc::Global;
+use std::process::Abort;
 
-/// What is known of a space, and what is left of its variables where they are solved.
-fn show(rt: &HostRuntime, what: &str, space: &mut Space) -> Result<(), AllocError> {
-    let status = space.status()?;
-    let _ = print!(rt; "{what}: {status:?}");
-    if status == Status::Solved {
-        for dom in space.doms() {
-            if !dom.is_empty() {
-                let _ = print!(rt; " {}", dom.min());
-            }
-        }
+/// That each variable has its number alone left.
+fn check_left(rt: &impl Abort, doms: &[Dom], left: &[i32]) {
+    assert_eq!(rt; doms.len(), left.len());
+    for (dom, value) in doms.iter().zip(left) {
+        assert!(rt; dom.is_fixed() && dom.contains(*value));
     }
-    let _ = println!(rt; "");
-    Ok(())
 }
 
-/// The space of the root of a model.
-fn root(rt: &HostRuntime, model: Arc<Model>) -> Result<Space, AllocError>
-    ensures { IfOk result (λ s. s.model ≡ arc_value model) }
-{
-    Ok(<Space as SearchSpace>::root(rt.alloc(), model)?)
+/// What a space is at rest, and what is left of its variables where they are solved.
+fn check(rt: &impl Abort, space: &mut Space, status: Status, left: &[i32]) {
+    assert_eq!(rt; space.status().ok(), Some(status));
+    if status == Status::Solved {
+        check_left(rt, space.doms(), left);
+    }
 }
 
-/// Both alternatives of the first variable, the second one on a copy.
-fn divided(rt: &HostRuntime, space: &mut Space, copy: &mut Space) -> Result<(), AllocError> {
-    space.commit(&equals(rt.alloc(), 1), 0)?;
-    show(rt, "the first is 1", space)?;
-    copy.commit(&equals(rt.alloc(), 1), 1)?;
-    show(rt, "on a copy it isn't", copy)
+/// The first variable is a value, or it isn't.
+fn commit(rt: &impl Abort, alloc: Global, space: &mut Space, value: i32, is_value: bool) {
+    let choice = Choice::two(
+        alloc,
+        Decision {
+            variable: 0,
+            comparison: Comparison::Equal,
+            value,
+        },
+    );
+    let alternative = u32::from(!is_value);
+    assert!(rt; alternative < choice.len());
+    assert!(rt; space.commit(&choice, alternative).is_ok());
 }
 
-/// A variable that has one number left is to have another.
-fn refuted(rt: &HostRuntime, space: &mut Space) -> Result<(), AllocError> {
-    space.commit(&equals(rt.alloc(), 2), 0)?;
-    show(rt, "it is 2 as well", space)?;
-    space.commit(&equals(rt.alloc(), 1), 0)?;
-    show(rt, "what has failed", space)
+fn copy_of(rt: &impl Abort, space: &Space) -> Space {
+    space.copy().ok().expect(rt, "memory")
 }
 
-fn unequal(rt: &HostRuntime) -> Result<(), AllocError> {
-    let mut space = root(rt, two_that_differ(rt.alloc())?)?;
-    show(rt, "two that differ", &mut space)?;
-    let mut copy = space.copy()?;
-    divided(rt, &mut space, &mut copy)?;
-    copy.copy_from(&space)?;
-    show(rt, "written over the copy", &mut copy)?;
-    refuted(rt, &mut copy)
+fn write_over(rt: &impl Abort, copy: &mut Space, space: &Space) {
+    assert!(rt; copy.copy_from(space).is_ok());
 }
 
-fn empty(rt: &HostRuntime) -> Result<(), AllocError> {
-    let mut space = root(rt, one_of(rt.alloc(), 3, 1, Goal::Satisfy)?)?;
-    show(rt, "an empty domain", &mut space)
+#[test]
+fn two_that_differ(rt: HostRuntime) {
+    let alloc = rt.alloc();
+    let mut space = space_of(&rt, alloc, TWO_THAT_DIFFER);
+    check(&rt, &mut space, Status::Branch, &[]);
+    let mut copy = copy_of(&rt, &space);
+    commit(&rt, alloc, &mut space, 1, true);
+    check(&rt, &mut space, Status::Solved, &[1, 2]);
+    commit(&rt, alloc, &mut copy, 1, false);
+    check(&rt, &mut copy, Status::Solved, &[2, 1]);
+    write_over(&rt, &mut copy, &space);
+    check(&rt, &mut copy, Status::Solved, &[1, 2]);
+    // a variable that has one number left is to have another
+    commit(&rt, alloc, &mut copy, 2, true);
+    check(&rt, &mut copy, Status::Failed, &[]);
+    commit(&rt, alloc, &mut copy, 1, true);
+    check(&rt, &mut copy, Status::Failed, &[]);
 }
 
-/// Of the least of three values what is better than the second is left.
-fn bettered(rt: &HostRuntime) -> Result<(), AllocError> {
-    let mut space = root(rt, least_of_three(rt.alloc())?)?;
-    space.tell_bound(&Assignment::new(rt.alloc(), &[2])?)?;
-    show(rt, "better than 2", &mut space)
+#[test]
+fn an_empty_domain_fails(rt: HostRuntime) {
+    let mut space = space_of(&rt, rt.alloc(), NO_VALUE);
+    check(&rt, &mut space, Status::Failed, &[]);
 }
 
-pub fn all(rt: &HostRuntime) -> Result<(), AllocError> {
-    unequal(rt)?;
-    empty(rt)?;
-    bettered(rt)
+/// What is better than a value of the one variable is kept.
+fn tell(rt: &impl Abort, alloc: Global, space: &mut Space, value: i32) {
+    let known = one(rt, alloc, value);
+    assert_eq!(rt; known.values().len(), space.model().variables().len());
+    assert!(rt; space.tell_bound(&known).is_ok());
+}
+
+#[test]
+fn what_is_better_is_left(rt: HostRuntime) {
+    let mut space = space_of(&rt, rt.alloc(), LEAST_OF_THREE);
+    tell(&rt, rt.alloc(), &mut space, 2);
+    check(&rt, &mut space, Status::Solved, &[1]);
 }

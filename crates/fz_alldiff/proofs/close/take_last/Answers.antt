@@ -38,3 +38,6 @@ returns-clause-last c =
         | inr other ↦ inl ((numbers n).1 (m, other))
       ]),
     )
+
+pub returns-clause-base : goal.returns-clause-base
+returns-clause-base c = c.without.ensures.base

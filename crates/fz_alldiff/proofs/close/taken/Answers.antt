@@ -17,3 +17,12 @@ returns-clause-taken c =
     let fits : SFits w32 c.args.value = search rules in
     let has = rw (to_z-of_z fits) at c.has.ensures in
     (has.0 c.if-not-has.false, rw (to_z-of_z fits) at c.without.ensures.numbers)
+
+pub without-requires-clause-low : goal.without-requires-clause-low
+without-requires-clause-low c = rw (to_z-of_z c.ranges.value) c.requires.low
+
+pub without-requires-clause-high : goal.without-requires-clause-high
+without-requires-clause-high c = rw (to_z-of_z c.ranges.value) c.requires.high
+
+pub returns-clause-base : goal.returns-clause-base
+returns-clause-base c = c.without.ensures.base

@@ -34,3 +34,18 @@ returns-then-is_small-clause-none c = λ none task at.
     small_has_room tasks c.args.peak c.args.high c.args.place task c.requires.sound c.requires.some
     (subst (λ (loads : List ℤ). AllByRecursion (λ (load : ℤ). load ≤ℤ c.args.peak) loads) c.requires.profile c.requires.peak) at
     (subst (λ (t : OpenTask). (c.args.peak +ℤ t.usage) ≤ℤ c.args.high) (sym (read_is tasks c.args.place task d0 at)) (rw (to_z-of_z c.ranges.peak, to_z-of_z c.ranges.high) at small))
+
+pub blocked_at-requires-clause-sound : goal.blocked_at-requires-clause-sound
+blocked_at-requires-clause-sound c = c.requires.sound
+
+pub blocked_at-requires-clause-profile : goal.blocked_at-requires-clause-profile
+blocked_at-requires-clause-profile c = c.requires.profile
+
+pub blocked_at-requires-clause-place : goal.blocked_at-requires-clause-place
+blocked_at-requires-clause-place c = c.requires.place
+
+pub returns-clause-some : goal.returns-clause-some
+returns-clause-some c = rw (to_z-of_z c.ranges.high) at c.blocked_at.ensures.some
+
+pub returns-clause-none : goal.returns-clause-none
+returns-clause-none c = λ none task at lasts uses. (rw (to_z-of_z c.ranges.high) at c.blocked_at.ensures.none) none task at

@@ -9,6 +9,7 @@ use Rattle.fz_strength.proofs.Cumulatives.{all_of_tasks}
 use Rattle.fz_prop.specs.Answers.{IsAnswerOf}
 use Rattle.fz_prop.specs.Outcomes.{rested_by}
 use Rattle.fz_prop.specs.Stores.{Stored, IsTermOf}
+use Rattle.fz_prop.proofs.Steps.{same_shrinks}
 use Rattle.fz_cumulative.specs.Cumulatives.{AreTermsOf, TasksShare, TasksRest}
 use Rattle.fz_cumulative.specs.Outcomes.{AreStarts}
 use Rattle.fz_cumulative.specs.Tasks.{profile_of}
@@ -101,3 +102,46 @@ returns-clause-answer c =
     fails_of c.args.store.now.doms c.args.starts.now c.args.durations.now c.args.usages.now c.args.bound c.deref-4.result.now c.greatest_of-high.result
     (record { terms = all_of_tasks (IsTermOf (length c.args.store.now.doms)) c.args.starts.now c.args.durations.now c.args.usages.now c.args.bound c.requires; domains = c.doms.ensures.store.domains })
     (c.deref-4.ensures.value ∙ c.in_ok-tasks.ensures) c.greatest_of-high.ensures.greatest (rw (to_z-of_z fits) at (rw c.in-Wiped.is at c.in_ok-keep_starts.ensures.change))
+
+pub open_tasks-requires-clause-starts : goal.open_tasks-requires-clause-starts
+open_tasks-requires-clause-starts c = (all_of_tasks (IsTermOf (length c.args.store.now.doms)) c.args.starts.now c.args.durations.now c.args.usages.now c.args.bound c.requires).starts
+
+pub greatest_of-high-requires : goal.greatest_of-high-requires
+greatest_of-high-requires c = (all_of_tasks (IsTermOf (length c.args.store.now.doms)) c.args.starts.now c.args.durations.now c.args.usages.now c.args.bound c.requires).bound
+
+pub returns-in-Same-clause-shrinks : goal.returns-in-Same-clause-shrinks
+returns-in-Same-clause-shrinks c = c.in_ok-keep_starts.ensures.shrinks
+
+pub returns-in-Changed-clause-shrinks : goal.returns-in-Changed-clause-shrinks
+returns-in-Changed-clause-shrinks c = c.in_ok-keep_starts.ensures.shrinks
+
+pub returns-clause-shrinks : goal.returns-clause-shrinks
+returns-clause-shrinks c = c.in_ok-keep_starts.ensures.shrinks
+
+pub returns-in_err-keep_starts-clause-shrinks : goal.returns-in_err-keep_starts-clause-shrinks
+returns-in_err-keep_starts-clause-shrinks c = c.in_err-keep_starts.ensures.shrinks
+
+pub returns-in_err-loads-clause-shrinks : goal.returns-in_err-loads-clause-shrinks
+returns-in_err-loads-clause-shrinks c = same_shrinks c.args.store.now
+
+pub returns-in_err-loads-clause-correct : goal.returns-in_err-loads-clause-correct
+returns-in_err-loads-clause-correct c = λ a holds within. within
+
+pub returns-in_err-tasks-clause-shrinks : goal.returns-in_err-tasks-clause-shrinks
+returns-in_err-tasks-clause-shrinks c = same_shrinks c.args.store.now
+
+pub returns-in_err-tasks-clause-correct : goal.returns-in_err-tasks-clause-correct
+returns-in_err-tasks-clause-correct c = λ a holds within. within
+
+pub returns-then-not-are_within-clause-shrinks : goal.returns-then-not-are_within-clause-shrinks
+returns-then-not-are_within-clause-shrinks c = same_shrinks c.args.store.now
+
+pub returns-then-not-are_within-clause-correct : goal.returns-then-not-are_within-clause-correct
+returns-then-not-are_within-clause-correct c = λ a holds within. within
+
+pub returns-in-Same-clause-correct : goal.returns-in-Same-clause-correct
+returns-in-Same-clause-correct c =
+    let fits : SFits w32 c.greatest_of-high.result = search rules in
+    correct_of c.args.store.now.doms c.keep_starts.new.store.doms c.args.starts.now c.args.durations.now c.args.usages.now c.args.bound c.deref-4.result.now c.greatest_of-high.result
+    (record { terms = all_of_tasks (IsTermOf (length c.args.store.now.doms)) c.args.starts.now c.args.durations.now c.args.usages.now c.args.bound c.requires; domains = c.doms.ensures.store.domains })
+    (c.deref-4.ensures.value ∙ c.in_ok-tasks.ensures) c.greatest_of-high.ensures.greatest (rw (to_z-of_z fits) at c.in_ok-keep_starts.ensures.free)

@@ -1,8 +1,11 @@
-use Rattle.std.proofs.Common.{refl, sym, subst, ℕ, get_or, pos}
+use Rattle.std.proofs.Common.{refl, sym, subst, ℕ, get_or, pos, rules}
 use Rattle.std.proofs.Math.Facts.{to_z-of_z}
+use mir.Val.{SFits}
+use mir.Syntax.{w128}
 use Rattle.fz_spec.specs.declared.term.Term.TheVariants.{Num}
 use Rattle.fz_strength.specs.Domains.{Within}
 use Rattle.fz_prop.specs.Stores.{Stored, IsTermOf}
+use Rattle.fz_prop.proofs.Twice.{shrinks_twice}
 use Rattle.fz_cumulative.proofs.FreeStarts.{start_inside, held_at, term_of, kept_passed, kept_free, kept_fails, kept_more}
 use Rattle.fz_cumulative.proofs.starting.keep_starts.Goals as goal
 
@@ -57,3 +60,40 @@ loop-place-preserved c =
 
 pub returns-then-has_changed-clause-free : goal.returns-then-has_changed-clause-free
 returns-then-has_changed-clause-free c = rw (to_z-of_z c.ranges.high) at c.loop-place.invariant.free
+
+pub where_blocked-requires-clause-peak : goal.where_blocked-requires-clause-peak
+where_blocked-requires-clause-peak c =
+    let fits : SFits w128 c.peak-peak.result = search rules in
+    rw (to_z-of_z fits) c.peak-peak.ensures.above
+
+pub where_blocked-requires-clause-some : goal.where_blocked-requires-clause-some
+where_blocked-requires-clause-some c =
+    let fits : SFits w128 c.peak-peak.result = search rules in
+    rw (to_z-of_z fits) c.peak-peak.ensures.positive
+
+pub where_blocked-requires-clause-positive : goal.where_blocked-requires-clause-positive
+where_blocked-requires-clause-positive c = rw (to_z-of_z c.ranges.high) c.requires.positive
+
+pub where_blocked-requires-clause-within : goal.where_blocked-requires-clause-within
+where_blocked-requires-clause-within c = rw (to_z-of_z c.ranges.high) c.requires.within
+
+pub where_blocked-requires-clause-profile : goal.where_blocked-requires-clause-profile
+where_blocked-requires-clause-profile c = c.requires.profile
+
+pub where_blocked-requires-clause-sound : goal.where_blocked-requires-clause-sound
+where_blocked-requires-clause-sound c = c.requires.sound
+
+pub returns-in-Wiped-clause-shrinks : goal.returns-in-Wiped-clause-shrinks
+returns-in-Wiped-clause-shrinks c = shrinks_twice c.args.store.now c.loop-place.store c.keep_start.new.store c.loop-place.invariant.shrinks c.in_ok-change.ensures.shrinks
+
+pub returns-in_err-change-clause-shrinks : goal.returns-in_err-change-clause-shrinks
+returns-in_err-change-clause-shrinks c = shrinks_twice c.args.store.now c.loop-place.store c.keep_start.new.store c.loop-place.invariant.shrinks c.in_err-change.ensures.shrinks
+
+pub returns-else-has_changed-clause-free : goal.returns-else-has_changed-clause-free
+returns-else-has_changed-clause-free c = rw (to_z-of_z c.ranges.high) at c.loop-place.invariant.free
+
+pub returns-then-has_changed-clause-shrinks : goal.returns-then-has_changed-clause-shrinks
+returns-then-has_changed-clause-shrinks c = c.loop-place.invariant.shrinks
+
+pub returns-else-has_changed-clause-shrinks : goal.returns-else-has_changed-clause-shrinks
+returns-else-has_changed-clause-shrinks c = c.loop-place.invariant.shrinks

@@ -1,12 +1,110 @@
+use Rattle.std.proofs.Common.{◌≡◌, ◌∙◌, ap, sym, length}
+use Rattle.std.specs.Prelude.{neg_ℤ}
+use Rattle.std.proofs.Math.Facts.{to_z-of_z}
 use Rattle.std.proofs.lemmas.Result.{IfOk-weaker}
 use Rattle.fz_strength.specs.declared.relation.Relation.TheVariants.{Equal, NotEqual}
 use Rattle.fz_prop.specs.declared.answer.Answer.{Answer}
 use Rattle.fz_prop.proofs.Answering.{same_answer, same_correct}
 use Rattle.fz_kept.proofs.Lasting.{sum_lasts}
-use Rattle.fz_linear.specs.Differences.{DifferenceTruth, DifferenceLine, IsAnswerDifference, IsDifferenceIn}
+use Rattle.fz_linear.specs.Differences.{DifferenceTruth, DifferenceLine, IsAnswerDifference, IsDifferenceIn, IsPruned}
 use Rattle.fz_linear.specs.Sums.{SumTruth, SumLine, IsAnswerSum}
 use Rattle.fz_linear.proofs.Differences.{equal_sum, apart_sum}
+use Rattle.fz_linear.proofs.Whole.{both_inside, pruned_none, whatever}
+use Rattle.fz_linear.proofs.relate.relate_whole.Goals.{in_default-via-in-Equal+in_default, in_default-via-in-NotEqual+in_default, in_default-via-in_default}
 use Rattle.fz_linear.proofs.relate.relate_whole.Goals as goal
+
+pub keep_above_by-requires-clause-first : goal.keep_above_by-requires-clause-first
+keep_above_by-requires-clause-first c =
+    let d = c.in-Equal-Some.difference in
+    let differs : IsDifferenceIn d c.args.sum.now.factors.now c.args.sum.now.terms.now c.args.number = rw (c.in-Equal-Some.is-1) at c.requires.differs in
+    (both_inside d.first d.second (length c.args.store.now.doms) c.args.sum.now.factors.now c.args.sum.now.terms.now differs.sum c.requires.inside).0
+
+pub keep_above_by-requires-clause-second : goal.keep_above_by-requires-clause-second
+keep_above_by-requires-clause-second c =
+    let d = c.in-Equal-Some.difference in
+    let differs : IsDifferenceIn d c.args.sum.now.factors.now c.args.sum.now.terms.now c.args.number = rw (c.in-Equal-Some.is-1) at c.requires.differs in
+    (both_inside d.first d.second (length c.args.store.now.doms) c.args.sum.now.factors.now c.args.sum.now.terms.now differs.sum c.requires.inside).1
+
+pub keep_above_by-requires-clause-apart : goal.keep_above_by-requires-clause-apart
+keep_above_by-requires-clause-apart c =
+    let d = c.in-Equal-Some.difference in
+    let differs : IsDifferenceIn d c.args.sum.now.factors.now c.args.sum.now.terms.now c.args.number = rw (c.in-Equal-Some.is-1) at c.requires.differs in
+    differs.apart
+
+pub keep_above_by-requires-clause-turned : goal.keep_above_by-requires-clause-turned
+keep_above_by-requires-clause-turned c =
+    let d = c.in-Equal-Some.difference in
+    let differs : IsDifferenceIn d c.args.sum.now.factors.now c.args.sum.now.terms.now c.args.number = rw (c.in-Equal-Some.is-1) at c.requires.differs in
+    differs.below ∙ ap neg_ℤ (sym differs.above)
+
+pub keep_apart_by-requires-clause-first : goal.keep_apart_by-requires-clause-first
+keep_apart_by-requires-clause-first c =
+    let d = c.in-NotEqual-Some.difference in
+    let differs : IsDifferenceIn d c.args.sum.now.factors.now c.args.sum.now.terms.now c.args.number = rw (c.in-NotEqual-Some.is-1) at c.requires.differs in
+    (both_inside d.first d.second (length c.args.store.now.doms) c.args.sum.now.factors.now c.args.sum.now.terms.now differs.sum c.requires.inside).0
+
+pub keep_apart_by-requires-clause-second : goal.keep_apart_by-requires-clause-second
+keep_apart_by-requires-clause-second c =
+    let d = c.in-NotEqual-Some.difference in
+    let differs : IsDifferenceIn d c.args.sum.now.factors.now c.args.sum.now.terms.now c.args.number = rw (c.in-NotEqual-Some.is-1) at c.requires.differs in
+    (both_inside d.first d.second (length c.args.store.now.doms) c.args.sum.now.factors.now c.args.sum.now.terms.now differs.sum c.requires.inside).1
+
+pub keep_apart_by-requires-clause-turned : goal.keep_apart_by-requires-clause-turned
+keep_apart_by-requires-clause-turned c =
+    let d = c.in-NotEqual-Some.difference in
+    let differs : IsDifferenceIn d c.args.sum.now.factors.now c.args.sum.now.terms.now c.args.number = rw (c.in-NotEqual-Some.is-1) at c.requires.differs in
+    differs.below ∙ ap neg_ℤ (sym differs.above)
+
+pub relate_rest-requires-clause-bounded : goal.relate_rest-requires-clause-bounded
+relate_rest-requires-clause-bounded c = c.requires.bounded
+
+pub relate_rest-requires-clause-law : goal.relate_rest-requires-clause-law
+relate_rest-requires-clause-law c = c.requires.law
+
+pub relate_rest-requires-clause-inside : goal.relate_rest-requires-clause-inside
+relate_rest-requires-clause-inside c = c.requires.inside
+
+pub relate_rest-requires-clause-fits : goal.relate_rest-requires-clause-fits
+relate_rest-requires-clause-fits c = c.requires.fits
+
+pub relate_rest-requires-clause-told : goal.relate_rest-requires-clause-told
+relate_rest-requires-clause-told c = c.requires.told
+
+pub returns-in-Equal-Some-clause-shrinks : goal.returns-in-Equal-Some-clause-shrinks
+returns-in-Equal-Some-clause-shrinks c = c.keep_above_by.ensures.shrinks
+
+pub returns-in-NotEqual-Some-clause-shrinks : goal.returns-in-NotEqual-Some-clause-shrinks
+returns-in-NotEqual-Some-clause-shrinks c = c.keep_apart_by.ensures.shrinks
+
+pub returns-in-Equal-Some-clause-pruned : goal.returns-in-Equal-Some-clause-pruned
+returns-in-Equal-Some-clause-pruned c = rw (c.in-Equal-Some.is-0, c.in-Equal-Some.is-1) c.keep_above_by.ensures.partners
+
+pub returns-in-NotEqual-Some-clause-pruned : goal.returns-in-NotEqual-Some-clause-pruned
+returns-in-NotEqual-Some-clause-pruned c =
+    let es = c.keep_apart_by.new.store.doms in
+    rw (c.in-NotEqual-Some.is-0) (whatever c.keep_apart_by.result (λ (r : Answer). IsPruned NotEqual c.args.difference r es) (λ r. tt))
+
+pub returns-in_default-clause-told : goal.returns-in_default-clause-told
+returns-in_default-clause-told c = c.relate_rest.ensures.told
+
+pub returns-in_default-clause-shrinks : goal.returns-in_default-clause-shrinks
+returns-in_default-clause-shrinks c = c.relate_rest.ensures.shrinks
+
+pub returns-in_default-clause-correct : goal.returns-in_default-clause-correct
+returns-in_default-clause-correct c = rw (to_z-of_z c.ranges.number) at c.relate_rest.ensures.correct
+
+pub returns-in_default-clause-answer : goal.returns-in_default-clause-answer
+returns-in_default-clause-answer c = rw (to_z-of_z c.ranges.number) at c.relate_rest.ensures.answer
+
+pub returns-in_default-clause-pruned : goal.returns-in_default-clause-pruned
+returns-in_default-clause-pruned c =
+    let es = c.relate_rest.new.store.doms in
+    whatever c.relate_rest.result (λ (r : Answer). IsPruned c.args.relation c.args.difference r es)
+    (λ r. pruned_none c.args.relation c.args.difference r es (λ e. elim c.in_default.branch [
+      | in_default-via-in-Equal+in_default w ↦ w.in_default.is-1
+      | in_default-via-in-NotEqual+in_default w ↦ w.in_default.is-1
+      | in_default-via-in_default w ↦ absurd (w.in_default.not-Equal-0 e)
+    ]))
 
 pub returns-in-Equal-Some-clause-correct : goal.returns-in-Equal-Some-clause-correct
 returns-in-Equal-Some-clause-correct c =

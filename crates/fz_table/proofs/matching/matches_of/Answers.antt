@@ -6,6 +6,7 @@ use mir.Val.{SFits}
 use mir.Syntax.{w32}
 use Rattle.fz_bits.specs.Windows.{IsBit}
 use Rattle.fz_bits.proofs.Windows.{within_window, none_in}
+use Rattle.fz_bits.proofs.Words.{positive}
 use Rattle.fz_table.specs.Partners.{ArePartners}
 use Rattle.fz_table.proofs.Partnering.{but_all, but_none, but_more, but_nothing, both_bits, either_bits, some_bit, no_bits}
 use Rattle.fz_table.proofs.matching.matches_of.Goals as goal
@@ -116,3 +117,19 @@ numbers-smaller c =
     let falls = rw (to_z-of_z fits_j) at c.without-left.ensures.falls in
     let less : c.without-left.result.bits < c.numbers.left.bits = falls c.first-number.ensures.number in
     less
+
+pub first-number-requires-clause-some : goal.first-number-requires-clause-some
+first-number-requires-clause-some c = positive c.numbers.left.bits c.numbers-test.true
+
+pub numbers-smaller-then-shared-ne0 : goal.numbers-smaller-then-shared-ne0
+numbers-smaller-then-shared-ne0 c =
+    let fits_j : SFits w32 c.first-number.result = search rules in
+    let falls = rw (to_z-of_z fits_j) at c.without-left.ensures.falls in
+    let less : c.without-left.result.bits < c.numbers.left.bits = falls c.first-number.ensures.number in
+    less
+
+pub returns-clause-first_base : goal.returns-clause-first_base
+returns-clause-first_base c = c.numbers.invariant.kept_base
+
+pub returns-clause-second_base : goal.returns-clause-second_base
+returns-clause-second_base c = c.numbers.invariant.found_base

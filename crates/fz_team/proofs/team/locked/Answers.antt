@@ -1,7 +1,13 @@
-use Rattle.std.proofs.Common.{◌∙◌, sym}
+use Rattle.std.proofs.Common.{◌∙◌, [], ◌∷◌, sym, arith}
+use Rattle.std.proofs.lemmas.List.{length-append}
 use Rattle.std.proofs.lemmas.Iterator.Adapters.{YieldsList-from_vec}
 use Rattle.std.proofs.lemmas.Iterator.Consumers.{YieldsList-end}
 use Rattle.fz_team.proofs.team.locked.Goals as goal
+
+pub loop-path-preserved : goal.loop-path-preserved
+loop-path-preserved g c =
+    let more = length-append c.loop-path.yielded (c.in-Some.path ∷ []) in
+    omega (arith, c.in_ok-push.ensures.len, c.loop-path.invariant, more)
 
 pub returns : goal.returns
 returns g c =

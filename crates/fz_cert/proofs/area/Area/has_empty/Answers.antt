@@ -1,18 +1,12 @@
-use Rattle.std.proofs.Common.{◌≡◌, ◌<◌, ℕ, List, length, sym, ap, ◌∙◌, refl, rules, get_or, [], add-one, take, ◌+◌}
-use Rattle.std.specs.Prelude.{ℤ}
+use Rattle.std.proofs.Common.{sym, subst, arith}
+use Rattle.std.proofs.lemmas.Bool.{lt-ltb, ltb-true}
 use Rattle.fz_refutes.specs.Boxes.{HasEmpty}
-use Rattle.fz_refutes.proofs.Insides.{empty_more, empty_at, nil_of}
+use Rattle.fz_cert.proofs.Emptying.{some_is_empty}
 use Rattle.fz_cert.proofs.area.Area.has_empty.Goals as goal
 
-pub returns-then-is_empty : goal.returns-then-is_empty
-returns-then-is_empty c =
-    let nil : c.set-item.result ≡ [] = nil_of c.set-item.result (c.if-is_empty.ensures.empty.0 refl) in
-    let has : HasEmpty c.deref-set-items.result.now = empty_at c.deref-set-items.result.now c.loop-set.set-index c.set-item.result c.loop-set-test.true (sym c.set-item.is ∙ nil) in
-    ((λ _. rw (← c.self.view_is) (rw (← c.deref-set-items.ensures.value) has)), (λ _. search rules))
-
-is_none : (box : List (List (ℤ × ℤ))) (i : ℕ) (d : List (ℤ × ℤ)) → i < length box → d ≡ get_or box i d → (length d ≡ 0 → ⊥) → (HasEmpty (take i box) → ⊥) → HasEmpty (take (i + 1) box) → ⊥
-is_none box i d within is some none = rw add-one (empty_more box i d within none (λ e. some (ap length (is ∙ e))))
-
-pub loop-set-preserved : goal.loop-set-preserved
-loop-set-preserved c = is_none c.deref-set-items.result.now c.loop-set.set-index c.set-item.result c.loop-set-test.true c.set-item.is
-    (λ e. let t = c.if-is_empty.ensures.empty.1 e in absurd (cc (t))) c.loop-set.invariant
+pub returns : goal.returns
+returns c =
+    let some = some_is_empty c.self.inside.sets.items in (
+      (λ t. let more = ltb-true 0 c.self.inside.empty t in subst HasEmpty c.self.view_is (some.0 (omega (arith, more, c.self.invariant.count)))),
+      (λ e. let more = some.1 (subst HasEmpty (sym c.self.view_is) e) in lt-ltb 0 c.self.inside.empty (omega (arith, more, c.self.invariant.count))),
+    )

@@ -1,5 +1,6 @@
-use Rattle.std.proofs.Common.{◌≡◌, ◌∙◌, ◌<◌, ℤ, List, [], length, refl, sym, subst, arith, rules}
+use Rattle.std.proofs.Common.{◌≡◌, ◌∙◌, ◌<◌, ℤ, List, [], length, refl, sym, subst, ap, inl, inr, arith, rules}
 use Rattle.std.proofs.lemmas.Int.{ints}
+use Rattle.std.proofs.Math.Facts.{to_z-of_z}
 use Rattle.std.proofs.lemmas.Bool.Decides.{nat_tests}
 use Rattle.fz_dom.specs.Changes.{IsFromTo, IsChange}
 use Rattle.fz_dom.specs.declared.change.Change.TheVariants.{Changed}
@@ -7,6 +8,7 @@ use Rattle.fz_dom.specs.Heads.{head_set}
 use Rattle.fz_dom.proofs.Heads.{filled}
 use Rattle.fz_dom.proofs.Changes.{cut_as}
 use Rattle.fz_dom.proofs.Kept.{small_kept, small_whole, small_ranges, nil_of, ends_of, cut_out, low_high, seen, filled_of, domain_of}
+use Rattle.fz_dom.proofs.domain.Dom.cut.Goals.{else-is_empty-via-then-is_empty+else-abs_diff-lt64, else-is_empty-via-else-is_empty}
 use Rattle.fz_dom.proofs.domain.Dom.cut.Goals as goal
 
 pub cut-requires-clause-whole : goal.cut-requires-clause-whole
@@ -76,3 +78,80 @@ returns-clause-change c =
     let m = (rw c.in-Some.is at c.in_ok-ranges.ensures.member) refl in
     subst (λ (s : List (ℤ × ℤ)). IsChange Changed (λ x. IsFromTo c.args.low c.args.high x → ⊥) d s) (sym (c.from_several-2.view_is ∙ c.from_several.ensures))
     (cut_as Changed c.args.low c.args.high _ _ d c.in-Some.ranges.items (cut_out h d c.in-Some.ranges.items _ _ m.0 f l p m.1 m.2 (omega (arith, ints))) (search rules) (search rules))
+
+pub cut-requires-clause-from : goal.cut-requires-clause-from
+cut-requires-clause-from c =
+    let d = c.args.self.now in
+    let h = c.self.inside.head in
+    let rest = c.self.inside.rest.items in
+    let f = seen h rest d c.self.invariant c.self.view_is in
+    let qf = c.requires.from in let qt = c.requires.to in let qo = c.requires.order in
+    let li = f.low_is in let hi = f.high_is in
+    omega (arith, ints)
+
+pub cut-requires-clause-to : goal.cut-requires-clause-to
+cut-requires-clause-to c =
+    let d = c.args.self.now in
+    let h = c.self.inside.head in
+    let rest = c.self.inside.rest.items in
+    let f = seen h rest d c.self.invariant c.self.view_is in
+    let qf = c.requires.from in let qt = c.requires.to in let qo = c.requires.order in
+    let li = f.low_is in let hi = f.high_is in
+    omega (arith, ints)
+
+pub cut-requires-clause-order : goal.cut-requires-clause-order
+cut-requires-clause-order c = rw (to_z-of_z c.ranges.low, to_z-of_z c.ranges.high) c.requires.order
+
+pub cut_ranges-requires-clause-from : goal.cut_ranges-requires-clause-from
+cut_ranges-requires-clause-from c = rw (to_z-of_z c.ranges.low) c.requires.from
+
+pub cut_ranges-requires-clause-to : goal.cut_ranges-requires-clause-to
+cut_ranges-requires-clause-to c = rw (to_z-of_z c.ranges.high) c.requires.to
+
+pub cut_ranges-requires-clause-order : goal.cut_ranges-requires-clause-order
+cut_ranges-requires-clause-order c = rw (to_z-of_z c.ranges.low, to_z-of_z c.ranges.high) c.requires.order
+
+pub cut_ranges-requires-clause-wide : goal.cut_ranges-requires-clause-wide
+cut_ranges-requires-clause-wide c =
+    let d = c.args.self.now in
+    let h = c.self.inside.head in
+    let rest = c.self.inside.rest.items in
+    let f = seen h rest d c.self.invariant c.self.view_is in
+    let qf = c.requires.from in let qt = c.requires.to in let qo = c.requires.order in
+    let li = f.low_is in let hi = f.high_is in
+    elim c.else-is_empty.branch [
+      | else-is_empty-via-then-is_empty+else-abs_diff-lt64 w ↦ (let t = w.if-abs_diff-lt64.false in omega (arith, ints))
+      | else-is_empty-via-else-is_empty w ↦ elim c.self.invariant.wide [
+        | inl none ↦ (let long = ap length none in let t = w.if-is_empty.false in absurd (grind (arith, nat_tests)))
+        | inr wide ↦ (let apart = wide.1 in omega (arith, ints))
+      ]
+    ]
+
+pub returns-in_err-ranges-clause-domain : goal.returns-in_err-ranges-clause-domain
+returns-in_err-ranges-clause-domain c = rw (← c.self.view_is) (domain_of c.self.inside.head c.self.inside.rest.items c.self.invariant)
+
+pub returns-in_default-clause-domain : goal.returns-in_default-clause-domain
+returns-in_default-clause-domain c = rw (← c.self.view_is) (domain_of c.self.inside.head c.self.inside.rest.items c.self.invariant)
+
+pub returns-in_default-clause-change : goal.returns-in_default-clause-change
+returns-in_default-clause-change c =
+    let d = c.args.self.now in
+    let qf = c.requires.from in let qt = c.requires.to in let qo = c.requires.order in
+    let none = (rw (c.in_default.is, to_z-of_z c.ranges.low, to_z-of_z c.ranges.high) at c.in_ok-ranges.ensures.none) refl in
+    (refl, none, filled_of d (omega (arith, ints)))
+
+pub from_several-requires-clause-ranges : goal.from_several-requires-clause-ranges
+from_several-requires-clause-ranges c =
+    let part = rw c.in-Some.is at c.in_ok-ranges.ensures.some in
+    part.ranges
+
+pub from_several-requires-clause-within : goal.from_several-requires-clause-within
+from_several-requires-clause-within c =
+    let part = rw c.in-Some.is at c.in_ok-ranges.ensures.some in
+    part.within
+
+pub invariant_of-self-2 : goal.invariant_of-self-2
+invariant_of-self-2 c = c.from_several-2.invariant
+
+pub returns-clause-domain : goal.returns-clause-domain
+returns-clause-domain c = domain_of c.from_several-2.inside.head c.from_several-2.inside.rest.items c.from_several-2.invariant

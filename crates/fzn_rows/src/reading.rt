@@ -1,0 +1,99 @@
+//! Models of texts, and what searches them.
+ghost use Rattle.std.specs.Prelude.{◌≡◌};
+ghost use Rattle.fz_sets.specs.Sets.{IsWithinLimits};
+ghost use Rattle.fz_tree.specs.Better.{mode_of};
+
+use fz_account::Mode;
+use fz_book::Book;
+use fz_machine::Machine;
+use fz_model::{Assignment, Goal, Model};
+use fz_path::Path;
+use fz_search_space::SearchSpace;
+use fz_space::Space;
+use std::alloc::Global;
+use std::process::Abort;
+use std::sync::Arc;
+
+pub(crate) const TWO_VALUES: &str = "var 1..2: x; solve satisfy;";
+
+pub(crate) const THREE_VALUES: &str = "var 1..3: x; solve satisfy;";
+
+pub(crate) const LEAST_OF_THREE: &str = "var 1..3: x; solve minimize x;";
+
+pub(crate) const GREATEST_OF_THREE: &str = "var 1..3: x; solve maximize x;";
+
+pub(crate) const NO_VALUE: &str = "var 3..1: x; solve satisfy;";
+
+pub(crate) const TWO_BY_TWO: &str = "var 1..2: x; var 1..2: y; solve satisfy;";
+
+pub(crate) const TWO_THAT_DIFFER: &str =
+    "var 1..2: x; var 1..2: y; constraint int_ne(x, y); solve satisfy;";
+
+pub(crate) fn model_of(rt: &impl Abort, alloc: Global, text: &str) -> Arc<Model> {
+    let read = fz_reader::model_of(alloc, text.as_bytes()).ok();
+    let model = read.expect(rt, "memory").ok().expect(rt, "a model");
+    Arc::new(alloc, model).ok().expect(rt, "memory")
+}
+
+/// The mode of a goal.
+pub(crate) fn mode(goal: &Goal) -> Mode
+    ensures { result ≡ mode_of goal.now }
+{
+    match goal {
+        Goal::Satisfy => Mode::All,
+        Goal::Minimize(_) | Goal::Maximize(_) => Mode::Best,
+    }
+}
+
+/// The space of the root of a text's model.
+pub(crate) fn space_of(rt: &impl Abort, alloc: Global, text: &str) -> Space {
+    let model = model_of(rt, alloc, text);
+    <Space as SearchSpace>::root(alloc, model)
+        .ok()
+        .expect(rt, "memory")
+}
+
+/// An idle path of a text's model.
+pub(crate) fn path_of(rt: &impl Abort, alloc: Global, text: &str) -> Path<Space> {
+    let model = model_of(rt, alloc, text);
+    let mode = mode(model.goal());
+    Path::idle(alloc, model, mode, 8, 2)
+        .ok()
+        .expect(rt, "memory")
+}
+
+/// A book of a text's model.
+pub(crate) fn book_of(rt: &impl Abort, alloc: Global, text: &str) -> Book {
+    let model = model_of(rt, alloc, text);
+    let mode = mode(model.goal());
+    Book::begin(alloc, model, mode).ok().expect(rt, "memory")
+}
+
+/// Two idle workers on a text's model.
+pub(crate) fn machine_of(rt: &impl Abort, alloc: Global, text: &str) -> Machine<Space> {
+    let model = model_of(rt, alloc, text);
+    let mode = mode(model.goal());
+    Machine::new(alloc, model, mode, 2, 8, 2)
+        .ok()
+        .expect(rt, "memory")
+}
+
+/// The number within the limits that is nearest.
+fn near(value: i32) -> i32
+    ensures { IsWithinLimits result }
+{
+    if value < -2_147_483_646 {
+        -2_147_483_646
+    } else if 2_147_483_646 < value {
+        2_147_483_646
+    } else {
+        value
+    }
+}
+
+/// The assignment of a value to one variable.
+pub(crate) fn one(rt: &impl Abort, alloc: Global, value: i32) -> Assignment {
+    Assignment::new(alloc, &[near(value)])
+        .ok()
+        .expect(rt, "memory")
+}
