@@ -1,6 +1,6 @@
 use Rattle.std.proofs.Common.{◌≡◌, ◌∙◌, ℕ, List, ◌++◌, append_assoc, codes, ap, rules}
 use Rattle.std.proofs.Math.Facts.{to_z-of_z}
-use Rattle.core.specs.Fmt.{signed_decimal}
+use Rattle.std.specs.Fmt.{signed_decimal}
 use mir.Val.{SFits}
 use mir.Syntax.{w32}
 use Rattle.fz_print.proofs.block.push_range.Goals as goal
