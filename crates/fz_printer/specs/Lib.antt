@@ -1,1 +1,3 @@
 pub mod Printed
+pub mod Gathered
+pub mod Gatherings

@@ -3,19 +3,20 @@ ghost use Rattle.std.specs.Prelude.{◌≡◌, ◌-◌, ◌<◌, ◌≤◌, ◌^
 ghost use Rattle.std.specs.Arc.{arc_value};
 ghost use Rattle.fz_tree.specs.Better.{mode_of};
 ghost use Rattle.fz_printer.specs.Printed.{book_of, stopped_of, CountsMark, IsReady};
-ghost use Rattle.fz_stream.specs.Streamed.{Gathers, IsFilled};
+ghost use Rattle.fz_printer.specs.Gathered.{Gathers, IsFilled};
 ghost use Rattle.fz_search.specs.Searched.{IsPrinted};
 
 use crate::searching::{begin, enough_for, mode_of, shows_found};
 use fz_account::Mode;
 use fz_cmd::Options;
+use fz_collect::{Outbox, gather};
 use fz_io::gate::Gate;
 use fz_io::outside::Sink;
 use fz_model::model::Model;
 use fz_path::Path;
 use fz_printer::Printer;
 use fz_search_space::SearchSpace;
-use fz_stream::{Outbox, gather, stream};
+use fz_stream::stream;
 use std::alloc::{AllocError, Global};
 use std::sync::{Arc, Wait};
 use std::thread::{Threads, join_mut};

@@ -1,6 +1,5 @@
 -- A search that prints on its way, call by call.
-use Rattle.std.proofs.Common.{◌≡◌, ◌≢◌, ◌∙◌, ◌≤◌, ◌<◌, ◌⊎◌, inl, inr, ℕ, List, [], length, Bool, Option, Some, None, IfSome, refl, sym, ap, subst, arith}
-use Rattle.std.proofs.lemmas.Bool.{cases_lt}
+use Rattle.std.proofs.Common.{◌≡◌, ◌≢◌, ◌∙◌, ◌⊎◌, inl, inr, ℕ, List, [], length, Bool, Option, Some, None, IfSome, refl, sym, ap, subst, arith}
 use Rattle.fz_tree.specs.Account.{Account}
 use Rattle.fz_tree.specs.Book.{Book}
 use Rattle.fz_book.specs.Reports.{IsReportable}
@@ -8,23 +7,13 @@ use Rattle.fz_path.specs.Paths.{Pathed}
 use Rattle.fz_printing.specs.declared.printer.Stop.{Stop}
 use Rattle.fz_printing.specs.declared.printer.Stop.TheVariants.{Memory}
 use Rattle.fz_printer.specs.declared.printer.Printer.{Printer}
-use Rattle.fz_printer.specs.Printed.{book_of, wanted_of, as_found_of, printed_of, stopped_of, due_among, due_of, CountsMark, Grew, IsBelow, IsReady, KeepsPrinting, MarksMemory}
-use Rattle.fz_printer.proofs.Printing.{printed_on, marked, within_due, within_recorded}
+use Rattle.fz_printer.specs.Printed.{book_of, wanted_of, as_found_of, printed_of, stopped_of, CountsMark, Grew, IsReady, KeepsPrinting, MarksMemory}
+use Rattle.fz_printer.specs.Gathered.{IsFilled, IsFilledFor}
+use Rattle.fz_printer.proofs.Printing.{printed_on, marked, within_due}
+use Rattle.fz_printer.specs.Gatherings.{both_keep}
+use Rattle.fz_printer.proofs.Gathering.{is_below, still_within}
 use Rattle.fz_solo.specs.Searches.{Searches, Begins, Starts, Steps, Finds, Reports}
-use Rattle.fz_stream.specs.Streamed.{HasTakenUp, IsFilled, IsFilledFor, NothingOpen, OnNoMemory, Streams}
-
-below_of : (wanted : Option ℕ) (printed count : ℕ) → (IsFilledFor wanted count → ⊥) → printed ≤ count → IsBelow wanted printed
-below_of None printed count not few = tt
-below_of (Some n) printed count not few = cases (cases_lt printed n)
-  where
-    cases : (printed < n) ⊎ (n ≤ printed) → printed < n
-    cases (inl less) = less
-    cases (inr many) = absurd (not (omega (arith, many, few)))
-
--- fewer are printed than are wanted, where more are wanted than are recorded
-pub is_below : (p : Printer) → IsReady p → (IsFilled p → ⊥) → IsBelow (wanted_of p) (printed_of p)
-is_below p ready not = below_of (wanted_of p) (printed_of p) (length (book_of p).recorded) not
-    (let few = within_recorded (as_found_of p) (wanted_of p) (length (book_of p).recorded) in omega (arith, few, ready))
+use Rattle.fz_stream.specs.Streamed.{HasTakenUp, NothingOpen, OnNoMemory, Streams}
 
 pub begins : (p : Printer) (q : Pathed) (taken : Option (List ℕ)) → IsReady p → Streams p q taken p q taken
 begins p q taken ready = record {
@@ -47,9 +36,6 @@ silent p q r taken ready h = record {
   searched = λ n. h;
 }
 
-pub both_keep : (old p new : Printer) → KeepsPrinting old p → KeepsPrinting p new → KeepsPrinting old new
-both_keep old p new first second = record { as_found = second.as_found ∙ first.as_found; wanted = second.wanted ∙ first.wanted }
-
 pub none_is_no_memory : (s : Option Stop) → s ≡ None → s ≢ Some Memory
 none_is_no_memory s none e = cc
 
@@ -64,12 +50,6 @@ advanced p new q r middle after none ready more grew now searched = record {
   within = within_due p new middle after grew ready now;
   searched = searched;
 }
-
-due_kept : (p new : Printer) → KeepsPrinting p new → book_of new ≡ book_of p → due_of p ≡ due_of new
-due_kept p new keeps book = λ i. due_among (sym keeps.as_found i) (sym keeps.wanted i) (length (sym book i).recorded)
-
-pub still_within : (p new : Printer) → KeepsPrinting p new → book_of new ≡ book_of p → printed_of new ≡ printed_of p → printed_of p ≤ due_of p → printed_of new ≤ due_of new
-still_within p new keeps book printed within = (let due = due_kept p new keeps book in omega (arith, due, printed, within))
 
 -- a mark is set, or nothing is
 pub handed_on : (old p new : Printer) (at q : Pathed) (taken middle after : Option (List ℕ)) → Streams old at taken p q middle → stopped_of p ≡ None → IsReady p → (IsFilled p → ⊥) → KeepsPrinting p new → book_of new ≡ book_of p → printed_of new ≡ printed_of p
@@ -150,9 +130,6 @@ pub nothing_counts : (p new : Printer) (a b : ℕ) → NothingOpen p new → sto
 nothing_counts p new a b (inl nothing) none same = counts_by (stopped_of new) a b same (inl (ap stopped_of nothing.0 ∙ none))
 nothing_counts p new a b (inr marks) none same = counts_by (stopped_of new) a b same (inr marks.stopped)
 
-pub counts_on : (s : Option Stop) (a b c : ℕ) → b ≡ a → CountsMark b c s → CountsMark a c s
-counts_on s a b c same counts = subst (λ n. CountsMark n c s) same counts
-
 -- ---- from turn to turn
 
 -- the path has taken up a part, and it is searched
@@ -162,16 +139,9 @@ went_on old p next new at q r s taken middle after first none same moved second 
     both_stream old next new at r s taken middle after
     (subst (λ (x : Printer). Streams old at taken x r middle) (sym same) (taken_up old p at q r taken middle first (moved (none_is_no_memory (stopped_of next) still)))) still second
 
-pub ready_kept : (p new : Printer) → IsReady p → KeepsPrinting p new → book_of new ≡ book_of p → printed_of new ≡ printed_of p → IsReady new
-ready_kept p new ready keeps book printed =
-    printed ∙ ready ∙ (λ i. due_among (sym keeps.as_found i) (sym keeps.wanted i) (length (sym book i).recorded))
-
 pub more_kept : (p new : Printer) → (IsFilled p → ⊥) → KeepsPrinting p new → book_of new ≡ book_of p → IsFilled new → ⊥
 more_kept p new more keeps book filled =
     more (subst (λ (w : Option ℕ). IsFilledFor w (length (book_of p).recorded)) keeps.wanted (subst (λ (b : Book). IsFilledFor (wanted_of new) (length b.recorded)) book filled))
-
-pub same_count : (s : Option Stop) (a b : ℕ) → CountsMark a b s → s ≡ None → b ≡ a
-same_count s a b counts none = subst (λ (x : Option Stop). CountsMark a b x) none counts
 
 pub no_part : (held : Option Account) (b : Book) → held ≡ None → IfSome held (IsReportable b)
 no_part held b none = subst (λ (o : Option Account). IfSome o (IsReportable b)) (sym none) tt

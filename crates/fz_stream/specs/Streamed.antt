@@ -7,19 +7,11 @@ use Rattle.fz_book.specs.Reports.{IsReportable}
 use Rattle.fz_path.specs.Paths.{Pathed, started}
 use Rattle.fz_printing.specs.declared.printer.Stop.TheVariants.{Memory}
 use Rattle.fz_printer.specs.declared.printer.Printer.{Printer}
-use Rattle.fz_printer.specs.Printed.{book_of, wanted_of, as_found_of, printed_of, stopped_of, due_of, CountsMark, HasPrinted, IsReady, KeepsPrinting, MarksMemory}
+use Rattle.fz_printer.specs.Printed.{book_of, as_found_of, printed_of, stopped_of, due_of, HasPrinted, KeepsPrinting, MarksMemory}
 use Rattle.fz_solo.specs.declared.stretches.Halt.{Halt}
 use Rattle.fz_solo.specs.declared.stretches.Halt.TheVariants.{Each, Batch, Never}
 use Rattle.fz_solo.specs.Walks.{weight_held}
 use Rattle.fz_solo.specs.Searches.{Searches}
-
--- as many are recorded as are wanted
-abbrev pub IsFilledFor : Option ℕ → ℕ → Type 0
-IsFilledFor None count = ⊥
-IsFilledFor (Some n) count = n ≤ count
-
-abbrev pub IsFilled : Printer → Type 0
-IsFilled p = IsFilledFor (wanted_of p) (length (book_of p).recorded)
 
 -- The options stay, and the book's model and mode; what the sink took since the printer was begun is what it printed, no more than was
 -- due; and unless memory was refused, the book is searched, and told each better one where solutions are printed as they are found.
@@ -30,17 +22,6 @@ pub record Streams (old : Printer) (at : Pathed) (taken : Option (List ℕ)) (ne
   pub printed : (before : Option (List ℕ)) → HasPrinted old before taken → HasPrinted new before after
   pub within : printed_of new ≤ due_of new
   pub searched : stopped_of new ≢ Some Memory → Searches (as_found_of old) (book_of old) at (book_of new) path
-
--- The options stay, and the book's model and mode; what the sink took since the printer was begun is what it printed, no more than was
--- due, and all that was unless it stopped, which has its cause. Nothing is said of where what its book took came from.
-pub record Gathers (old : Printer) (taken : Option (List ℕ)) (faults : ℕ) (new : Printer) (after : Option (List ℕ)) (failed : ℕ) : Type 0 where
-  pub keeps : KeepsPrinting old new
-  pub model : (book_of new).model ≡ (book_of old).model
-  pub mode : (book_of new).mode ≡ (book_of old).mode
-  pub printed : (before : Option (List ℕ)) → HasPrinted old before taken → HasPrinted new before after
-  pub within : printed_of new ≤ due_of new
-  pub ready : stopped_of new ≡ None → IsReady new
-  pub cause : CountsMark faults failed (stopped_of new)
 
 -- nothing is open, or memory was refused
 abbrev pub NothingOpen : Printer → Printer → Type 0

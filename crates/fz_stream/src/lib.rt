@@ -1,10 +1,6 @@
-//! Searches that print on their way: one worker's, and the printing of what several workers tell.
+//! A search by one worker that prints on its way.
 #![tactic(auto)]
 
-pub mod gathering;
-pub mod outbox;
 pub mod streaming;
 
-pub use gathering::gather;
-pub use outbox::{Outbox, Told};
 pub use streaming::stream;

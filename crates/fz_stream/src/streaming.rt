@@ -9,11 +9,12 @@ ghost use Rattle.fz_printer.specs.Printed.{as_found_of, book_of, printed_of, sto
 ghost use Rattle.fz_solo.specs.declared.stretches.Halt.TheVariants as halts;
 ghost use Rattle.fz_solo.specs.declared.stretches.Pause.TheVariants as pauses;
 ghost use Rattle.fz_solo.specs.Searches.{IsTold};
-ghost use Rattle.fz_stream.specs.Streamed.{HasAdvanced, HasTakenUp, IsBatch, IsFilled, NothingOpen, OnNoMemory, Streams};
+ghost use Rattle.fz_printer.specs.Gathered.{IsFilled};
+ghost use Rattle.fz_stream.specs.Streamed.{HasAdvanced, HasTakenUp, IsBatch, NothingOpen, OnNoMemory, Streams};
 
 use fz_io::outside::Sink;
 use fz_path::Path;
-use fz_printer::Printer;
+use fz_printer::{Printer, hand_on_if_due, has_stopped, is_filled};
 use fz_search_space::SearchSpace;
 use fz_solo::{Halt, Pause, stretch, take_up};
 use fz_tree::mode::Mode;
@@ -58,23 +59,6 @@ pub fn stream<S: SearchSpace, K: Sink>(
             return;
         }
     }
-}
-
-/// Whether as many are recorded as are wanted.
-pub(crate) fn is_filled(printer: &Printer) -> bool
-    ensures { IsTrue result ↔ IsFilled printer.now }
-{
-    match printer.wanted() {
-        Some(count) => count as usize <= printer.book().recorded_count(),
-        None => false,
-    }
-}
-
-/// Whether the sink failed, or memory was refused.
-pub(crate) fn has_stopped(printer: &Printer) -> bool
-    ensures { IsFalse result ↔ (stopped_of printer.now ≡ None) }
-{
-    printer.stopped().is_some()
 }
 
 /// The path takes up an open part, if it holds none. It says whether the path holds one now; where there is no memory, that is
@@ -274,20 +258,4 @@ fn report<S: SearchSpace, K: Sink>(
         unreachable!()
     };
     printer.account(alloc, sink, account);
-}
-
-/// Has the sink hand on what it took, where it is due.
-pub(crate) fn hand_on_if_due<K: Sink>(printer: &mut Printer, sink: &mut K)
-    requires working { stopped_of printer.old ≡ None }
-    requires faults { K.faults sink.old < 2 ^ 64 - 1 }
-    ensures keeps { KeepsPrinting printer.old printer.new }
-    ensures book { book_of printer.new ≡ book_of printer.old }
-    ensures printed { printed_of printer.new ≡ printed_of printer.old }
-    ensures taken { K.taken sink.new ≡ K.taken sink.old }
-    ensures cause { CountsMark (K.faults sink.old) (K.faults sink.new) (stopped_of printer.new) }
-    ensures fault { stopped_of printer.new ≢ Some stops.Memory }
-{
-    if sink.is_due() {
-        printer.hand_on(sink);
-    }
 }

@@ -2,11 +2,11 @@
 use crossbeam_utils::CachePadded;
 use fz_book::Book;
 use fz_bound::Bound;
+use fz_collect::Outbox;
 use fz_io::gate::Gate;
 use fz_model::Model;
 use fz_path::Path;
 use fz_search_space::SearchSpace;
-use fz_stream::Outbox;
 use std::sync::Mutex;
 use std::sync::atomic::AtomicBool;
 

@@ -4,6 +4,8 @@
 #[cfg(test)]
 mod books;
 #[cfg(test)]
+mod collecting;
+#[cfg(test)]
 mod machines;
 #[cfg(test)]
 mod paths;

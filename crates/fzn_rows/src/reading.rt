@@ -26,6 +26,8 @@ pub(crate) const NO_VALUE: &str = "var 3..1: x; solve satisfy;";
 
 pub(crate) const TWO_BY_TWO: &str = "var 1..2: x; var 1..2: y; solve satisfy;";
 
+pub(crate) const THREE_BY_THREE: &str = "var 1..3: x; var 1..3: y; solve satisfy;";
+
 pub(crate) const TWO_THAT_DIFFER: &str =
     "var 1..2: x; var 1..2: y; constraint int_ne(x, y); solve satisfy;";
 

@@ -3,8 +3,10 @@ use Rattle.fz_tree.specs.Book.{Book}
 use Rattle.fz_book.specs.Reports.{IsReportable}
 use Rattle.fz_path.specs.Paths.{bare}
 use Rattle.fz_printer.specs.Printed.{stopped_of}
-use Rattle.fz_stream.specs.Streamed.{IsFilled}
-use Rattle.fz_stream.proofs.Moves.{begins, both_stream, handed_on, more_kept, ready_kept, same_count}
+use Rattle.fz_printer.specs.Gathered.{IsFilled}
+use Rattle.fz_printer.specs.Gatherings.{same_count}
+use Rattle.fz_printer.proofs.Gathering.{ready_kept}
+use Rattle.fz_stream.proofs.Moves.{begins, both_stream, handed_on, more_kept}
 use Rattle.fz_stream.proofs.streaming.search_part.Goals as goal
 
 pub stretches-init : goal.stretches-init

@@ -1,4 +1,4 @@
-//! What several workers tell a printer while they search.
+//! What several workers tell while they search.
 use fz_account::Account;
 use fz_model::Assignment;
 use std::alloc::{AllocError, Global};
@@ -8,7 +8,7 @@ use std::sync::{Mutex, Wait};
 use std::thread::Parker;
 use std::time::Duration;
 
-/// How many milliseconds the printer waits for what it is told.
+/// How many milliseconds a collector waits for what it is told.
 const TICK: u64 = 15;
 
 /// How many numbers wait at most before workers rest, a solution counting for sixteen beside its own and an edge for eight.
@@ -18,7 +18,7 @@ const NUMBERS_A_SOLUTION: u64 = 16;
 
 const NUMBERS_AN_EDGE: u64 = 8;
 
-/// What a printer is told.
+/// What a worker tells.
 #[derive(Drop)]
 pub enum Told {
     /// The workers' book took this account.
@@ -54,7 +54,7 @@ impl Outbox {
         }
     }
 
-    /// Tells the printer.
+    /// Tells the collector.
     ///
     /// # Errors
     /// `AllocError` where there is no memory; then nothing is told.
@@ -81,7 +81,7 @@ impl Outbox {
         self.asks.load(Ordering::SeqCst)
     }
 
-    /// Whether workers are to stop, since nothing more is printed.
+    /// Whether workers are to stop, since nothing more is taken in.
     pub fn is_stopped(&self) -> bool {
         self.is_stopped.load(Ordering::SeqCst)
     }
@@ -97,7 +97,7 @@ impl Outbox {
         self.is_read.store(true, Ordering::SeqCst);
     }
 
-    /// Nothing more is printed.
+    /// Nothing more is taken in.
     pub(crate) fn stop(&self) {
         self.is_stopped.store(true, Ordering::SeqCst);
     }

@@ -1,0 +1,24 @@
+use Rattle.std.proofs.Common.{refl}
+use Rattle.fz_collect.proofs.gathering.take_turns.Goals as goal
+
+pub turns-init : goal.turns-init
+turns-init g c = record {
+  next = tt;
+  finite = tt;
+  works = c.requires.works;
+  more = c.requires.more;
+  grew = g.met.C.Collect.stays c.args.collector.now c.args.lent.now c.requires.works;
+}
+
+pub returns-then-not-turn : goal.returns-then-not-turn
+returns-then-not-turn g c =
+    g.met.C.Collect.goes_on c.args.collector.now c.args.lent.now c.turns.collector c.turns.lent c.turn.new.collector c.turn.new.lent c.turns.invariant.grew c.turns.invariant.works c.turn.ensures.grew
+
+pub turns-preserved : goal.turns-preserved
+turns-preserved g c = record {
+  next = tt;
+  finite = tt;
+  works = c.if-not-turn.ensures.works refl;
+  more = c.if-not-turn.ensures.more refl;
+  grew = g.met.C.Collect.goes_on c.args.collector.now c.args.lent.now c.turns.collector c.turns.lent c.turn.new.collector c.turn.new.lent c.turns.invariant.grew c.turns.invariant.works c.turn.ensures.grew;
+}

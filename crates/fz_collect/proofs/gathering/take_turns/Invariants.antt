@@ -1,0 +1,10 @@
+use Rattle.fz_collect.proofs.gathering.take_turns.Given as goal
+
+abbrev pub invariant-turns : goal.invariant-turns
+invariant-turns g l = record {
+  next : (goal.iterator-turns g).can_next l.iterator';
+  finite : (goal.iterator-turns g).is_finite l.iterator';
+  works : g.C.Collect.works l.collector l.lent;
+  more : g.C.Collect.enough l.collector → ⊥;
+  grew : g.C.Collect.grew l.initial.collector l.initial.lent l.collector l.lent;
+}

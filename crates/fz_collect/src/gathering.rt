@@ -1,0 +1,106 @@
+//! Taking in what several workers tell.
+ghost use Rattle.std.specs.Prelude.{IsTrue};
+
+use crate::collect::Collect;
+use crate::outbox::{Outbox, Told};
+use std::alloc::Global;
+use std::sync::Wait;
+
+/// Has a collector take in what workers tell, until they have ended and all is taken in, or it has enough. Then the workers are to
+/// stop.
+pub fn gather<R: Wait, K, C: Collect<K>>(
+    rt: &R,
+    alloc: Global,
+    outbox: &Outbox,
+    collector: &mut C,
+    lent: &mut K,
+)
+    requires { C.works collector.old lent.old }
+    ensures { C.grew collector.old lent.old collector.new lent.new }
+{
+    if !collector.has_enough() {
+        outbox.open();
+        take_turns(rt, alloc, outbox, collector, lent);
+    }
+    outbox.stop();
+}
+
+/// Takes in what is told, turn by turn.
+fn take_turns<R: Wait, K, C: Collect<K>>(
+    rt: &R,
+    alloc: Global,
+    outbox: &Outbox,
+    collector: &mut C,
+    lent: &mut K,
+)
+    requires works { C.works collector.old lent.old }
+    requires more { C.enough collector.old → ⊥ }
+    ensures { C.grew collector.old lent.old collector.new lent.new }
+{
+    'turns: for _ in rt.forever() {
+        if !turn(rt, alloc, outbox, collector, lent) {
+            return;
+        }
+    }
+    unreachable!()
+}
+
+/// Takes in what is told, and rests where that is nothing. Workers are asked for what they found where that is due, and behind each
+/// rest. It says whether more may come.
+fn turn<R: Wait, K, C: Collect<K>>(
+    rt: &R,
+    alloc: Global,
+    outbox: &Outbox,
+    collector: &mut C,
+    lent: &mut K,
+) -> bool
+    requires works { C.works collector.old lent.old }
+    requires more { C.enough collector.old → ⊥ }
+    ensures grew { C.grew collector.old lent.old collector.new lent.new }
+    ensures works { IsTrue result → C.works collector.new lent.new }
+    ensures more { IsTrue result → C.enough collector.new → ⊥ }
+{
+    let has_ended = outbox.has_ended();
+    let told = outbox.take(rt, alloc);
+    let is_idle = told.is_empty();
+    if collector.is_due(lent) {
+        outbox.ask();
+    }
+    take_all(alloc, collector, lent, told) && rest(rt, outbox, is_idle, has_ended)
+}
+
+/// Rests where nothing was told. It says whether more may come.
+fn rest<R: Wait>(rt: &R, outbox: &Outbox, is_idle: bool, has_ended: bool) -> bool {
+    if !is_idle {
+        return true;
+    }
+    if has_ended {
+        return false;
+    }
+    outbox.rest(rt);
+    outbox.ask();
+    true
+}
+
+/// Has the collector take in what was told, and look up behind it. It says whether it takes in more.
+fn take_all<K, C: Collect<K>>(
+    alloc: Global,
+    collector: &mut C,
+    lent: &mut K,
+    told: Vec<Told>,
+) -> bool
+    requires works { C.works collector.old lent.old }
+    requires more { C.enough collector.old → ⊥ }
+    ensures grew { C.grew collector.old lent.old collector.new lent.new }
+    ensures works { IsTrue result → C.works collector.new lent.new }
+    ensures more { IsTrue result → C.enough collector.new → ⊥ }
+{
+    'each: for one in told {
+        collector.take_in(alloc, lent, one);
+        if collector.has_enough() {
+            return false;
+        }
+    }
+    collector.look_up(lent);
+    !collector.has_enough()
+}

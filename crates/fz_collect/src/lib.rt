@@ -1,0 +1,10 @@
+//! What several workers tell while they search: an outbox that they tell, and the loop that hands each of it to a collector.
+#![tactic(auto)]
+
+pub mod collect;
+pub mod gathering;
+pub mod outbox;
+
+pub use collect::Collect;
+pub use gathering::gather;
+pub use outbox::{Outbox, Told};
