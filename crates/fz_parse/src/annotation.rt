@@ -6,6 +6,7 @@ ghost use Rattle.fz_syntax.specs.Trees.{annotation_of, annotations_of, argument_
 ghost use Rattle.fz_parse.specs.Steps.{ParsesAt, option_of};
 
 use crate::expression::constant;
+use crate::list::grow;
 use crate::steps::{identifier, is, take};
 use crate::stop::Stop;
 use fz_language::fault::SyntaxFault;
@@ -29,6 +30,7 @@ pub(crate) fn annotations<'a>(
     let mut found = Vec::new(alloc);
     'annotations: while is(lexer, TokenKind::Sign(Sign::DoubleColon)) {
         take(lexer, TokenKind::Sign(Sign::DoubleColon))?;
+        grow(&mut found)?;
         found.push(annotation(alloc, lexer, LEVEL_LIMIT)?)?;
     }
     Ok(found)
@@ -82,6 +84,7 @@ fn arguments<'a>(alloc: Global, lexer: &mut Lexer<'a>, left: u32) -> Result<Vec<
     found.push(argument(alloc, lexer, left)?)?;
     'arguments: while is(lexer, TokenKind::Sign(Sign::Comma)) {
         take(lexer, TokenKind::Sign(Sign::Comma))?;
+        grow(&mut found)?;
         found.push(argument(alloc, lexer, left)?)?;
     }
     Ok(found)

@@ -1,10 +1,22 @@
-//! Lists of elements, as they grow: integers alone as long as no other element comes.
+//! Lists as they grow. Of elements integers stand alone as long as no other element comes.
 ghost use Rattle.std.specs.Prelude.{◌≡◌, [], ◌∷◌, ◌++◌, IfOk, OnOk, MatchOption, map};
 ghost use Rattle.fz_syntax.specs.Trees.{integer_basic_of, basic_of, elements_of};
 ghost use Rattle.fz_parse.specs.Steps.{IsNoInteger};
 
 use fz_syntax::{Basic, Elements, Integer, Number};
 use std::alloc::{AllocError, Global};
+
+/// Makes room for one more: at first for one, then for twice as many, since most of these lists have one or two.
+pub(crate) fn grow<T>(items: &mut Vec<T>) -> Result<(), AllocError>
+    ensures { items.new.items ≡ items.old.items }
+{
+    let count = items.len();
+    if count < items.capacity() {
+        return Ok(());
+    }
+    items.reserve_exact(if count == 0 { 1 } else { count })?;
+    Ok(())
+}
 
 /// The integer that an element is.
 fn integer_in(basic: &Basic<'_>) -> Option<Integer>

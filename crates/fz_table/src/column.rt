@@ -171,5 +171,6 @@ fn spans_of(alloc: Global, supports: &[Support]) -> Result<Spans, AllocError>
     for support in supports {
         spans.add(support.number)?;
     }
+    spans.shrink();
     Ok(spans)
 }

@@ -62,6 +62,13 @@ impl Spans {
         self.push(number)
     }
 
+    /// Gives back the room behind the last range.
+    pub fn shrink(&mut self)
+        ensures { self.new ≡ self.old }
+    {
+        self.ranges.shrink_to_fit();
+    }
+
     /// Adds a number, to the last range if it is the next one.
     fn push(&mut self, number: i32) -> Result<(), AllocError>
         ensures { OnOk result ((n : ℤ) → IsInSet self.new n ↔ (IsInSet self.old n ⊎ (n ≡ number))) }

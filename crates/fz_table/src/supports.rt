@@ -64,6 +64,7 @@ pub fn supports_of(alloc: Global, places: &[(i32, usize)]) -> Result<Vec<Support
     for place in places {
         add(&mut supports, place.0, place.1)?;
     }
+    supports.shrink_to_fit();
     Ok(supports)
 }
 

@@ -1,4 +1,4 @@
-use Rattle.std.proofs.Common.{suc, ◌-◌, ◌<◌, ◌≤◌, List, [], ◌∷◌, map, ◌||◌, ◌∙◌, refl, sym, ap, subst, arith}
+use Rattle.std.proofs.Common.{suc, ◌-◌, ◌<◌, ◌≤◌, List, [], ◌∷◌, ◌++◌, map, ◌||◌, ◌∙◌, refl, sym, ap, subst, arith}
 use Rattle.std.proofs.lemmas.Result.{err_from_is_err_and}
 use Rattle.fz_language.specs.Trees as trees
 use Rattle.fz_language.specs.Grammar.{Arguments, Listed}
@@ -109,7 +109,7 @@ arguments-arguments-preserved t c =
     let l = 64 - c.args.left in (
       omega (arith, c.arguments.invariant.0, c.in_ok-take.ensures.forward, c.in_ok-argument-2.ensures.forward),
       subst (λ (v : List trees.Argument). GoesOn Arguments (64 - c.args.left) (Listed Arguments) c.args.lexer.now.tokens c.argument-in-arguments.new.lexer.tokens (λ w. w) v)
-          (pushed argument_of c.push-in-arguments.new.self.items c.arguments.found.items c.in_ok-argument-2.field-0 c.in_ok-push-2.ensures.items)
+          (pushed argument_of c.push-in-arguments.new.self.items c.arguments.found.items c.in_ok-argument-2.field-0 (c.in_ok-push-2.ensures.items ∙ ap (λ (l : List _). l ++ c.in_ok-argument-2.field-0 ∷ []) c.in_ok-grow.ensures))
           (goes_next Arguments c.arguments.invariant.1 c.is-in-arguments.ensures.found c.arguments-test.true (c.in_ok-take.ensures.taken l refl) c.in_ok-argument-2.ensures.taken),
       c.in_ok-argument-2.ensures.same ∙ c.in_ok-take.ensures.same ∙ c.arguments.invariant.2,
     )

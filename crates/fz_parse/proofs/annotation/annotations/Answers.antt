@@ -1,4 +1,4 @@
-use Rattle.std.proofs.Common.{List, [], ◌∷◌, map, refl, subst, append-nil, arith, ◌∙◌}
+use Rattle.std.proofs.Common.{List, [], ◌∷◌, ◌++◌, map, refl, ap, subst, append-nil, arith, ◌∙◌}
 use Rattle.std.proofs.lemmas.Result.{err_from_is_err_and}
 use Rattle.fz_language.specs.Trees as trees
 use Rattle.fz_language.specs.Grammar.{flatzinc, rules, Annotations}
@@ -28,7 +28,7 @@ annotations-preserved c = (
   record {
     reads = λ new w q.
         subst (λ (v : List trees.Annotation). Read 0 (Rule Annotations ∷ []) (v, tt) c.args.lexer.now.tokens new)
-        (push_before annotation_of _ c.annotations.found.items c.in_ok-annotation.field-0 w c.in_ok-push.ensures.items)
+        (push_before annotation_of _ c.annotations.found.items c.in_ok-annotation.field-0 w (c.in_ok-push.ensures.items ∙ ap (λ (l : List _). l ++ c.in_ok-annotation.field-0 ∷ []) c.in_ok-grow.ensures))
         ((annotations_next c.annotations.invariant.1 c.is.ensures.found c.annotations-test.true (c.in_ok-take.ensures.taken 0 refl) c.in_ok-annotation.ensures.taken).reads new w q);
     stops = (annotations_next c.annotations.invariant.1 c.is.ensures.found c.annotations-test.true (c.in_ok-take.ensures.taken 0 refl) c.in_ok-annotation.ensures.taken).stops;
   },

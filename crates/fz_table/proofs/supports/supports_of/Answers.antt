@@ -27,7 +27,7 @@ loop-place-preserved c =
 pub returns-clause-rows : goal.returns-clause-rows
 returns-clause-rows c =
     let end = c.loop-place-test.false in
-    gathered_rows c.args.places.now c.loop-place.supports.items c.loop-place.place-index (omega (arith, end)) c.loop-place.invariant
+    rw c.shrink_to_fit.ensures.items (gathered_rows c.args.places.now c.loop-place.supports.items c.loop-place.place-index (omega (arith, end)) c.loop-place.invariant)
 
 pub returns-clause-words : goal.returns-clause-words
-returns-clause-words c = gathered_words c.args.places.now c.loop-place.supports.items c.loop-place.place-index c.loop-place.invariant
+returns-clause-words c = rw c.shrink_to_fit.ensures.items (gathered_words c.args.places.now c.loop-place.supports.items c.loop-place.place-index c.loop-place.invariant)
