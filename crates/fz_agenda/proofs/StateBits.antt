@@ -92,10 +92,10 @@ pub states_queued : (alive queued queued' : List ℕ) (n p k : ℕ) → p < n �
 states_queued alive queued queued' n p k within one bits =
     states_set alive queued alive queued' n p k within (state_alive alive queued' p one ∙ bits.here) (λ i ne. same_state alive queued alive queued' i refl (bits.others i ne))
 
-pub states_gone : (alive queued alive' queued' : List ℕ) (n p : ℕ) → p < n → IsBitSet p 0 queued queued' → IsBitSet p 0 alive alive' → states_of alive' queued' n ≡ slice_set (states_of alive queued n) p 2
-states_gone alive queued alive' queued' n p within bits gone =
-    states_set alive queued alive' queued' n p 2 within (state_gone alive' queued' p (λ one. (let none = gone.here in omega (arith, one, none))))
-    (λ i ne. same_state alive queued alive' queued' i (gone.others i ne) (bits.others i ne))
+pub states_gone : (alive queued alive' : List ℕ) (n p : ℕ) → p < n → IsBitSet p 0 alive alive' → states_of alive' queued n ≡ slice_set (states_of alive queued n) p 2
+states_gone alive queued alive' n p within gone =
+    states_set alive queued alive' queued n p 2 within (state_gone alive' queued p (λ one. (let none = gone.here in omega (arith, one, none))))
+    (λ i ne. same_state alive queued alive' queued i (gone.others i ne) refl)
 
 pub states_revived : (alive queued alive' queued' : List ℕ) (n p : ℕ) → p < n → IsBitSet p 0 queued queued' → IsBitSet p 1 alive alive' → states_of alive' queued' n ≡ slice_set (states_of alive queued n) p 0
 states_revived alive queued alive' queued' n p within bits back =

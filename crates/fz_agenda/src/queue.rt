@@ -1,22 +1,28 @@
 //! Queues of propagators.
-ghost use Rattle.std.specs.Prelude.{◌≡◌, ℕ, List, [], ◌∷◌, ◌++◌, IfOk, OnOk, OnErr, MatchOption};
+ghost use Rattle.std.specs.Prelude.{◌≡◌, ℕ, ◌≤◌, List, [], ◌∷◌, ◌++◌, drop, length, IfOk, OnOk, OnErr, MatchOption};
 
 use std::alloc::{AllocError, Global};
-use std::collections::VecDeque;
 use std::marker::Model;
+
+/// How many are gone before those that are left move to the front.
+const MANY: usize = 256;
 
 /// The numbers of propagators, first in first out.
 #[derive(Drop)]
 pub struct Queue {
-    places: VecDeque<u32>,
+    /// Those that are queued, from `head` on.
+    places: Vec<u32>,
+    head: usize,
 }
 
 impl Model for Queue {
-    ghost use Rattle.std.specs.Prelude.{List, ℕ};
+    ghost use Rattle.std.specs.Prelude.{List, ℕ, ◌≤◌, drop, length};
 
     ghost Value = { List ℕ };
 
-    ghost view = { λ q. q.places.items };
+    ghost view = { λ q. drop q.head q.places.items };
+
+    ghost invariant = { λ q. q.head ≤ length q.places.items };
 }
 
 impl Queue {
@@ -25,7 +31,8 @@ impl Queue {
         ensures { result ≡ [] }
     {
         Queue {
-            places: VecDeque::new(alloc),
+            places: Vec::new(alloc),
+            head: 0,
         }
     }
 
@@ -35,7 +42,11 @@ impl Queue {
         ensures { MatchOption result (self.now ≡ [])
             (λ i. (rest : List ℕ) × (self.now ≡ i ∷ rest)) }
     {
-        self.places.front().copied()
+        if self.head < self.places.len() {
+            Some(self.places[self.head])
+        } else {
+            None
+        }
     }
 
     /// The first leaves.
@@ -43,7 +54,39 @@ impl Queue {
     pub fn pop(&mut self)
         ensures { (i : ℕ) (rest : List ℕ) → self.old ≡ i ∷ rest → self.new ≡ rest }
     {
-        let _ = self.places.pop_front();
+        if self.head >= self.places.len() {
+            return;
+        }
+        self.head += 1;
+        self.close_up();
+    }
+
+    /// Those that are gone leave the list, once none is left or they are many.
+    #[inline(always)]
+    fn close_up(&mut self)
+        ensures { self.new ≡ self.old }
+    {
+        if self.head == self.places.len() {
+            self.clear();
+            return;
+        }
+        if self.head >= MANY {
+            self.move_up();
+        }
+    }
+
+    /// Those that are left move to the front of the list, where they are no more than those that are gone.
+    #[inline(never)]
+    fn move_up(&mut self)
+        ensures { self.new ≡ self.old }
+    {
+        let left = self.places.len() - self.head;
+        if self.head < left {
+            return;
+        }
+        self.places.rotate_left(self.head);
+        self.places.truncate(left);
+        self.head = 0;
     }
 
     /// One more comes in at the end.
@@ -55,7 +98,7 @@ impl Queue {
         ensures ok { OnOk result (self.new ≡ self.old ++ place ∷ []) }
         ensures err { OnErr result (self.new ≡ self.old) }
     {
-        match self.places.push_back(place) {
+        match self.places.push(place) {
             Ok(()) => Ok(()),
             Err(_) => Err(AllocError),
         }
@@ -68,9 +111,10 @@ impl Queue {
     pub fn copy(&self, alloc: Global) -> Result<Queue, AllocError>
         ensures { IfOk result (λ q. q ≡ self.now) }
     {
-        let mut copy = Queue::new(alloc);
-        copy.append(self)?;
-        Ok(copy)
+        Ok(Queue {
+            places: Vec::from_slice(alloc, &self.places[self.head..])?,
+            head: 0,
+        })
     }
 
     /// Becomes the same as another, and keeps its room.
@@ -81,7 +125,8 @@ impl Queue {
         ensures { OnOk result (self.new ≡ other.now) }
     {
         self.clear();
-        self.append(other)
+        self.places.extend_from_slice(&other.places[other.head..])?;
+        Ok(())
     }
 
     /// All leave.
@@ -89,15 +134,6 @@ impl Queue {
         ensures { self.new ≡ [] }
     {
         self.places.clear();
-    }
-
-    /// Those of another come in at the end.
-    fn append(&mut self, other: &Queue) -> Result<(), AllocError>
-        ensures { OnOk result (self.new ≡ self.old ++ other.now) }
-    {
-        for i in 0..other.places.len() {
-            self.push(other.places[i])?;
-        }
-        Ok(())
+        self.head = 0;
     }
 }

@@ -83,7 +83,6 @@ impl States {
         requires { slice_index self.old place ≡ 1 }
         ensures { self.new ≡ slice_set self.old place 2 }
     {
-        self.queued.remove(place);
         self.alive.remove(place);
     }
 

@@ -14,7 +14,7 @@ use Rattle.fz_prop.proofs.Twice.{shrinks_twice, room_after}
 use Rattle.fz_linear.specs.Terms.{AreTermsOf}
 use Rattle.fz_linear.specs.Passes.{IsStep, IsTightened, KeepsNear, IsPassed, KeepsBetween, ArePassed}
 use Rattle.fz_linear.proofs.Spans.{spanned, least_rises}
-use Rattle.fz_linear.proofs.Slacks.{IsAt, near_at, near_from, term_at, least_sum_rises}
+use Rattle.fz_linear.proofs.Slacks.{IsAt, near_at, near_from, near_negated, term_at, least_sum_rises}
 
 -- ---- one change after another
 
@@ -94,6 +94,19 @@ kept_between ks ts above below r s u domains now are shrinks first second = λ a
 
 pub kept_first : (ks : List ℤ) (ts : List Term) (above below : ℤ) (r s : Stored) → KeepsNear ks ts above r.doms s.doms → KeepsBetween ks ts above below r.doms s.doms
 kept_first ks ts above below r s first = λ a within high low. first a within high
+
+pub kept_second : (ks : List ℤ) (ts : List Term) (above below : ℤ) (r s : Stored) → KeepsNear (negated ks) ts below r.doms s.doms → KeepsBetween ks ts above below r.doms s.doms
+kept_second ks ts above below r s second = λ a within high low. second a within low
+
+pub passed_first : (ks : List ℤ) (ts : List Term) (above below : ℤ) (r s : Stored) (changed : Bool) → AreNear r.doms below ks ts → IsPassed changed ks ts above r s
+    → ArePassed changed ks ts above below r s
+passed_first ks ts above below r s true near h = h
+passed_first ks ts above below r s false near h = (h.0, h.1, near_negated ks ts r.doms below near)
+
+pub passed_second : (ks : List ℤ) (ts : List Term) (above below : ℤ) (r s : Stored) (changed : Bool) → AreNear r.doms above ks ts → IsPassed changed (negated ks) ts below r s
+    → ArePassed changed ks ts above below r s
+passed_second ks ts above below r s true near h = h
+passed_second ks ts above below r s false near h = (h.0, near, h.1)
 
 pub passed_between : (ks : List ℤ) (ts : List Term) (above below : ℤ) (r s u : Stored) (first second : Bool) → Shrinks r s → Shrinks s u
     → IsPassed first ks ts above r s → IsPassed second (negated ks) ts below s u → ArePassed (first || second) ks ts above below r u

@@ -130,7 +130,7 @@ pub fn keep_equal(store: &mut Store, sum: &Weighted<'_>, number: i32) -> Result<
     if are_loose(widest, above, below) {
         return Ok(Answer::Fix);
     }
-    if tighten_between(store, sum.factors, sum.terms, above, below)? {
+    if tighten_between(store, sum.factors, sum.terms, widest, above, below)? {
         return Ok(Answer::NoFix);
     }
     Ok(Answer::Fix)

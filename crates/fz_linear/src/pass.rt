@@ -1,8 +1,8 @@
 //! Passes over the terms of a sum that narrow each by how far the sum's least is below a bound.
-ghost use Rattle.std.specs.Prelude.{◌≡◌, ◌<◌, ◌↔◌, ℤ, pos, List, length, IfOk, OnErr, IsTrue};
+ghost use Rattle.std.specs.Prelude.{◌≡◌, ◌<◌, ◌≤◌, ◌↔◌, ℕ, ℤ, pos, List, length, IfOk, OnErr, IsTrue};
 ghost use Rattle.fz_dom.specs.declared.change.Change.TheVariants.{Changed};
 ghost use Rattle.fz_strength.specs.Domains.{AreDomains};
-ghost use Rattle.fz_strength.specs.Sums.{negated};
+ghost use Rattle.fz_strength.specs.Sums.{negated, AreNear};
 ghost use Rattle.fz_prop.specs.Stores.{Shrinks, IsTermOf};
 ghost use Rattle.fz_linear.specs.Terms.{AreTermsOf};
 ghost use Rattle.fz_linear.specs.Sides.{seen_from, all_seen_from};
@@ -10,6 +10,7 @@ ghost use Rattle.fz_linear.specs.Passes.{IsTightened, KeepsNear, IsPassed, Keeps
 
 use crate::reach::{above_least, below_greatest, reach, width};
 use crate::side::{Side, is_low};
+use crate::sums::is_loose;
 use fz_prop::terms::{keep_from, keep_to};
 use fz_prop::{Change, Store};
 use fz_spec::term::Term;
@@ -76,8 +77,37 @@ pub fn tighten_all(
     Ok(changed)
 }
 
-/// Narrows each term from both sides, by the slack to each, and says whether anything changed.
+/// Narrows each term from both sides, by the slack to each, and says whether anything changed. No term with its factor is wider than
+/// is said, so that a slack that has room for this width narrows none.
 pub fn tighten_between(
+    store: &mut Store,
+    factors: &[i32],
+    terms: &[Term],
+    widest: u64,
+    above: u128,
+    below: u128,
+) -> Result<bool, AllocError>
+    requires same { length factors.now ≡ length terms.now }
+    requires inside { AreTermsOf (length store.old.doms) terms.now }
+    requires loose { (slack : ℕ) → widest ≤ slack
+        → AreNear store.old.doms (pos slack) factors.now terms.now }
+    ensures shrinks { Shrinks store.old store.new }
+    ensures kept { KeepsBetween factors.now terms.now (pos above) (pos below)
+        store.old.doms store.new.doms }
+    ensures ok { IfOk result
+        (λ b. ArePassed b factors.now terms.now (pos above) (pos below) store.old store.new) }
+{
+    if is_loose(widest, above) {
+        return tighten_all(store, Side::Below, factors, terms, below);
+    }
+    if is_loose(widest, below) {
+        return tighten_all(store, Side::Above, factors, terms, above);
+    }
+    tighten_both(store, factors, terms, above, below)
+}
+
+/// Narrows each term so from above, and then from below.
+fn tighten_both(
     store: &mut Store,
     factors: &[i32],
     terms: &[Term],

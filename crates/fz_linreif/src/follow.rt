@@ -30,6 +30,7 @@ use std::alloc::AllocError;
 ///
 /// # Errors
 /// `AllocError` where there is no memory for a domain; the store is then narrower, and no assignment is lost.
+#[inline(always)]
 pub fn keep_reified(
     store: &mut Store,
     sum: &Weighted<'_>,
@@ -72,6 +73,7 @@ fn truth_of(store: &Store, r: Term) -> Option<bool>
 }
 
 /// Narrows a store so that a sum so relates to a number, or so that it doesn't, as is said.
+#[inline(always)]
 fn relate_as(
     store: &mut Store,
     said: bool,
@@ -97,7 +99,35 @@ fn relate_as(
     }
 }
 
+/// Narrows a store so that a sum is at most a number, or above it, as is said, again and again until that changes nothing more.
+#[inline(always)]
+fn order_as(
+    store: &mut Store,
+    said: bool,
+    sum: &Weighted<'_>,
+    number: i32,
+) -> Result<Answer, AllocError>
+    requires law { IsWeighted sum.now }
+    requires inside { AreTermsOf (length store.old.doms) sum.now.terms.now }
+    requires fits { AllByRecursion FitsTerm sum.now.terms.now }
+    ensures shrinks { Shrinks store.old store.new }
+    ensures correct { IsCorrectOf (SaidTruth said AtMost sum.now.factors.now sum.now.terms.now number)
+        store.old.doms store.new.doms }
+    ensures answer { IfOk result (λ a.
+        IsAnswerSaid said AtMost sum.now.factors.now sum.now.terms.now number a store.old.doms store.new.doms) }
+{
+    'runs: loop {
+        match relate_as(store, said, sum, Relation::AtMost, number)? {
+            Answer::NoFix => {}
+            Answer::Fix => return Ok(Answer::Fix),
+            Answer::Subsumed => return Ok(Answer::Subsumed),
+            Answer::Failed => return Ok(Answer::Failed),
+        }
+    }
+}
+
 /// Narrows a store so that a sum is at most a number, or above it, as a Boolean that is fixed says.
+#[inline(always)]
 fn keep_order(
     store: &mut Store,
     sum: &Weighted<'_>,
@@ -119,7 +149,7 @@ fn keep_order(
         store.old.doms store.new.doms) }
 {
     let _ = r;
-    let answer = relate_as(store, said, sum, Relation::AtMost, number);
+    let answer = order_as(store, said, sum, number);
     let _ = store.doms();
     answer
 }

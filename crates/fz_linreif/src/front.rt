@@ -24,6 +24,7 @@ use std::alloc::AllocError;
 
 /// Narrows a store so that a Boolean says whether a sum stands in this relation to a number, as `keep_reified` does, where the sum is
 /// long without the terms at the front that are fixed.
+#[inline(always)]
 pub fn keep_rest(
     store: &mut Store,
     sum: &Weighted<'_>,
@@ -66,6 +67,7 @@ pub fn keep_rest(
 }
 
 /// The same, where so many terms at the front of the sum are fixed and add up to a number.
+#[inline(never)]
 fn keep_behind(
     store: &mut Store,
     sum: &Weighted<'_>,

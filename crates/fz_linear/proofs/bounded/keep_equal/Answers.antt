@@ -90,3 +90,6 @@ returns-then-are_loose-clause-answer c =
     let below : pos c.gap-below.result ≡ c.ends_of-least.result.greatest -ℤ c.args.number = rw (to_z-of_z fits_number, to_z-of_z fits_greatest, number_is) at c.gap-below.ensures in
     equal_rests c.args.sum.now.factors.now c.args.sum.now.terms.now c.args.number c.ends_of-least.result.least c.ends_of-least.result.greatest (pos c.gap-above.result) (pos c.gap-below.result) c.args.store.now
     c.args.store.now c.ends_of-least.ensures.least c.ends_of-least.ensures.greatest reached short above below (refl, (c.ends_of-least.ensures.loose c.gap-above.result (c.are_loose.ensures.0 c.if-are_loose.true).0), near_negated c.args.sum.now.factors.now c.args.sum.now.terms.now c.args.store.now.doms (pos c.gap-below.result) (c.ends_of-least.ensures.loose c.gap-below.result (c.are_loose.ensures.0 c.if-are_loose.true).1))
+
+pub tighten_between-requires-clause-loose : goal.tighten_between-requires-clause-loose
+tighten_between-requires-clause-loose c = c.ends_of-least.ensures.loose

@@ -7,17 +7,11 @@ pub remove-requires : goal.remove-requires
 remove-requires c =
     let now = c.self.inside in
     let is = ap (λ (xs : List ℕ). slice_index xs c.args.place) c.self.view_is ∙ c.requires in
-    within_words now.queued now.count c.args.place c.self.invariant.queued (within_states now.alive now.queued now.count c.args.place 1 is (omega arith))
-
-pub remove-requires-2 : goal.remove-requires-2
-remove-requires-2 c =
-    let now = c.self.inside in
-    let is = ap (λ (xs : List ℕ). slice_index xs c.args.place) c.self.view_is ∙ c.requires in
     within_words now.alive now.count c.args.place c.self.invariant.alive (within_states now.alive now.queued now.count c.args.place 1 is (omega arith))
 
 pub returns : goal.returns
 returns c =
     let now = c.self.inside in
     let is = ap (λ (xs : List ℕ). slice_index xs c.args.place) c.self.view_is ∙ c.requires in
-    rw (← c.self.view_is) (states_gone now.alive now.queued c.remove-2.new.self c.remove.new.self now.count c.args.place (within_states now.alive now.queued now.count c.args.place 1 is (omega arith))
-    (removed c.args.place now.queued c.remove.new.self c.remove.ensures.members) (removed c.args.place now.alive c.remove-2.new.self c.remove-2.ensures.members))
+    rw (← c.self.view_is) (states_gone now.alive now.queued c.remove.new.self now.count c.args.place (within_states now.alive now.queued now.count c.args.place 1 is (omega arith))
+    (removed c.args.place now.alive c.remove.new.self c.remove.ensures.members))
