@@ -148,6 +148,21 @@ def cumulative_shop(jobs, machines, longest, seed):
     return text
 
 
+def crowded(tasks, capacity, seed):
+    """Tasks that wait for none and share one resource, so that the last one ends as early as it may."""
+    text, dice = Text(), random.Random(seed)
+    times = [dice.randint(1, 8) for _ in range(tasks)]
+    horizon = sum(times)
+    starts = [text.variable(f"s{i}", f"0..{horizon - time}") for i, time in enumerate(times)]
+    end = text.variable("end", f"0..{horizon}")
+    for start, time in zip(starts, times):
+        text.before(start, time, end)
+    text.cumulative(starts, times, [dice.randint(1, 4) for _ in starts], capacity)
+    text.divide(starts, "smallest")
+    text.goal = "minimize end"
+    return text
+
+
 # A model, and the words it is run with.
 MODELS = {
     "queens_12_first_fail": (lambda: queens_first_fail(12), ["-a"]),
@@ -160,4 +175,5 @@ MODELS = {
     "timetable_18": (lambda: timetable(18, 6, 4, 8), ["-n", "20000"]),
     "cumulative_shop_5_4": (lambda: cumulative_shop(5, 4, 9, 9), []),
     "cumulative_shop_8_5": (lambda: cumulative_shop(8, 5, 9, 10), []),
+    "crowded_12": (lambda: crowded(12, 6, 3), []),
 }

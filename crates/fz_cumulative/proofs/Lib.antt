@@ -10,3 +10,4 @@ pub mod Stepping
 pub mod Narrowing
 pub mod FreeStarts
 pub mod Resting
+pub mod Energies

@@ -4,6 +4,7 @@
 #![tactic(auto)]
 
 pub mod cumulative;
+mod energy;
 mod finding;
 mod narrow;
 mod profile;
@@ -11,5 +12,6 @@ mod starting;
 mod tasks;
 
 pub use cumulative::Cumulative;
+pub use energy::lacks_energy;
 pub use narrow::keep_shared;
 pub use tasks::open_tasks;

@@ -13,7 +13,7 @@ ghost use Rattle.fz_disjunctive.specs.Outcomes.{IsScheduling};
 use crate::job::{Direction, Job};
 use crate::order::{earliest_start, is_overloaded, soonest_ends};
 use crate::tasks::jobs_of;
-use fz_cumulative::{keep_shared, open_tasks};
+use fz_cumulative::{keep_shared, lacks_energy, open_tasks};
 use fz_prop::terms::{greatest_of, keep_from, keep_to};
 use fz_prop::{Answer, Change, Store};
 use fz_spec::term::Term;
@@ -50,8 +50,8 @@ pub fn keep_tasks(
     }
 }
 
-/// Narrows a store by the order of those tasks of which no two can run at the same time: forward, and where that changes nothing,
-/// backward.
+/// Narrows a store by what its tasks use in windows of time, and by the order of those of which no two can run at the same time:
+/// forward, and where that changes nothing, backward.
 fn keep_both(
     alloc: Global,
     store: &mut Store,
@@ -68,6 +68,9 @@ fn keep_both(
         (λ r. IsOutcome r (TasksShare starts.now durations.now usages.now bound)
         store.old store.new) }
 {
+    if lacks_energy(alloc, store, starts, durations, usages, bound)? {
+        return Ok(Change::Wiped);
+    }
     let forward = Direction::Forward;
     match keep_order(alloc, store, starts, durations, usages, bound, forward)? {
         Change::Same => {
