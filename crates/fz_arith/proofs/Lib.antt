@@ -4,3 +4,4 @@ pub mod Same
 pub mod Sizing
 pub mod Places
 pub mod Steps
+pub mod Reaching

@@ -1,3 +1,4 @@
 pub mod Extremes
 pub mod Factors
 pub mod Narrowing
+pub mod Dividends

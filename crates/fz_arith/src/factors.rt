@@ -10,6 +10,7 @@ ghost use Rattle.fz_prop.specs.Answers.{IsCorrectOf};
 ghost use Rattle.fz_prop.specs.Stores.{Shrinks, IsTermOf};
 ghost use Rattle.fz_arith.specs.Factors.{IsNever, IsRoot};
 
+use crate::dividends::keep_dividend;
 use crate::ends::own_bounds;
 use crate::narrow::keep_between;
 use fz_prop::terms::{greatest_of, least_of};
@@ -18,7 +19,8 @@ use fz_spec::term::Term;
 use fz_strength::operation::{Bounds, Operation};
 use std::alloc::AllocError;
 
-/// Keeps the factors of a product between the bounds that its ends give; `false` where none is left that makes it.
+/// Keeps the factors of a product, and what is divided, between the bounds that its ends give; `false` where none is left that makes
+/// it.
 pub fn keep_factors(
     store: &mut Store,
     operation: Operation,
@@ -36,6 +38,7 @@ pub fn keep_factors(
     match (operation, operands) {
         (Operation::Times, [x, y]) if is_same(*x, *y) => keep_root(store, *x, value),
         (Operation::Times, [x, y]) => keep_both(store, *x, *y, value),
+        (Operation::Quotient, [x, y]) => keep_dividend(store, *x, *y, value),
         _ => Ok(true),
     }
 }

@@ -5,6 +5,7 @@
 
 pub mod arithmetic;
 mod bounds;
+mod dividends;
 mod ends;
 mod factors;
 mod narrow;
