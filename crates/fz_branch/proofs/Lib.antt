@@ -1,5 +1,4 @@
 pub mod Picking
-pub mod Medians
 pub mod Numbers
 pub mod Choosing
 pub mod Starting

@@ -1,12 +1,12 @@
 -- Numbers that fit, and the list of all variables.
-use Rattle.std.proofs.Common.{◌≡◌, ℕ, zero, suc, ◌+◌, ◌-◌, ◌/◌, ◌<◌, ◌≤◌, List, [], ◌∷◌, ◌++◌, refl, sym, ap, subst, ◌∙◌, arith, length, get_or}
-use Rattle.std.specs.Prelude.{ℤ, pos, negsuc, ◌+ℤ◌, ◌-ℤ◌, ◌≤ℤ◌, ◌<ℤ◌, nat_abs}
+use Rattle.std.proofs.Common.{◌≡◌, ℕ, zero, suc, ◌+◌, ◌-◌, ◌≤◌, [], ◌∷◌, ◌++◌, sym, ap, subst, ◌∙◌, arith}
+use Rattle.std.specs.Prelude.{ℤ, pos, negsuc, ◌+ℤ◌, ◌-ℤ◌, ◌≤ℤ◌}
 use mir.Syntax.{w32, w64}
 use mir.Val.{to_z, of_z}
 use Rattle.std.specs.Int.{int_div_euclid}
 use Rattle.std.specs.List.{range_with_len}
 use Rattle.std.proofs.lemmas.Int.{ints}
-use Rattle.fz_sets.specs.Sets.{GREATEST, LEAST, IsWithinLimits, AreRanges, AreWithinLimits, range_size}
+use Rattle.fz_sets.specs.Sets.{GREATEST, LEAST, IsWithinLimits}
 
 range_on : (a n : ℕ) → range_with_len a (suc n) ≡ range_with_len a n ++ (a + n) ∷ []
 range_on a zero = ap (λ k. k ∷ []) (omega arith)
@@ -23,19 +23,6 @@ pub half_within : (sum : ℤ) → (LEAST +ℤ LEAST) ≤ℤ sum → sum ≤ℤ (
 half_within (pos n) low high = (omega (arith, ints, high), omega (arith, ints, high))
 half_within (negsuc n) low high = (omega (arith, ints, low), omega (arith, ints, low))
 
--- the ends of a range of a domain
-pub range_rises : (d : List (ℤ × ℤ)) (i : ℕ) (r : ℤ × ℤ) → AreRanges d → i < length d → r ≡ get_or d i r → r.0 ≤ℤ r.1
-range_rises [] i r h lt is = absurd (omega (arith, lt))
-range_rises (s ∷ []) zero r h lt is = subst (λ (q : ℤ × ℤ). q.0 ≤ℤ q.1) (sym is) h
-range_rises (s ∷ []) (suc i) r h lt is = absurd (omega (arith, lt))
-range_rises (s ∷ t ∷ d) zero r h lt is = subst (λ (q : ℤ × ℤ). q.0 ≤ℤ q.1) (sym is) h.0
-range_rises (s ∷ t ∷ d) (suc i) r h lt is = range_rises (t ∷ d) i r h.2 (omega (arith, lt)) is
-
-pub range_within : (d : List (ℤ × ℤ)) (i : ℕ) (r : ℤ × ℤ) → AreWithinLimits d → i < length d → r ≡ get_or d i r → IsWithinLimits r.0 × IsWithinLimits r.1
-range_within [] i r h lt is = absurd (omega (arith, lt))
-range_within (s ∷ d) zero r h lt is = subst (λ (q : ℤ × ℤ). IsWithinLimits q.0 × IsWithinLimits q.1) (sym is) (h.0, h.1)
-range_within (s ∷ d) (suc i) r h lt is = range_within d i r h.2 (omega (arith, lt)) is
-
 -- ---- as the code computes them
 
 pub middle_code : (low high from_low from_high q : ℤ) → IsWithinLimits low → IsWithinLimits high → from_low ≡ to_z w32 (of_z w32 low) → from_high ≡ to_z w32 (of_z w32 high)
@@ -49,18 +36,3 @@ middle_code low high from_low from_high q of_low of_high is_low is_high is_q =
     let greatest : q ≤ℤ pos 2147483647 = subst (λ x. x ≤ℤ pos 2147483647) (sym half) within.1 in
     let fits : to_z w32 (of_z w32 (to_z w64 (of_z w64 q))) ≡ q = omega (arith, ints, least, greatest) in
     fits ∙ half
-
--- where the place is within the range
-pub median_sum : (low high from_low : ℤ) (place size distance : ℕ) → IsWithinLimits low → IsWithinLimits high → low ≤ℤ high → from_low ≡ to_z w32 (of_z w32 low)
-    → distance ≡ nat_abs (to_z w32 (of_z w32 high) -ℤ to_z w32 (of_z w32 low)) → size ≡ distance → place < size + 1
-    → (to_z w64 (of_z w64 (to_z w64 (of_z w64 from_low) +ℤ to_z w64 place)) ≡ low +ℤ pos place) × ((low +ℤ pos place) ≤ℤ high) × (place < range_size (low, high))
-median_sum low high from_low place size distance of_low of_high rises is_low is_distance is_size small =
-    let apart : to_z w32 (of_z w32 high) -ℤ to_z w32 (of_z w32 low) ≡ high -ℤ low = omega (arith, ints, of_low.0, of_low.1, of_high.0, of_high.1) in
-    let far : distance ≡ nat_abs (high -ℤ low) = is_distance ∙ ap nat_abs apart in
-    let within : (low +ℤ pos place) ≤ℤ high = omega (arith, ints, far, rises, is_size, small) in
-    (omega (arith, ints, of_low.0, of_low.1, of_high.1, within, is_low), within, omega (arith, far, is_size, small))
-
-pub any_default : (d : List (ℤ × ℤ)) (i : ℕ) (r x : ℤ × ℤ) → i < length d → r ≡ get_or d i x → r ≡ get_or d i r
-any_default [] i r x lt is = absurd (omega (arith, lt))
-any_default (s ∷ d) zero r x lt is = is
-any_default (s ∷ d) (suc i) r x lt is = any_default d i r x (omega (arith, lt)) is

@@ -5,9 +5,8 @@ use Rattle.fz_spec.specs.declared.search.Pick.TheVariants.{InputOrder}
 use Rattle.fz_spec.specs.declared.search.Value.TheVariants.{IndomainMin}
 use Rattle.fz_spec.specs.Instance.{Instance, SearchPart}
 use Rattle.fz_tree.specs.declared.decision.Decision.{Decision}
-use Rattle.fz_tree.specs.Choice.{pair_of}
 use Rattle.fz_branch.specs.Picks.{IsDone, IsPicked, domain_of}
-use Rattle.fz_branch.specs.Values.{decision_of}
+use Rattle.fz_branch.specs.Values.{choice_of}
 
 -- all variables in order of declaration, the least value first
 abbrev pub declared_part : Instance → SearchPart
@@ -32,7 +31,7 @@ AreDone ds (p ∷ ps) = IsDone ds p.variables × AreDone ds ps
 pub record IsChosenOf (ds : List (List (ℤ × ℤ))) (p : SearchPart) (choice : List Decision) : Type 0 where
   pub place : ℕ
   pub picked : IsPicked p.pick ds p.variables place
-  pub divides : choice ≡ pair_of (decision_of p.value (slice_index p.variables place) (domain_of ds p.variables place))
+  pub divides : choice ≡ choice_of p.value (slice_index p.variables place) (domain_of ds p.variables place)
 
 -- of the first part that isn't done
 pub record IsChosen (ps : List SearchPart) (ds : List (List (ℤ × ℤ))) (choice : List Decision) : Type 0 where

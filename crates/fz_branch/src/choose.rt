@@ -1,35 +1,36 @@
 //! The next choice.
-ghost use Rattle.std.specs.Prelude.{◌≡◌, ◌≤◌, ◌<◌, MatchOption, length, slice_index_or, true};
+ghost use Rattle.std.specs.Prelude.{◌≡◌, ◌≤◌, ◌<◌, MatchOption, IfOk, length, slice_index_or};
 ghost use Rattle.fz_spec.specs.Instance as instance;
-ghost use Rattle.fz_tree.specs.Choice.{pair_of};
-ghost use Rattle.fz_branch.specs.Values.{is_open, decision_of};
-ghost use Rattle.fz_branch.specs.Picks.{AreClosed, IsPassed, IsDone, domain_at};
+ghost use Rattle.fz_branch.specs.Picks.{AreClosed, IsPassed, IsDone};
 ghost use Rattle.fz_branch.specs.Plans.{AreDone, EndsInAll, IsChosen, IsChosenOf};
 
 use crate::pick::picked;
 use crate::plan::Plan;
-use crate::value::decision_of;
+use crate::value;
 use fz_dom::Dom;
 use fz_model::SearchPart;
 use fz_region::Choice;
-use std::alloc::Global;
+use std::alloc::{AllocError, Global};
 
 /// The choice that a plan makes among these domains, one for each variable: of the first part that has a variable with more than
-/// one value left. `None` exactly where no part has. No variable before `closed` has more than one, so these aren't looked at. It
-/// takes no memory.
-pub fn choose_among(plan: &Plan, doms: &[Dom], closed: usize) -> Option<Choice>
+/// one value left. `None` exactly where no part has. No variable before `closed` has more than one, so these aren't looked at.
+///
+/// # Errors
+/// `AllocError` where there is no memory; a choice of two takes none.
+pub fn choose_among(plan: &Plan, doms: &[Dom], closed: usize) -> Result<Option<Choice>, AllocError>
     requires { AreClosed closed doms.now }
-    ensures { MatchOption result (AreDone doms.now plan.now) (IsChosen plan.now doms.now) }
+    ensures { IfOk result (λ o. MatchOption o (AreDone doms.now plan.now)
+        (IsChosen plan.now doms.now)) }
 {
     let alloc = plan.allocator();
     let parts = plan.parts();
     for place in 0..parts.len() {
         let start = start_of(parts, place, doms, closed);
-        if let Some(choice) = choice_of(alloc, &parts[place], doms, closed, start) {
-            return Some(choice);
+        if let Some(choice) = choice_of(alloc, &parts[place], doms, closed, start)? {
+            return Ok(Some(choice));
         }
     }
-    None
+    Ok(None)
 }
 
 /// From which place on a part is looked at: the last one is of all variables, in order, and those before `closed` are passed.
@@ -57,18 +58,18 @@ fn choice_of(
     doms: &[Dom],
     closed: usize,
     start: usize,
-) -> Option<Choice>
+) -> Result<Option<Choice>, AllocError>
     requires closed { AreClosed closed doms.now }
     requires start { start ≤ length part.now.variables }
     requires passed { IsPassed start doms.now part.now.variables }
-    ensures { MatchOption result (IsDone doms.now part.now.variables)
-        (IsChosenOf doms.now part.now) }
+    ensures { IfOk result (λ o. MatchOption o (IsDone doms.now part.now.variables)
+        (IsChosenOf doms.now part.now)) }
 {
     let variables = part.variables();
     let Some(place) = picked(part.pick(), variables, doms, closed, start) else {
-        return None;
+        return Ok(None);
     };
     let variable = variables[place];
-    let decision = decision_of(part.value(), variable, &doms[variable as usize]);
-    Some(Choice::two(alloc, decision))
+    let choice = value::choice_of(alloc, part.value(), variable, &doms[variable as usize])?;
+    Ok(Some(choice))
 }

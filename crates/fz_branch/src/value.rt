@@ -1,10 +1,15 @@
 //! How the values of a variable are divided.
-ghost use Rattle.std.specs.Prelude.{◌≡◌, true, ◌<◌, length};
-ghost use Rattle.fz_branch.specs.Values.{is_open, median, middle, decision_of};
+ghost use Rattle.std.specs.Prelude.{◌≡◌, true, IfOk};
+ghost use Rattle.fz_branch.specs.Values.{is_open, median, middle, decision_of, takes_each, choice_of};
 
 use fz_dom::Dom;
-use fz_region::{Comparison, Decision};
+use fz_region::value::value_at;
+use fz_region::{Choice, Comparison, Decision};
 use fz_spec::search::Value;
+use std::alloc::{AllocError, Global};
+
+/// The most values that `indomain` takes one by one.
+pub const EACH_MOST: u64 = 4096;
 
 /// Whether more than one value is left.
 pub fn is_open(dom: &Dom) -> bool
@@ -13,13 +18,43 @@ pub fn is_open(dom: &Dom) -> bool
     dom.size() > 1
 }
 
-/// The first alternative for a variable that has more than one value left.
-pub fn decision_of(value: Value, variable: u32, dom: &Dom) -> Decision
+/// The choice for a variable that has more than one value left.
+pub fn choice_of(
+    alloc: Global,
+    value: Value,
+    variable: u32,
+    dom: &Dom,
+) -> Result<Choice, AllocError>
+    requires { is_open dom.now ≡ true }
+    ensures { IfOk result (λ c. c ≡ choice_of value variable dom.now) }
+{
+    if takes_each(value, dom) {
+        return Choice::each(alloc, variable, dom);
+    }
+    Ok(Choice::two(alloc, decision_of(value, variable, dom)))
+}
+
+/// Whether each value is an alternative of its own.
+fn takes_each(value: Value, dom: &Dom) -> bool
+    ensures { result ≡ takes_each value dom.now }
+{
+    match value {
+        Value::Indomain => dom.size() <= EACH_MOST,
+        Value::IndomainMin
+        | Value::IndomainMax
+        | Value::IndomainMedian
+        | Value::IndomainSplit
+        | Value::IndomainReverseSplit => false,
+    }
+}
+
+/// The first alternative of two for a variable that has more than one value left.
+fn decision_of(value: Value, variable: u32, dom: &Dom) -> Decision
     requires { is_open dom.now ≡ true }
     ensures { result ≡ decision_of value variable dom.now }
 {
     let (comparison, number) = match value {
-        Value::IndomainMin => (Comparison::Equal, dom.min()),
+        Value::IndomainMin | Value::Indomain => (Comparison::Equal, dom.min()),
         Value::IndomainMax => (Comparison::Equal, dom.max()),
         Value::IndomainMedian => (Comparison::Equal, median(dom)),
         Value::IndomainSplit => (Comparison::AtMost, middle(dom)),
@@ -46,14 +81,5 @@ fn median(dom: &Dom) -> i32
     requires { is_open dom.now ≡ true }
     ensures { result ≡ median dom.now }
 {
-    let mut place = (dom.size() - 1) / 2;
-    for i in 0..dom.range_count() {
-        let (low, high) = dom.range_at(i);
-        let size = u64::from(high.abs_diff(low)) + 1;
-        if place < size {
-            return (i64::from(low) + place as i64) as i32;
-        }
-        place -= size;
-    }
-    unreachable!()
+    value_at(dom, (dom.size() - 1) / 2)
 }

@@ -4,7 +4,7 @@ use Rattle.std.specs.Prelude.{ℕ, Bool, true, cond, Option, Some, None, option_
 use Rattle.fz_spec.specs.declared.search.Pick.{Pick}
 use Rattle.fz_spec.specs.declared.search.Pick.TheVariants.{InputOrder, FirstFail, AntiFirstFail, Smallest, Largest}
 use Rattle.fz_spec.specs.declared.search.Value.{Value}
-use Rattle.fz_spec.specs.declared.search.Value.TheVariants.{IndomainMin, IndomainMax, IndomainMedian, IndomainSplit, IndomainReverseSplit}
+use Rattle.fz_spec.specs.declared.search.Value.TheVariants.{IndomainMin, IndomainMax, IndomainMedian, IndomainSplit, IndomainReverseSplit, Indomain}
 use Rattle.fz_spec.specs.declared.term.Term.{Term}
 use Rattle.fz_spec.specs.declared.term.Term.TheVariants.{Num, Var}
 use Rattle.fz_spec.specs.Instance.{SearchPart}
@@ -24,7 +24,8 @@ abbrev pub value_of : List ℕ → Value
 value_of word =
     cond (bytes_eq word (codes "indomain_max")) IndomainMax
     (cond (bytes_eq word (codes "indomain_median")) IndomainMedian
-    (cond (bytes_eq word (codes "indomain_split")) IndomainSplit (cond (bytes_eq word (codes "indomain_reverse_split")) IndomainReverseSplit IndomainMin)))
+    (cond (bytes_eq word (codes "indomain_split")) IndomainSplit
+    (cond (bytes_eq word (codes "indomain_reverse_split")) IndomainReverseSplit (cond (bytes_eq word (codes "indomain")) Indomain IndomainMin))))
 
 -- the variables among terms
 abbrev pub variables_of_terms : List Term → List ℕ

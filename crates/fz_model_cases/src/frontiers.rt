@@ -1,7 +1,8 @@
-//! Cuts and moves at one edge: the first variable is 1, or it isn't.
+//! Cuts and moves at one edge: the first variable is 1, or it isn't; or it is a number from 1 to 5.
 ghost use Rattle.std.specs.Prelude.{◌≡◌, length};
 
 use crate::reading::assignment_of;
+use fz_dom::Dom;
 use fz_region::{Choice, Comparison, Decision, Frontier};
 use std::alloc::Global;
 use std::process::Abort;
@@ -94,4 +95,43 @@ fn advancing_takes_the_next_alternative(rt: HostRuntime) {
     let (has_moved, frontier) = moved(closed(frontier));
     assert!(rt; !has_moved);
     assert_eq!(rt; open(&rt, alloc, &frontier), [false, false, false, false]);
+}
+
+/// The frontier below the first of five alternatives, one for each number from 1 to 5, with the others open too.
+fn below_first_of_five(rt: &impl Abort, alloc: Global) -> Frontier {
+    let mut frontier = Frontier::root(alloc);
+    let numbers = Dom::from_ranges(alloc, &[(1, 5)]).ok().expect(rt, "memory");
+    if numbers.size() == 5 {
+        let five = Choice::each(alloc, 0, &numbers).ok().expect(rt, "memory");
+        if five.len() == 5 {
+            assert!(rt; frontier.push(five, 0, 4).is_ok());
+        }
+    }
+    frontier
+}
+
+/// The alternative that each edge takes, and the last one that is open.
+fn check_edges(rt: &impl Abort, frontier: &Frontier, taken: u32, last: u32) {
+    assert_eq!(rt; frontier.edges().len(), 1);
+    for edge in frontier.edges() {
+        assert_eq!(rt; (edge.taken, edge.last), (taken, last));
+    }
+}
+
+/// The alternative that each part takes and its last one, and the last one of what is left.
+const CUTS: [(u32, u32, u32); 3] = [(3, 4, 2), (2, 2, 1), (1, 1, 0)];
+
+fn cuts() -> &'static [(u32, u32, u32)] {
+    &CUTS
+}
+
+#[test]
+fn a_cut_takes_half_of_what_is_open(rt: HostRuntime) {
+    let mut rest = below_first_of_five(&rt, rt.alloc());
+    for (taken, last, left) in cuts() {
+        let part = cut(&rt, &mut rest).expect(&rt, "a part");
+        check_edges(&rt, &part, *taken, *last);
+        check_edges(&rt, &rest, 0, *left);
+    }
+    assert!(rt; cut(&rt, &mut rest).is_none());
 }

@@ -9,10 +9,7 @@ use Rattle.std.proofs.lemmas.Bool.{or_parts, cond-true, cond-false, or_from}
 use Rattle.std.proofs.lemmas.List.Folds.{list_any_at, list_any_more}
 use Rattle.fz_tree.specs.Frontier.{Edge, Frontier, AreEdges, AreParts, others, edge_has_rest, can_cut, next_edges, cut_part, cut_rest, cut_edge, kept_edge, part_of, rest_of}
 use Rattle.fz_tree.proofs.Cuts.{cut_parts}
-use Rattle.fz_region.specs.Places.{IsTopmost, IsDeepest}
-
-abbrev next_of : Edge → Edge
-next_of e = record { choice = e.choice; taken = e.taken + 1; last = e.last }
+use Rattle.fz_region.specs.Places.{IsTopmost, IsDeepest, next_edge}
 
 -- ---- the deepest
 
@@ -22,18 +19,18 @@ deepest_some es i d deep = list_any_at edge_has_rest es i d deep.within (deep.ha
 below : (e : Edge) (es : List Edge) (i : ℕ) → IsDeepest (e ∷ es) (suc i) → IsDeepest es i
 below e es i deep = record { within = omega (arith, deep.within); has_rest = deep.has_rest; none_below = deep.none_below }
 
-next_at_deepest : (es : List Edge) (i : ℕ) (e : Edge) → IsDeepest es i → e ≡ get_or es i e → next_edges es ≡ take (suc i) (set es i (next_of e))
+next_at_deepest : (es : List Edge) (i : ℕ) (e : Edge) → IsDeepest es i → e ≡ get_or es i e → next_edges es ≡ take (suc i) (set es i (next_edge e))
 next_at_deepest [] i e deep is = absurd (omega (arith, deep.within))
 next_at_deepest (x ∷ xs) zero e deep is =
-    cond-false (list_any edge_has_rest xs) (x ∷ next_edges xs) (next_of x ∷ []) deep.none_below ∙ ap (λ (y : Edge). next_of y ∷ []) (sym is)
+    cond-false (list_any edge_has_rest xs) (x ∷ next_edges xs) (next_edge x ∷ []) deep.none_below ∙ ap (λ (y : Edge). next_edge y ∷ []) (sym is)
 next_at_deepest (x ∷ xs) (suc i) e deep is =
-    cond-true (list_any edge_has_rest xs) (x ∷ next_edges xs) (next_of x ∷ []) (deepest_some xs i e (below x xs i deep))
+    cond-true (list_any edge_has_rest xs) (x ∷ next_edges xs) (next_edge x ∷ []) (deepest_some xs i e (below x xs i deep))
     ∙ ap (λ (ys : List Edge). x ∷ ys) (next_at_deepest xs i e (below x xs i deep) is)
 
-pub next_code : (es new : List Edge) (i : ℕ) (e : Edge) → IsDeepest es i → e ≡ get_or es i e → new ≡ take (i + 1) (set es i (next_of e)) → new ≡ next_edges es
+pub next_code : (es new : List Edge) (i : ℕ) (e : Edge) → IsDeepest es i → e ≡ get_or es i e → new ≡ take (i + 1) (set es i (next_edge e)) → new ≡ next_edges es
 next_code es new i e deep is made =
     let size : i + 1 ≡ suc i = omega arith in
-    made ∙ ap (λ n. take n (set es i (next_of e))) size ∙ sym (next_at_deepest es i e deep is)
+    made ∙ ap (λ n. take n (set es i (next_edge e))) size ∙ sym (next_at_deepest es i e deep is)
 
 pub some_deepest : (es : List Edge) (o : Option ℕ) → MatchOption o (list_any edge_has_rest es ≡ false) (IsDeepest es) → is_some o ≡ list_any edge_has_rest es
 some_deepest es None h = sym h

@@ -1,2 +1,3 @@
-pub mod Inside
+pub mod Each
+pub mod Alternatives
 pub mod Places

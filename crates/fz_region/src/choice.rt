@@ -1,17 +1,29 @@
 //! Choices.
-ghost use Rattle.std.specs.Prelude.{◌≡◌, ◌<◌, ◌↔◌, length, slice_index_or, IsTrue};
+ghost use Rattle.std.specs.Prelude.{◌≡◌, ◌≤◌, ◌<◌, ◌↔◌, length, slice_index_or, IsTrue, IfOk};
+ghost use Rattle.fz_sets.specs.Sets.{set_size};
 ghost use Rattle.fz_tree.specs.Choice.{pair_of, IsChoice};
+ghost use Rattle.fz_region.specs.Each.{each_of};
 
-use fz_tree::decision::Decision;
-use std::alloc::Global;
+use crate::value::value_at;
+use fz_dom::Dom;
+use fz_tree::decision::{Comparison, Decision};
+use std::alloc::{AllocError, Global};
 use std::marker::Model;
+use std::sync::Arc;
 
-/// A choice of two: a decision, and its negation.
+/// A choice among decisions on one variable: one and its negation, or one for each value of a set.
 ///
-/// Contracts see it as the list of its decisions. They are on one variable, and each assignment meets at most one of them.
-#[derive(Clone, Copy)]
+/// Contracts see it as the list of its decisions. Each assignment meets at most one of them.
+#[derive(Drop)]
 pub struct Choice {
-    decision: Decision,
+    alternatives: Alternatives,
+}
+
+/// A decision and its negation stand where they are; a set is shared by the edges that come from one choice.
+#[derive(Drop)]
+pub enum Alternatives {
+    Pair(Decision),
+    Each(u32, Arc<Dom>),
 }
 
 impl Model for Choice {
@@ -20,12 +32,13 @@ impl Model for Choice {
 
     ghost Value = { List Decision };
 
-    ghost use Rattle.fz_tree.specs.Choice.{pair_of};
-    ghost use Rattle.fz_region.specs.Inside.{head_of};
+    ghost use Rattle.fz_region.specs.Alternatives.{decisions_of};
 
-    ghost view = { λ c. pair_of c.decision };
+    ghost view = { λ c. decisions_of c.alternatives };
 
-    ghost inverse = { λ ds. record { decision = head_of ds } };
+    ghost use Rattle.fz_tree.specs.Choice.{IsChoice};
+
+    ghost invariant = { λ c. IsChoice (decisions_of c.alternatives) };
 }
 
 impl Choice {
@@ -33,7 +46,23 @@ impl Choice {
     pub fn two(_alloc: Global, decision: Decision) -> Choice
         ensures { result ≡ pair_of decision }
     {
-        Choice { decision }
+        Choice {
+            alternatives: Alternatives::Pair(decision),
+        }
+    }
+
+    /// One alternative for each value of a set that has several, in rising order.
+    ///
+    /// # Errors
+    /// `AllocError` where there is no memory.
+    pub fn each(alloc: Global, variable: u32, values: &Dom) -> Result<Choice, AllocError>
+        requires { 2 ≤ set_size values.now }
+        ensures { IfOk result (λ c. c ≡ each_of variable values.now) }
+    {
+        let values = Arc::new(alloc, values.copy()?)?;
+        Ok(Choice {
+            alternatives: Alternatives::Each(variable, values),
+        })
     }
 
     /// How many alternatives there are.
@@ -41,8 +70,10 @@ impl Choice {
         ensures len { result ≡ length self.now }
         ensures choice { IsChoice self.now }
     {
-        let _ = &self.decision;
-        2
+        match &self.alternatives {
+            Alternatives::Pair(_) => 2,
+            Alternatives::Each(_, values) => values.size() as u32,
+        }
     }
 
     /// An alternative, from 0.
@@ -50,10 +81,19 @@ impl Choice {
         requires { alternative < length self.now }
         ensures { result ≡ slice_index_or self.now alternative result }
     {
-        if alternative == 0 {
-            self.decision
-        } else {
-            self.decision.negated()
+        match &self.alternatives {
+            Alternatives::Pair(decision) => {
+                if alternative == 0 {
+                    *decision
+                } else {
+                    decision.negated()
+                }
+            }
+            Alternatives::Each(variable, values) => Decision {
+                variable: *variable,
+                comparison: Comparison::Equal,
+                value: value_at(values, u64::from(alternative)),
+            },
         }
     }
 
@@ -61,6 +101,28 @@ impl Choice {
     pub fn same(&self, other: &Choice) -> bool
         ensures { IsTrue result ↔ (self.now ≡ other.now) }
     {
-        self.decision == other.decision
+        match (&self.alternatives, &other.alternatives) {
+            (Alternatives::Pair(this), Alternatives::Pair(that)) => this == that,
+            (Alternatives::Each(this, these), Alternatives::Each(that, those)) => {
+                let _ = those.size();
+                this == that && these.same(those)
+            }
+            _ => false,
+        }
+    }
+
+    /// The same choice once more. Its values, where there are several, are shared.
+    ///
+    /// # Errors
+    /// `AllocError` where a choice of more than two has too many owners; one of two takes no memory.
+    pub fn copy(&self) -> Result<Choice, AllocError>
+        ensures copy { IfOk result (λ c. c ≡ self.now) }
+        ensures choice { IsChoice self.now }
+    {
+        let alternatives = match &self.alternatives {
+            Alternatives::Pair(decision) => Alternatives::Pair(*decision),
+            Alternatives::Each(variable, values) => Alternatives::Each(*variable, values.clone()?),
+        };
+        Ok(Choice { alternatives })
     }
 }

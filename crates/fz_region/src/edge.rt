@@ -1,14 +1,16 @@
 //! Edges.
-ghost use Rattle.std.specs.Prelude.{◌≡◌, ◌↔◌, true, IsTrue};
+ghost use Rattle.std.specs.Prelude.{◌≡◌, ◌<◌, ◌+◌, ◌↔◌, true, IsTrue, IfOk};
 ghost use Rattle.std.specs.List.{list_any};
 ghost use Rattle.fz_tree.specs.Choice.{meets};
 ghost use Rattle.fz_tree.specs.Frontier.{IsEdge, edge_has_rest, meets_taken, others, cut_edge, kept_edge};
+ghost use Rattle.fz_region.specs.Places.{next_edge};
 
 use crate::choice::Choice;
+use std::alloc::AllocError;
 use std::marker::Model;
 
 /// An edge of a search tree: the alternative of a choice that the path takes, and the last one that is open.
-#[derive(Clone, Copy)]
+#[derive(Drop)]
 pub struct Edge {
     pub choice: Choice,
     pub taken: u32,
@@ -35,27 +37,36 @@ impl Edge {
 
     /// The edge of the part that a cut takes here: the last half of the alternatives after the taken one, rounded up, its first
     /// one taken.
-    pub fn cut(&self) -> Edge
+    ///
+    /// # Errors
+    /// `AllocError` where the choice can't be copied.
+    pub fn cut(&self) -> Result<Edge, AllocError>
         requires { edge_has_rest self.now ≡ true }
-        ensures { result ≡ cut_edge self.now }
+        ensures { IfOk result (λ e. e ≡ cut_edge self.now) }
     {
-        Edge {
-            choice: self.choice,
+        let choice = self.choice.copy()?;
+        Ok(Edge {
+            choice,
             taken: self.last - (self.last - self.taken).div_ceil(2) + 1,
             last: self.last,
-        }
+        })
     }
 
-    /// What a cut leaves here.
-    pub fn kept(&self) -> Edge
-        requires { edge_has_rest self.now ≡ true }
-        ensures { result ≡ kept_edge self.now }
+    /// Leaves out what a cut takes here.
+    pub fn drop_cut(&mut self)
+        requires { edge_has_rest self.old ≡ true }
+        ensures { self.new ≡ kept_edge self.old }
     {
-        Edge {
-            choice: self.choice,
-            taken: self.taken,
-            last: self.last - (self.last - self.taken).div_ceil(2),
-        }
+        self.last -= (self.last - self.taken).div_ceil(2);
+    }
+
+    /// Takes the next alternative, which is open.
+    pub fn take_next(&mut self)
+        requires { edge_has_rest self.old ≡ true }
+        ensures { self.new ≡ next_edge self.old }
+    {
+        let _last = self.last;
+        self.taken += 1;
     }
 
     /// Whether the numbers of an assignment meet the taken decision.
@@ -78,6 +89,21 @@ impl Edge {
             }
         }
         false
+    }
+
+    /// The same edge once more.
+    ///
+    /// # Errors
+    /// `AllocError` where the choice can't be copied.
+    pub fn copy(&self) -> Result<Edge, AllocError>
+        ensures { IfOk result (λ e. e ≡ self.now) }
+    {
+        let choice = self.choice.copy()?;
+        Ok(Edge {
+            choice,
+            taken: self.taken,
+            last: self.last,
+        })
     }
 
     /// Whether the two are the same.

@@ -1,5 +1,5 @@
 //! Frontiers.
-ghost use Rattle.std.specs.Prelude.{◌≡◌, ◌^◌, ◌≤◌, ◌<◌, ◌++◌, ◌∷◌, [], ◌↔◌, true, false, cond, is_some, length, IfOk, IfSome, IfNone, OnOk, OnErr, OnSome, IsTrue};
+ghost use Rattle.std.specs.Prelude.{◌≡◌, ◌+◌, ◌^◌, ◌≤◌, ◌<◌, ◌++◌, ◌∷◌, [], ◌↔◌, true, false, cond, is_some, length, IfOk, IfSome, IfNone, OnOk, OnErr, OnSome, IsTrue};
 ghost use Rattle.std.specs.Bool.{OnTrue, OnFalse};
 ghost use Rattle.std.specs.List.{list_any};
 ghost use Rattle.fz_tree.specs.Choice.{IsChoice};
@@ -116,12 +116,7 @@ impl Frontier {
         let Some(i) = deepest(&self.edges) else {
             return false;
         };
-        let edge = self.edges[i];
-        self.edges[i] = Edge {
-            choice: edge.choice,
-            taken: edge.taken + 1,
-            last: edge.last,
-        };
+        self.edges[i].take_next();
         self.edges.truncate(i + 1);
         self.current_open = true;
         true
@@ -139,11 +134,8 @@ impl Frontier {
         let Some(i) = topmost(&self.edges) else {
             return Ok(None);
         };
-        let edges = front_with(
-            *self.edges.allocator(),
-            &self.edges[..i],
-            self.edges[i].cut(),
-        )?;
+        let below = self.edges[i].cut()?;
+        let edges = front_with(*self.edges.allocator(), &self.edges[..i], below)?;
         Ok(Some(Frontier {
             edges,
             current_open: true,
@@ -156,7 +148,7 @@ impl Frontier {
         ensures { self.new ≡ rest_of self.old }
     {
         if let Some(i) = topmost(&self.edges) {
-            self.edges[i] = self.edges[i].kept();
+            self.edges[i].drop_cut();
         }
     }
 
@@ -205,7 +197,7 @@ impl Frontier {
         ensures copy { IfOk result (λ f. f ≡ self.now) }
         ensures kept { AreEdges self.now.edges }
     {
-        let edges = Vec::from_slice(*self.edges.allocator(), &self.edges)?;
+        let edges = copies(*self.edges.allocator(), &self.edges, 0)?;
         Ok(Frontier {
             edges,
             current_open: self.current_open,
@@ -218,10 +210,21 @@ fn front_with(alloc: Global, edges: &[Edge], below: Edge) -> Result<Vec<Edge>, A
     requires { length edges.now < 2 ^ 63 }
     ensures { IfOk result (λ v. v.items ≡ edges.now ++ below ∷ []) }
 {
-    let mut path = Vec::with_capacity(alloc, edges.len() + 1)?;
-    path.extend_from_slice(edges)?;
+    let mut path = copies(alloc, edges, 1)?;
     path.push(below)?;
     Ok(path)
+}
+
+/// The same edges once more, with room for some more.
+fn copies(alloc: Global, edges: &[Edge], room: usize) -> Result<Vec<Edge>, AllocError>
+    requires { length edges.now + room ≤ 2 ^ 63 }
+    ensures { IfOk result (λ v. v.items ≡ edges.now) }
+{
+    let mut copies = Vec::with_capacity(alloc, edges.len() + room)?;
+    for edge in edges {
+        copies.push(edge.copy()?)?;
+    }
+    Ok(copies)
 }
 
 /// Whether the numbers are in an open place of the edges, or in the one below them if it is open.

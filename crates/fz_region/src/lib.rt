@@ -7,6 +7,7 @@ pub mod choice;
 pub mod edge;
 pub mod frontier;
 pub mod places;
+pub mod value;
 
 pub use choice::Choice;
 pub use edge::Edge;

@@ -368,6 +368,8 @@ fn value_of(word: &[u8]) -> Value
         Value::IndomainSplit
     } else if word == b"indomain_reverse_split".as_slice() {
         Value::IndomainReverseSplit
+    } else if word == b"indomain".as_slice() {
+        Value::Indomain
     } else {
         Value::IndomainMin
     }

@@ -28,4 +28,6 @@ pub enum Value {
     IndomainSplit,
     /// The upper half of the hull, then the lower one.
     IndomainReverseSplit,
+    /// Each value by itself, in rising order.
+    Indomain,
 }

@@ -1,5 +1,5 @@
 //! Paths.
-use crate::reading::{LEAST_OF_THREE, TWO_BY_TWO, TWO_VALUES, one, path_of};
+use crate::reading::{EACH_OF_THREE, LEAST_OF_THREE, TWO_BY_TWO, TWO_VALUES, one, path_of};
 use crate::wanted::{Told, check_account, check_part};
 use fz_account::Learned;
 use fz_path::{Path, Start, Step, Task};
@@ -81,6 +81,17 @@ fn a_path_searches_two_values(rt: HostRuntime) {
     };
     check_report(&rt, &mut path, told);
     assert!(rt; has_no_report(&rt, &mut path));
+}
+
+/// Where each value is an alternative, all are found below one edge.
+#[test]
+fn a_path_searches_each_value(rt: HostRuntime) {
+    let mut path = path_of(&rt, rt.alloc(), EACH_OF_THREE);
+    assert!(rt; starts(&rt, rt.alloc(), &mut path));
+    check_steps(&rt, &mut path, &[Step::Expanded]);
+    assert_eq!(rt; path.depth(), 1);
+    let steps = [Step::Found, Step::Found, Step::Found, Step::Closed];
+    check_steps(&rt, &mut path, &steps);
 }
 
 /// A path whose one open alternative is cut off holds nothing more.

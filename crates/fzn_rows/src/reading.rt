@@ -18,6 +18,9 @@ pub(crate) const TWO_VALUES: &str = "var 1..2: x; solve satisfy;";
 
 pub(crate) const THREE_VALUES: &str = "var 1..3: x; solve satisfy;";
 
+pub(crate) const EACH_OF_THREE: &str =
+    "var 1..3: x; solve :: int_search([x],input_order,indomain) satisfy;";
+
 pub(crate) const LEAST_OF_THREE: &str = "var 1..3: x; solve minimize x;";
 
 pub(crate) const GREATEST_OF_THREE: &str = "var 1..3: x; solve maximize x;";

@@ -6,7 +6,7 @@ use std::test::Fail;
 /// A text, and what is printed of it.
 type Row = (&'static str, &'static str);
 
-const ROWS: [Row; 24] = [
+const ROWS: [Row; 26] = [
     ("solve satisfy;", "----------\n==========\n"),
     ("var 3..1: x; solve satisfy;", "=====UNSATISFIABLE=====\n"),
     (
@@ -93,6 +93,14 @@ const ROWS: [Row; 24] = [
     (
         "array [1..4] of var int: m :: output_array([1..2,0..1]) = [1,2,3,-4]; solve satisfy;",
         "m = array2d(1..2, 0..1, [1, 2, 3, -4]);\n----------\n==========\n",
+    ),
+    (
+        "var 1..3: x; solve :: int_search([x],input_order,indomain) satisfy;",
+        "----------\n----------\n----------\n==========\n",
+    ),
+    (
+        "var {2,5,9}: x :: output_var; var 1..2: y :: output_var; constraint int_ne(x,y); solve :: int_search([y,x],input_order,indomain) satisfy;",
+        "x = 2;\ny = 1;\n----------\nx = 5;\ny = 1;\n----------\nx = 9;\ny = 1;\n----------\nx = 5;\ny = 2;\n----------\nx = 9;\ny = 2;\n----------\n==========\n",
     ),
 ];
 

@@ -9,6 +9,6 @@ returns-clause-moved c =
     let es : List Edge = c.self.inside.edges.items in
     let deep : IsDeepest es c.in-Some.i = subst (λ (l : List Edge). IsDeepest l c.in-Some.i) c.deref.ensures.value c.in-Some.ensures in
     ap (λ (l : List Edge). let f : Frontier = record { edges = l; current_open = true } in f)
-    (next_code es c.truncate.new.self.items c.in-Some.i c.index-edge.result.now deep c.index-edge.ensures
-    (c.truncate.ensures.items ∙ ap (λ (e : Edge). let next : Edge = record { choice = e.choice; taken = e.taken + 1; last = e.last } in take (c.in-Some.i + 1) (set es c.in-Some.i next)) c.edge.view_is)
+    (next_code es c.truncate.new.self.items c.in-Some.i c.index_mut.result.now deep c.index_mut.ensures.value
+    (c.truncate.ensures.items ∙ ap (λ (e : Edge). take (c.in-Some.i + 1) (set es c.in-Some.i e)) c.take_next.ensures)
     ∙ ap (λ (f : Frontier). next_edges f.edges) c.self.view_is)

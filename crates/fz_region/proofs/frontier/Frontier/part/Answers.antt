@@ -10,5 +10,5 @@ returns-clause-part c =
     let top : IsTopmost es c.in-Some.i = subst (λ (l : List Edge). IsTopmost l c.in-Some.i) c.deref.ensures.value c.in-Some.ensures in
     ap (λ (l : List Edge). let f : Frontier = record { edges = l; current_open = true } in f)
     (part_code es c.in_ok-edges.edges.items c.in-Some.i c.index.result.now top c.index.ensures
-    (c.in_ok-edges.ensures ∙ ap₂ (λ (l : List Edge) (e : Edge). take c.in-Some.i l ++ e ∷ []) c.deref-2.ensures.value c.cut.ensures))
+    (c.in_ok-edges.ensures ∙ ap₂ (λ (l : List Edge) (e : Edge). take c.in-Some.i l ++ e ∷ []) c.deref-2.ensures.value c.in_ok-below.ensures))
     ∙ ap part_of c.self.view_is
