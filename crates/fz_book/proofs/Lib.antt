@@ -1,3 +1,4 @@
 pub mod Takings
 pub mod Unclaimed
 pub mod Behind
+pub mod Claiming
