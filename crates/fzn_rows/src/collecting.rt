@@ -10,6 +10,7 @@ use std::sync::Wait;
 use std::thread::{Threads, join_mut};
 
 /// A book of its own, and how many accounts it didn't take.
+#[derive(Drop)]
 struct Booked {
     book: Book,
     dropped: u32,
