@@ -5,7 +5,7 @@ use Rattle.std.specs.Int.{int_min, int_max}
 use Rattle.std.specs.List.{AllByRecursion, fold}
 use Rattle.std.specs.Ordering.{int_eq}
 use Rattle.std.proofs.lemmas.Bool.Decides.{Decides-int_eq}
-use Rattle.std.proofs.lemmas.Int.{ints, clamps}
+use Rattle.std.proofs.lemmas.Int.{ints}
 use Rattle.std.proofs.Math.IntN.{*ℤ_comm}
 use Rattle.fz_sets.specs.Sets.{IsInSet}
 use Rattle.fz_dom.specs.Changes.{IsFromTo}
@@ -15,7 +15,6 @@ use Rattle.fz_spec.specs.Constraints.{term_value, term_values}
 use Rattle.fz_spec.specs.Truth.{SomeByRecursion}
 use Rattle.fz_strength.specs.declared.operation.Operation.{Operation}
 use Rattle.fz_strength.specs.declared.operation.Operation.TheVariants.{Plus, Times, Quotient, Remainder, Abs, Min, Max}
-use Rattle.fz_strength.specs.declared.operation.Bounds.{Bounds}
 use Rattle.fz_strength.specs.Domains.{term_set, AreDomains, Within}
 use Rattle.fz_strength.specs.Operations.{Equation, equation_terms, IsResult, EquationTruth, low_of, high_of, between, own_bounds, corner_bounds, result_bounds, quotient_bounds, remainder, remainder_bounds, operand_bounds, bounds_of}
 use Rattle.fz_strength.proofs.OperationLaws.{least_is, greatest_is}
@@ -23,6 +22,7 @@ use Rattle.fz_strength.proofs.Sizes.{least_below, greatest_above}
 use Rattle.fz_prop.specs.Stores.{IsTermOf}
 use Rattle.fz_prop.proofs.Filled.{HasRanges, term_ranges}
 use Rattle.fz_prop.proofs.TermChanges.{term_within}
+use Rattle.fz_arith.specs.Narrowing.{LiesBetween}
 use Rattle.fz_arith.proofs.Quotients.{quotient_is, product_corners, quotient_corners}
 
 -- ---- the numbers of an assignment lie between the ends of its terms
@@ -47,10 +47,6 @@ spanned ds a t domains within is =
 pub all_spanned : (ds : List (List (ℤ × ℤ))) (a : List ℤ) (ts : List Term) → AreDomains ds → Within ds a → AllByRecursion (IsTermOf (length ds)) ts → AllByRecursion (IsSpanned ds a) ts
 all_spanned ds a [] domains within are = tt
 all_spanned ds a (t ∷ ts) domains within are = (spanned ds a t domains within are.0, all_spanned ds a ts domains within are.1)
-
--- the number of a term lies between its bounds
-abbrev pub LiesBetween : List ℤ → Bounds → Type 0
-LiesBetween a b = IsFromTo b.low b.high (term_value a b.term)
 
 -- ---- the result
 

@@ -5,3 +5,6 @@ pub mod Sizing
 pub mod Places
 pub mod Steps
 pub mod Reaching
+pub mod Divisions
+pub mod Helping
+pub mod Parted

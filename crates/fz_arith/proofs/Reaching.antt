@@ -1,18 +1,10 @@
 -- What is divided lies as far as its quotient reaches.
-use Rattle.std.proofs.Common.{◌≡◌, ℕ, zero, suc, ◌+◌, ◌-◌, ◌*◌, ◌/◌, ◌<◌, ◌≤◌, List, [], ◌∷◌, refl, sym, ap, subst, ◌∙◌, arith, length, Bool, true, false}
+use Rattle.std.proofs.Common.{◌≡◌, ℕ, zero, suc, ◌+◌, ◌-◌, ◌*◌, ◌/◌, ◌<◌, ◌≤◌, refl, sym, ap, subst, ◌∙◌, arith, true, false}
 use Rattle.std.specs.Prelude.{ℤ, pos, negsuc, neg_ℤ, ◌+ℤ◌, ◌-ℤ◌, ◌*ℤ◌, ◌≤ℤ◌, ◌<ℤ◌, int_div, int_lt, if◌then◌else◌}
 use Rattle.std.proofs.lemmas.Int.{ints}
 use Rattle.std.proofs.Math.Nat.{lt-div-mul-add, div-mul-le_self}
 use Rattle.std.proofs.Math.IntN.{pos-*ℤ-pos, negsuc-*ℤ-pos}
-use Rattle.fz_sets.specs.Sets.{IsInSet}
 use Rattle.fz_dom.specs.Changes.{IsFromTo}
-use Rattle.fz_spec.specs.declared.term.Term.{Term}
-use Rattle.fz_spec.specs.Constraints.{term_value}
-use Rattle.fz_strength.specs.declared.operation.Operation.TheVariants.{Quotient}
-use Rattle.fz_strength.specs.Domains.{term_set, Within}
-use Rattle.fz_strength.specs.Operations.{equation, EquationTruth}
-use Rattle.fz_prop.specs.Stores.{IsTermOf}
-use Rattle.fz_prop.proofs.TermChanges.{term_within}
 use Rattle.fz_arith.specs.Dividends.{reach}
 
 products_rise : (m j p k : ℕ) → m * p ≤ (m + j) * (p + k)
@@ -86,9 +78,3 @@ dividend_between u w p q low high some from to above below =
     let less : int_div (neg_ℤ u) w ≤ℤ neg_ℤ p = rw e (omega (arith, ints, above)) in
     let r = reached (neg_ℤ u) w (neg_ℤ p) low high some from to less in
     (omega (arith, ints, r), reached u w q low high some from to below)
-
-pub needs_dividend : (x y z : Term) (ds : List (List (ℤ × ℤ))) (low high : ℤ) → IsTermOf (length ds) x → IsTermOf (length ds) y → IsTermOf (length ds) z
-    → ((u w : ℤ) → IsInSet (term_set ds x) u → IsInSet (term_set ds y) w → IsInSet (term_set ds z) (int_div u w) → IsFromTo low high u)
-    → (a : List ℤ) → Within ds a → EquationTruth (equation Quotient (x ∷ y ∷ []) z) a → IsFromTo low high (term_value a x)
-needs_dividend x y z ds low high is_x is_y is_z between = λ a within holds.
-    between (term_value a x) (term_value a y) (term_within ds a x is_x within) (term_within ds a y is_y within) (subst (IsInSet (term_set ds z)) (sym holds.1) (term_within ds a z is_z within))

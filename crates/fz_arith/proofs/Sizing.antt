@@ -1,21 +1,22 @@
--- Roots of squares, sizes of factors, and what is kept of them.
-use Rattle.std.proofs.Common.{◌≡◌, ℕ, zero, suc, ◌+◌, ◌-◌, ◌*◌, ◌<◌, ◌≤◌, List, [], ◌∷◌, refl, sym, subst, ◌∙◌, arith, length, ◌⊎◌, inl, inr, Result, Ok, Err}
-use Rattle.std.specs.Prelude.{ℤ, pos, negsuc, neg_ℤ, ◌*ℤ◌, ◌≤ℤ◌, ◌<ℤ◌, OnErr, IfOk}
+-- Roots of squares, halves of what is twice a number, and what is kept of them.
+use Rattle.std.proofs.Common.{◌≡◌, ℕ, suc, ◌+◌, ◌-◌, ◌*◌, ◌<◌, ◌≤◌, List, [], ◌∷◌, refl, sym, subst, arith, length, ◌⊎◌, inl, inr, Result, Ok, Err}
+use Rattle.std.specs.Prelude.{ℤ, pos, negsuc, neg_ℤ, ◌+ℤ◌, ◌*ℤ◌, ◌≤ℤ◌, ◌<ℤ◌, OnErr, IfOk}
 use Rattle.std.proofs.lemmas.Int.{ints, clamps, by_lt_z}
-use Rattle.std.proofs.Math.IntN.{pos-*ℤ-pos, pos-*ℤ-negsuc, negsuc-*ℤ-pos, negsuc-*ℤ-negsuc, *ℤ_comm}
+use Rattle.std.proofs.Math.IntN.{pos-*ℤ-pos, negsuc-*ℤ-negsuc}
 use Rattle.fz_sets.specs.Sets.{IsInSet}
 use Rattle.fz_dom.specs.Changes.{IsFromTo}
 use Rattle.fz_dom.specs.declared.change.Change.{Change}
-use Rattle.fz_dom.specs.declared.change.Change.TheVariants.{Wiped}
+use Rattle.fz_dom.specs.declared.change.Change.TheVariants.{Same, Changed, Wiped}
 use Rattle.fz_spec.specs.declared.term.Term.{Term}
 use Rattle.fz_spec.specs.Constraints.{term_value}
-use Rattle.fz_strength.specs.declared.operation.Operation.TheVariants.{Times}
+use Rattle.fz_strength.specs.declared.operation.Operation.TheVariants.{Plus, Times}
 use Rattle.fz_strength.specs.Domains.{term_set, Within}
 use Rattle.fz_strength.specs.Operations.{Equation, equation, EquationTruth}
 use Rattle.fz_prop.specs.Answers.{IsCorrectOf}
 use Rattle.fz_prop.specs.Stores.{Stored, Shrinks, IsTermOf, IsTermChange}
-use Rattle.fz_prop.proofs.TermChanges.{term_within, within_kept, none_kept}
-use Rattle.fz_arith.specs.Factors.{IsNever, IsRoot}
+use Rattle.fz_prop.proofs.TermChanges.{term_within, within_kept, none_kept, falls_of}
+use Rattle.fz_arith.specs.Factors.{IsRoot}
+use Rattle.fz_arith.specs.Narrowing.{IsHelped}
 
 -- ---- roots
 
@@ -66,25 +67,6 @@ root_between u most least low high n m root is of_most is_least from to in_low i
       )
     ]
 
--- ---- factors
-
--- a factor of what isn't 0 is no larger than it
-pub factor_size : (u w m : ℤ) → ((u *ℤ w) ≡ pos 0 → ⊥) → neg_ℤ m ≤ℤ (u *ℤ w) → (u *ℤ w) ≤ℤ m → IsFromTo (neg_ℤ m) m u
-factor_size (pos a) (pos zero) m not low high = let e : (pos a *ℤ pos 0) ≡ pos (a * 0) = pos-*ℤ-pos a 0 in absurd (not (omega (arith, ints, e)))
-factor_size (pos a) (pos (suc b)) m not low high =
-    let to : pos (a * suc b) ≤ℤ m = rw (pos-*ℤ-pos a (suc b)) at high in
-    (omega (arith, ints, to), omega (arith, ints, to))
-factor_size (pos a) (negsuc b) m not low high =
-    let from : neg_ℤ m ≤ℤ neg_ℤ (pos (a * suc b)) = rw (pos-*ℤ-negsuc a b) at low in
-    (omega (arith, ints, from), omega (arith, ints, from))
-factor_size (negsuc a) (pos zero) m not low high = let e : (negsuc a *ℤ pos 0) ≡ neg_ℤ (pos (suc a * 0)) = negsuc-*ℤ-pos a 0 in absurd (not (omega (arith, ints, e)))
-factor_size (negsuc a) (pos (suc b)) m not low high =
-    let from : neg_ℤ m ≤ℤ neg_ℤ (pos (suc a * suc b)) = rw (negsuc-*ℤ-pos a (suc b)) at low in
-    (omega (arith, ints, from), omega (arith, ints, from))
-factor_size (negsuc a) (negsuc b) m not low high =
-    let to : pos (suc a * suc b) ≤ℤ m = rw (negsuc-*ℤ-negsuc a b) at high in
-    (omega (arith, ints, to), omega (arith, ints, to))
-
 -- ---- what is kept
 
 pub kept_correct : {E : Type 0} (o : Result Change E) (t : Term) (P : ℤ → Type 0) (e : Equation) (r s : Stored) → ((a : List ℤ) → Within r.doms a → EquationTruth e a → P (term_value a t))
@@ -92,10 +74,16 @@ pub kept_correct : {E : Type 0} (o : Result Change E) (t : Term) (P : ℤ → Ty
 kept_correct {E} (Ok change) t P e r s needs err h shrinks = λ a holds within. within_kept change t P r s a h shrinks within (needs a within holds)
 kept_correct {E} (Err error) t P e r s needs err h shrinks = λ a holds within. subst (λ (u : Stored). Within u.doms a) (sym err) within
 
-pub kept_never : (answer : Change) (t : Term) (P : ℤ → Type 0) (e : Equation) (r s : Stored) → answer ≡ Wiped → IsTermOf (length r.doms) t
-    → ((a : List ℤ) → Within r.doms a → EquationTruth e a → P (term_value a t)) → IsTermChange answer t P r s → IsNever e r.doms
-kept_never answer t P e r s wiped is needs h = λ a within holds.
-    none_kept t P r s (subst (λ (c : Change). IsTermChange c t P r s) wiped h) (term_value a t) (term_within r.doms a t is within) (needs a within holds)
+pub kept_help : (answer : Change) (t : Term) (P : ℤ → Type 0) (e : Equation) (r s : Stored) → IsTermOf (length r.doms) t → ((a : List ℤ) → Within r.doms a → EquationTruth e a → P (term_value a t))
+    → IsTermChange answer t P r s → IsHelped answer e r s
+kept_help Same t P e r s is needs h = tt
+kept_help Changed t P e r s is needs h = falls_of t P r s h
+kept_help Wiped t P e r s is needs h = λ a within holds. none_kept t P r s h (term_value a t) (term_within r.doms a t is within) (needs a within holds)
+
+pub all_help : {E : Type 0} (o : Result Change E) (t : Term) (P : ℤ → Type 0) (e : Equation) (r s : Stored) → IsTermOf (length r.doms) t
+    → ((a : List ℤ) → Within r.doms a → EquationTruth e a → P (term_value a t)) → IfOk o (λ change. IsTermChange change t P r s) → IfOk o (λ change. IsHelped change e r s)
+all_help {E} (Ok change) t P e r s is needs h = kept_help change t P e r s is needs h
+all_help {E} (Err error) t P e r s is needs h = tt
 
 -- ---- what the bounds say of an assignment
 
@@ -105,31 +93,7 @@ pub needs_root : (x z : Term) (ds : List (List (ℤ × ℤ))) (low high : ℤ) �
 needs_root x z ds low high is_x is_z between = λ a within holds.
     between (term_value a x) (term_within ds a x is_x within) (subst (IsInSet (term_set ds z)) (sym holds) (term_within ds a z is_z within))
 
-pub needs_first : (x y z : Term) (ds : List (List (ℤ × ℤ))) (low high : ℤ) → IsTermOf (length ds) x → IsTermOf (length ds) z
-    → ((u w : ℤ) → IsInSet (term_set ds x) u → IsInSet (term_set ds z) (u *ℤ w) → IsFromTo low high u)
-    → (a : List ℤ) → Within ds a → EquationTruth (equation Times (x ∷ y ∷ []) z) a → IsFromTo low high (term_value a x)
-needs_first x y z ds low high is_x is_z between = λ a within holds.
-    between (term_value a x) (term_value a y) (term_within ds a x is_x within) (subst (IsInSet (term_set ds z)) (sym holds) (term_within ds a z is_z within))
-
-pub needs_second : (x y z : Term) (ds : List (List (ℤ × ℤ))) (low high : ℤ) → IsTermOf (length ds) y → IsTermOf (length ds) z
-    → ((u w : ℤ) → IsInSet (term_set ds y) u → IsInSet (term_set ds z) (u *ℤ w) → IsFromTo low high u)
-    → (a : List ℤ) → Within ds a → EquationTruth (equation Times (x ∷ y ∷ []) z) a → IsFromTo low high (term_value a y)
-needs_second x y z ds low high is_y is_z between = λ a within holds.
-    between (term_value a y) (term_value a x) (term_within ds a y is_y within)
-    (subst (IsInSet (term_set ds z)) (sym (*ℤ_comm (term_value a y) (term_value a x) ∙ holds)) (term_within ds a z is_z within))
-
-pub first_kept : {E : Type 0} (o : Result Change E) (x y z t : Term) (low high : ℤ) (r s : Stored) → t ≡ x → IsTermOf (length r.doms) x → IsTermOf (length r.doms) z
-    → ((u w : ℤ) → IsInSet (term_set r.doms x) u → IsInSet (term_set r.doms z) (u *ℤ w) → IsFromTo low high u)
-    → OnErr o (s ≡ r) → IfOk o (λ change. IsTermChange change t (λ u. IsFromTo low high u) r s) → Shrinks r s
-    → IsCorrectOf (EquationTruth (equation Times (x ∷ y ∷ []) z)) r.doms s.doms
-first_kept {E} o x y z t low high r s is is_x is_z between err kept shrinks =
-    kept_correct o x (λ u. IsFromTo low high u) (equation Times (x ∷ y ∷ []) z) r s (needs_first x y z r.doms low high is_x is_z between) err
-    (subst (λ (v : Term). IfOk o (λ change. IsTermChange change v (λ u. IsFromTo low high u) r s)) is kept) shrinks
-
-pub second_kept : {E : Type 0} (o : Result Change E) (x y z t : Term) (low high : ℤ) (r s : Stored) → t ≡ y → IsTermOf (length r.doms) y → IsTermOf (length r.doms) z
-    → ((u w : ℤ) → IsInSet (term_set r.doms y) u → IsInSet (term_set r.doms z) (u *ℤ w) → IsFromTo low high u)
-    → OnErr o (s ≡ r) → IfOk o (λ change. IsTermChange change t (λ u. IsFromTo low high u) r s) → Shrinks r s
-    → IsCorrectOf (EquationTruth (equation Times (x ∷ y ∷ []) z)) r.doms s.doms
-second_kept {E} o x y z t low high r s is is_y is_z between err kept shrinks =
-    kept_correct o y (λ u. IsFromTo low high u) (equation Times (x ∷ y ∷ []) z) r s (needs_second x y z r.doms low high is_y is_z between) err
-    (subst (λ (v : Term). IfOk o (λ change. IsTermChange change v (λ u. IsFromTo low high u) r s)) is kept) shrinks
+pub needs_half : (x z : Term) (ds : List (List (ℤ × ℤ))) (low high : ℤ) → IsTermOf (length ds) z
+    → ((u : ℤ) → IsInSet (term_set ds z) (u +ℤ u) → IsFromTo low high u)
+    → (a : List ℤ) → Within ds a → EquationTruth (equation Plus (x ∷ x ∷ []) z) a → IsFromTo low high (term_value a x)
+needs_half x z ds low high is_z between = λ a within holds. between (term_value a x) (subst (IsInSet (term_set ds z)) (sym holds) (term_within ds a z is_z within))

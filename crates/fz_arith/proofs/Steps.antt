@@ -7,38 +7,34 @@ use Rattle.std.proofs.lemmas.List.{length-map}
 use Rattle.std.proofs.lemmas.Option.{slice_get_within}
 use Rattle.fz_sets.specs.Sets.{IsInSet}
 use Rattle.fz_dom.specs.Changes.{IsFromTo}
-use Rattle.fz_dom.specs.Shape.{least, greatest}
 use Rattle.fz_dom.specs.declared.change.Change.{Change}
 use Rattle.fz_dom.specs.declared.change.Change.TheVariants.{Same, Changed, Wiped}
 use Rattle.fz_dom.proofs.Ranges.{least_member, greatest_member}
 use Rattle.fz_dom.proofs.Kept.{limits_of}
 use Rattle.fz_spec.specs.declared.term.Term.{Term}
-use Rattle.fz_spec.specs.declared.term.Term.TheVariants.{Num, Var}
 use Rattle.fz_spec.specs.Constraints.{term_value, term_values}
 use Rattle.fz_strength.specs.declared.event.Event.{Event}
 use Rattle.fz_strength.specs.declared.event.Event.TheVariants.{Bound}
 use Rattle.fz_strength.specs.declared.operation.Operation.{Operation}
 use Rattle.fz_strength.specs.declared.operation.Operation.TheVariants.{Quotient, Remainder}
 use Rattle.fz_strength.specs.declared.operation.Bounds.{Bounds}
-use Rattle.fz_strength.specs.Domains.{dom_at, term_set, room, AreDomains, Within, IsNarrower}
+use Rattle.fz_strength.specs.Domains.{dom_at, term_set, AreDomains, Within, IsNarrower}
 use Rattle.fz_strength.specs.Events.{IsOnly, AllFixed, AreSingle, IsQuiet}
 use Rattle.fz_strength.specs.Operations.{Equation, equation_terms, EquationTruth, bounds_of, operand_event, IsBounded, IsEquationLine, IsResult, LacksZero, divisors_of}
 use Rattle.fz_strength.proofs.Clauses.{all_unmap}
 use Rattle.fz_sets.proofs.Lists.{all_at}
 use Rattle.fz_strength.proofs.Terms.{AreQuietAt, quiet_self}
 use Rattle.fz_strength.proofs.OperationLaws.{bounds_terms, equation_kept, equation_alone}
-use Rattle.fz_prop.specs.declared.answer.Answer.{Answer}
-use Rattle.fz_prop.specs.declared.answer.Answer.TheVariants.{Fix, NoFix, Subsumed, Failed}
+use Rattle.fz_prop.specs.declared.answer.Answer.TheVariants.{NoFix}
 use Rattle.fz_prop.specs.Answers.{IsAnswerOf, IsCorrectOf}
 use Rattle.fz_prop.specs.Stores.{Stored, Shrinks, IsChangeAt, IsTermOf, IsTermChange}
 use Rattle.fz_prop.proofs.Answering.{correct_twice}
 use Rattle.fz_prop.proofs.Filled.{term_ranges, still_only}
-use Rattle.fz_prop.proofs.Steps.{same_shrinks}
 use Rattle.fz_prop.proofs.TermChanges.{term_within, only_in, within_kept, kept_term, none_kept, same_store, falls_of}
 use Rattle.fz_prop.proofs.Twice.{shrinks_twice, room_after}
 use Rattle.fz_prop.specs.Outcomes.{rested_by}
-use Rattle.fz_arith.specs.Narrowing.{IsClamped, IsBoundedAt, IsDivided, IsStep, AreSteps}
-use Rattle.fz_arith.proofs.Between.{LiesBetween, all_spanned, all_between}
+use Rattle.fz_arith.specs.Narrowing.{LiesBetween, IsClamped, IsBoundedAt, IsDivided, IsStep, AreSteps}
+use Rattle.fz_arith.proofs.Between.{all_spanned, all_between}
 
 -- ---- a change by bounds of 32 bits
 

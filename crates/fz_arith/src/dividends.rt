@@ -1,22 +1,16 @@
 //! Bounds of what is divided, by the divisor and the quotient.
-ghost use Rattle.std.specs.Prelude.{◌≡◌, ◌-◌, ◌^◌, ◌≤◌, ℤ, pos, int_div, ◌∷◌, [], false, length, IfOk, unsigned_abs};
+ghost use Rattle.std.specs.Prelude.{◌≡◌, ◌-◌, ◌^◌, ◌≤◌, ℤ, pos, int_div, length, unsigned_abs};
 ghost use Rattle.fz_sets.specs.Sets.{IsInSet};
 ghost use Rattle.fz_dom.specs.Changes.{IsFromTo};
-ghost use Rattle.fz_strength.specs.declared.operation.Operation.TheVariants.{Quotient};
 ghost use Rattle.fz_strength.specs.Domains.{term_set};
-ghost use Rattle.fz_strength.specs.Operations.{equation, EquationTruth};
-ghost use Rattle.fz_prop.specs.Answers.{IsCorrectOf};
-ghost use Rattle.fz_prop.specs.Stores.{Shrinks, IsTermOf};
+ghost use Rattle.fz_prop.specs.Stores.{IsTermOf};
 ghost use Rattle.fz_arith.specs.Dividends.{reach};
-ghost use Rattle.fz_arith.specs.Factors.{IsNever};
 
 use crate::ends::own_bounds;
-use crate::narrow::keep_between;
+use fz_prop::Store;
 use fz_prop::terms::{greatest_of, least_of};
-use fz_prop::{Change, Store};
 use fz_spec::term::Term;
 use fz_strength::operation::Bounds;
-use std::alloc::AllocError;
 
 /// The greatest number whose quotient by one from a low to a high may be at most another.
 fn reach(quotient: i64, low: i32, high: i32) -> i64
@@ -32,7 +26,7 @@ fn reach(quotient: i64, low: i32, high: i32) -> i64
 }
 
 /// The bounds of what is divided: its own where the divisor may be less than 1.
-fn dividend_bounds(store: &Store, x: Term, y: Term, value: Term) -> Bounds
+pub fn dividend_bounds(store: &Store, x: Term, y: Term, value: Term) -> Bounds
     requires x { IsTermOf (length store.now.doms) x }
     requires y { IsTermOf (length store.now.doms) y }
     requires value { IsTermOf (length store.now.doms) value }
@@ -52,21 +46,4 @@ fn dividend_bounds(store: &Store, x: Term, y: Term, value: Term) -> Bounds
         low: -reach(-least, low, high),
         high: reach(greatest, low, high),
     }
-}
-
-/// Keeps what is divided as far as the quotient reaches.
-pub fn keep_dividend(store: &mut Store, x: Term, y: Term, value: Term) -> Result<bool, AllocError>
-    requires x { IsTermOf (length store.old.doms) x }
-    requires y { IsTermOf (length store.old.doms) y }
-    requires value { IsTermOf (length store.old.doms) value }
-    ensures shrinks { Shrinks store.old store.new }
-    ensures correct { IsCorrectOf (EquationTruth (equation Quotient (x ∷ y ∷ []) value))
-        store.old.doms store.new.doms }
-    ensures never { IfOk result (λ r. r ≡ false
-        → IsNever (equation Quotient (x ∷ y ∷ []) value) store.old.doms) }
-{
-    let _ = store.doms();
-    let bounds = dividend_bounds(store, x, y, value);
-    let change = keep_between(store, bounds)?;
-    Ok(change != Change::Wiped)
 }

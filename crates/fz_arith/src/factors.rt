@@ -1,45 +1,46 @@
-//! Bounds of the factors of a product that its own ends give: the roots of a square, and the size of a product that isn't 0.
-ghost use Rattle.std.specs.Prelude.{◌≡◌, ℕ, ◌*◌, ℤ, pos, ◌*ℤ◌, ◌≤ℤ◌, ◌∷◌, [], false, length, IfOk, IsTrue, ◌↔◌};
+//! Bounds of operands that the ends of the line don't give: of one variable in two places, and by sizes.
+ghost use Rattle.std.specs.Prelude.{◌≡◌, ℕ, ◌*◌, ◌^◌, ◌≤◌, ℤ, pos, ◌+ℤ◌, ◌*ℤ◌, ◌≤ℤ◌, ◌∷◌, [], length, IfOk, IsTrue, ◌↔◌, unsigned_abs};
 ghost use Rattle.std.specs.List.{AllByRecursion};
 ghost use Rattle.fz_sets.specs.Sets.{IsInSet};
 ghost use Rattle.fz_dom.specs.Changes.{IsFromTo};
-ghost use Rattle.fz_strength.specs.declared.operation.Operation.TheVariants.{Times};
+ghost use Rattle.fz_strength.specs.declared.operation.Operation.TheVariants.{Plus, Times, Quotient, Remainder};
 ghost use Rattle.fz_strength.specs.Domains.{term_set};
 ghost use Rattle.fz_strength.specs.Operations.{equation, EquationTruth};
 ghost use Rattle.fz_prop.specs.Answers.{IsCorrectOf};
 ghost use Rattle.fz_prop.specs.Stores.{Shrinks, IsTermOf};
-ghost use Rattle.fz_arith.specs.Factors.{IsNever, IsRoot};
+ghost use Rattle.fz_arith.specs.Factors.{IsRoot};
+ghost use Rattle.fz_arith.specs.Narrowing.{IsHelped, only_wiped};
 
-use crate::dividends::keep_dividend;
-use crate::ends::own_bounds;
 use crate::narrow::keep_between;
+use crate::sized::{bounds_of_product, bounds_of_quotient, bounds_of_rest, keep_all};
 use fz_prop::terms::{greatest_of, least_of};
 use fz_prop::{Change, Store};
 use fz_spec::term::Term;
 use fz_strength::operation::{Bounds, Operation};
 use std::alloc::AllocError;
 
-/// Keeps the factors of a product, and what is divided, between the bounds that its ends give; `false` where none is left that makes
-/// it.
-pub fn keep_factors(
+/// Keeps the terms of an equation between the bounds that one variable in two places, or the sizes of the others, give them.
+pub fn keep_operands(
     store: &mut Store,
     operation: Operation,
     operands: &[Term],
     value: Term,
-) -> Result<bool, AllocError>
+) -> Result<Change, AllocError>
     requires value { IsTermOf (length store.old.doms) value }
     requires operands { AllByRecursion (IsTermOf (length store.old.doms)) operands.now }
     ensures shrinks { Shrinks store.old store.new }
     ensures correct { IsCorrectOf (EquationTruth (equation operation operands.now value))
         store.old.doms store.new.doms }
-    ensures never { IfOk result (λ r. r ≡ false
-        → IsNever (equation operation operands.now value) store.old.doms) }
+    ensures helped { IfOk result (λ r. IsHelped r (equation operation operands.now value)
+        store.old store.new) }
 {
     match (operation, operands) {
+        (Operation::Plus, [x, y]) if is_same(*x, *y) => keep_half(store, *x, value),
         (Operation::Times, [x, y]) if is_same(*x, *y) => keep_root(store, *x, value),
-        (Operation::Times, [x, y]) => keep_both(store, *x, *y, value),
-        (Operation::Quotient, [x, y]) => keep_dividend(store, *x, *y, value),
-        _ => Ok(true),
+        (Operation::Times, [x, y]) => keep_product(store, *x, *y, value),
+        (Operation::Quotient, [x, y]) => keep_quotient(store, *x, *y, value),
+        (Operation::Remainder, [x, y]) => keep_rest(store, *x, *y, value),
+        _ => Ok(Change::Same),
     }
 }
 
@@ -50,43 +51,93 @@ fn is_same(x: Term, y: Term) -> bool
     x == y
 }
 
+/// Keeps what twice is a value between its halves.
+fn keep_half(store: &mut Store, x: Term, value: Term) -> Result<Change, AllocError>
+    requires x { IsTermOf (length store.old.doms) x }
+    requires value { IsTermOf (length store.old.doms) value }
+    ensures shrinks { Shrinks store.old store.new }
+    ensures correct { IsCorrectOf (EquationTruth (equation Plus (x ∷ x ∷ []) value))
+        store.old.doms store.new.doms }
+    ensures helped { IfOk result (λ r. IsHelped r (equation Plus (x ∷ x ∷ []) value)
+        store.old store.new) }
+{
+    let _ = store.doms();
+    let bounds = half_bounds(store, x, value);
+    keep_between(store, bounds)
+}
+
 /// Keeps what times itself is a value between its roots.
-fn keep_root(store: &mut Store, x: Term, value: Term) -> Result<bool, AllocError>
+fn keep_root(store: &mut Store, x: Term, value: Term) -> Result<Change, AllocError>
     requires x { IsTermOf (length store.old.doms) x }
     requires value { IsTermOf (length store.old.doms) value }
     ensures shrinks { Shrinks store.old store.new }
     ensures correct { IsCorrectOf (EquationTruth (equation Times (x ∷ x ∷ []) value))
         store.old.doms store.new.doms }
-    ensures never { IfOk result (λ r. r ≡ false
-        → IsNever (equation Times (x ∷ x ∷ []) value) store.old.doms) }
+    ensures helped { IfOk result (λ r. IsHelped r (equation Times (x ∷ x ∷ []) value)
+        store.old store.new) }
 {
     let _ = store.doms();
     let bounds = root_bounds(store, x, value);
-    let change = keep_between(store, bounds)?;
-    Ok(change != Change::Wiped)
+    keep_between(store, bounds)
 }
 
-/// Keeps two factors within the size of their product.
-fn keep_both(store: &mut Store, x: Term, y: Term, value: Term) -> Result<bool, AllocError>
+/// Keeps factors by the sizes of their product and of one another. No more is told, since the line alone says when to go on.
+fn keep_product(store: &mut Store, x: Term, y: Term, value: Term) -> Result<Change, AllocError>
     requires x { IsTermOf (length store.old.doms) x }
     requires y { IsTermOf (length store.old.doms) y }
     requires value { IsTermOf (length store.old.doms) value }
     ensures shrinks { Shrinks store.old store.new }
     ensures correct { IsCorrectOf (EquationTruth (equation Times (x ∷ y ∷ []) value))
         store.old.doms store.new.doms }
-    ensures never { IfOk result (λ r. r ≡ false
-        → IsNever (equation Times (x ∷ y ∷ []) value) store.old.doms) }
+    ensures helped { IfOk result (λ r. IsHelped r (equation Times (x ∷ y ∷ []) value)
+        store.old store.new) }
 {
     let _ = store.doms();
-    let bounds = factor_bounds(store, x, value);
-    let first = keep_between(store, bounds)?;
-    if first == Change::Wiped {
-        return Ok(false);
+    let bounds = bounds_of_product(store, x, y, value);
+    let change = keep_all(store, &[bounds.first, bounds.second, bounds.value])?;
+    Ok(only_wiped(change))
+}
+
+/// That nothing is left, if so it is.
+fn only_wiped(change: Change) -> Change
+    ensures { result ≡ only_wiped change }
+{
+    match change {
+        Change::Wiped => Change::Wiped,
+        Change::Changed | Change::Same => Change::Same,
     }
+}
+
+/// Keeps what is divided, a divisor and their quotient by the sizes of one another.
+fn keep_quotient(store: &mut Store, x: Term, y: Term, value: Term) -> Result<Change, AllocError>
+    requires x { IsTermOf (length store.old.doms) x }
+    requires y { IsTermOf (length store.old.doms) y }
+    requires value { IsTermOf (length store.old.doms) value }
+    ensures shrinks { Shrinks store.old store.new }
+    ensures correct { IsCorrectOf (EquationTruth (equation Quotient (x ∷ y ∷ []) value))
+        store.old.doms store.new.doms }
+    ensures helped { IfOk result (λ r. IsHelped r (equation Quotient (x ∷ y ∷ []) value)
+        store.old store.new) }
+{
     let _ = store.doms();
-    let more = factor_bounds(store, y, value);
-    let second = keep_between(store, more)?;
-    Ok(second != Change::Wiped)
+    let bounds = bounds_of_quotient(store, x, y, value);
+    keep_all(store, &[bounds.first, bounds.second, bounds.value])
+}
+
+/// Keeps what is divided, a divisor and the rest by the sizes of one another.
+fn keep_rest(store: &mut Store, x: Term, y: Term, value: Term) -> Result<Change, AllocError>
+    requires x { IsTermOf (length store.old.doms) x }
+    requires y { IsTermOf (length store.old.doms) y }
+    requires value { IsTermOf (length store.old.doms) value }
+    ensures shrinks { Shrinks store.old store.new }
+    ensures correct { IsCorrectOf (EquationTruth (equation Remainder (x ∷ y ∷ []) value))
+        store.old.doms store.new.doms }
+    ensures helped { IfOk result (λ r. IsHelped r (equation Remainder (x ∷ y ∷ []) value)
+        store.old store.new) }
+{
+    let _ = store.doms();
+    let bounds = bounds_of_rest(store, x, y, value);
+    keep_all(store, &[bounds.first, bounds.second, bounds.value])
 }
 
 /// The bounds of what times itself is a value.
@@ -108,23 +159,32 @@ fn root_bounds(store: &Store, x: Term, value: Term) -> Bounds
     }
 }
 
-/// The bounds of a factor of a value: of one that isn't 0 it is no larger.
-fn factor_bounds(store: &Store, x: Term, value: Term) -> Bounds
+/// The bounds of what twice is a value.
+fn half_bounds(store: &Store, x: Term, value: Term) -> Bounds
     requires x { IsTermOf (length store.now.doms) x }
     requires value { IsTermOf (length store.now.doms) value }
     ensures term { result.term ≡ x }
-    ensures between { (u w : ℤ) → IsInSet (term_set store.now.doms x) u
-        → IsInSet (term_set store.now.doms value) (u *ℤ w) → IsFromTo result.low result.high u }
+    ensures between { (u : ℤ) → IsInSet (term_set store.now.doms value) (u +ℤ u)
+        → IsFromTo result.low result.high u }
 {
     let (low, high) = (least_of(store, value), greatest_of(store, value));
-    if low <= 0 && 0 <= high {
-        return own_bounds(store, x);
-    }
-    let most = i64::from(high).max(-i64::from(low));
     Bounds {
         term: x,
-        low: -most,
-        high: most,
+        low: -half(-i64::from(low)),
+        high: half(i64::from(high)),
+    }
+}
+
+/// The greatest number that is twice at most another.
+fn half(number: i64) -> i64
+    requires { unsigned_abs number ≤ 2 ^ 31 }
+    ensures half { (u : ℤ) → (u +ℤ u) ≤ℤ number → u ≤ℤ result }
+    ensures near { unsigned_abs result ≤ 2 ^ 31 }
+{
+    if number < 0 {
+        (number - 1) / 2
+    } else {
+        number / 2
     }
 }
 

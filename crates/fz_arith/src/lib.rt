@@ -9,5 +9,7 @@ mod dividends;
 mod ends;
 mod factors;
 mod narrow;
+mod sized;
+mod sizes;
 
 pub use arithmetic::Arithmetic;

@@ -7,10 +7,10 @@ ghost use Rattle.fz_strength.specs.Events.{AllFixed};
 ghost use Rattle.fz_strength.specs.Operations.{equation, divisors_of, EquationTruth, IsEquationLine};
 ghost use Rattle.fz_prop.specs.Answers.{IsAnswerOf, IsCorrectOf};
 ghost use Rattle.fz_prop.specs.Stores.{Shrinks, IsStore, IsTermOf, IsTermChange, IsChangeAt};
-ghost use Rattle.fz_arith.specs.Narrowing.{IsClamped, IsDivided, IsStep};
+ghost use Rattle.fz_arith.specs.Narrowing.{IsClamped, IsDivided, IsStep, answer_after};
 
 use crate::bounds::bounds_at;
-use crate::factors::keep_factors;
+use crate::factors::keep_operands;
 use fz_prop::terms::{are_fixed, remove, value_of};
 use fz_prop::{Answer, Change, Store};
 use fz_spec::term::Term;
@@ -34,11 +34,22 @@ pub fn keep_equation(
         (IsEquationLine (equation operation operands.now value))
         store.old.doms store.new.doms) }
 {
-    let left = keep_factors(store, operation, operands, value)?;
-    if !left {
+    let change = keep_operands(store, operation, operands, value)?;
+    if let Change::Wiped = change {
         return Ok(Answer::Failed);
     }
-    keep_bounds(store, operation, operands, value)
+    let answer = keep_bounds(store, operation, operands, value)?;
+    Ok(after(change, answer))
+}
+
+/// What a run answers that changed something before it came to the line.
+fn after(change: Change, answer: Answer) -> Answer
+    ensures { result ≡ answer_after change answer }
+{
+    match (change, answer) {
+        (Change::Changed, Answer::Fix) => Answer::NoFix,
+        (_, answer) => answer,
+    }
 }
 
 /// Keeps each term between the bounds that the ends of the others give.

@@ -1,5 +1,5 @@
 use Rattle.std.proofs.Common.{◌≡◌, arith, pos, rules}
-use Rattle.std.specs.Prelude.{neg_ℤ, ◌-ℤ◌, ◌≤ℤ◌, ◌<ℤ◌, int_div}
+use Rattle.std.specs.Prelude.{neg_ℤ, ◌-ℤ◌, ◌<ℤ◌, int_div}
 use Rattle.std.proofs.lemmas.Int.{ints}
 use Rattle.std.proofs.Math.Facts.{to_z-of_z}
 use mir.Val.{SFits}

@@ -1,10 +1,10 @@
-use Rattle.std.proofs.Common.{◌≡◌, ℤ, rules, add-one, pos, arith, ap, sym, ◌∙◌, take}
+use Rattle.std.proofs.Common.{◌≡◌, ℤ, rules, add-one, pos, arith, ap, ◌∙◌}
 use Rattle.std.specs.Prelude.{slice_index_or}
 use Rattle.std.specs.Int.{int_min}
 use Rattle.std.proofs.Math.Facts.{to_z-of_z}
 use mir.Val.{SFits, to_z}
 use mir.Syntax.{w32, w64}
-use Rattle.fz_strength.specs.Operations.{size_between, least_size}
+use Rattle.fz_strength.specs.Operations.{size_between}
 use Rattle.fz_arith.proofs.Places.{least_more}
 use Rattle.fz_arith.proofs.ends.least_size_of_ranges.Goals as goal
 

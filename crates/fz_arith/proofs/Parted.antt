@@ -1,0 +1,52 @@
+-- What a truncated quotient and its rest are, signs aside.
+use Rattle.std.proofs.Common.{◌≡◌, ◌≢◌, ℕ, zero, suc, ◌+◌, ◌*◌, ◌/◌, ◌%◌, ◌<◌, refl, sym, arith}
+use Rattle.std.specs.Prelude.{ℤ, pos, negsuc, neg_ℤ, ◌≤ℤ◌, ◌<ℤ◌, int_div, int_rem, unsigned_abs}
+use Rattle.std.proofs.lemmas.Int.{ints, rem_below, by_lt_z}
+use Rattle.std.proofs.Math.Nat.{div-add-mod', zero-mod}
+use Rattle.fz_num.proofs.Products.{neg_size}
+use Rattle.fz_arith.specs.Sizes.{IsParted}
+
+size_some : (w : ℤ) → w ≢ pos 0 → 0 < unsigned_abs w
+size_some (pos zero) not = absurd (not refl)
+size_some (pos (suc n)) not = omega arith
+size_some (negsuc n) not = omega arith
+
+sum_of : (u w : ℤ) → w ≢ pos 0 → unsigned_abs u ≡ unsigned_abs (int_div u w) * unsigned_abs w + unsigned_abs (int_rem u w)
+sum_of u (pos zero) not = absurd (not refl)
+sum_of (pos a) (pos (suc n)) not = sym (div-add-mod' a (suc n))
+sum_of (pos a) (negsuc n) not = rw (neg_size (a / suc n)) (sym (div-add-mod' a (suc n)))
+sum_of (negsuc a) (pos (suc n)) not = rw (neg_size (suc a / suc n), neg_size (suc a % suc n)) (sym (div-add-mod' (suc a) (suc n)))
+sum_of (negsuc a) (negsuc n) not = rw (neg_size (suc a % suc n)) (sym (div-add-mod' (suc a) (suc n)))
+
+pub parted : (u w : ℤ) → w ≢ pos 0 → IsParted (unsigned_abs u) (unsigned_abs w) (unsigned_abs (int_div u w)) (unsigned_abs (int_rem u w))
+parted u w not = record { sum = sum_of u w not; below = rem_below u w (size_some w not) }
+
+neg_down : (n : ℕ) → neg_ℤ (pos n) ≤ℤ pos 0
+neg_down n = omega (arith, ints)
+
+pub rest_up : (u w : ℤ) → pos 0 ≤ℤ u → pos 0 ≤ℤ int_rem u w
+rest_up (pos a) (pos n) from = omega (arith, ints)
+rest_up (pos a) (negsuc n) from = omega (arith, ints)
+rest_up (negsuc a) w from = absurd (omega (arith, ints, from))
+
+pub rest_down : (u w : ℤ) → u ≤ℤ pos 0 → int_rem u w ≤ℤ pos 0
+rest_down (pos zero) (pos n) to = let e = zero-mod n in omega (arith, ints, e)
+rest_down (pos zero) (negsuc n) to = let e = zero-mod (suc n) in omega (arith, ints, e)
+rest_down (pos (suc a)) w to = absurd (omega (arith, ints, to))
+rest_down (negsuc a) (pos n) to = neg_down (suc a % n)
+rest_down (negsuc a) (negsuc n) to = neg_down (suc a % suc n)
+
+-- a rest has the sign of what is divided
+pub record HasSignOf (u v : ℤ) : Type 0 where
+  pub over : pos 0 <ℤ v → pos 0 ≤ℤ u
+  pub under : v <ℤ pos 0 → u ≤ℤ pos 0
+  pub up : pos 0 ≤ℤ u → pos 0 ≤ℤ v
+  pub down : u ≤ℤ pos 0 → v ≤ℤ pos 0
+
+pub rest_sign : (u w : ℤ) → HasSignOf u (int_rem u w)
+rest_sign u w = record {
+  over = λ over. by_lt_z u (pos 0) (λ less. let d = rest_down u w (omega (arith, ints, less)) in absurd (omega (arith, ints, over, d))) (λ to. omega (arith, ints, to));
+  under = λ under. by_lt_z (pos 0) u (λ less. let d = rest_up u w (omega (arith, ints, less)) in absurd (omega (arith, ints, under, d))) (λ to. omega (arith, ints, to));
+  up = rest_up u w;
+  down = rest_down u w;
+}
