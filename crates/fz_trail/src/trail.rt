@@ -8,7 +8,7 @@ ghost use Rattle.fz_tree.specs.Frontier as frontier;
 ghost use Rattle.fz_tree.specs.Frontier.{AreEdges, next_edges};
 ghost use Rattle.fz_search_space.specs.Spaces.{Covers};
 ghost use Rattle.fz_trail.specs.Nodes.{IsAt, decisions_of};
-ghost use Rattle.fz_trail.specs.Places.{IsNear, AreLeftDownTo, IsOneMore, IsUsedUp, HasUsedCopy, with_room, without_seconds, IsWayLong, IsOneBetween, IsDueBetween, AreBehind, half_down, nearest_node, last_of, commits_for, depths_of, deepest_to, AreBelow, IsLastAbove};
+ghost use Rattle.fz_trail.specs.Places.{IsNear, AreLeftDownTo, IsOneMore, IsUsedUp, HasUsedCopy, with_room, without_seconds, IsWayLong, IsOneBetween, IsDueBetween, AreBehind, half_down, nearest_node, last_of, IsDue, commits_for, depths_of, deepest_to, AreBelow, IsLastAbove};
 ghost use Rattle.fz_trail.specs.Trails.{IsTrail, IsKept, AreKept};
 ghost use Rattle.fz_trail.specs.declared.kept.TheConstants.{COPIES_MOST, COPIES_GONE};
 
@@ -31,6 +31,8 @@ pub struct Trail<S> {
     pub adaptive: u32,
     /// Copies above this node may have been thinned out.
     pub sparse: usize,
+    /// The path came back to the node that is looked at, which was made anew.
+    pub came_back: bool,
 }
 
 impl<S: SearchSpace> Trail<S> {
@@ -52,6 +54,7 @@ impl<S: SearchSpace> Trail<S> {
             distance,
             adaptive,
             sparse: 0,
+            came_back: false,
         }
     }
 
@@ -183,6 +186,7 @@ impl<S: SearchSpace> Trail<S> {
         ensures distances { (self.new.distance ≡ self.old.distance)
             × (self.new.adaptive ≡ self.old.adaptive) }
         ensures sparse { self.new.sparse ≡ self.old.sparse }
+        ensures back { IsTrue self.new.came_back ↔ (self.old.current ≡ None) }
         ensures copies { AreBehind
             self.old.adaptive edges.now self.old.copies.items self.new.copies.items }
         ensures due { OnOk result (self.old.current ≡ None → IsDueBetween self.old.adaptive
@@ -200,6 +204,7 @@ impl<S: SearchSpace> Trail<S> {
         ensures exact { OnOk result (steps.new ≡ steps.old + commits_for
             (is_some self.old.current) (nearest_node self.old.copies.items) (length edges.now)) }
     {
+        self.came_back = self.current.is_none();
         if let Some(space) = self.current.take() {
             return came_down(space, edges, steps);
         }
@@ -214,6 +219,7 @@ impl<S: SearchSpace> Trail<S> {
         ensures distances { (self.new.distance ≡ self.old.distance)
             × (self.new.adaptive ≡ self.old.adaptive) }
         ensures sparse { self.new.sparse ≡ self.old.sparse }
+        ensures back { self.new.came_back ≡ self.old.came_back }
         ensures current { self.new.current ≡ self.old.current }
         ensures copies { AreBehind
             self.old.adaptive edges.now self.old.copies.items self.new.copies.items }
@@ -249,6 +255,7 @@ impl<S: SearchSpace> Trail<S> {
         ensures distances { (self.new.distance ≡ self.old.distance)
             × (self.new.adaptive ≡ self.old.adaptive) }
         ensures sparse { self.new.sparse ≡ self.old.sparse }
+        ensures back { self.new.came_back ≡ self.old.came_back }
         ensures current { self.new.current ≡ self.old.current }
         ensures copies { AreBehind
             self.old.adaptive edges.now self.old.copies.items self.new.copies.items }
@@ -283,6 +290,7 @@ impl<S: SearchSpace> Trail<S> {
         ensures distances { (self.new.distance ≡ self.old.distance)
             × (self.new.adaptive ≡ self.old.adaptive) }
         ensures sparse { self.new.sparse ≡ self.old.sparse }
+        ensures back { self.new.came_back ≡ self.old.came_back }
         ensures current { self.new.current ≡ self.old.current }
         ensures copies { (self.new.copies.items ≡ self.old.copies.items)
             ⊎ IsOneBetween self.old.adaptive kept.depth (length edges.now)
@@ -330,6 +338,7 @@ impl<S: SearchSpace> Trail<S> {
         ensures distances { (self.new.distance ≡ self.old.distance)
             × (self.new.adaptive ≡ self.old.adaptive) }
         ensures sparse { self.new.sparse ≡ self.old.sparse }
+        ensures back { self.new.came_back ≡ self.old.came_back }
         ensures current { self.new.current ≡ self.old.current }
         ensures copies { (self.new.copies.items ≡ self.old.copies.items)
             ⊎ IsOneBetween self.old.adaptive kept.depth (length edges.now)
@@ -364,6 +373,7 @@ impl<S: SearchSpace> Trail<S> {
         ensures none { OnErr result (self.new.copies.items ≡ self.old.copies.items) }
         ensures rest { (self.new.root ≡ self.old.root) × (self.new.current ≡ self.old.current)
             × (self.new.sparse ≡ self.old.sparse) }
+        ensures back { self.new.came_back ≡ self.old.came_back }
     {
         let space = copied(&mut self.spare, space)?;
         self.copies.push(Kept { depth, space })?;
@@ -375,6 +385,7 @@ impl<S: SearchSpace> Trail<S> {
         ensures distances { (self.new.distance ≡ self.old.distance)
             × (self.new.adaptive ≡ self.old.adaptive) }
         ensures sparse { self.new.sparse ≡ self.old.sparse }
+        ensures back { self.new.came_back ≡ self.old.came_back }
         ensures current { self.new.current ≡ self.old.current }
         ensures copies { (self.new.copies.items ≡ self.old.copies.items)
             ⊎ IsUsedUp edges.now self.old.copies.items self.new.copies.items }
@@ -397,6 +408,7 @@ impl<S: SearchSpace> Trail<S> {
         ensures distances { (self.new.distance ≡ self.old.distance)
             × (self.new.adaptive ≡ self.old.adaptive) }
         ensures sparse { self.new.sparse ≡ self.old.sparse }
+        ensures back { self.new.came_back ≡ self.old.came_back }
         ensures current { self.new.current ≡ self.old.current }
         ensures copies { (self.new.copies.items ≡ self.old.copies.items)
             ⊎ IsUsedUp edges.now self.old.copies.items self.new.copies.items }
@@ -421,6 +433,7 @@ impl<S: SearchSpace> Trail<S> {
         ensures distances { (self.new.distance ≡ self.old.distance)
             × (self.new.adaptive ≡ self.old.adaptive) }
         ensures sparse { self.new.sparse ≡ self.old.sparse }
+        ensures back { self.new.came_back ≡ self.old.came_back }
         ensures current { self.new.current ≡ self.old.current }
         ensures copies { self.new.copies.items ≡ self.old.copies.items }
         ensures nearest { IfOk result (λ k. k.depth ≡ nearest_node self.old.copies.items) }
@@ -446,7 +459,8 @@ impl<S: SearchSpace> Trail<S> {
         }
     }
 
-    /// Keeps a copy of the space at the node below so many edges, where none is within the commit distance above it.
+    /// Keeps a copy of the space at the node below so many edges, where one is due: where none is within the commit distance above
+    /// it, and where the path came back to it and none stands there.
     ///
     /// # Errors
     /// `AllocError` where there is no memory.
@@ -458,6 +472,13 @@ impl<S: SearchSpace> Trail<S> {
         ensures copies { (self.new.copies.items ≡ with_room self.old.copies.items)
             ⊎ IsOneMore S.spaced depth space.now
             (with_room self.old.copies.items) self.new.copies.items }
+        ensures due { OnOk result (IsDue self.old.came_back self.old.distance
+            (with_room self.old.copies.items) depth
+            → IsOneMore S.spaced depth space.now
+            (with_room self.old.copies.items) self.new.copies.items) }
+        ensures undue { (IsDue self.old.came_back self.old.distance
+            (with_room self.old.copies.items) depth → ⊥)
+            → self.new.copies.items ≡ with_room self.old.copies.items }
         ensures near { OnOk result ((m : Instance) (known : Option (List ℤ))
             (es : List frontier.Edge) → depth ≡ length es → IsTrail S.spaced m known es self.old
             → IsNear self.new.distance self.new.copies.items depth) }
@@ -482,6 +503,7 @@ impl<S: SearchSpace> Trail<S> {
         ensures sparse { length self.old.copies.items < COPIES_MOST
             → self.new.sparse ≡ self.old.sparse }
         ensures copies { self.new.copies.items ≡ with_room self.old.copies.items }
+        ensures back { self.new.came_back ≡ self.old.came_back }
         ensures room { length self.old.copies.items ≤ COPIES_MOST
             → length self.new.copies.items < COPIES_MOST }
         ensures trail { (m : Instance) (known : Option (List ℤ)) (es : List frontier.Edge)
@@ -494,16 +516,19 @@ impl<S: SearchSpace> Trail<S> {
         thin(&mut self.copies, &mut self.spare);
     }
 
-    /// Whether no copy is within the commit distance above the node below so many edges.
+    /// Whether a copy is due at the node below so many edges.
     fn is_due(&self, depth: usize) -> bool
-        ensures due { IsTrue result → IfSome (last_of self.now.copies.items)
-            (λ kept. kept.depth + self.now.distance ≤ depth) }
+        ensures due { IsTrue result
+            ↔ IsDue self.now.came_back self.now.distance self.now.copies.items depth }
         ensures near { result ≡ false → 1 ≤ self.now.distance
             → IsSomeAnd (last_of self.now.copies.items)
             (λ kept. depth < kept.depth + self.now.distance) }
     {
         match self.copies.last() {
-            Some(kept) => { kept.depth < depth && depth - kept.depth >= self.distance as usize }
+            Some(kept) => {
+                kept.depth < depth
+                    && (self.came_back || depth - kept.depth >= self.distance as usize)
+            }
             None => true,
         }
     }

@@ -1,2 +1,3 @@
 pub mod Matching
+pub mod Joining
 pub mod Narrowing

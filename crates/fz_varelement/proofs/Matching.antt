@@ -131,7 +131,7 @@ matches_more xs k c ds indices numbers more j new more_are within within_more h 
 }
 
 pub matches_all : (xs : List Term) (k c : Term) (ds : List (List (ℤ × ℤ))) (indices numbers s t : List (ℤ × ℤ)) (j : ℤ) → ((i n : ℤ) → IsMatch xs k c ds i n → i <ℤ j)
-    → AreMatchesBelow xs k c ds indices numbers j → AreOneSet s indices → AreOneSet t numbers → AreMatches xs k c ds s t
+    → AreMatchesBelow xs k c ds indices numbers j → AreOneSet s indices → AreOneSet t numbers → AreMatches xs k c ds (λ i. IsInSet s i) (λ n. IsInSet t n)
 matches_all xs k c ds indices numbers s t j all h is_s is_t = record {
   indices_are = λ i. (
     (λ is. ((h.indices_are i).0 ((is_s i).0 is)).0),

@@ -65,13 +65,13 @@ needs_place xs k c ds last of domains fits last_is = λ a within holds.
     let limits = (term_limits ds k (term_value a k) of.index domains fits m.index).1 in
     (stands_from (term_value a k) xs m.term m.stands, last_is (term_value a k) (omega (arith, ints, limits)) (stands_to (term_value a k) xs m.term m.stands))
 
-pub needs_index : (xs : List Term) (k c : Term) (ds : List (List (ℤ × ℤ))) (indices numbers : List (ℤ × ℤ)) → AreTermsOf (length ds) xs k c → AreMatches xs k c ds indices numbers
-    → (a : List ℤ) → Within ds a → IsChosen xs k c a → IsInSet indices (term_value a k)
-needs_index xs k c ds indices numbers of matches = λ a within holds. (matches.indices_are (term_value a k)).1 (term_value a c, the_match xs k c ds a of within holds)
+pub needs_index : (xs : List Term) (k c : Term) (ds : List (List (ℤ × ℤ))) (P Q : ℤ → Type 0) → AreTermsOf (length ds) xs k c → AreMatches xs k c ds P Q
+    → (a : List ℤ) → Within ds a → IsChosen xs k c a → P (term_value a k)
+needs_index xs k c ds P Q of matches = λ a within holds. (matches.indices_are (term_value a k)).1 (term_value a c, the_match xs k c ds a of within holds)
 
-pub needs_number : (xs : List Term) (k c : Term) (ds : List (List (ℤ × ℤ))) (indices numbers : List (ℤ × ℤ)) → AreTermsOf (length ds) xs k c → AreMatches xs k c ds indices numbers
-    → (a : List ℤ) → Within ds a → IsChosen xs k c a → IsInSet numbers (term_value a c)
-needs_number xs k c ds indices numbers of matches = λ a within holds. (matches.numbers_are (term_value a c)).1 (term_value a k, the_match xs k c ds a of within holds)
+pub needs_number : (xs : List Term) (k c : Term) (ds : List (List (ℤ × ℤ))) (P Q : ℤ → Type 0) → AreTermsOf (length ds) xs k c → AreMatches xs k c ds P Q
+    → (a : List ℤ) → Within ds a → IsChosen xs k c a → Q (term_value a c)
+needs_number xs k c ds P Q of matches = λ a within holds. (matches.numbers_are (term_value a c)).1 (term_value a k, the_match xs k c ds a of within holds)
 
 pub needs_last : (xs : List Term) (k c : Term) (ds : List (List (ℤ × ℤ))) (i : ℤ) (x : Term) → AreTermsOf (length ds) xs k c → IsOnly (term_set ds k) i → StandsAt i xs x
     → (a : List ℤ) → Within ds a → IsChosen xs k c a → IsInSet (term_set ds c) (term_value a x)
@@ -128,9 +128,9 @@ all_kept t P r s h x is = (kept_term Same t P r s h (λ e. cc) x (subst (λ (u :
 
 -- ---- the line
 
-pub all_matched : (xs : List Term) (k c : Term) (r : Stored) (indices numbers : List (ℤ × ℤ)) → AreMatches xs k c r.doms indices numbers
-    → ((i : ℤ) → IsInSet (term_set r.doms k) i → IsInSet indices i) → ((n : ℤ) → IsInSet (term_set r.doms c) n → IsInSet numbers n) → AreAllMatched xs k c r.doms
-all_matched xs k c r indices numbers matches index number = record {
+pub all_matched : (xs : List Term) (k c : Term) (r : Stored) (P Q : ℤ → Type 0) → AreMatches xs k c r.doms P Q
+    → ((i : ℤ) → IsInSet (term_set r.doms k) i → P i) → ((n : ℤ) → IsInSet (term_set r.doms c) n → Q n) → AreAllMatched xs k c r.doms
+all_matched xs k c r P Q matches index number = record {
   index = λ i is. (matches.indices_are i).0 (index i is);
   number = λ n is. (matches.numbers_are n).0 (number n is);
 }

@@ -1,7 +1,8 @@
 -- An index into a list of terms: when an assignment makes it true, its matches, and what is done of the work on a store.
-use Rattle.std.specs.Prelude.{◌≡◌, ℕ, ◌<◌, ℤ, pos, ◌+ℤ◌, ◌↔◌, List, length}
+use Rattle.std.specs.Prelude.{◌≡◌, ◌⊎◌, ℕ, ◌<◌, ℤ, pos, ◌+ℤ◌, ◌≤ℤ◌, ◌↔◌, List, length}
+use Rattle.fz_bits.specs.Windows.{IsBit}
 use Rattle.fz_bits.specs.Words.{HasBit}
-use Rattle.fz_sets.specs.Sets.{IsInSet}
+use Rattle.fz_sets.specs.Sets.{IsInSet, LEAST, GREATEST}
 use Rattle.fz_dom.specs.Shape.{IsDomain}
 use Rattle.fz_dom.specs.declared.change.Change.{Change}
 use Rattle.fz_dom.specs.declared.change.Change.TheVariants.{Same, Changed, Wiped}
@@ -11,6 +12,8 @@ use Rattle.fz_spec.specs.Truth.{IsElement}
 use Rattle.fz_strength.specs.Domains.{term_set, Within, room}
 use Rattle.fz_strength.specs.VariableElements.{IsMatch, IsVariableElementLine}
 use Rattle.fz_prop.specs.Stores.{Stored}
+use Rattle.fz_varelement.specs.declared.numbers.Numbers.{Numbers}
+use Rattle.fz_varelement.specs.declared.numbers.Numbers.TheVariants.{Near, Far}
 
 abbrev pub IsChosen : List Term → Term → Term → List ℤ → Type 0
 IsChosen xs k c a = IsElement (term_value a k) (term_values a xs) (term_value a c)
@@ -25,9 +28,14 @@ abbrev pub IsMatchedBy : List Term → Term → Term → List (List (ℤ × ℤ)
 IsMatchedBy xs k c ds n = (i : ℤ) × IsMatch xs k c ds i n
 
 -- the indices and the numbers of all matches
-pub record AreMatches (xs : List Term) (k c : Term) (ds : List (List (ℤ × ℤ))) (indices numbers : List (ℤ × ℤ)) : Type 0 where
-  pub indices_are : (i : ℤ) → IsInSet indices i ↔ IsMatchedAt xs k c ds i
-  pub numbers_are : (n : ℤ) → IsInSet numbers n ↔ IsMatchedBy xs k c ds n
+pub record AreMatches (xs : List Term) (k c : Term) (ds : List (List (ℤ × ℤ))) (P Q : ℤ → Type 0) : Type 0 where
+  pub indices_are : (i : ℤ) → P i ↔ IsMatchedAt xs k c ds i
+  pub numbers_are : (n : ℤ) → Q n ↔ IsMatchedBy xs k c ds n
+
+-- indices and numbers, and the matches at one more index
+pub record IsJoined (xs : List Term) (k c : Term) (ds : List (List (ℤ × ℤ))) (j : ℤ) (P Q R S : ℤ → Type 0) : Type 0 where
+  pub indices_are : (i : ℤ) → R i ↔ (P i ⊎ ((i ≡ j) × IsMatchedAt xs k c ds j))
+  pub numbers_are : (n : ℤ) → S n ↔ (Q n ⊎ IsMatch xs k c ds j n)
 
 -- each index that is left and each number that is left of c has a match
 pub record AreAllMatched (xs : List Term) (k c : Term) (ds : List (List (ℤ × ℤ))) : Type 0 where
@@ -42,6 +50,21 @@ pub record AreFound (xs : List Term) (k c : Term) (ds : List (List (ℤ × ℤ))
 -- a domain of some numbers, and exactly those that are in both sets
 abbrev pub AreShared : List (ℤ × ℤ) → List (ℤ × ℤ) → List (ℤ × ℤ) → Type 0
 AreShared d e f = ((n : ℤ) → IsInSet f n ↔ (IsInSet d n × IsInSet e n)) × IsDomain f × (0 < length f)
+
+-- ---- what a term is to keep
+
+-- a number is one of these
+abbrev pub Has : Numbers → ℤ → Type 0
+Has (Near w) x = IsBit w.base w.bits x
+Has (Far d) x = IsInSet d x
+
+-- the 64 numbers from a base on lie within the limits
+abbrev pub HasRoom : ℤ → Type 0
+HasRoom base = (LEAST ≤ℤ base) × ((base +ℤ pos 63) ≤ℤ GREATEST)
+
+abbrev pub AreWithin : Numbers → Type 0
+AreWithin (Near w) = HasRoom w.base
+AreWithin (Far d) = Unit {0}
 
 -- ---- what is done
 

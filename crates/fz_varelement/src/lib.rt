@@ -2,6 +2,8 @@
 #![tactic(auto)]
 
 mod matches;
+mod near;
+pub mod numbers;
 mod select;
 pub mod variable_element;
 mod words;

@@ -6,8 +6,9 @@ ghost use Rattle.fz_dom.specs.Shape.{IsDomain};
 ghost use Rattle.fz_strength.specs.Domains.{term_set};
 ghost use Rattle.fz_strength.specs.VariableElements.{IsMatch};
 ghost use Rattle.fz_prop.specs.Stores.{IsTermOf, FitsTerm};
-ghost use Rattle.fz_varelement.specs.Matching.{AreMatches, AreShared, IsMatchedAt};
+ghost use Rattle.fz_varelement.specs.Matching.{AreMatches, AreShared, IsMatchedAt, Has, AreWithin};
 
+use crate::numbers::{Matches, Numbers};
 use crate::words::term_at;
 use fz_dom::{Change, Dom};
 use fz_prop::Store;
@@ -26,14 +27,17 @@ pub fn matches_of(
     index: Term,
     terms: &[Term],
     value: Term,
-) -> Result<(Dom, Dom), AllocError>
+) -> Result<Matches, AllocError>
     requires index { IsTermOf (length store.now.doms) index }
     requires terms { AllByRecursion (IsTermOf (length store.now.doms)) terms.now }
     requires value { IsTermOf (length store.now.doms) value }
     requires fits_index { FitsTerm index }
     requires fits_terms { AllByRecursion FitsTerm terms.now }
     requires fits_value { FitsTerm value }
-    ensures { IfOk result (λ r. AreMatches terms.now index value store.now.doms r.0 r.1) }
+    ensures matches { IfOk result (λ m. AreMatches terms.now index value store.now.doms
+        (λ i. Has m.indices i) (λ n. Has m.numbers n)) }
+    ensures indices { IfOk result (λ m. AreWithin m.indices) }
+    ensures numbers { IfOk result (λ m. AreWithin m.numbers) }
 {
     let _ = store.doms();
     let (first, end) = (
@@ -54,7 +58,10 @@ pub fn matches_of(
     }
     let indices = Dom::from_ranges(alloc, &places)?;
     let numbers = Dom::from_ranges(alloc, &found)?;
-    Ok((indices, numbers))
+    Ok(Matches {
+        indices: Numbers::Far(indices),
+        numbers: Numbers::Far(numbers),
+    })
 }
 
 /// The numbers that match at an index, if there are some; what is left of the value is a domain.

@@ -6,11 +6,12 @@ ghost use Rattle.fz_strength.specs.Domains.{term_set};
 ghost use Rattle.fz_strength.specs.VariableElements.{IsVariableElementLine};
 ghost use Rattle.fz_prop.specs.Answers.{IsAnswerOf, IsCorrectOf};
 ghost use Rattle.fz_prop.specs.Stores.{Shrinks, IsTermOf, FitsTerm};
-ghost use Rattle.fz_varelement.specs.Matching.{IsChosen, AreAllMatched, AreMatches, IsNarrowed};
+ghost use Rattle.fz_varelement.specs.Matching.{IsChosen, AreAllMatched, AreMatches, IsNarrowed, Has, AreWithin};
 
 use crate::matches::{copy_of, matches_of};
+use crate::near::near_matches;
+use crate::numbers::{Matches, keep};
 use crate::words::{are_all_matched, term_at};
-use fz_dom::Dom;
 use fz_prop::indices::last_index;
 use fz_prop::terms::{are_fixed, keep_in, keep_range, value_of};
 use fz_prop::{Answer, Change, Store};
@@ -92,11 +93,14 @@ fn keep_matches(
         (λ r. IsNarrowed r terms.now index value store.old store.new) }
 {
     let _ = store.doms();
+    if let Some(matches) = near_matches(store, index, terms, value) {
+        return keep_indices(alloc, store, index, terms, value, &matches);
+    }
     if are_all_matched(store, index, terms, value) {
         return keep_last(alloc, store, index, terms, value);
     }
-    let (indices, numbers) = matches_of(alloc, store, index, terms, value)?;
-    keep_indices(alloc, store, index, terms, value, &indices, &numbers)
+    let matches = matches_of(alloc, store, index, terms, value)?;
+    keep_indices(alloc, store, index, terms, value, &matches)
 }
 
 /// Keeps the indices that have a match, and then the numbers that do.
@@ -106,23 +110,25 @@ fn keep_indices(
     index: Term,
     terms: &[Term],
     value: Term,
-    indices: &Dom,
-    numbers: &Dom,
+    matches: &Matches,
 ) -> Result<Change, AllocError>
     requires index { IsTermOf (length store.old.doms) index }
     requires terms { AllByRecursion (IsTermOf (length store.old.doms)) terms.now }
     requires value { IsTermOf (length store.old.doms) value }
     requires fits { FitsTerm value }
-    requires matches { AreMatches terms.now index value store.old.doms indices.now numbers.now }
+    requires matches { AreMatches terms.now index value store.old.doms
+        (λ i. Has matches.now.indices i) (λ n. Has matches.now.numbers n) }
+    requires indices { AreWithin matches.now.indices }
+    requires numbers { AreWithin matches.now.numbers }
     ensures shrinks { Shrinks store.old store.new }
     ensures correct { IsCorrectOf (IsChosen terms.now index value) store.old.doms store.new.doms }
     ensures narrowed { IfOk result
         (λ r. IsNarrowed r terms.now index value store.old store.new) }
 {
-    match keep_in(store, index, indices)? {
+    match keep(store, index, &matches.indices)? {
         Change::Wiped => Ok(Change::Wiped),
-        Change::Same => keep_numbers(alloc, store, index, terms, value, indices, numbers),
-        Change::Changed => match keep_in(store, value, numbers)? {
+        Change::Same => keep_numbers(alloc, store, index, terms, value, matches),
+        Change::Changed => match keep(store, value, &matches.numbers)? {
             Change::Wiped => Ok(Change::Wiped),
             Change::Same | Change::Changed => Ok(Change::Changed),
         },
@@ -136,23 +142,25 @@ fn keep_numbers(
     index: Term,
     terms: &[Term],
     value: Term,
-    indices: &Dom,
-    numbers: &Dom,
+    matches: &Matches,
 ) -> Result<Change, AllocError>
     requires index { IsTermOf (length store.old.doms) index }
     requires terms { AllByRecursion (IsTermOf (length store.old.doms)) terms.now }
     requires value { IsTermOf (length store.old.doms) value }
     requires fits { FitsTerm value }
-    requires matches { AreMatches terms.now index value store.old.doms indices.now numbers.now }
-    requires all { (i : ℤ) → IsInSet (term_set store.old.doms index) i → IsInSet indices.now i }
+    requires matches { AreMatches terms.now index value store.old.doms
+        (λ i. Has matches.now.indices i) (λ n. Has matches.now.numbers n) }
+    requires indices { AreWithin matches.now.indices }
+    requires numbers { AreWithin matches.now.numbers }
+    requires all { (i : ℤ) → IsInSet (term_set store.old.doms index) i
+        → Has matches.now.indices i }
     ensures shrinks { Shrinks store.old store.new }
     ensures correct { IsCorrectOf (IsChosen terms.now index value) store.old.doms store.new.doms }
     ensures narrowed { IfOk result
         (λ r. IsNarrowed r terms.now index value store.old store.new) }
 {
-    let _ = indices;
     let _ = store.doms();
-    match keep_in(store, value, numbers)? {
+    match keep(store, value, &matches.numbers)? {
         Change::Same => keep_last(alloc, store, index, terms, value),
         change => Ok(change),
     }

@@ -74,7 +74,7 @@ fn found_in(
 }
 
 /// The bits of what is left of a term, where bit 0 stands for a base.
-fn word_of(store: &Store, term: Term, base: i32) -> u64
+pub fn word_of(store: &Store, term: Term, base: i32) -> u64
     requires { IsTermOf (length store.now.doms) term }
     ensures { AreOnes result (λ j. IsInSet (term_set store.now.doms term) (base +ℤ pos j)) }
 {

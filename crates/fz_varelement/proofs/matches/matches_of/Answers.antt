@@ -39,8 +39,8 @@ loop-place-preserved c =
       | in-None w ↦ rw (w.places-is, w.found-is, next) (matches_passed xs k v ds places found j (rw w.in-None.is at c.in_ok-numbers.ensures) c.loop-place.invariant)
     ]
 
-pub returns : goal.returns
-returns c =
+pub returns-clause-matches : goal.returns-clause-matches
+returns-clause-matches c =
     let j = to_z w32 c.loop-place.place-bits in
     let xs = c.args.terms.now in
     let ds = c.args.store.now.doms in

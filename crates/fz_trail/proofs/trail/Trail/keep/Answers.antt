@@ -1,6 +1,6 @@
 use Rattle.std.proofs.Common.{ℕ, ◌∙◌, inr, subst, sym}
 use Rattle.fz_trail.specs.Places.{IsNear, IsOneMore}
-use Rattle.fz_trail.proofs.Places.{still_near, made_near, further, trail_more}
+use Rattle.fz_trail.proofs.Places.{still_near, made_near, due_above, trail_more}
 use Rattle.fz_trail.proofs.trail.Trail.keep.Goals as goal
 
 pub returns-then-not-is_due-clause-near : goal.returns-then-not-is_due-clause-near
@@ -17,4 +17,4 @@ pub returns-clause-trail : goal.returns-clause-trail
 returns-clause-trail g c = λ m known es size is t.
     let u = c.make_room.ensures.trail m known es t in
     trail_more g.S.SearchSpace.spaced m known es c.make_room.new.self c.put.new.self c.args.depth c.args.space.now c.put.ensures.rest c.put.ensures.distances c.in_ok-put.ensures.copies size is
-    (further c.make_room.new.self.copies.items c.make_room.new.self.distance c.args.depth u.distances.0 (c.is_due.ensures.due c.if-not-is_due.false)) (c.make_room.ensures.room t.few) u
+    (due_above c.make_room.new.self.came_back c.make_room.new.self.distance c.args.depth c.make_room.new.self.copies.items (c.is_due.ensures.due.0 c.if-not-is_due.false)) (c.make_room.ensures.room t.few) u

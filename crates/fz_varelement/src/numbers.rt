@@ -1,0 +1,42 @@
+//! Numbers that terms are to keep.
+ghost use Rattle.std.specs.Prelude.{◌≡◌, length, IfOk, OnErr};
+ghost use Rattle.fz_prop.specs.Stores.{Shrinks, IsTermOf, IsTermChange};
+ghost use Rattle.fz_varelement.specs.Matching.{Has, AreWithin};
+
+use fz_bits::Window;
+use fz_dom::Dom;
+use fz_prop::terms::{keep_in, keep_window};
+use fz_prop::{Change, Store};
+use fz_spec::term::Term;
+use std::alloc::AllocError;
+
+/// Numbers that a term is to keep.
+#[derive(Drop)]
+pub enum Numbers {
+    /// Those of a window.
+    Near(Window),
+    /// Those of a domain.
+    Far(Dom),
+}
+
+/// The indices and the numbers of matches.
+#[derive(Drop)]
+pub struct Matches {
+    pub indices: Numbers,
+    pub numbers: Numbers,
+}
+
+/// Keeps the numbers of a term that are among others.
+pub fn keep(store: &mut Store, term: Term, numbers: &Numbers) -> Result<Change, AllocError>
+    requires term { IsTermOf (length store.old.doms) term }
+    requires within { AreWithin numbers.now }
+    ensures shrinks { Shrinks store.old store.new }
+    ensures err { OnErr result (store.new ≡ store.old) }
+    ensures change { IfOk result
+        (λ r. IsTermChange r term (λ x. Has numbers.now x) store.old store.new) }
+{
+    match numbers {
+        Numbers::Near(window) => keep_window(store, term, *window),
+        Numbers::Far(set) => keep_in(store, term, set),
+    }
+}
