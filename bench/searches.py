@@ -268,6 +268,50 @@ def knights_tour(n):
     return text
 
 
+def lessons(count, days, seed):
+    """Lessons behind one another, on the first five days of each week, by the quotient and the rest of what day it is."""
+    text, dice = Text(), random.Random(seed)
+    starts = [text.variable(f"s{i}", f"0..{days}") for i in range(count)]
+    weekdays = [text.variable(f"w{i}", "0..4") for i in range(count)]
+    weeks = [text.variable(f"q{i}", f"0..{days // 7}") for i in range(count)]
+    for start, weekday, week in zip(starts, weekdays, weeks):
+        text.add(f"int_mod({start},7,{weekday})")
+        text.add(f"int_div({start},7,{week})")
+    for first, second in zip(starts, starts[1:]):
+        text.before(first, dice.randint(2, 5), second)
+    text.linear("le", [(1, weekday) for weekday in weekdays], 2 * count - 2)
+    text.divide(starts)
+    return text
+
+
+def remainders(count, greatest, divisor, seed):
+    """A sum of numbers, and one of what a divisor leaves of them; these are searched first."""
+    text, dice = Text(), random.Random(seed)
+    numbers = [text.variable(f"x{i}", f"0..{greatest}") for i in range(count)]
+    rests = [text.variable(f"r{i}", f"0..{divisor - 1}") for i in range(count)]
+    for number, rest in zip(numbers, rests):
+        text.add(f"int_mod({number},{divisor},{rest})")
+    text.linear("eq", [(dice.randint(1, 4), number) for number in numbers], dice.randint(greatest, greatest * count))
+    text.linear("eq", [(dice.randint(1, 3), rest) for rest in rests], dice.randint(divisor, divisor * count // 2))
+    text.divide(rests)
+    text.divide(numbers)
+    return text
+
+
+def doubles(count, greatest, seed):
+    """A sum of numbers that are twice others."""
+    text, dice = Text(), random.Random(seed)
+    halves = [text.variable(f"x{i}", f"0..{greatest}") for i in range(count)]
+    numbers = [text.variable(f"y{i}", f"0..{2 * greatest}") for i in range(count)]
+    for half, number in zip(halves, numbers):
+        text.add(f"int_plus({half},{half},{number})")
+    text.linear("eq", [(dice.randint(1, 4), number) for number in reversed(numbers)], 2 * dice.randint(greatest, 2 * greatest))
+    for half, number in zip(halves, numbers[1:]):
+        text.linear("le", [(1, half), (-1, number)], 3)
+    text.divide(numbers)
+    return text
+
+
 # A model, and the words it is run with.
 MODELS = {
     "colouring_80": (lambda: colouring(80, 400, 4, 1), ["-n", "20000"]),
@@ -301,4 +345,7 @@ MODELS = {
     "donald_gerald": (lambda: puzzle(["DONALD", "GERALD"], "ROBERT", "DONALGERBT"), ["-a"]),
     "packing_6": (lambda: packing(6, 9, 4, 3), ["-a"]),
     "packing_8": (lambda: packing(8, 10, 4, 5), ["-a"]),
+    "lessons_7": (lambda: lessons(7, 41, 4), ["-a"]),
+    "remainders_6": (lambda: remainders(6, 24, 5, 1), ["-a"]),
+    "doubles_6": (lambda: doubles(6, 20, 8), ["-a"]),
 }

@@ -55,11 +55,11 @@ ends_by start time job h taken = let b = h.latest in let e = le_of (job.latest +
 
 -- ---- too much
 
-pub overloaded : (jobs : List Job) (time end : ℤ) → IsSoonestEnd jobs (EndingBy time) time end → time <ℤ end → HasNoSchedule jobs
-overloaded jobs time end soonest over = λ start h.
+pub overloaded : (jobs : List Job) (floor time end : ℤ) → floor ≤ℤ time → IsSoonestEnd jobs (EndingBy time) floor end → time <ℤ end → HasNoSchedule jobs
+overloaded jobs floor time end from soonest over = λ start h.
     let all = all_passing (takes (EndingBy time)) (HasEnded start time) jobs
     (all_each (IsStarted start) (λ (job : Job). takes (EndingBy time) job ≡ true → HasEnded start time job) jobs (λ job started taken. ends_by start time job started taken) (all_started start jobs h)) in
-    let low = soonest start time h (omega (arith, ints)) all in
+    let low = soonest start time h from all in
     omega (arith, ints, low, over)
 
 -- ---- those before a job

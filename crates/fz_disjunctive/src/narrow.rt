@@ -1,5 +1,5 @@
 //! Narrowing a store by the order of its tasks.
-ghost use Rattle.std.specs.Prelude.{◌≡◌, ◌<◌, ℤ, pos, ◌-ℤ◌, ◌≤ℤ◌, List, length, IfOk};
+ghost use Rattle.std.specs.Prelude.{◌≡◌, ◌<◌, ℤ, pos, ◌-ℤ◌, ◌≤ℤ◌, List, length, IfOk, IsTrue};
 ghost use Rattle.std.specs.List.{AllByRecursion};
 ghost use Rattle.fz_spec.specs.Constraints.{term_value};
 ghost use Rattle.fz_strength.specs.Domains.{Within};
@@ -11,8 +11,8 @@ ghost use Rattle.fz_disjunctive.specs.Jobs.{begins};
 ghost use Rattle.fz_disjunctive.specs.Outcomes.{IsScheduling};
 
 use crate::job::{Direction, Job};
-use crate::order::{earliest_start, is_overloaded, soonest_ends};
-use crate::tasks::jobs_of;
+use crate::order::{earliest_start, soonest_ends, time_of};
+use crate::tasks::{are_wide, jobs_of};
 use fz_cumulative::{keep_shared, lacks_energy, open_tasks};
 use fz_prop::terms::{greatest_of, keep_from, keep_to};
 use fz_prop::{Answer, Change, Store};
@@ -68,7 +68,7 @@ fn keep_both(
         (λ r. IsOutcome r (TasksShare starts.now durations.now usages.now bound)
         store.old store.new) }
 {
-    if lacks_energy(alloc, store, starts, durations, usages, bound)? {
+    if is_overdrawn(alloc, store, starts, durations, usages, bound)? {
         return Ok(Change::Wiped);
     }
     let forward = Direction::Forward;
@@ -80,6 +80,27 @@ fn keep_both(
         }
         change => Ok(change),
     }
+}
+
+/// Whether tasks use more than the bound in some window. Where no two of them can run at the same time, their order tells as much.
+fn is_overdrawn(
+    alloc: Global,
+    store: &Store,
+    starts: &[Term],
+    durations: &[Term],
+    usages: &[Term],
+    bound: Term,
+) -> Result<bool, AllocError>
+    requires { AreTermsOf (length store.now.doms) starts.now durations.now usages.now bound }
+    ensures { IfOk result (λ r. IsTrue r → (a : List ℤ) → Within store.now.doms a
+        → TasksShare starts.now durations.now usages.now bound a → ⊥) }
+{
+    let tasks = open_tasks(alloc, store, starts, durations, usages)?;
+    let high = greatest_of(store, bound);
+    if are_wide(&tasks, high) {
+        return Ok(false);
+    }
+    lacks_energy(alloc, store, starts, durations, usages, bound)
 }
 
 /// Narrows a store by the order of those tasks of which no two can run at the same time, in one direction.
@@ -107,34 +128,41 @@ fn keep_order(
     if jobs.len() < 2 {
         return Ok(Change::Same);
     }
-    if is_overloaded(&jobs) {
-        return Ok(Change::Wiped);
+    match soonest_ends(alloc, &jobs)? {
+        None => Ok(Change::Wiped),
+        Some(ends) => {
+            let change = keep_starts(store, starts, &jobs, &ends, direction)?;
+            Ok(change)
+        }
     }
-    let change = keep_starts(alloc, store, starts, &jobs, direction)?;
-    Ok(change)
 }
 
-/// Keeps each job from the earliest start on that the order leaves, as the jobs were before.
+/// Keeps each job that isn't fixed from the earliest start on that the order leaves, as the jobs were before. `ends` are their soonest
+/// ends.
 fn keep_starts(
-    alloc: Global,
     store: &mut Store,
     starts: &[Term],
     jobs: &[Job],
+    ends: &[i128],
     direction: Direction,
 ) -> Result<Change, AllocError>
     requires terms { AllByRecursion (IsTermOf (length store.old.doms)) starts.now }
     requires places { AllByRecursion (λ (job : Job). job.place < length starts.now) jobs.now }
+    requires ends { length ends.now ≡ length jobs.now }
     ensures shrinks { Shrinks store.old store.new }
     ensures correct { IsCorrectOf (IsScheduling direction jobs.now starts.now)
         store.old.doms store.new.doms }
     ensures outcome { IfOk result
         (λ r. IsOutcome r (IsScheduling direction jobs.now starts.now) store.old store.new) }
 {
-    let ends = soonest_ends(alloc, jobs)?;
+    let total = time_of(jobs);
     let mut has_changed = false;
     for index in 0..jobs.len() {
         let job = jobs[index];
-        let time = earliest_start(jobs, &ends, index);
+        if job.earliest == job.latest {
+            continue;
+        }
+        let time = earliest_start(jobs, ends, total, index);
         if time <= i128::from(job.earliest) {
             continue;
         }

@@ -1,5 +1,5 @@
 //! In which order jobs can run (Vilím: "Global constraints in scheduling").
-ghost use Rattle.std.specs.Prelude.{◌≡◌, ◌+◌, ◌*◌, ◌^◌, ◌≤◌, ◌<◌, ◌+ℤ◌, IsTrue, IfOk, IfSome, length, unsigned_abs};
+ghost use Rattle.std.specs.Prelude.{◌≡◌, ◌+◌, ◌*◌, ◌^◌, ◌≤◌, ◌<◌, ◌+ℤ◌, IsTrue, IfOk, IfSome, MatchOption, length, unsigned_abs};
 ghost use Rattle.fz_disjunctive.specs.declared.job.Choice.TheVariants.{EndingBy};
 ghost use Rattle.fz_disjunctive.specs.Schedules.{IsSoonestEnd, IsBehind, IsEarliest, IsOfJob, HasNoSchedule, IsLoad, chosen};
 
@@ -43,43 +43,44 @@ pub fn soonest_end(jobs: &[Job], choice: Choice, floor: i128) -> i128
     end
 }
 
-/// Whether jobs that have to end by some time can't.
-pub fn is_overloaded(jobs: &[Job]) -> bool
-    ensures { IsTrue result → HasNoSchedule jobs.now }
-{
-    for index in 0..jobs.len() {
-        let time = jobs[index].latest_end();
-        if soonest_end(jobs, Choice::EndingBy(time), time) > time {
-            return true;
-        }
-    }
-    false
-}
-
-/// For each job how soon all can have ended that end by its latest end at the latest.
+/// For each job how soon all can have ended that end by its latest end at the latest; `None` where that is later for one.
 ///
 /// # Errors
 /// `AllocError` where there is no memory.
-pub fn soonest_ends(alloc: Global, jobs: &[Job]) -> Result<Vec<i128>, AllocError>
-    ensures { IfOk result (λ v. length v.items ≡ length jobs.now) }
+pub fn soonest_ends(alloc: Global, jobs: &[Job]) -> Result<Option<Vec<i128>>, AllocError>
+    ensures { IfOk result (λ ends. MatchOption ends (HasNoSchedule jobs.now)
+        (λ v. length v.items ≡ length jobs.now)) }
 {
     let mut ends = Vec::new(alloc);
     for index in 0..jobs.len() {
-        let job = jobs[index];
-        let choice = Choice::EndingBy(job.latest_end());
-        ends.push(soonest_end(jobs, choice, i128::from(job.earliest)))?;
+        let time = jobs[index].latest_end();
+        let end = soonest_end(jobs, Choice::EndingBy(time), i128::MIN);
+        if end > time {
+            return Ok(None);
+        }
+        ends.push(end)?;
     }
-    Ok(ends)
+    Ok(Some(ends))
 }
 
-/// When the job at an index can start: once those have ended that come before it. `ends` are the soonest ends of the jobs.
-pub fn earliest_start(jobs: &[Job], ends: &[i128], index: usize) -> i128
+/// How long jobs last together, or less.
+pub fn time_of(jobs: &[Job]) -> i64 {
+    let mut total = 0i64;
+    for index in 0..jobs.len() {
+        total = total.saturating_add(i64::from(jobs[index].duration));
+    }
+    total
+}
+
+/// When the job at an index can start: once those have ended that come before it. `ends` are the soonest ends of the jobs, `total` is
+/// how long all last.
+pub fn earliest_start(jobs: &[Job], ends: &[i128], total: i64, index: usize) -> i128
     requires index { index < length jobs.now }
     requires ends { length ends.now ≡ length jobs.now }
     ensures { IsOfJob jobs.now index (IsEarliest jobs.now result) }
 {
     let all = start_behind_all(jobs, ends, index);
-    let one = start_behind_one(jobs, index);
+    let one = start_behind_one(jobs, total, index);
     all.max(one)
 }
 
@@ -147,15 +148,20 @@ fn load_of(jobs: &[Job], choice: Choice) -> Load
     load
 }
 
-/// When the job at an index can start, since it can't come before all of some others: once one of them has ended.
-fn start_behind_one(jobs: &[Job], index: usize) -> i128
+/// When the job at an index can start, since it can't come before all of some others: once one of them has ended. Where all jobs
+/// together last no longer than there is time, nothing is looked for.
+fn start_behind_one(jobs: &[Job], total: i64, index: usize) -> i128
     requires { index < length jobs.now }
     ensures { IsOfJob jobs.now index (IsEarliest jobs.now result) }
 {
     let job = jobs[index];
     let mut earliest = i128::from(job.earliest);
+    let most = i128::from(job.earliest.saturating_add(total));
     for other in 0..jobs.len() {
         let time = jobs[other].latest_end();
+        if most <= time {
+            continue;
+        }
         if !Choice::Beside(job, time).takes(jobs[other]) {
             continue;
         }

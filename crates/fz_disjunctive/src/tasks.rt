@@ -1,5 +1,5 @@
 //! The jobs among tasks.
-ghost use Rattle.std.specs.Prelude.{◌≡◌, pos, ◌+ℤ◌, ◌-ℤ◌, IsTrue, IfOk};
+ghost use Rattle.std.specs.Prelude.{◌≡◌, ◌<◌, pos, ◌+ℤ◌, ◌-ℤ◌, IsTrue, IfOk, length};
 ghost use Rattle.fz_disjunctive.specs.Jobs.{AreJobs, IsWide, job_of};
 
 use crate::job::{Direction, Job};
@@ -47,7 +47,39 @@ fn job_of(task: OpenTask, place: usize, direction: Direction) -> Job
     }
 }
 
-/// The jobs that tasks are, from the last to the first earliest start: those that last and use more than half of a bound.
+/// Whether a task has ended before another can begin.
+fn ends_before(task: OpenTask, other: OpenTask) -> bool {
+    i64::from(task.latest) + i64::from(task.duration) <= i64::from(other.earliest)
+}
+
+/// Whether no other task can run at a time at which the one at a place can.
+fn runs_alone(tasks: &[OpenTask], place: usize) -> bool
+    requires { place < length tasks.now }
+{
+    let task = tasks[place];
+    for other in 0..tasks.len() {
+        if other == place {
+            continue;
+        }
+        if !ends_before(task, tasks[other]) && !ends_before(tasks[other], task) {
+            return false;
+        }
+    }
+    true
+}
+
+/// Whether all tasks use more than half of a bound.
+pub fn are_wide(tasks: &[OpenTask], high: i32) -> bool {
+    for place in 0..tasks.len() {
+        if !is_wide(tasks[place], high) {
+            return false;
+        }
+    }
+    true
+}
+
+/// The jobs that tasks are, from the last to the first earliest start: those that last and use more than half of a bound, but for
+/// those that run alone.
 ///
 /// # Errors
 /// `AllocError` where there is no memory.
@@ -62,6 +94,9 @@ pub fn jobs_of(
     let mut jobs = Vec::new(alloc);
     for place in 0..tasks.len() {
         if !is_wide(tasks[place], high) {
+            continue;
+        }
+        if runs_alone(tasks, place) {
             continue;
         }
         jobs.push(job_of(tasks[place], place, direction))?;

@@ -1,4 +1,4 @@
-use Rattle.std.proofs.Common.{rules, refl, length, SFits}
+use Rattle.std.proofs.Common.{rules, length, SFits}
 use Rattle.std.proofs.Math.Facts.{to_z-of_z}
 use mir.Syntax.{w32}
 use Rattle.fz_strength.proofs.Cumulatives.{all_of_tasks}
@@ -24,23 +24,23 @@ keep_starts-requires-clause-places c =
     let shop : IsShop c.args.direction c.args.store.now.doms c.args.starts.now c.args.durations.now c.args.usages.now c.args.bound c.in_ok-jobs.jobs.items =
     shop_of c.args.direction c.args.store.now.doms c.args.starts.now c.args.durations.now c.args.usages.now c.args.bound c.in_ok-tasks.tasks.items c.greatest_of-high.result c.in_ok-jobs.jobs.items
     c.requires c.doms.ensures.store.domains c.in_ok-tasks.ensures c.greatest_of-high.ensures.greatest (rw (c.deref.ensures.value, to_z-of_z high_fits) at c.in_ok-jobs.ensures) in
-    rw c.deref-3.ensures.value (shop_places c.args.direction c.args.store.now.doms c.args.starts.now c.args.durations.now c.args.usages.now c.args.bound c.in_ok-jobs.jobs.items shop)
+    rw c.deref-in-Some.ensures.value (shop_places c.args.direction c.args.store.now.doms c.args.starts.now c.args.durations.now c.args.usages.now c.args.bound c.in_ok-jobs.jobs.items shop)
 
-pub returns-then-is_overloaded-clause-outcome : goal.returns-then-is_overloaded-clause-outcome
-returns-then-is_overloaded-clause-outcome c =
+pub returns-in-None-clause-outcome : goal.returns-in-None-clause-outcome
+returns-in-None-clause-outcome c =
     let high_fits : SFits w32 c.greatest_of-high.result = search rules in
     let shop : IsShop c.args.direction c.args.store.now.doms c.args.starts.now c.args.durations.now c.args.usages.now c.args.bound c.in_ok-jobs.jobs.items =
     shop_of c.args.direction c.args.store.now.doms c.args.starts.now c.args.durations.now c.args.usages.now c.args.bound c.in_ok-tasks.tasks.items c.greatest_of-high.result c.in_ok-jobs.jobs.items
     c.requires c.doms.ensures.store.domains c.in_ok-tasks.ensures c.greatest_of-high.ensures.greatest (rw (c.deref.ensures.value, to_z-of_z high_fits) at c.in_ok-jobs.ensures) in
-    shop_fails c.args.direction c.args.store.now c.args.store.now c.args.starts.now c.args.durations.now c.args.usages.now c.args.bound c.in_ok-jobs.jobs.items shop (rw c.deref-2.ensures.value at (c.if-is_overloaded.ensures refl))
+    shop_fails c.args.direction c.args.store.now c.args.store.now c.args.starts.now c.args.durations.now c.args.usages.now c.args.bound c.in_ok-jobs.jobs.items shop (rw (c.deref-2.ensures.value, c.in-None.is) at c.in_ok-soonest_ends.ensures)
 
-pub returns-in_err-change-clause-correct : goal.returns-in_err-change-clause-correct
-returns-in_err-change-clause-correct c =
+pub returns-in_err-change-in-Some-clause-correct : goal.returns-in_err-change-in-Some-clause-correct
+returns-in_err-change-in-Some-clause-correct c =
     let high_fits : SFits w32 c.greatest_of-high.result = search rules in
     let shop : IsShop c.args.direction c.args.store.now.doms c.args.starts.now c.args.durations.now c.args.usages.now c.args.bound c.in_ok-jobs.jobs.items =
     shop_of c.args.direction c.args.store.now.doms c.args.starts.now c.args.durations.now c.args.usages.now c.args.bound c.in_ok-tasks.tasks.items c.greatest_of-high.result c.in_ok-jobs.jobs.items
     c.requires c.doms.ensures.store.domains c.in_ok-tasks.ensures c.greatest_of-high.ensures.greatest (rw (c.deref.ensures.value, to_z-of_z high_fits) at c.in_ok-jobs.ensures) in
-    shop_correct c.args.direction c.args.store.now.doms c.keep_starts.new.store.doms c.args.starts.now c.args.durations.now c.args.usages.now c.args.bound c.in_ok-jobs.jobs.items shop (rw c.deref-3.ensures.value at c.keep_starts.ensures.correct)
+    shop_correct c.args.direction c.args.store.now.doms c.keep_starts.new.store.doms c.args.starts.now c.args.durations.now c.args.usages.now c.args.bound c.in_ok-jobs.jobs.items shop (rw c.deref-in-Some.ensures.value at c.keep_starts.ensures.correct)
 
 pub returns-clause-correct : goal.returns-clause-correct
 returns-clause-correct c =
@@ -48,7 +48,7 @@ returns-clause-correct c =
     let shop : IsShop c.args.direction c.args.store.now.doms c.args.starts.now c.args.durations.now c.args.usages.now c.args.bound c.in_ok-jobs.jobs.items =
     shop_of c.args.direction c.args.store.now.doms c.args.starts.now c.args.durations.now c.args.usages.now c.args.bound c.in_ok-tasks.tasks.items c.greatest_of-high.result c.in_ok-jobs.jobs.items
     c.requires c.doms.ensures.store.domains c.in_ok-tasks.ensures c.greatest_of-high.ensures.greatest (rw (c.deref.ensures.value, to_z-of_z high_fits) at c.in_ok-jobs.ensures) in
-    shop_correct c.args.direction c.args.store.now.doms c.keep_starts.new.store.doms c.args.starts.now c.args.durations.now c.args.usages.now c.args.bound c.in_ok-jobs.jobs.items shop (rw c.deref-3.ensures.value at c.keep_starts.ensures.correct)
+    shop_correct c.args.direction c.args.store.now.doms c.keep_starts.new.store.doms c.args.starts.now c.args.durations.now c.args.usages.now c.args.bound c.in_ok-jobs.jobs.items shop (rw c.deref-in-Some.ensures.value at c.keep_starts.ensures.correct)
 
 pub returns-clause-outcome : goal.returns-clause-outcome
 returns-clause-outcome c =
@@ -56,4 +56,4 @@ returns-clause-outcome c =
     let shop : IsShop c.args.direction c.args.store.now.doms c.args.starts.now c.args.durations.now c.args.usages.now c.args.bound c.in_ok-jobs.jobs.items =
     shop_of c.args.direction c.args.store.now.doms c.args.starts.now c.args.durations.now c.args.usages.now c.args.bound c.in_ok-tasks.tasks.items c.greatest_of-high.result c.in_ok-jobs.jobs.items
     c.requires c.doms.ensures.store.domains c.in_ok-tasks.ensures c.greatest_of-high.ensures.greatest (rw (c.deref.ensures.value, to_z-of_z high_fits) at c.in_ok-jobs.ensures) in
-    shop_outcome c.in_ok-change.change c.args.direction c.args.store.now c.keep_starts.new.store c.args.starts.now c.args.durations.now c.args.usages.now c.args.bound c.in_ok-jobs.jobs.items shop (rw c.deref-3.ensures.value at c.in_ok-change.ensures.outcome)
+    shop_outcome c.in_ok-change-in-Some.change c.args.direction c.args.store.now c.keep_starts.new.store c.args.starts.now c.args.durations.now c.args.usages.now c.args.bound c.in_ok-jobs.jobs.items shop (rw c.deref-in-Some.ensures.value at c.in_ok-change-in-Some.ensures.outcome)

@@ -1,4 +1,4 @@
-use Rattle.std.proofs.Common.{pos, rules, arith, subst, SFits, w64, get_or}
+use Rattle.std.proofs.Common.{pos, rules, arith, SFits, w64, get_or}
 use Rattle.std.proofs.lemmas.Int.{ints}
 use Rattle.std.proofs.lemmas.Option.{get_or_from_slice_get}
 use Rattle.std.proofs.Math.Facts.{to_z-of_z}

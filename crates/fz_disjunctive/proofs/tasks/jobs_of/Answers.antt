@@ -8,6 +8,9 @@ use Rattle.fz_disjunctive.proofs.tasks.jobs_of.Goals as goal
 pub loop-place-preserved-then-not-is_wide : goal.loop-place-preserved-then-not-is_wide
 loop-place-preserved-then-not-is_wide c = sofar_same c.args.direction c.args.tasks.now _ c.loop-place.jobs.items c.loop-place.place c.loop-place.invariant
 
+pub loop-place-preserved-then-runs_alone : goal.loop-place-preserved-then-runs_alone
+loop-place-preserved-then-runs_alone c = sofar_same c.args.direction c.args.tasks.now _ c.loop-place.jobs.items c.loop-place.place c.loop-place.invariant
+
 pub loop-place-preserved : goal.loop-place-preserved
 loop-place-preserved c =
     let d : OpenTask = record { earliest = pos 0; latest = pos 0; duration = pos 0; usage = pos 0 } in
