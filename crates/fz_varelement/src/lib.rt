@@ -3,7 +3,7 @@
 
 mod matches;
 mod near;
-pub mod numbers;
+mod numbers;
 mod select;
 pub mod variable_element;
 mod words;
