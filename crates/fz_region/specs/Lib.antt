@@ -1,3 +1,4 @@
 pub mod Each
 pub mod Alternatives
 pub mod Places
+pub mod Pieces

@@ -1,5 +1,5 @@
 //! Frontiers.
-ghost use Rattle.std.specs.Prelude.{◌≡◌, ◌+◌, ◌^◌, ◌≤◌, ◌<◌, ◌++◌, ◌∷◌, [], ◌↔◌, true, false, cond, is_some, length, IfOk, IfSome, IfNone, OnOk, OnErr, OnSome, IsTrue};
+ghost use Rattle.std.specs.Prelude.{◌≡◌, ◌≤◌, ◌<◌, ◌++◌, ◌∷◌, [], ◌↔◌, true, false, cond, is_some, length, IfOk, IfSome, IfNone, OnOk, OnErr, OnSome, IsTrue};
 ghost use Rattle.std.specs.Bool.{OnTrue, OnFalse};
 ghost use Rattle.std.specs.List.{list_any};
 ghost use Rattle.fz_tree.specs.Choice.{IsChoice};
@@ -7,7 +7,7 @@ ghost use Rattle.fz_tree.specs.Frontier.{AreEdges, In, is_in, is_below, times_in
 
 use crate::choice::Choice;
 use crate::edge::Edge;
-use crate::places::{deepest, topmost};
+use crate::edges::Edges;
 use fz_model::assignment::Assignment;
 use std::alloc::{AllocError, Global};
 use std::marker::Model;
@@ -15,7 +15,7 @@ use std::marker::Model;
 /// The open part of a search tree: edges from the root down, and whether the place below them is open.
 #[derive(Drop)]
 pub struct Frontier {
-    edges: Vec<Edge>,
+    edges: Edges,
     current_open: bool,
 }
 
@@ -24,9 +24,9 @@ impl Model for Frontier {
 
     ghost Value = { frontier.Frontier };
 
-    ghost view = { λ f. record { edges = f.edges.items; current_open = f.current_open } };
+    ghost view = { λ f. record { edges = f.edges; current_open = f.current_open } };
 
-    ghost invariant = { λ f. frontier.AreEdges f.edges.items };
+    ghost invariant = { λ f. frontier.AreEdges f.edges };
 }
 
 impl Frontier {
@@ -35,13 +35,13 @@ impl Frontier {
         ensures { result ≡ record { edges = []; current_open = true } }
     {
         Frontier {
-            edges: Vec::new(alloc),
+            edges: Edges::new(alloc),
             current_open: true,
         }
     }
 
     /// The edges, from the root down.
-    pub fn edges(&self) -> &[Edge]
+    pub fn edges(&self) -> &Edges
         ensures edges { result.now ≡ self.now.edges }
         ensures kept { AreEdges self.now.edges }
     {
@@ -52,7 +52,7 @@ impl Frontier {
     pub fn allocator(&self) -> Global
         ensures { AreEdges self.now.edges }
     {
-        *self.edges.allocator()
+        self.edges.allocator()
     }
 
     /// Whether the place below the edges is open.
@@ -67,7 +67,7 @@ impl Frontier {
     pub fn can_cut(&self) -> bool
         ensures { result ≡ can_cut self.now }
     {
-        deepest(&self.edges).is_some()
+        self.edges.has_rest()
     }
 
     /// Whether anything is open.
@@ -113,11 +113,9 @@ impl Frontier {
         ensures some { result ≡ can_cut self.old }
         ensures none { OnFalse result (self.new ≡ self.old) }
     {
-        let Some(i) = deepest(&self.edges) else {
+        if !self.edges.take_next() {
             return false;
-        };
-        self.edges[i].take_next();
-        self.edges.truncate(i + 1);
+        }
         self.current_open = true;
         true
     }
@@ -131,11 +129,9 @@ impl Frontier {
         ensures part { IfOk result (λ o. IfSome o (λ f. f ≡ part_of self.now)) }
         ensures some { IfOk result (λ o. is_some o ≡ can_cut self.now) }
     {
-        let Some(i) = topmost(&self.edges) else {
+        let Some(edges) = self.edges.cut()? else {
             return Ok(None);
         };
-        let below = self.edges[i].cut()?;
-        let edges = front_with(*self.edges.allocator(), &self.edges[..i], below)?;
         Ok(Some(Frontier {
             edges,
             current_open: true,
@@ -147,9 +143,7 @@ impl Frontier {
         requires { can_cut self.old ≡ true }
         ensures { self.new ≡ rest_of self.old }
     {
-        if let Some(i) = topmost(&self.edges) {
-            self.edges[i].drop_cut();
-        }
+        self.edges.drop_cut();
     }
 
     /// Cuts a part off and hands it out. `None` exactly where no edge has open alternatives after the taken one; the frontier is
@@ -186,7 +180,7 @@ impl Frontier {
     pub fn same(&self, other: &Frontier) -> bool
         ensures { IsTrue result ↔ (self.now ≡ other.now) }
     {
-        self.current_open == other.current_open && same_edges(&self.edges, &other.edges)
+        self.current_open == other.current_open && self.edges.same(&other.edges)
     }
 
     /// Another frontier that is the same.
@@ -197,7 +191,7 @@ impl Frontier {
         ensures copy { IfOk result (λ f. f ≡ self.now) }
         ensures kept { AreEdges self.now.edges }
     {
-        let edges = copies(*self.edges.allocator(), &self.edges, 0)?;
+        let edges = self.edges.copy()?;
         Ok(Frontier {
             edges,
             current_open: self.current_open,
@@ -205,34 +199,13 @@ impl Frontier {
     }
 }
 
-/// Some edges, and one below them.
-fn front_with(alloc: Global, edges: &[Edge], below: Edge) -> Result<Vec<Edge>, AllocError>
-    requires { length edges.now < 2 ^ 63 }
-    ensures { IfOk result (λ v. v.items ≡ edges.now ++ below ∷ []) }
-{
-    let mut path = copies(alloc, edges, 1)?;
-    path.push(below)?;
-    Ok(path)
-}
-
-/// The same edges once more, with room for some more.
-fn copies(alloc: Global, edges: &[Edge], room: usize) -> Result<Vec<Edge>, AllocError>
-    requires { length edges.now + room ≤ 2 ^ 63 }
-    ensures { IfOk result (λ v. v.items ≡ edges.now) }
-{
-    let mut copies = Vec::with_capacity(alloc, edges.len() + room)?;
-    for edge in edges {
-        copies.push(edge.copy()?)?;
-    }
-    Ok(copies)
-}
-
 /// Whether the numbers are in an open place of the edges, or in the one below them if it is open.
-fn is_inside(edges: &[Edge], current_open: bool, numbers: &[i32]) -> bool
+fn is_inside(edges: &Edges, current_open: bool, numbers: &[i32]) -> bool
     requires { AreEdges edges.now }
     ensures { result ≡ is_below edges.now current_open numbers.now }
 {
-    for edge in edges {
+    for i in 0..edges.len() {
+        let edge = edges.edge(i);
         if edge.other_is_met_by(numbers) {
             return true;
         }
@@ -241,19 +214,4 @@ fn is_inside(edges: &[Edge], current_open: bool, numbers: &[i32]) -> bool
         }
     }
     current_open
-}
-
-/// Whether the two paths are the same.
-fn same_edges(these: &[Edge], those: &[Edge]) -> bool
-    ensures { IsTrue result ↔ (these.now ≡ those.now) }
-{
-    if these.len() != those.len() {
-        return false;
-    }
-    for (i, this) in these.iter().enumerate() {
-        if !this.same(&those[i]) {
-            return false;
-        }
-    }
-    true
 }

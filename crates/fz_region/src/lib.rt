@@ -5,11 +5,15 @@
 
 pub mod choice;
 pub mod edge;
+pub mod edges;
 pub mod frontier;
+pub mod pieces;
 pub mod places;
+pub mod tail;
 pub mod value;
 
 pub use choice::Choice;
 pub use edge::Edge;
+pub use edges::Edges;
 pub use frontier::Frontier;
 pub use fz_tree::decision::{Comparison, Decision};

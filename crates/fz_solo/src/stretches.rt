@@ -10,11 +10,11 @@ use fz_path::{Path, Step};
 use fz_search_space::SearchSpace;
 use std::alloc::AllocError;
 
-/// How many solutions are found, at least, until they are reported; and how many edges a report may copy for each number of theirs, and
-/// for each time that they have waited.
+/// How many solutions are found, at least, until they are reported; and how many edges may be compared for a report for each number of
+/// theirs, and for each time that they have waited.
 const BATCH: u64 = 256;
 
-const EDGES_A_NUMBER: u64 = 2;
+const EDGES_A_NUMBER: u64 = 32;
 
 const EDGES_A_WAIT: u64 = 20_000;
 
@@ -102,7 +102,7 @@ pub fn is_report_due<S: SearchSpace>(path: &Path<S>, waited: u64) -> bool {
     (0 < waited || BATCH <= path.found_count()) && pays_report(path, waited)
 }
 
-/// Whether something is found, and a report copies no more edges than its numbers pay for, and so many times that they waited.
+/// Whether something is found, and the path has no more edges than its numbers pay for, and so many times that they waited.
 fn pays_report<S: SearchSpace>(path: &Path<S>, waited: u64) -> bool {
     let numbers = path
         .found_count()

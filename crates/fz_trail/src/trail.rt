@@ -1,6 +1,6 @@
 //! The spaces beside a path.
 ghost use Rattle.std.specs.Prelude.{◌≡◌, ◌⊎◌, ◌↔◌, ◌≤◌, ◌<◌, ◌+◌, ◌-◌, ◌*◌, ◌++◌, ◌∷◌, [], ℕ, ℤ, List, length, take, false, IsTrue, Option, Some, None, IfNone, is_some, option_map, MatchOption, IfOk, IfSome, IsSomeAnd, OnOk, OnErr};
-ghost use Rattle.std.specs.List.{AllByRecursion};
+ghost use Rattle.std.specs.List.{AllByRecursion, slice_range};
 ghost use Rattle.std.specs.Vec.{vec_len, vec_capacity};
 ghost use Rattle.fz_spec.specs.Instance.{Instance};
 ghost use Rattle.fz_tree.specs.declared.decision.Decision.{Decision};
@@ -14,7 +14,7 @@ ghost use Rattle.fz_trail.specs.declared.kept.TheConstants.{COPIES_MOST, COPIES_
 
 use crate::kept::{COPIES_GONE, COPIES_MOST, Kept};
 use crate::steps::Steps;
-use fz_region::Edge;
+use fz_region::Edges;
 use fz_search_space::SearchSpace;
 use std::alloc::{AllocError, Global};
 use std::sync::ledger::Ledger;
@@ -152,7 +152,7 @@ impl<S: SearchSpace> Trail<S> {
     }
 
     /// The path has moved to these edges: what isn't above them goes.
-    pub fn retreat(&mut self, edges: &[Edge])
+    pub fn retreat(&mut self, edges: &Edges)
         ensures distances { (self.new.distance ≡ self.old.distance)
             × (self.new.adaptive ≡ self.old.adaptive) }
         ensures sparse { self.new.sparse ≡ self.old.sparse }
@@ -177,7 +177,7 @@ impl<S: SearchSpace> Trail<S> {
     /// `AllocError` where there is no memory.
     pub fn take_at<L: Ledger>(
         &mut self,
-        edges: &[Edge],
+        edges: &Edges,
         steps: &mut Steps<L>,
     ) -> Result<S, AllocError>
         requires edges { AreEdges edges.now }
@@ -212,7 +212,7 @@ impl<S: SearchSpace> Trail<S> {
     }
 
     /// The space of a node, made anew from the nearest copy by the decisions behind it.
-    fn remade<L: Ledger>(&mut self, edges: &[Edge], steps: &mut Steps<L>) -> Result<S, AllocError>
+    fn remade<L: Ledger>(&mut self, edges: &Edges, steps: &mut Steps<L>) -> Result<S, AllocError>
         requires edges { AreEdges edges.now }
         requires trail { (m : Instance) × (known : Option (List ℤ))
             × IsTrail S.spaced m known edges.now self.old }
@@ -239,14 +239,14 @@ impl<S: SearchSpace> Trail<S> {
     {
         let kept = self.near(edges, steps)?;
         let mut space = kept.space;
-        commit_all(&mut space, &edges[kept.depth..], steps)?;
+        commit_all(&mut space, edges, kept.depth, edges.len(), steps)?;
         Ok(space)
     }
 
     /// A space above the node below the edges: the nearest one, brought half of the way down where that is long.
     fn near<L: Ledger>(
         &mut self,
-        edges: &[Edge],
+        edges: &Edges,
         steps: &mut Steps<L>,
     ) -> Result<Kept<S>, AllocError>
         requires edges { AreEdges edges.now }
@@ -281,7 +281,7 @@ impl<S: SearchSpace> Trail<S> {
     /// Brings a space half of the way down to the node below the edges, and keeps a copy of it there, where the way is long.
     fn brought_down<L: Ledger>(
         &mut self,
-        edges: &[Edge],
+        edges: &Edges,
         kept: Kept<S>,
         steps: &mut Steps<L>,
     ) -> Result<Kept<S>, AllocError>
@@ -310,25 +310,27 @@ impl<S: SearchSpace> Trail<S> {
         ensures exact { IfOk result (λ k. steps.new + (length edges.now - k.depth)
             ≡ steps.old + (length edges.now - kept.depth)) }
     {
-        if !self.is_way_long(kept.depth, edges.len()) {
+        if !self.is_way_long(kept.depth, edges) {
             return Ok(kept);
         }
         self.go_halfway(edges, kept, steps)
     }
 
-    /// Whether a way has a middle and is as long as the adaptive distance, and there is room for a copy.
-    fn is_way_long(&self, from: usize, to: usize) -> bool
-        requires { from ≤ to }
-        ensures { IsTrue result ↔ IsWayLong self.now.adaptive from to self.now.copies.items }
+    /// Whether the way from a node down to the one below the edges has a middle and is as long as the adaptive distance, and there
+    /// is room for a copy.
+    fn is_way_long(&self, from: usize, edges: &Edges) -> bool
+        requires { from ≤ length edges.now }
+        ensures { IsTrue result
+            ↔ IsWayLong self.now.adaptive from (length edges.now) self.now.copies.items }
     {
-        let count = to - from;
+        let count = edges.len() - from;
         count >= 2 && count >= self.adaptive as usize && self.copies.len() < COPIES_MOST
     }
 
     /// Brings a space half of a long way down, and keeps a copy of it there.
     fn go_halfway<L: Ledger>(
         &mut self,
-        edges: &[Edge],
+        edges: &Edges,
         kept: Kept<S>,
         steps: &mut Steps<L>,
     ) -> Result<Kept<S>, AllocError>
@@ -358,7 +360,7 @@ impl<S: SearchSpace> Trail<S> {
         ensures exact { IfOk result (λ k. steps.new + (length edges.now - k.depth)
             ≡ steps.old + (length edges.now - kept.depth)) }
     {
-        let depth = kept.depth + (edges.len() - kept.depth) / 2;
+        let depth = half_way(edges, kept.depth);
         let space = brought_to(edges, kept, depth, steps)?;
         self.put(depth, &space)?;
         Ok(Kept { depth, space })
@@ -381,7 +383,7 @@ impl<S: SearchSpace> Trail<S> {
     }
 
     /// A space above the node below the edges: the nearest copy, or what was one.
-    fn nearest(&mut self, edges: &[Edge]) -> Result<Kept<S>, AllocError>
+    fn nearest(&mut self, edges: &Edges) -> Result<Kept<S>, AllocError>
         ensures distances { (self.new.distance ≡ self.old.distance)
             × (self.new.adaptive ≡ self.old.adaptive) }
         ensures sparse { self.new.sparse ≡ self.old.sparse }
@@ -404,7 +406,7 @@ impl<S: SearchSpace> Trail<S> {
     }
 
     /// The nearest copy itself, where no other node is remade from it.
-    fn used_copy(&mut self, edges: &[Edge]) -> Option<Kept<S>>
+    fn used_copy(&mut self, edges: &Edges) -> Option<Kept<S>>
         ensures distances { (self.new.distance ≡ self.old.distance)
             × (self.new.adaptive ≡ self.old.adaptive) }
         ensures sparse { self.new.sparse ≡ self.old.sparse }
@@ -450,7 +452,7 @@ impl<S: SearchSpace> Trail<S> {
     }
 
     /// Whether the nearest copy stands at the last edge, which takes its last alternative: no other node is remade from it.
-    fn has_used_copy(&self, edges: &[Edge]) -> bool
+    fn has_used_copy(&self, edges: &Edges) -> bool
         ensures { IsTrue result ↔ HasUsedCopy edges.now self.now.copies.items }
     {
         match (self.copies.last(), edges.last()) {
@@ -569,11 +571,19 @@ impl<S: SearchSpace> Trail<S> {
     }
 }
 
+/// The node half of the way from a node down to the one below the edges.
+fn half_way(edges: &Edges, from: usize) -> usize
+    requires { from ≤ length edges.now }
+    ensures { result ≡ half_down from (length edges.now) }
+{
+    from + (edges.len() - from) / 2
+}
+
 /// How many edges are above the last one.
-fn count_above(edges: &[Edge]) -> usize
+fn count_above(edges: &Edges) -> usize
     ensures { result ≡ length edges.now - 1 }
 {
-    if edges.is_empty() { 0 } else { edges.len() - 1 }
+    edges.len().saturating_sub(1)
 }
 
 /// The space at hand is done with.
@@ -650,7 +660,7 @@ fn copy_of<S: SearchSpace>(
 
 /// The space of a node brought down to another by the decisions between, as far as propagation takes it there.
 fn brought_to<S: SearchSpace, L: Ledger>(
-    edges: &[Edge],
+    edges: &Edges,
     kept: Kept<S>,
     depth: usize,
     steps: &mut Steps<L>,
@@ -664,7 +674,7 @@ fn brought_to<S: SearchSpace, L: Ledger>(
     ensures exact { OnOk result (steps.new ≡ steps.old + (depth - kept.depth)) }
 {
     let mut space = kept.space;
-    commit_all(&mut space, &edges[kept.depth..depth], steps)?;
+    commit_all(&mut space, edges, kept.depth, depth, steps)?;
     space.status()?;
     Ok(space)
 }
@@ -672,7 +682,7 @@ fn brought_to<S: SearchSpace, L: Ledger>(
 /// The space of the node above the last edge brought down that edge.
 fn came_down<S: SearchSpace, L: Ledger>(
     space: S,
-    edges: &[Edge],
+    edges: &Edges,
     steps: &mut Steps<L>,
 ) -> Result<S, AllocError>
     requires edges { AreEdges edges.now }
@@ -684,25 +694,29 @@ fn came_down<S: SearchSpace, L: Ledger>(
         (steps.new ≡ steps.old + (length edges.now - (length edges.now - 1))) }
 {
     let mut space = space;
-    commit_all(&mut space, &edges[count_above(edges)..], steps)?;
+    commit_all(&mut space, edges, count_above(edges), edges.len(), steps)?;
     Ok(space)
 }
 
-/// Takes the decisions of some edges, one after the other.
+/// Takes the decisions of the edges from one place up to another, one after the other.
 fn commit_all<S: SearchSpace, L: Ledger>(
     space: &mut S,
-    edges: &[Edge],
+    edges: &Edges,
+    from: usize,
+    to: usize,
     steps: &mut Steps<L>,
 ) -> Result<(), AllocError>
-    requires { AreEdges edges.now }
-    ensures count { steps.new ≤ steps.old + length edges.now }
-    ensures exact { OnOk result (steps.new ≡ steps.old + length edges.now) }
+    requires edges { AreEdges edges.now }
+    requires places { (from ≤ to) × (to ≤ length edges.now) }
+    ensures count { steps.new ≤ steps.old + (to - from) }
+    ensures exact { OnOk result (steps.new ≡ steps.old + (to - from)) }
     ensures model { (S.spaced space.new).model ≡ (S.spaced space.old).model }
     ensures covers { OnOk result ((known : Option (List ℤ)) (ds : List Decision)
         → Covers known ds (S.spaced space.old)
-        → Covers known (ds ++ decisions_of edges.now) (S.spaced space.new)) }
+        → Covers known (ds ++ decisions_of (slice_range edges.now from to)) (S.spaced space.new)) }
 {
-    'edges: for edge in edges {
+    'places: for place in from..to {
+        let edge = edges.edge(place);
         steps.tick();
         space.commit(&edge.choice, edge.taken)?;
     }

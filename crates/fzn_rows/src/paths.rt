@@ -22,7 +22,7 @@ fn starts_near(rt: &impl Abort, alloc: Global, path: &mut Path<Space>) -> bool {
     match path.start_near(Task::of(Frontier::root(alloc))) {
         Start::Started => true,
         Start::Busy(task) => {
-            assert!(rt; task.frontier().edges().is_empty());
+            assert_eq!(rt; task.frontier().edges().len(), 0);
             false
         }
         Start::NoMemory(_) => panic!(rt; "memory"),

@@ -1,14 +1,8 @@
-use Rattle.std.proofs.Common.{ap, ◌∙◌, ◌+◌, subst, List, true, take, set}
-use Rattle.fz_tree.specs.Frontier.{Edge, Frontier, next_edges}
-use Rattle.fz_region.specs.Places.{IsDeepest}
-use Rattle.fz_region.proofs.AtPlace.{next_code}
+use Rattle.std.proofs.Common.{◌∙◌, sym, subst}
+use Rattle.fz_tree.specs.Frontier.{AreEdges}
+use Rattle.fz_tree.proofs.Propers.{edges_next}
 use Rattle.fz_region.proofs.frontier.Frontier.advance.Goals as goal
 
-pub returns-clause-moved : goal.returns-clause-moved
-returns-clause-moved c =
-    let es : List Edge = c.self.inside.edges.items in
-    let deep : IsDeepest es c.in-Some.i = subst (λ (l : List Edge). IsDeepest l c.in-Some.i) c.deref.ensures.value c.in-Some.ensures in
-    ap (λ (l : List Edge). let f : Frontier = record { edges = l; current_open = true } in f)
-    (next_code es c.truncate.new.self.items c.in-Some.i c.index_mut.result.now deep c.index_mut.ensures.value
-    (c.truncate.ensures.items ∙ ap (λ (e : Edge). take (c.in-Some.i + 1) (set es c.in-Some.i e)) c.take_next.ensures)
-    ∙ ap (λ (f : Frontier). next_edges f.edges) c.self.view_is)
+pub invariant_of-self-2 : goal.invariant_of-self-2
+invariant_of-self-2 c =
+    subst AreEdges (sym c.if-not-take_next.ensures.moved) (edges_next c.self.inside.edges (sym c.take_next.ensures.some ∙ c.if-not-take_next.false) c.self.invariant)

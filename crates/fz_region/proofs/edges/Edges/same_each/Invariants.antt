@@ -1,6 +1,6 @@
 use Rattle.std.proofs.Common.{◌≡◌, take}
-use Rattle.fz_region.proofs.frontier.same_edges.Given as goal
+use Rattle.fz_region.proofs.edges.Edges.same_each.Given as goal
 
 -- those so far are the same
 abbrev pub invariant-loop-i : goal.invariant-loop-i
-invariant-loop-i l = take l.i l.these ≡ take l.i l.those
+invariant-loop-i l = take l.i l.self ≡ take l.i l.other

@@ -1,5 +1,5 @@
 use Rattle.std.proofs.Common.{◌≡◌, take}
-use Rattle.fz_region.proofs.frontier.copies.Given as goal
+use Rattle.fz_region.proofs.tail.copies_of.Given as goal
 
 -- those so far are copied
 abbrev pub invariant-loop-edge : goal.invariant-loop-edge
