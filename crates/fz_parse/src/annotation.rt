@@ -1,5 +1,6 @@
 //! The reading of annotations.
-ghost use Rattle.std.specs.Prelude.{◌≡◌, ◌≤◌, ◌<◌, ◌-◌, OnOk, map, length};
+ghost use Rattle.std.specs.Prelude.{◌≡◌, ◌≤◌, ◌<◌, ◌-◌, OnOk, IfOk, map, length};
+ghost use Rattle.fz_language.specs.Trees as trees;
 ghost use Rattle.fz_language.specs.Grammar as grammar;
 ghost use Rattle.fz_language.specs.Grammar.{level_limit};
 ghost use Rattle.fz_syntax.specs.Trees.{annotation_of, annotations_of, argument_of, arguments_of, name_of};
@@ -15,7 +16,7 @@ use fz_language::sign::Sign;
 use fz_language::token_kind::TokenKind;
 use fz_lex::Lexer;
 use fz_syntax::{Annotation, Argument, Basic, Name};
-use std::alloc::Global;
+use std::alloc::{AllocError, Global};
 
 /// Takes the annotations of an item.
 pub(crate) fn annotations<'a>(
@@ -120,21 +121,61 @@ fn argument<'a>(alloc: Global, lexer: &mut Lexer<'a>, left: u32) -> Result<Argum
             name,
             arguments: inner,
         } = annotation(alloc, lexer, left)?;
-        return Ok(name_or_call(name, inner));
+        let found = name_or_call(alloc, name, inner)?;
+        return Ok(found);
     }
     let constant = constant(alloc, lexer)?;
     Ok(Argument::Simple(constant))
 }
 
 /// An annotation as an argument of another.
-fn name_or_call<'a>(name: Name<'a>, arguments: Option<Vec<Argument<'a>>>) -> Argument<'a>
-    ensures { argument_of result ≡ grammar.name_or_call (record {
+fn name_or_call<'a>(
+    alloc: Global,
+    name: Name<'a>,
+    arguments: Option<Vec<Argument<'a>>>,
+) -> Result<Argument<'a>, AllocError>
+    ensures { IfOk result (λ found. argument_of found ≡ grammar.name_or_call (record {
       name = name_of name.entry;
       arguments = option_of (λ a. arguments_of a.items) arguments.entry;
-    }) }
+    })) }
 {
     match arguments {
-        Some(arguments) => Argument::Call { name, arguments },
-        None => Argument::Simple(Basic::Named(name)),
+        Some(arguments) => call(alloc, name, arguments),
+        None => Ok(Argument::Simple(Basic::Named {
+            at: name.at,
+            bytes: name.bytes,
+        })),
+    }
+}
+
+/// A call of these arguments.
+fn call<'a>(
+    alloc: Global,
+    name: Name<'a>,
+    arguments: Vec<Argument<'a>>,
+) -> Result<Argument<'a>, AllocError>
+    ensures { IfOk result (λ found. argument_of found
+        ≡ trees.Call (name_of name.entry) (arguments_of arguments.entry.items)) }
+{
+    let Name { bytes, at } = name;
+    let mut arguments = arguments;
+    if arguments.len() != 1 {
+        let arguments = Box::new(alloc, arguments)?;
+        return Ok(Argument::Call {
+            at,
+            bytes,
+            arguments,
+        });
+    }
+    match arguments.pop() {
+        Some(argument) => {
+            let argument = Box::new(alloc, argument)?;
+            Ok(Argument::Unary {
+                at,
+                bytes,
+                argument,
+            })
+        }
+        None => unreachable!(),
     }
 }

@@ -1,5 +1,6 @@
 //! The reading of expressions.
-ghost use Rattle.std.specs.Prelude.{◌≡◌, ◌≤◌, ◌<◌, OnOk, IfErr, length, map};
+ghost use Rattle.std.specs.Prelude.{◌≡◌, ◌≤◌, ◌<◌, OnOk, IfOk, IfErr, IfSome, length, map};
+ghost use Rattle.fz_language.specs.Trees as trees;
 ghost use Rattle.fz_language.specs.Grammar as grammar;
 ghost use Rattle.fz_syntax.specs.Trees.{number_of, set_of, basic_of, elements_of, list_of, expression_of};
 ghost use Rattle.fz_parse.specs.Steps.{Parses, ParsesLow, IsUnexpected, option_of};
@@ -12,7 +13,7 @@ use fz_language::sign::Sign;
 use fz_language::token_kind::TokenKind;
 use fz_lex::Lexer;
 use fz_syntax::{Basic, Elements, Expression, ListLiteral, Number, SetLiteral};
-use std::alloc::Global;
+use std::alloc::{AllocError, Global};
 
 /// Takes a number.
 pub(crate) fn number(lexer: &mut Lexer) -> Result<Number, Stop>
@@ -95,6 +96,36 @@ fn range_end(lexer: &mut Lexer) -> Result<Option<Number>, Stop>
     Ok(Some(high))
 }
 
+/// The expression that a set in braces of at most one member is.
+fn small<'a>(set: &SetLiteral) -> Option<Basic<'a>>
+    ensures { IfSome result (λ b. basic_of b ≡ trees.Literal (set_of set.now)) }
+{
+    match set {
+        SetLiteral::Braces { at, members } => match members.as_slice() {
+            [] => Some(Basic::Small {
+                at: *at,
+                member: None,
+            }),
+            [only] => Some(Basic::Small {
+                at: *at,
+                member: Some(*only),
+            }),
+            _ => None,
+        },
+        SetLiteral::Range { .. } => None,
+    }
+}
+
+/// The expression that a set is.
+fn literal<'a>(alloc: Global, set: SetLiteral) -> Result<Basic<'a>, AllocError>
+    ensures { IfOk result (λ b. basic_of b ≡ trees.Literal (set_of set)) }
+{
+    match small(&set) {
+        Some(basic) => Ok(basic),
+        None => Ok(Basic::Literal(Box::new(alloc, set)?)),
+    }
+}
+
 /// Takes an expression that is no list and no name.
 pub(crate) fn constant<'a>(alloc: Global, lexer: &mut Lexer<'a>) -> Result<Basic<'a>, Stop>
     ensures taken { Parses grammar.Constant basic_of
@@ -112,7 +143,8 @@ pub(crate) fn constant<'a>(alloc: Global, lexer: &mut Lexer<'a>) -> Result<Basic
     }
     if is(lexer, TokenKind::Sign(Sign::LeftBrace)) {
         let set = braces(alloc, lexer)?;
-        return Ok(Basic::Literal(Box::new(alloc, set)?));
+        let found = literal(alloc, set)?;
+        return Ok(found);
     }
     let low = number(lexer)?;
     match range_end(lexer)? {
@@ -133,10 +165,22 @@ pub(crate) fn basic<'a>(alloc: Global, lexer: &mut Lexer<'a>) -> Result<Basic<'a
 {
     if is(lexer, TokenKind::Identifier) {
         let name = identifier(lexer)?;
-        return Ok(Basic::Named(name));
+        return Ok(Basic::Named {
+            at: name.at,
+            bytes: name.bytes,
+        });
     }
     let basic = constant(alloc, lexer)?;
     Ok(basic)
+}
+
+/// How many elements a list has room for once its first is taken: one where no comma follows, and else three, since many have no more.
+fn room(lexer: &Lexer) -> usize {
+    if is(lexer, TokenKind::Sign(Sign::Comma)) {
+        3
+    } else {
+        1
+    }
 }
 
 /// Takes the elements of a list, up to its closing bracket.
@@ -150,7 +194,7 @@ fn elements<'a>(alloc: Global, lexer: &mut Lexer<'a>) -> Result<Elements<'a>, St
         return Ok(Elements::Integers(Vec::new(alloc)));
     }
     let first = basic(alloc, lexer)?;
-    let mut found = begun(alloc, first)?;
+    let mut found = begun(alloc, first, room(lexer))?;
     'elements: while is(lexer, TokenKind::Sign(Sign::Comma)) {
         take(lexer, TokenKind::Sign(Sign::Comma))?;
         let next = basic(alloc, lexer)?;
@@ -175,6 +219,17 @@ pub(crate) fn list_literal<'a>(
     Ok(ListLiteral { at, elements })
 }
 
+/// A list as an argument of a constraint.
+fn listed<'a>(list: ListLiteral<'a>) -> Expression<'a>
+    ensures { expression_of result ≡ trees.Listed (list_of list.entry) }
+{
+    let ListLiteral { at, elements } = list;
+    match elements {
+        Elements::Integers(integers) => Expression::Integers { at, integers },
+        Elements::Basics(basics) => Expression::Basics { at, basics },
+    }
+}
+
 /// Takes an argument of a constraint.
 pub(crate) fn expression<'a>(alloc: Global, lexer: &mut Lexer<'a>) -> Result<Expression<'a>, Stop>
     ensures taken { ParsesLow grammar.Expression expression_of
@@ -184,8 +239,7 @@ pub(crate) fn expression<'a>(alloc: Global, lexer: &mut Lexer<'a>) -> Result<Exp
 {
     if is(lexer, TokenKind::Sign(Sign::LeftBracket)) {
         let list = list_literal(alloc, lexer)?;
-        let ListLiteral { at, elements } = list;
-        return Ok(Expression::Listed { at, elements });
+        return Ok(listed(list));
     }
     let basic = basic(alloc, lexer)?;
     Ok(Expression::Scalar(basic))

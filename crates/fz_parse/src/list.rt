@@ -29,21 +29,22 @@ fn integer_in(basic: &Basic<'_>) -> Option<Integer>
     }
 }
 
-/// How many elements a list has room for at first: many have no more.
-const ROOM: usize = 3;
-
-/// The list of one element.
-pub(crate) fn begun<'a>(alloc: Global, first: Basic<'a>) -> Result<Elements<'a>, AllocError>
+/// The list of one element, with room for so many.
+pub(crate) fn begun<'a>(
+    alloc: Global,
+    first: Basic<'a>,
+    room: usize,
+) -> Result<Elements<'a>, AllocError>
     ensures { IfOk result (λ e. elements_of e ≡ basic_of first.entry ∷ []) }
 {
     match integer_in(&first) {
         Some(integer) => {
-            let mut integers = Vec::with_capacity(alloc, ROOM)?;
+            let mut integers = Vec::with_capacity(alloc, room)?;
             integers.push(integer)?;
             Ok(Elements::Integers(integers))
         }
         None => {
-            let mut basics = Vec::with_capacity(alloc, ROOM)?;
+            let mut basics = Vec::with_capacity(alloc, room)?;
             basics.push(first)?;
             Ok(Elements::Basics(basics))
         }

@@ -63,11 +63,15 @@ impl<'a> Names<'a> {
         ensures { result ≡ slice_get (unknown_in (environment_of self.now) (basic_of basic.now)) 0 }
     {
         match basic {
-            Basic::Named(name) => match self.entry(*name) {
+            Basic::Named { at, bytes } => match self.entry(Name {
+                bytes: *bytes,
+                at: *at,
+            }) {
                 Some(_) => None,
-                None => Some(name.at),
+                None => Some(*at),
             },
-            Basic::Truth { .. } | Basic::Numeral(_) | Basic::Literal(_) => None,
+            Basic::Truth { .. } | Basic::Numeral(_) | Basic::Small { .. } | Basic::Literal(_) =>
+                None,
         }
     }
 
@@ -102,7 +106,8 @@ impl<'a> Names<'a> {
     {
         match argument {
             Expression::Scalar(basic) => self.unknown(basic),
-            Expression::Listed { elements, .. } => self.unknown_element(elements),
+            Expression::Integers { .. } => None,
+            Expression::Basics { basics, .. } => self.unknown_basic(basics),
         }
     }
 

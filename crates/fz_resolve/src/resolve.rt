@@ -34,11 +34,14 @@ pub fn term<'a>(names: &Names<'a>, asked: Element, basic: &Basic<'a>) -> Option<
         Basic::Numeral(Number::Whole(integer)) => {
             of_kind(asked.kind, Kind::Int, Term::Num(integer.value))
         }
-        Basic::Named(name) => match names.entry(*name) {
+        Basic::Named { at, bytes } => match names.entry(Name {
+            bytes: *bytes,
+            at: *at,
+        }) {
             Some(entry) => entry.term(asked),
             None => None,
         },
-        Basic::Numeral(Number::Float { .. }) | Basic::Literal(_) => None,
+        Basic::Numeral(Number::Float { .. }) | Basic::Small { .. } | Basic::Literal(_) => None,
     }
 }
 
@@ -257,6 +260,16 @@ pub fn literal(alloc: Global, set: &SetLiteral) -> Result<Option<Dom>, AllocErro
     }
 }
 
+/// A set that there is, to be shared.
+fn shared(alloc: Global, set: Option<Dom>) -> Result<Option<Arc<Dom>>, AllocError>
+    ensures { IfOk result (λ found. option_map arc_value found ≡ set) }
+{
+    match set {
+        Some(set) => Ok(Some(Arc::new(alloc, set)?)),
+        None => Ok(None),
+    }
+}
+
 /// The set that an expression is.
 pub fn set<'a>(
     alloc: Global,
@@ -268,11 +281,12 @@ pub fn set<'a>(
         ≡ entries.set_of (environment_of names.now) (basic_of basic.now)) }
 {
     match basic {
-        Basic::Literal(set) => match literal(alloc, set)? {
-            Some(set) => Ok(Some(Arc::new(alloc, set)?)),
-            None => Ok(None),
-        },
-        Basic::Named(name) => match names.entry(*name) {
+        Basic::Small { member, .. } => shared(alloc, members(alloc, member.as_slice())?),
+        Basic::Literal(set) => shared(alloc, literal(alloc, set)?),
+        Basic::Named { at, bytes } => match names.entry(Name {
+            bytes: *bytes,
+            at: *at,
+        }) {
             Some(Entry::Set(set)) => Ok(Some(set.clone()?)),
             _ => Ok(None),
         },
@@ -338,22 +352,40 @@ fn named_list<'a>(
     }
 }
 
-/// The argument that a list literal is.
-fn listed<'a>(
+/// The argument that a list of integers is.
+fn integer_list(
+    alloc: Global,
+    asked: Element,
+    integers: &[Integer],
+) -> Result<Checked<Argument>, AllocError>
+    ensures { IfOk result (λ found. (env : Environment) → with_value argument_of found
+        ≡ with_value (entries.list_argument asked)
+        (each_of (term_in env asked) (map integer_basic_of integers.now))) }
+{
+    if asked.may_vary {
+        let terms = terms_of_integers(alloc, asked, integers)?;
+        return Ok(terms.map(|terms| Argument::Terms(terms)));
+    }
+    let numbers = numbers_of_integers(alloc, asked.kind, integers)?;
+    Ok(numbers.map(|numbers| Argument::Numbers(numbers)))
+}
+
+/// The argument that a list of expressions is.
+fn basic_list<'a>(
     alloc: Global,
     names: &Names<'a>,
     asked: Element,
-    elements: &Elements<'a>,
+    basics: &[Basic<'a>],
 ) -> Result<Checked<Argument>, AllocError>
     ensures { IfOk result (λ found. with_value argument_of found
         ≡ with_value (entries.list_argument asked)
-        (each_of (term_in (environment_of names.now) asked) (elements_of elements.now))) }
+        (each_of (term_in (environment_of names.now) asked) (map basic_of basics.now))) }
 {
     if asked.may_vary {
-        let terms = terms(alloc, names, asked, elements)?;
+        let terms = terms_of_basics(alloc, names, asked, basics)?;
         return Ok(terms.map(|terms| Argument::Terms(terms)));
     }
-    let numbers = numbers_in(alloc, names, asked.kind, elements)?;
+    let numbers = numbers_of_basics(alloc, names, asked.kind, basics)?;
     Ok(numbers.map(|numbers| Argument::Numbers(numbers)))
 }
 
@@ -373,11 +405,18 @@ pub fn resolve<'a>(
         (Asked::One(element), Expression::Scalar(basic)) => {
             term(names, element, basic).map(|term| Argument::One(term))
         }
-        (Asked::List(element), Expression::Scalar(Basic::Named(name))) => {
-            named_list(alloc, names, element, *name)?
+        (Asked::List(element), Expression::Scalar(Basic::Named { at, bytes })) => {
+            let name = Name {
+                bytes: *bytes,
+                at: *at,
+            };
+            named_list(alloc, names, element, name)?
         }
-        (Asked::List(element), Expression::Listed { elements, .. }) => {
-            return listed(alloc, names, element, elements);
+        (Asked::List(element), Expression::Integers { integers, .. }) => {
+            return integer_list(alloc, element, integers);
+        }
+        (Asked::List(element), Expression::Basics { basics, .. }) => {
+            return basic_list(alloc, names, element, basics);
         }
         (Asked::Set, Expression::Scalar(basic)) => {
             set(alloc, names, basic)?.map(|set| Argument::Set(set))

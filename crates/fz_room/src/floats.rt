@@ -47,8 +47,9 @@ pub fn first_float(basic: &Basic<'_>) -> Option<u32>
 {
     match basic {
         Basic::Numeral(number) => first_float_of_number(*number),
+        Basic::Small { member, .. } => first_float_of_numbers(member.as_slice()),
         Basic::Literal(set) => first_float_of_set(set),
-        Basic::Truth { .. } | Basic::Named(_) => None,
+        Basic::Truth { .. } | Basic::Named { .. } => None,
     }
 }
 
@@ -80,7 +81,8 @@ fn first_float_of_argument(argument: &Expression<'_>) -> Option<u32>
 {
     match argument {
         Expression::Scalar(basic) => first_float(basic),
-        Expression::Listed { elements, .. } => first_float_of_elements(elements),
+        Expression::Integers { .. } => None,
+        Expression::Basics { basics, .. } => first_float_of_basics(basics),
     }
 }
 

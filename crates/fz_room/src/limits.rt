@@ -183,6 +183,7 @@ impl Room {
             (rules.members_in (trees.basic_of basic.now)) result }
     {
         match basic {
+            Basic::Small { member, .. } => self.behind_numbers(member.as_slice()),
             Basic::Literal(set) => self.behind_set(set),
             _ => Ok(self),
         }
@@ -206,7 +207,8 @@ impl Room {
     {
         match argument {
             Expression::Scalar(basic) => self.behind_members(basic),
-            Expression::Listed { elements, .. } => self.behind_elements(elements),
+            Expression::Integers { integers, .. } => self.behind_integers(integers),
+            Expression::Basics { basics, .. } => self.behind_basics(basics),
         }
     }
 

@@ -12,6 +12,7 @@ use fz_resolve::{Entry, Names};
 use fz_spec::search::{Pick, Value};
 use fz_syntax::{Annotation, Argument, Basic, Name};
 use std::alloc::{AllocError, Global};
+use std::slice;
 
 /// Which of the search words stood before.
 #[derive(Clone, Copy)]
@@ -144,6 +145,7 @@ fn push_call<'a>(
         }
         Argument::Simple(_) => Ok(()),
         Argument::Text { .. } => Ok(()),
+        Argument::Unary { .. } => Ok(()),
         Argument::Call { .. } => Ok(()),
     }
 }
@@ -160,8 +162,28 @@ fn push_member_call<'a>(
         ++ searches.parts_in (environment_of names.now) (trees.argument_of member.now)) }
 {
     match member {
-        Argument::Call { name, arguments } => {
-            push_call(alloc, names, *name, arguments, parts)?;
+        Argument::Unary {
+            at,
+            bytes,
+            argument,
+        } => {
+            let name = Name {
+                bytes: *bytes,
+                at: *at,
+            };
+            push_call(alloc, names, name, slice::from_ref(&**argument), parts)?;
+            Ok(())
+        }
+        Argument::Call {
+            at,
+            bytes,
+            arguments,
+        } => {
+            let name = Name {
+                bytes: *bytes,
+                at: *at,
+            };
+            push_call(alloc, names, name, arguments, parts)?;
             Ok(())
         }
         Argument::Simple(_) | Argument::Text { .. } | Argument::Brackets { .. } => Ok(()),
@@ -209,7 +231,10 @@ fn named<'a>(argument: &Argument<'a>) -> Option<Name<'a>>
     ensures { option_map trees.name_of result ≡ word_of (trees.argument_of argument.now) }
 {
     match argument {
-        Argument::Simple(Basic::Named(name)) => Some(*name),
+        Argument::Simple(Basic::Named { at, bytes }) => Some(Name {
+            bytes: *bytes,
+            at: *at,
+        }),
         _ => None,
     }
 }
@@ -266,7 +291,10 @@ fn variables_in<'a>(
 {
     match argument {
         Argument::Brackets { arguments, .. } => Ok(members(alloc, names, arguments)?),
-        Argument::Simple(Basic::Named(name)) => match names.entry(*name) {
+        Argument::Simple(Basic::Named { at, bytes }) => match names.entry(Name {
+            bytes: *bytes,
+            at: *at,
+        }) {
             Some(Entry::Terms(list)) => Ok(Some(variables_of(alloc, &list.terms)?)),
             _ => Ok(None),
         },
@@ -333,7 +361,10 @@ fn member<'a>(names: &Names<'a>, argument: &Argument<'a>) -> Option<Option<u32>>
 {
     match argument {
         Argument::Simple(Basic::Truth { .. }) | Argument::Simple(Basic::Numeral(_)) => Some(None),
-        Argument::Simple(Basic::Named(name)) => match names.entry(*name) {
+        Argument::Simple(Basic::Named { at, bytes }) => match names.entry(Name {
+            bytes: *bytes,
+            at: *at,
+        }) {
             Some(Entry::Variable { number, .. }) => Some(Some(*number)),
             _ => None,
         },

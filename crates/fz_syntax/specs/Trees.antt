@@ -1,5 +1,5 @@
 -- Which tree of the definitions each tree of the code is.
-use Rattle.std.specs.Prelude.{List, [], ◌∷◌, map, Some, None}
+use Rattle.std.specs.Prelude.{List, [], ◌∷◌, map, option_to_list, Some, None}
 use Rattle.fz_language.specs.Trees as trees
 use Rattle.fz_language.specs.Trees.{Nil, More}
 use Rattle.fz_syntax.specs.declared.leaf.Name.{Name}
@@ -64,8 +64,9 @@ type_of (value_type.SetOf at plain) = trees.SetOf at (plain_of plain)
 abbrev pub basic_of : Basic → trees.Basic
 basic_of (basic.Truth value at) = trees.Truth value at
 basic_of (basic.Numeral number) = trees.Numeral (number_of number)
+basic_of (basic.Small at member) = trees.Literal (trees.Braces at (map number_of (option_to_list member)))
 basic_of (basic.Literal set) = trees.Literal (set_of set.value)
-basic_of (basic.Named name) = trees.Named (name_of name)
+basic_of (basic.Named at bytes) = trees.Named (record { bytes = bytes.now; at = at })
 
 -- an integer as an element of a list
 abbrev pub integer_basic_of : Integer → trees.Basic
@@ -80,7 +81,8 @@ list_of l = record { at = l.at; elements = elements_of l.elements }
 
 abbrev pub expression_of : Expression → trees.Expression
 expression_of (expression.Scalar basic) = trees.Scalar (basic_of basic)
-expression_of (expression.Listed at elements) = trees.Listed (record { at = at; elements = elements_of elements })
+expression_of (expression.Integers at integers) = trees.Listed (record { at = at; elements = map integer_basic_of integers.items })
+expression_of (expression.Basics at basics) = trees.Listed (record { at = at; elements = map basic_of basics.items })
 
 -- arguments one behind another
 abbrev pub joined : List trees.Argument → trees.Arguments
@@ -91,7 +93,8 @@ joined (a ∷ rest) = More a (joined rest)
 abbrev pub layer : Argument-F trees.Argument → trees.Argument
 layer (Argument-F.Simple basic) = trees.Simple (basic_of basic)
 layer (Argument-F.Text at) = trees.Text at
-layer (Argument-F.Call name arguments) = trees.Call (name_of name) (joined arguments.items)
+layer (Argument-F.Unary at bytes argument) = trees.Call (record { bytes = bytes.now; at = at }) (joined (argument.value ∷ []))
+layer (Argument-F.Call at bytes arguments) = trees.Call (record { bytes = bytes.now; at = at }) (joined arguments.value.items)
 layer (Argument-F.Brackets at arguments) = trees.Brackets at (joined arguments.items)
 
 abbrev pub argument_of : Argument → trees.Argument

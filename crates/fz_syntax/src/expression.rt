@@ -43,14 +43,16 @@ impl SetLiteral {
     }
 }
 
-/// An expression that is no list: `true` or `false`, a number, a set, or a name. A set stands in a box, since it is the largest and
-/// seldom there: lists may have a million elements.
+/// An expression that is no list: `true` or `false`, a number, a set, or a name. Lists may have a million elements, so a set stands in
+/// a box, since it is the largest and seldom there, unless it has at most one member, between braces; and a name's parts stand in the
+/// variant itself, its place beside the tag.
 #[derive(Drop)]
 pub enum Basic<'a> {
     Truth { value: bool, at: u32 },
     Numeral(Number),
+    Small { at: u32, member: Option<Number> },
     Literal(Box<SetLiteral>),
-    Named(Name<'a>),
+    Named { at: u32, bytes: &'a [u8] },
 }
 
 impl<'a> Basic<'a> {
@@ -59,10 +61,10 @@ impl<'a> Basic<'a> {
         ensures { result ≡ trees.basic_at (basic_of self.now) }
     {
         match self {
-            Basic::Truth { at, .. } => *at,
+            Basic::Truth { at, .. } | Basic::Small { at, .. } => *at,
             Basic::Numeral(number) => number.at(),
             Basic::Literal(set) => set.at(),
-            Basic::Named(name) => name.at,
+            Basic::Named { at, .. } => *at,
         }
     }
 }
@@ -95,11 +97,12 @@ pub struct ListLiteral<'a> {
 }
 
 /// An argument of a constraint: an expression that is no list, or a list with the place of its bracket. There are many of them, so
-/// the list's parts stand in the variant itself, which takes no more room than the other.
+/// the parts of each form of a list stand in a variant, which takes no more room than the first.
 #[derive(Drop)]
 pub enum Expression<'a> {
     Scalar(Basic<'a>),
-    Listed { at: u32, elements: Elements<'a> },
+    Integers { at: u32, integers: Vec<Integer> },
+    Basics { at: u32, basics: Vec<Basic<'a>> },
 }
 
 impl<'a> Expression<'a> {
@@ -109,7 +112,7 @@ impl<'a> Expression<'a> {
     {
         match self {
             Expression::Scalar(basic) => basic.at(),
-            Expression::Listed { at, .. } => *at,
+            Expression::Integers { at, .. } | Expression::Basics { at, .. } => *at,
         }
     }
 }

@@ -182,7 +182,7 @@ pub argument-returns-then-is-3-clause-taken : goal.argument-returns-then-is-3-cl
 argument-returns-then-is-3-clause-taken t c =
     let l = 64 - c.args.left in
     let h = head grammar.flatzinc c.args.lexer.now.tokens in
-    subst (λ (v : trees.Argument). Read l (Rule grammar.Argument ∷ []) (v, tt) c.args.lexer.now.tokens c.annotation.new.lexer.tokens) (sym (c.name_or_call.ensures)) (reads_by {n = grammar.Argument} (later (grammar.rules grammar.Argument) h c.is.ensures.found c.if-is.false ∙ later (tail (grammar.rules grammar.Argument)) h c.is-2.ensures.found c.if-is-2.false ∙ first (tail (tail (grammar.rules grammar.Argument))) h c.is-3.ensures.found c.if-is-3.true) (rule_then c.in_ok-name.ensures.taken ended))
+    subst (λ (v : trees.Argument). Read l (Rule grammar.Argument ∷ []) (v, tt) c.args.lexer.now.tokens c.annotation.new.lexer.tokens) (sym c.in_ok-found.ensures) (reads_by {n = grammar.Argument} (later (grammar.rules grammar.Argument) h c.is.ensures.found c.if-is.false ∙ later (tail (grammar.rules grammar.Argument)) h c.is-2.ensures.found c.if-is-2.false ∙ first (tail (tail (grammar.rules grammar.Argument))) h c.is-3.ensures.found c.if-is-3.true) (rule_then c.in_ok-name.ensures.taken ended))
 
 pub argument-returns-in_err-constant-clause-taken : goal.argument-returns-in_err-constant-clause-taken
 argument-returns-in_err-constant-clause-taken t c =

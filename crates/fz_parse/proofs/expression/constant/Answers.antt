@@ -42,7 +42,7 @@ returns-in_err-set-clause-taken c =
 pub returns-then-is-3-clause-taken : goal.returns-then-is-3-clause-taken
 returns-then-is-3-clause-taken c =
     let h = head grammar.flatzinc c.args.lexer.now.tokens in
-    λ l. subst (λ (s : SetLiteral). Read l (Rule grammar.Constant ∷ []) (trees.Literal (set_of s), tt) c.args.lexer.now.tokens c.braces.new.lexer.tokens) (sym c.in_ok-new.ensures.ok) (reads_by {n = grammar.Constant} (later (grammar.rules grammar.Constant) h c.is.ensures.found c.if-is.false ∙ later (tail (grammar.rules grammar.Constant)) h c.is-2.ensures.found c.if-is-2.false ∙ first (tail (tail (grammar.rules grammar.Constant))) h c.is-3.ensures.found c.if-is-3.true) (rule_then (c.in_ok-set.ensures.taken l) ended))
+    λ l. subst (λ (v : trees.Basic). Read l (Rule grammar.Constant ∷ []) (v, tt) c.args.lexer.now.tokens c.braces.new.lexer.tokens) (sym c.in_ok-found.ensures) (reads_by {n = grammar.Constant} (later (grammar.rules grammar.Constant) h c.is.ensures.found c.if-is.false ∙ later (tail (grammar.rules grammar.Constant)) h c.is-2.ensures.found c.if-is-2.false ∙ first (tail (tail (grammar.rules grammar.Constant))) h c.is-3.ensures.found c.if-is-3.true) (rule_then (c.in_ok-set.ensures.taken l) ended))
 
 pub returns-in_err-low-clause-taken : goal.returns-in_err-low-clause-taken
 returns-in_err-low-clause-taken c =

@@ -5,7 +5,7 @@ use Rattle.fz_language.specs.Trees.{More, Nil}
 use Rattle.fz_language.specs.Trees as lang
 use Rattle.fz_syntax.specs.Trees as trees
 use Rattle.fz_syntax.specs.declared.annotation.Argument.{Argument}
-use Rattle.fz_syntax.proofs.Arguments.{simple_is, text_is, call_is, brackets_is}
+use Rattle.fz_syntax.proofs.Arguments.{simple_is, text_is, unary_is, call_is, brackets_is}
 use Rattle.fz_resolve.specs.Meant.{environment_of}
 use Rattle.fz_solve.proofs.SearchLaws.{calls_more, in_list, not_one, only_one, none_added}
 use Rattle.fz_solve.proofs.search.+calls.Goals as goal
@@ -33,13 +33,21 @@ push_call-returns-in-Text t c =
     (only_one env trees.argument_of c.args.arguments.now c.index-arguments-0.result c.if-arguments-ne1.false c.index-arguments-0.is
     ∙ ap (λ (a : lang.Argument). parts_of_list env (More a Nil)) (ap trees.argument_of c.in-Text.is ∙ text_is _)))
 
+pub push_call-returns-in-Unary : goal.push_call-returns-in-Unary
+push_call-returns-in-Unary t c =
+    let env = environment_of c.args.names.now in
+    none_added c.args.parts.now.items
+    (in_list env (trees.name_of c.args.name) (trees.joined (map trees.argument_of c.args.arguments.now)) [] (sym c.is_basic_search.ensures ∙ c.if-is_basic_search.false) (sym c.is_seq_search.ensures ∙ c.if-not-is_seq_search.false)
+    (only_one env trees.argument_of c.args.arguments.now c.index-arguments-0.result c.if-arguments-ne1.false c.index-arguments-0.is
+    ∙ ap (λ (a : lang.Argument). parts_of_list env (More a Nil)) (ap trees.argument_of c.in-Unary.is ∙ unary_is _ _ _)))
+
 pub push_call-returns-in-Call : goal.push_call-returns-in-Call
 push_call-returns-in-Call t c =
     let env = environment_of c.args.names.now in
     none_added c.args.parts.now.items
     (in_list env (trees.name_of c.args.name) (trees.joined (map trees.argument_of c.args.arguments.now)) [] (sym c.is_basic_search.ensures ∙ c.if-is_basic_search.false) (sym c.is_seq_search.ensures ∙ c.if-not-is_seq_search.false)
     (only_one env trees.argument_of c.args.arguments.now c.index-arguments-0.result c.if-arguments-ne1.false c.index-arguments-0.is
-    ∙ ap (λ (a : lang.Argument). parts_of_list env (More a Nil)) (ap trees.argument_of c.in-Call.is ∙ call_is _ _)))
+    ∙ ap (λ (a : lang.Argument). parts_of_list env (More a Nil)) (ap trees.argument_of c.in-Call.is ∙ call_is _ _ _)))
 
 pub push_call-loop-member-preserved : goal.push_call-loop-member-preserved
 push_call-loop-member-preserved t c =
