@@ -1,15 +1,16 @@
 -- Each call keeps the law of books, and a closed book is complete.
-use Rattle.std.proofs.Common.{◌≡◌, ℕ, zero, suc, ◌+◌, ◌-◌, ◌<◌, List, [], ◌∷◌, ◌++◌, inl, inr, refl, ap, sym, ◌∙◌, arith, Bool, true, false, cond, length, map, subst, append-nil, length-append, get_or, set}
+use Rattle.std.proofs.Common.{◌≡◌, ℕ, zero, suc, ◌+◌, ◌-◌, List, [], ◌∷◌, ◌++◌, inl, inr, refl, ap, sym, ◌∙◌, arith, Bool, true, false, cond, length, map, subst, append-nil, length-append, get_or, set}
 use Rattle.std.specs.Prelude.{ℤ, Option, Some, None, IfSome}
 use Rattle.std.specs.List.{AllByRecursion, remove, slice_get}
 use Rattle.std.proofs.lemmas.List.Sums.{sum_by-append, sum_by-cons, sum_by-remove, sum_by-set}
 use Rattle.std.proofs.lemmas.Bool.{or_parts}
 use Rattle.fz_spec.specs.Instance.{Instance, Satisfies, IsBetter, Lists, occurrences, AreImproving}
 use Rattle.fz_tree.specs.declared.mode.Mode.{Mode}
-use Rattle.fz_tree.specs.declared.mode.Mode.TheVariants.{All, Best}
+use Rattle.fz_tree.specs.declared.mode.Mode.TheVariants.{All, Rows, Best}
 use Rattle.fz_tree.specs.Frontier.{Frontier, AreEdges, times_in, times_in_all, times_below, can_cut, has_rest}
 use Rattle.fz_tree.specs.Proper.{IsProper}
-use Rattle.fz_tree.specs.Better.{mode_of, Betters}
+use Rattle.fz_tree.specs.Better.{IsModeOf, Betters}
+use Rattle.fz_tree.specs.Rows.{AreAbout, ListsRows}
 use Rattle.fz_tree.specs.Account.{Account, AccountLaw, SuitsMode, times_found}
 use Rattle.fz_tree.specs.Book.{Part, Book, BookLaw, SuitsRecord, incumbent_of, incumbent, times_recorded_in, times_recorded, times_open, claimed_part, opening, IsAt, Claims, Takes, AddsIn, AddsWitness, left_of, parts_after, taken, with_recorded}
 use Rattle.fz_tree.proofs.Times.{times_of_none}
@@ -58,18 +59,26 @@ last_satisfies m (x ∷ xs) (suc i) h = last_satisfies m xs i h.1
 
 none_recorded : (mode : Mode) (m : Instance) (a : List ℤ) → times_recorded_in mode m a [] ≡ 0
 none_recorded All m a = refl
+none_recorded Rows m a = refl
 none_recorded Best m a = refl
 
 none_improving : (mode : Mode) (m : Instance) → SuitsRecord mode m []
 none_improving All m = tt
+none_improving Rows m = tt
 none_improving Best m = tt
 
-pub opens : (m : Instance) (mode : Mode) → mode ≡ mode_of m.goal → BookLaw (opening m mode)
+about_none : (mode : Mode) (m : Instance) → AreAbout mode m []
+about_none All m = tt
+about_none Rows m = tt
+about_none Best m = tt
+
+pub opens : (m : Instance) (mode : Mode) → IsModeOf m.goal mode → BookLaw (opening m mode)
 opens m mode own = record {
   own_mode = own;
   sound = tt;
   improving = none_improving mode m;
   sums = λ a satisfies better. omega (arith, none_recorded mode m a);
+  about = (about_none mode m, tt);
   edges = (tt, tt);
   proper = (tt, tt);
 }
@@ -82,6 +91,8 @@ claims b f new law c = subst BookLaw (sym c.is) (record {
   sound = law.sound;
   improving = law.improving;
   sums = λ a satisfies better. same_sums a (law.sums a satisfies better);
+  about = all_set (λ (p : Part). AreAbout b.mode b.model p.frontier.edges) b.parts c.place (claimed_part f) law.about
+      (subst (λ (g : Frontier). AreAbout b.mode b.model g.edges) (c.open_at.is (claimed_part f)) (all_get (λ (p : Part). AreAbout b.mode b.model p.frontier.edges) b.parts c.place (claimed_part f) c.open_at.within law.about));
   edges = all_set (λ (p : Part). AreEdges p.frontier.edges) b.parts c.place (claimed_part f) law.edges
       (subst (λ (g : Frontier). AreEdges g.edges) (c.open_at.is (claimed_part f)) (all_get (λ (p : Part). AreEdges p.frontier.edges) b.parts c.place (claimed_part f) c.open_at.within law.edges));
   proper = all_set (λ (p : Part). IsProper b.model.variables p.frontier) b.parts c.place (claimed_part f) law.proper
@@ -190,6 +201,13 @@ taken_record All m recorded added ps i c r sums of_found of_witness suits at add
       let betters : Betters m a c.witness = subst (λ (o : Option (List ℤ)). Betters m a o) (sym suits) tt in
       omega (arith, r.sums a satisfies tt, sums a satisfies betters, found_both All m a recorded c.found, open_after ps i c a at);
 })
+taken_record Rows m recorded added ps i c r sums of_found of_witness suits at adds = subst (λ (l : List (List ℤ)). IsRecord Rows m (recorded ++ l) (parts_after ps i c)) (sym adds) (record {
+  sound = all_both (Satisfies m) recorded c.found r.sound of_found;
+  improving = tt;
+  sums = λ a satisfies better.
+      let betters : Betters m a c.witness = subst (λ (o : Option (List ℤ)). Betters m a o) (sym suits) tt in
+      omega (arith, r.sums a satisfies tt, sums a satisfies betters, found_both Rows m a recorded c.found, open_after ps i c a at);
+})
 taken_record Best m recorded added ps i c r sums of_found of_witness suits at adds =
     taken_best m recorded added ps i c (incumbent_of Best recorded) c.witness refl refl (last_satisfies m recorded (length recorded - 1) r.sound) of_witness adds r sums suits at
 
@@ -203,7 +221,13 @@ parts_all P ps i c h given after =
 
 taken_at : (b : Book) (c : Account) (place : ℕ) (added : List (List ℤ)) → BookLaw b → AccountLaw c → c.model ≡ b.model → c.mode ≡ b.mode → IsAt b.parts c.before place → AddsIn b.mode b.model (incumbent b) c added → BookLaw (taken b c place added)
 taken_at b c place added law of_c model mode at adds =
-    let sums : AccountSums b.mode b.model c = subst (λ (o : Mode). AccountSums o b.model c) mode (subst (λ (m : Instance). AccountSums c.mode m c) model of_c.sums) in
+    let about : AreAbout b.mode b.model c.before.edges = subst (λ (f : Frontier). AreAbout b.mode b.model f.edges) (at.is (claimed_part c.before))
+    (all_get (λ (p : Part). AreAbout b.mode b.model p.frontier.edges) b.parts place (claimed_part c.before) at.within law.about) in
+    let own : AreAbout c.mode c.model c.before.edges = subst (λ (o : Mode). AreAbout o c.model c.before.edges) (sym mode) (subst (λ (m : Instance). AreAbout b.mode m c.before.edges) (sym model) about) in
+    let sums : AccountSums b.mode b.model c = subst (λ (o : Mode). AccountSums o b.model c) mode (subst (λ (m : Instance). AccountSums c.mode m c) model (of_c.sums own)) in
+    let abouts : AllByRecursion (λ (f : Frontier). AreAbout b.mode b.model f.edges) c.given × AreAbout b.mode b.model c.after.edges
+    = subst (λ (o : Mode). AllByRecursion (λ (f : Frontier). AreAbout o b.model f.edges) c.given × AreAbout o b.model c.after.edges) mode
+    (subst (λ (m : Instance). AllByRecursion (λ (f : Frontier). AreAbout c.mode m f.edges) c.given × AreAbout c.mode m c.after.edges) model (of_c.about own)) in
     let of_found : AllByRecursion (Satisfies b.model) c.found = subst (λ (m : Instance). AllByRecursion (Satisfies m) c.found) model of_c.sound in
     let of_witness : IfSome c.witness (Satisfies b.model) = subst (λ (m : Instance). IfSome c.witness (Satisfies m)) model of_c.witness in
     let suits : SuitsMode b.mode c.found c.witness = subst (λ (o : Mode). SuitsMode o c.found c.witness) mode of_c.suits in
@@ -217,19 +241,19 @@ taken_at b c place added law of_c model mode at adds =
       sound = new.sound;
       improving = new.improving;
       sums = new.sums;
+      about = parts_all (λ (p : Part). AreAbout b.mode b.model p.frontier.edges) b.parts place c law.about abouts.0 abouts.1;
       edges = parts_all (λ (p : Part). AreEdges p.frontier.edges) b.parts place c law.edges of_c.edges.1 of_c.edges.2;
       proper = parts_all (λ (p : Part). IsProper b.model.variables p.frontier) b.parts place c law.proper proper.0 proper.1;
     }
 
-pub takes : (b : Book) (c : Account) (new : Book) → BookLaw b → AccountLaw c → b.model ≡ c.model → Takes b c new → BookLaw new
-takes b c new law of_c model t =
-    let mode : c.mode ≡ b.mode = of_c.own_mode ∙ ap (λ (m : Instance). mode_of m.goal) (sym model) ∙ sym law.own_mode in
-    subst BookLaw (sym t.is) (taken_at b c t.place t.added law of_c (sym model) mode t.open_at t.adds)
+pub takes : (b : Book) (c : Account) (new : Book) → BookLaw b → AccountLaw c → b.model ≡ c.model → b.mode ≡ c.mode → Takes b c new → BookLaw new
+takes b c new law of_c model mode t = subst BookLaw (sym t.is) (taken_at b c t.place t.added law of_c (sym model) (sym mode) t.open_at t.adds)
 
 -- ---- an offer
 
 offered_record : (mode : Mode) (m : Instance) (recorded : List (List ℤ)) (ps : List Part) (w : List ℤ) → mode ≡ Best → IsRecord mode m recorded ps → Satisfies m w → Betters m w (incumbent_of mode recorded) → IsRecord mode m (recorded ++ w ∷ []) ps
 offered_record All m recorded ps w is r of_w better = absurd (cc is)
+offered_record Rows m recorded ps w is r of_w better = absurd (cc is)
 offered_record Best m recorded ps w is r of_w better = record {
   sound = all_push (Satisfies m) recorded w r.sound of_w;
   improving = improving_push m recorded w r.improving better;
@@ -239,16 +263,23 @@ offered_record Best m recorded ps w is r of_w better = record {
 pub offers : (b : Book) (w : List ℤ) → BookLaw b → b.mode ≡ Best → Satisfies b.model w → Betters b.model w (incumbent b) → BookLaw (with_recorded b w)
 offers b w law best of_w better =
     let new = offered_record b.mode b.model b.recorded b.parts w best (record { sound = law.sound; improving = law.improving; sums = law.sums }) of_w better in
-    record { own_mode = law.own_mode; sound = new.sound; improving = new.improving; sums = new.sums; edges = law.edges; proper = law.proper }
+    record { own_mode = law.own_mode; sound = new.sound; improving = new.improving; sums = new.sums; about = law.about; edges = law.edges; proper = law.proper }
 
 -- ---- a closed book
 
 counted_all : (mode : Mode) (m : Instance) (a : List ℤ) (recorded : List (List ℤ)) → mode ≡ All → (Betters m a (incumbent_of mode recorded) → times_recorded_in mode m a recorded + 0 ≡ 1) → occurrences a recorded ≡ 1
 counted_all All m a recorded is h = omega (arith, h tt)
+counted_all Rows m a recorded is h = absurd (cc is)
 counted_all Best m a recorded is h = absurd (cc is)
+
+counted_rows : (mode : Mode) (m : Instance) (a : List ℤ) (recorded : List (List ℤ)) → mode ≡ Rows → (Betters m a (incumbent_of mode recorded) → times_recorded_in mode m a recorded + 0 ≡ 1) → times_found Rows m a recorded ≡ 1
+counted_rows All m a recorded is h = absurd (cc is)
+counted_rows Rows m a recorded is h = omega (arith, h tt)
+counted_rows Best m a recorded is h = absurd (cc is)
 
 counted_best : (mode : Mode) (m : Instance) (a : List ℤ) (recorded : List (List ℤ)) → mode ≡ Best → times_recorded_in mode m a recorded + 0 ≡ 1 → ⊥
 counted_best All m a recorded is h = cc is
+counted_best Rows m a recorded is h = cc is
 counted_best Best m a recorded is h = omega (arith, h)
 
 closed_sum : (b : Book) (a : List ℤ) → b.parts ≡ [] → times_recorded b a + times_open b.parts a ≡ 1 → times_recorded b a + 0 ≡ 1
@@ -258,6 +289,12 @@ pub closed_lists : (b : Book) → BookLaw b → b.mode ≡ All → b.parts ≡ [
 closed_lists b law all none = record {
   sound = law.sound;
   each_once = λ a satisfies. counted_all b.mode b.model a b.recorded all (λ better. closed_sum b a none (law.sums a satisfies better));
+}
+
+pub closed_lists_rows : (b : Book) → BookLaw b → b.mode ≡ Rows → b.parts ≡ [] → ListsRows b.model b.recorded
+closed_lists_rows b law rows none = record {
+  sound = law.sound;
+  each_once = λ a satisfies. counted_rows b.mode b.model a b.recorded rows (λ better. closed_sum b a none (law.sums a satisfies better));
 }
 
 pub closed_is_best : (b : Book) (a : List ℤ) → BookLaw b → b.mode ≡ Best → b.parts ≡ [] → Satisfies b.model a → Betters b.model a (incumbent b) → ⊥

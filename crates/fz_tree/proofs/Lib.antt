@@ -6,6 +6,8 @@ pub mod Propers
 pub mod Orders
 pub mod Onlies
 pub mod Same
+pub mod Rows
+pub mod Nodes
 pub mod Accounts
 pub mod Books
 pub mod Places

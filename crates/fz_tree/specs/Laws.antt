@@ -1,13 +1,14 @@
 -- Laws that the definitions keep.
 use Rattle.std.specs.Prelude.{◌≡◌, ℕ, ◌+◌, ◌<◌, ◌↔◌, ◌⊎◌, ℤ, true, false, cond, IsTrue, List, [], length, take, slice_index_or, Option}
 use Rattle.std.specs.List.{AllByRecursion, list_any}
-use Rattle.fz_spec.specs.Instance.{Instance, Satisfies, Lists}
+use Rattle.fz_spec.specs.Instance.{Instance, AreDeclared, Satisfies, Lists}
 use Rattle.fz_tree.specs.declared.decision.Decision.{Decision}
-use Rattle.fz_tree.specs.declared.mode.Mode.TheVariants.{All, Best}
+use Rattle.fz_tree.specs.declared.mode.Mode.TheVariants.{All, Rows, Best}
 use Rattle.fz_tree.specs.Choice.{meets, pair_of, IsChoice}
 use Rattle.fz_tree.specs.Frontier.{Edge, Frontier, AreEdges, others, is_in, In, times_in, times_in_all, can_cut, closed, branched, moved, part_of, rest_of, AreParts}
 use Rattle.fz_tree.specs.Proper.{MeetsTaken, IsReachable, Fits}
 use Rattle.fz_tree.specs.Better.{Betters}
+use Rattle.fz_tree.specs.Rows.{AreAbout, ListsRows, row_of}
 use Rattle.fz_tree.specs.Account.{Account, AccountLaw, times_found}
 use Rattle.fz_tree.specs.Book.{Book, BookLaw, incumbent}
 use Rattle.fz_tree.specs.Measure.{weight}
@@ -30,6 +31,10 @@ pub record IsAtOther (es : List Edge) (a : List ℤ) (i : ℕ) : Type 0 where
 abbrev pub InIsAtOpenPlace : Type 0
 InIsAtOpenPlace = (f : Frontier) (a : List ℤ) → In f a ↔ ((IsTrue f.current_open × MeetsTaken f.edges a) ⊎ ((i : ℕ) × IsAtOther f.edges a i))
 
+-- Assignments of one row meet the same decisions about what is printed: they are in the same frontiers that are divided by it.
+abbrev pub RowIsInAlike : Type 0
+RowIsInAlike = (m : Instance) (f : Frontier) (a x : List ℤ) → AreAbout Rows m f.edges → AreDeclared m.variables a → AreDeclared m.variables x → row_of m a ≡ row_of m x → is_in f a ≡ is_in f x
+
 -- It is in one open place then, and else in none.
 abbrev pub InIsOnce : Type 0
 InIsOnce = (f : Frontier) (a : List ℤ) → AreEdges f.edges → times_in f a ≡ cond (is_in f a) 1 0
@@ -44,12 +49,16 @@ MovedIsSame = (f : Frontier) (a : List ℤ) → f.current_open ≡ false → can
 -- Of a lawful account each satisfying assignment that betters the witness is accounted for once where it was in the frontier, and
 -- else not at all.
 abbrev pub AccountIsExact : Type 0
-AccountIsExact = (c : Account) (a : List ℤ) → AccountLaw c → Satisfies c.model a → Betters c.model a c.witness
+AccountIsExact = (c : Account) (a : List ℤ) → AccountLaw c → AreAbout c.mode c.model c.before.edges → Satisfies c.model a → Betters c.model a c.witness
     → times_found c.mode c.model a c.found + times_in_all c.given a + times_in c.after a ≡ cond (is_in c.before a) 1 0
 
--- A lawful book with nothing open is complete: it records each satisfying assignment once, or none betters its incumbent.
+-- A lawful book with nothing open is complete: it records each satisfying assignment once, or each of their rows, or none betters its
+-- incumbent.
 abbrev pub ClosedListsAll : Type 0
 ClosedListsAll = (b : Book) → BookLaw b → b.mode ≡ All → b.parts ≡ [] → Lists b.model b.recorded
+
+abbrev pub ClosedListsRows : Type 0
+ClosedListsRows = (b : Book) → BookLaw b → b.mode ≡ Rows → b.parts ≡ [] → ListsRows b.model b.recorded
 
 abbrev pub ClosedIsBest : Type 0
 ClosedIsBest = (b : Book) (a : List ℤ) → BookLaw b → b.mode ≡ Best → b.parts ≡ [] → Satisfies b.model a → Betters b.model a (incumbent b) → ⊥

@@ -1,6 +1,7 @@
 pub mod Choice
 pub mod Frontier
 pub mod Proper
+pub mod Rows
 pub mod Better
 pub mod Account
 pub mod Book

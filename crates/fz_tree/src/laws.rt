@@ -1,5 +1,5 @@
 //! Laws that the definitions keep: each is the clause of a function that does nothing, so that the clause is proved.
-ghost use Rattle.fz_tree.specs.Laws.{PairIsChoice, PairFits, InIsAtOpenPlace, InIsOnce, CutIsInParts, MovedIsSame, AccountIsExact, ClosedListsAll, ClosedIsBest, ClosingLowers, BranchingLowers, MovingKeeps, CuttingDivides};
+ghost use Rattle.fz_tree.specs.Laws.{PairIsChoice, PairFits, InIsAtOpenPlace, InIsOnce, CutIsInParts, MovedIsSame, RowIsInAlike, AccountIsExact, ClosedListsAll, ClosedListsRows, ClosedIsBest, ClosingLowers, BranchingLowers, MovingKeeps, CuttingDivides};
 
 /// A decision and its negation are a choice: an assignment meets at most one of the two.
 pub fn pair_is_choice()
@@ -21,6 +21,11 @@ pub fn in_is_once()
     ensures { InIsOnce }
 {}
 
+/// Assignments that print alike are in the same frontiers that are divided by what is printed.
+pub fn row_is_in_alike()
+    ensures { RowIsInAlike }
+{}
+
 /// A cut parts a frontier: each of its assignments is in the part or in the rest, and in one of them alone.
 pub fn cut_is_in_parts()
     ensures { CutIsInParts }
@@ -39,6 +44,11 @@ pub fn account_is_exact()
 /// A lawful closed book of all satisfying assignments has each of them once.
 pub fn closed_lists_all()
     ensures { ClosedListsAll }
+{}
+
+/// One of all rows has one assignment of each.
+pub fn closed_lists_rows()
+    ensures { ClosedListsRows }
 {}
 
 /// No satisfying assignment betters the incumbent of a lawful closed book.

@@ -1,8 +1,10 @@
 //! Modes.
 
-/// What a search is after: all satisfying assignments, or one that none betters.
+/// What a search is after: all satisfying assignments; of those that print alike one each, by the row of what they print; or one that
+/// none betters.
 #[derive(Clone, Copy, Debug, PartialEq, Eq)]
 pub enum Mode {
     All,
+    Rows,
     Best,
 }
