@@ -1,12 +1,13 @@
 -- The law of accounts over the fields, as the calls change them: k is the account by its fields, and now the same as contracts see it.
-use Rattle.std.proofs.Common.{◌≡◌, ◌∙◌, ◌++◌, ◌∷◌, [], ap, sym, subst, List, true, false, Option, Some}
+use Rattle.std.proofs.Common.{◌≡◌, ◌≢◌, ◌∙◌, ◌++◌, ◌∷◌, [], ap, sym, subst, List, true, false, Option, Some}
 use Rattle.std.specs.Prelude.{ℤ, is_some, IfSome}
 use Rattle.std.specs.List.{AllByRecursion}
 use Rattle.fz_tree.specs.declared.decision.Decision.{Decision}
-use Rattle.fz_tree.specs.declared.mode.Mode.TheVariants.{All}
+use Rattle.fz_tree.specs.declared.mode.Mode.TheVariants.{Best}
 use Rattle.fz_tree.specs.Choice.{IsChoice}
 use Rattle.fz_tree.specs.Frontier.{Frontier, can_cut, closed, branched, moved, part_of, rest_of}
 use Rattle.fz_tree.specs.Proper.{IsReachable, Fits, IsHopeless, IsOnly}
+use Rattle.fz_tree.specs.Rows.{IsAbout}
 use Rattle.fz_tree.specs.Account.{Account, AccountLaw, with_after, with_witness}
 use Rattle.fz_tree.proofs.Accounts.{branches, fails, adds, moves, gives, learns}
 use Rattle.fz_account.specs.Learning.{IsNews}
@@ -21,22 +22,23 @@ move_code now k after same law current some made =
     subst (λ (f : Frontier). AccountLaw (with_after k f)) (sym made) (moves k law (ap (λ (c : Account). c.after.current_open) same ∙ current) some)
 
 pub branch_code : (now k : Account) (ds : List Decision) (after : Frontier) → k ≡ now → AccountLaw k → now.after.current_open ≡ true → IsChoice ds → AllByRecursion (IsReachable now.model.variables now.after.edges) ds
-    → Fits now.model now.after.edges now.witness ds → after ≡ record { edges = (branched k.after ds).edges; current_open = k.after.current_open } → AccountLaw (with_after k after)
-branch_code now k ds after same law current choice reachable fits made =
+    → Fits now.model now.after.edges now.witness ds → IsAbout now.mode now.model ds → after ≡ record { edges = (branched k.after ds).edges; current_open = k.after.current_open } → AccountLaw (with_after k after)
+branch_code now k ds after same law current choice reachable fits about made =
     let is_open : k.after.current_open ≡ true = ap (λ (c : Account). c.after.current_open) same ∙ current in
     let is : after ≡ branched k.after ds = made ∙ ap (λ b. let f : Frontier = record { edges = (branched k.after ds).edges; current_open = b } in f) is_open in
     subst (λ (f : Frontier). AccountLaw (with_after k f)) (sym is)
-    (branches k ds law is_open choice (subst (λ (c : Account). AllByRecursion (IsReachable c.model.variables c.after.edges) ds) (sym same) reachable) (subst (λ (c : Account). Fits c.model c.after.edges c.witness ds) (sym same) fits))
+    (branches k ds law is_open choice (subst (λ (c : Account). AllByRecursion (IsReachable c.model.variables c.after.edges) ds) (sym same) reachable) (subst (λ (c : Account). Fits c.model c.after.edges c.witness ds) (sym same) fits)
+    (subst (λ (c : Account). IsAbout c.mode c.model ds) (sym same) about))
 
 -- what is found and what is left are replaced
 abbrev pub with_both : Account → List (List ℤ) → Frontier → Account
 with_both k found after = record { model = k.model; mode = k.mode; before = k.before; found = found; witness = k.witness; given = k.given; after = after }
 
-pub add_code : (now k : Account) (x : List ℤ) (found : List (List ℤ)) (after : Frontier) → k ≡ now → AccountLaw k → now.mode ≡ All → now.after.current_open ≡ true → IsOnly now.model now.after.edges now.witness x
+pub add_code : (now k : Account) (x : List ℤ) (found : List (List ℤ)) (after : Frontier) → k ≡ now → AccountLaw k → now.mode ≢ Best → now.after.current_open ≡ true → IsOnly now.mode now.model now.after.edges now.witness x
     → found ≡ k.found ++ x ∷ [] → after ≡ closed k.after → AccountLaw (with_both k found after)
-add_code now k x found after same law all current only is_found is_after =
+add_code now k x found after same law finds current only is_found is_after =
     subst (λ (l : List (List ℤ)). AccountLaw (with_both k l after)) (sym is_found) (subst (λ (f : Frontier). AccountLaw (with_both k (k.found ++ x ∷ []) f)) (sym is_after)
-    (adds k x law (ap (λ (c : Account). c.mode) same ∙ all) (ap (λ (c : Account). c.after.current_open) same ∙ current) (subst (λ (c : Account). IsOnly c.model c.after.edges c.witness x) (sym same) only)))
+    (adds k x law (subst (λ (c : Account). c.mode ≢ Best) (sym same) finds) (ap (λ (c : Account). c.after.current_open) same ∙ current) (subst (λ (c : Account). IsOnly c.mode c.model c.after.edges c.witness x) (sym same) only)))
 
 -- what is given and what is left are replaced
 abbrev pub with_parts : Account → List Frontier → Frontier → Account

@@ -1,13 +1,14 @@
 //! Accounts.
-ghost use Rattle.std.specs.Prelude.{◌≡◌, ◌↔◌, IsTrue, true, false, is_some, [], option_copied, IfOk, IfErr, IfSome, IfNone, OnOk, OnErr, OnSome};
+ghost use Rattle.std.specs.Prelude.{◌≡◌, ◌≢◌, ◌↔◌, IsTrue, true, false, is_some, [], None, option_copied, IfOk, IfErr, IfSome, IfNone, OnOk, OnErr, OnSome};
 ghost use Rattle.std.specs.Bool.{OnTrue, OnFalse};
 ghost use Rattle.std.specs.List.{AllByRecursion};
 ghost use Rattle.std.specs.Arc.{arc_value};
 ghost use Rattle.fz_spec.specs.Instance.{Satisfies};
-ghost use Rattle.fz_tree.specs.declared.mode.Mode.TheVariants.{All};
-ghost use Rattle.fz_tree.specs.Frontier.{can_cut, has_rest, closed, branched, moved, part_of};
+ghost use Rattle.fz_tree.specs.declared.mode.Mode.TheVariants.{All, Best};
+ghost use Rattle.fz_tree.specs.Frontier.{can_cut, has_rest, closed, branched, moved, part_of, node_below};
 ghost use Rattle.fz_tree.specs.Proper.{IsReachable, Fits, IsHopeless, IsOnly};
-ghost use Rattle.fz_tree.specs.Better.{mode_of, Betters};
+ghost use Rattle.fz_tree.specs.Better.{IsModeOf, Betters};
+ghost use Rattle.fz_tree.specs.Rows.{IsAbout};
 ghost use Rattle.fz_account.specs.Parts.{AreParts};
 ghost use Rattle.fz_account.specs.Learning.{IsNews, Learns};
 ghost use Rattle.fz_tree.specs.Account.{AccountLaw, SuitsMode, begun, with_after, with_found, with_given, rest_begun};
@@ -88,7 +89,7 @@ impl Account {
         frontier: Frontier,
         witness: Option<Assignment>,
     ) -> Result<Account, Unbegun>
-        requires mode { mode ≡ mode_of (arc_value model).goal }
+        requires mode { IsModeOf (arc_value model).goal mode }
         requires witness { IfSome witness (Satisfies (arc_value model)) }
         requires suits { SuitsMode mode [] witness }
         ensures ok { IfOk result (λ c. c ≡ begun (arc_value model) mode frontier witness) }
@@ -170,7 +171,8 @@ impl Account {
     }
 
     /// Divides the place below, which is open, among the alternatives of a choice, and takes the first. Each is met by a declared
-    /// assignment there, and each satisfying assignment there that betters the witness meets one of them.
+    /// assignment there, and each satisfying assignment there that betters the witness meets one of them. Where rows are sought it is
+    /// a choice about a variable of the output.
     ///
     /// # Errors
     /// `AllocError` where there is no memory; the account is as before.
@@ -179,6 +181,7 @@ impl Account {
         requires reachable { AllByRecursion
             (IsReachable self.old.model.variables self.old.after.edges) choice }
         requires fits { Fits self.old.model self.old.after.edges self.old.witness choice }
+        requires about { IsAbout self.old.mode self.old.model choice }
         ensures ok { OnOk result (self.new ≡ with_after self.old (branched self.old.after choice)) }
         ensures err { OnErr result (self.new ≡ self.old) }
     {
@@ -196,14 +199,16 @@ impl Account {
         self.after.close();
     }
 
-    /// Records an assignment, the one satisfying assignment at the place below, and closes that place, which is open.
+    /// Records an assignment, the one satisfying assignment at the place below, or one of the only row there, and closes that place,
+    /// which is open.
     ///
     /// # Errors
     /// `AllocFailed` with the assignment where there is no memory; the account is as before.
     pub fn add_found(&mut self, assignment: Assignment) -> Result<(), AllocFailed<Assignment>>
-        requires mode { self.old.mode ≡ All }
+        requires mode { self.old.mode ≢ Best }
         requires current { self.old.after.current_open ≡ true }
-        requires only { IsOnly self.old.model self.old.after.edges self.old.witness assignment }
+        requires only { IsOnly self.old.mode self.old.model self.old.after.edges self.old.witness
+            assignment }
         ensures ok { OnOk result (self.new ≡ with_found self.old assignment) }
         ensures err { OnErr result (self.new ≡ self.old) }
         ensures back { IfErr result (λ refused. refused.value ≡ assignment) }
@@ -247,8 +252,8 @@ impl Account {
         Ok(Some(part))
     }
 
-    /// Takes note of an assignment as the witness, in a search for the best one: `Ignored` exactly where it doesn't satisfy, all are
-    /// sought, or it isn't better than the witness; the account is then as before.
+    /// Takes note of an assignment as the witness, in a search for the best one: `Ignored` exactly where it doesn't satisfy, none is
+    /// better than another, or it isn't better than the witness; the account is then as before.
     ///
     /// # Errors
     /// `AllocError` where there is no memory; the account is as before.
@@ -340,6 +345,21 @@ impl Account {
             given,
             after: self.after.copy()?,
         })
+    }
+
+    /// An account of the node below the taken alternatives, of which all satisfying assignments are sought.
+    ///
+    /// # Errors
+    /// `AllocError` where there is no memory.
+    pub fn at_node(&self) -> Result<Account, AllocError>
+        requires { self.now.mode ≢ Best }
+        ensures { IfOk result (λ c. c ≡ begun self.now.model All (node_below self.now.after) None) }
+    {
+        let model = self.model.clone()?;
+        match Account::begin(model, Mode::All, self.after.node()?, None) {
+            Ok(account) => Ok(account),
+            Err(_) => Err(AllocError),
+        }
     }
 
     /// What it found, what it knows, what it gave and what is left. It takes no memory.

@@ -3,9 +3,9 @@ use Rattle.std.proofs.Common.{◌≡◌, ◌∙◌, ◌∷◌, ◌++◌, [], ap,
 use Rattle.std.specs.Prelude.{ℤ, IsTrue, IsSomeAnd}
 use Rattle.fz_spec.specs.Instance.{Instance}
 use Rattle.fz_tree.specs.declared.mode.Mode.{Mode}
-use Rattle.fz_tree.specs.declared.mode.Mode.TheVariants.{All, Best}
+use Rattle.fz_tree.specs.declared.mode.Mode.TheVariants.{All, Rows, Best}
 use Rattle.fz_tree.specs.Frontier.{Frontier}
-use Rattle.fz_tree.specs.Better.{mode_of, Betters}
+use Rattle.fz_tree.specs.Better.{Betters}
 use Rattle.fz_tree.specs.Account.{Account, AccountLaw, SuitsMode}
 use Rattle.fz_tree.specs.Book.{Part, Book, BookLaw, IsAt, IsOpen, PrefersClaimed, AddsIn, AddsWitness, Takes, incumbent, parts_after, claimed_part}
 use Rattle.fz_tree.proofs.Books.{offers}
@@ -30,17 +30,17 @@ adds_witness m (Some k) (Some w) false test = inr (λ better. cc (test.1 better)
 
 adds_in : (mode : Mode) (m : Instance) (known : Option (List ℤ)) (c : Account) (b : Bool) → SuitsMode mode c.found c.witness → Tests m known c.witness b → AddsIn mode m known c (c.found ++ witness_if b c.witness)
 adds_in All m known c b suits test = ap (λ (l : List (List ℤ)). c.found ++ l) (none_if b c.witness suits) ∙ append-nil c.found
+adds_in Rows m known c b suits test = ap (λ (l : List (List ℤ)). c.found ++ l) (none_if b c.witness suits) ∙ append-nil c.found
 adds_in Best m known c b suits test =
     subst (λ (l : List (List ℤ)). AddsWitness m known c.witness (l ++ witness_if b c.witness)) (sym suits) (adds_witness m known c.witness b test)
 
 abbrev pub after_taking : Book → List (List ℤ) → List Part → Book
 after_taking b recorded parts = record { model = b.model; mode = b.mode; recorded = recorded; parts = parts }
 
-pub take_code : (b : Book) (c : Account) (recorded : List (List ℤ)) (parts : List Part) (place : ℕ) (adds : Bool) → BookLaw b → AccountLaw c → b.model ≡ c.model → IsAt b.parts c.before place → PrefersClaimed b.parts c.before place
+pub take_code : (b : Book) (c : Account) (recorded : List (List ℤ)) (parts : List Part) (place : ℕ) (adds : Bool) → BookLaw b → AccountLaw c → b.model ≡ c.model → b.mode ≡ c.mode → IsAt b.parts c.before place → PrefersClaimed b.parts c.before place
     → Tests b.model (incumbent b) c.witness adds → recorded ≡ b.recorded ++ (c.found ++ witness_if adds c.witness) → parts ≡ parts_after b.parts place c → Takes b c (after_taking b recorded parts)
-take_code b c recorded parts place adds law of_c model at prefers test is_recorded is_parts =
-    let mode : c.mode ≡ b.mode = of_c.own_mode ∙ ap (λ (m : Instance). mode_of m.goal) (sym model) ∙ sym law.own_mode in
-    let suits : SuitsMode b.mode c.found c.witness = subst (λ (o : Mode). SuitsMode o c.found c.witness) mode of_c.suits in
+take_code b c recorded parts place adds law of_c model mode at prefers test is_recorded is_parts =
+    let suits : SuitsMode b.mode c.found c.witness = subst (λ (o : Mode). SuitsMode o c.found c.witness) (sym mode) of_c.suits in
     record {
       place = place;
       added = c.found ++ witness_if adds c.witness;

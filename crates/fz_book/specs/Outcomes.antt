@@ -1,8 +1,13 @@
 -- What became of an account.
 use Rattle.std.specs.Prelude.{◌≡◌}
 use Rattle.fz_tree.specs.Account.{Account}
+use Rattle.fz_tree.specs.Book.{Book}
 use Rattle.fz_book.specs.declared.taken.Taken.{Taken}
 use Rattle.fz_book.specs.declared.taken.Taken.TheVariants as taken
+
+-- an account of the book's model and mode
+abbrev pub IsOwn : Book → Account → Type 0
+IsOwn b c = (b.model ≡ c.model) × (b.mode ≡ c.mode)
 
 abbrev pub IsTaken : Taken → Type 0
 IsTaken taken.Taken = Unit {0}

@@ -3,10 +3,10 @@ ghost use Rattle.std.specs.Prelude.{drop, ◌≡◌, ◌≤◌, ◌+◌, ◌-◌
 ghost use Rattle.std.specs.List.{list_all, slice_get, AllByRecursion};
 ghost use Rattle.std.specs.Arc.{arc_value};
 ghost use Rattle.std.specs.Vec.{vec_len, vec_capacity};
-ghost use Rattle.fz_tree.specs.Better.{mode_of, Betters};
+ghost use Rattle.fz_tree.specs.Better.{IsModeOf, Betters};
 ghost use Rattle.fz_tree.specs.Account.{AccountLaw};
 ghost use Rattle.fz_tree.specs.Book.{BookLaw, Claims, Takes, IsAt, IsOpen, PrefersClaimed, opening, incumbent, is_claimed, claimed_part, parts_after};
-ghost use Rattle.fz_book.specs.Outcomes.{IsTaken, IsStranger, IsForeign, LacksMemory, GivesBack};
+ghost use Rattle.fz_book.specs.Outcomes.{IsOwn, IsTaken, IsStranger, IsForeign, LacksMemory, GivesBack};
 ghost use Rattle.fz_book.specs.Offering.{IsImprovement, Offers};
 ghost use Rattle.fz_book.specs.Needs.{found_needed, given_needed, witness_if};
 
@@ -57,7 +57,7 @@ impl Book {
         model: Arc<fz_model::Model>,
         mode: Mode,
     ) -> Result<Book, AllocFailed<Arc<fz_model::Model>>>
-        requires { mode ≡ mode_of (arc_value model).goal }
+        requires { IsModeOf (arc_value model).goal mode }
         ensures ok { IfOk result (λ b. b.book ≡ opening (arc_value model) mode) }
         ensures whole { IfOk result (λ b. b.gone ≡ 0) }
         ensures err { IfErr result (λ refused. refused.value ≡ model) }
@@ -144,7 +144,7 @@ impl Book {
         ensures law { BookLaw self.now.book }
     {
         match self.mode {
-            Mode::All => None,
+            Mode::All | Mode::Rows => None,
             Mode::Best => self.recorded.last(),
         }
     }
@@ -228,15 +228,15 @@ impl Book {
     pub fn take(&mut self, account: Account) -> Taken
         ensures taken { IsTaken result → Takes self.old.book account self.new.book }
         ensures same { (IsTaken result → ⊥) → self.new.book ≡ self.old.book }
-        ensures foreign { IsForeign result ↔ (self.old.book.model ≢ account.model) }
+        ensures foreign { IsForeign result ↔ (IsOwn self.old.book account → ⊥) }
         ensures stranger { IsStranger result ↔
-            ((self.old.book.model ≡ account.model) × (IsOpen self.old.book account.before → ⊥)) }
+            (IsOwn self.old.book account × (IsOpen self.old.book account.before → ⊥)) }
         ensures room { LacksMemory result → (self.old.found_room < found_needed account)
             ⊎ (self.old.given_room < given_needed account) }
         ensures back { GivesBack result account }
         ensures gone { self.new.gone ≡ self.old.gone }
     {
-        if !self.model.same(account.model()) {
+        if !self.is_own(&account) {
             return Taken::Foreign(account);
         }
         let Some(place) = place_of(&self.parts, account.before()) else {
@@ -245,10 +245,18 @@ impl Book {
         self.take_at(place, account)
     }
 
-    /// Takes an account of its model and of one of its open frontiers, for which it has room: as `take` does, but with no look at
+    /// Whether an account is of its model and mode.
+    fn is_own(&self, account: &Account) -> bool
+        ensures own { IsTrue result ↔ IsOwn self.now.book account.now }
+    {
+        self.mode == account.mode() && self.model.same(account.model())
+    }
+
+    /// Takes an account of its model and mode and of one of its open frontiers, for which it has room: as `take` does, but with no look at
     /// the model, and it takes no memory.
     pub fn take_open(&mut self, account: Account)
         requires model { self.old.book.model ≡ account.model }
+        requires mode { self.old.book.mode ≡ account.mode }
         requires open { IsOpen self.old.book account.before }
         requires found { found_needed account ≤ self.old.found_room }
         requires given { given_needed account ≤ self.old.given_room }
@@ -267,6 +275,7 @@ impl Book {
     /// Takes an account of the part at a place.
     fn take_at(&mut self, place: usize, account: Account) -> Taken
         requires model { self.old.book.model ≡ account.model }
+        requires mode { self.old.book.mode ≡ account.mode }
         requires place { IsAt self.old.book.parts account.before place }
         requires prefers { PrefersClaimed self.old.book.parts account.before place }
         ensures outcome { IsTaken result ⊎ LacksMemory result }

@@ -3,3 +3,5 @@ pub mod Numbers
 pub mod Choosing
 pub mod Starting
 pub mod Keeping
+pub mod Showing
+pub mod Rows

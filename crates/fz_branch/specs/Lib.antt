@@ -1,4 +1,5 @@
 pub mod Values
 pub mod Picks
 pub mod Plans
+pub mod Shown
 pub mod Keeping

@@ -1,5 +1,5 @@
 -- Which variable is picked, among those with more than one value left.
-use Rattle.std.specs.Prelude.{◌≡◌, ℕ, ◌<◌, ℤ, pos, neg_ℤ, ◌≤ℤ◌, ◌<ℤ◌, true, false, IsTrue, List, [], length, slice_index, slice_index_or}
+use Rattle.std.specs.Prelude.{◌≡◌, ℕ, ◌<◌, ℤ, pos, neg_ℤ, ◌≤ℤ◌, ◌<ℤ◌, true, false, List, [], length, slice_index, slice_index_or}
 use Rattle.fz_sets.specs.Sets.{set_size}
 use Rattle.fz_spec.specs.declared.search.Pick.{Pick}
 use Rattle.fz_spec.specs.declared.search.Pick.TheVariants.{InputOrder, FirstFail, AntiFirstFail, Smallest, Largest}

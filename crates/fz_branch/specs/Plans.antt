@@ -1,10 +1,13 @@
 -- Plans, and what is chosen by one.
-use Rattle.std.specs.Prelude.{◌≡◌, ℕ, ◌<◌, ℤ, List, [], ◌∷◌, ◌++◌, length, slice_index, slice_index_or}
-use Rattle.std.specs.List.{range_with_len}
+use Rattle.std.specs.Prelude.{◌≡◌, ℕ, ◌<◌, ℤ, List, [], ◌∷◌, ◌++◌, length, map, slice_index, slice_index_or}
+use Rattle.std.specs.List.{range_with_len, filter}
 use Rattle.fz_spec.specs.declared.search.Pick.TheVariants.{InputOrder}
 use Rattle.fz_spec.specs.declared.search.Value.TheVariants.{IndomainMin}
 use Rattle.fz_spec.specs.Instance.{Instance, SearchPart}
 use Rattle.fz_tree.specs.declared.decision.Decision.{Decision}
+use Rattle.fz_tree.specs.declared.mode.Mode.{Mode}
+use Rattle.fz_tree.specs.declared.mode.Mode.TheVariants.{All, Rows, Best}
+use Rattle.fz_tree.specs.Rows.{is_shown}
 use Rattle.fz_branch.specs.Picks.{IsDone, IsPicked, domain_of}
 use Rattle.fz_branch.specs.Values.{choice_of}
 
@@ -15,6 +18,23 @@ declared_part m = record { variables = range_with_len 0 (length m.variables); pi
 -- the search parts, and behind them all variables
 abbrev pub plan_of : Instance → List SearchPart
 plan_of m = m.search ++ declared_part m ∷ []
+
+-- ---- of what is printed alone
+
+abbrev pub only_shown : Instance → SearchPart → SearchPart
+only_shown m p = record { variables = filter (is_shown m) p.variables; pick = p.pick; value = p.value }
+
+-- the search parts cut down to the variables of the output, and behind them all of these
+abbrev pub plan_rows : Instance → List SearchPart
+plan_rows m = map (only_shown m) m.search ++ only_shown m (declared_part m) ∷ []
+
+-- the plan of a search by what it is after
+abbrev pub plan_for : Mode → Instance → List SearchPart
+plan_for All m = plan_of m
+plan_for Rows m = plan_rows m
+plan_for Best m = plan_of m
+
+-- ----
 
 -- the last part is of all variables in order of declaration
 abbrev pub EndsInAll : List SearchPart → Type 0

@@ -25,7 +25,11 @@ pub fn choose_among(plan: &Plan, doms: &[Dom], closed: usize) -> Result<Option<C
     let alloc = plan.allocator();
     let parts = plan.parts();
     for place in 0..parts.len() {
-        let start = start_of(parts, place, doms, closed);
+        let start = if plan.ends_in_all() {
+            start_of(parts, place, doms, closed)
+        } else {
+            0
+        };
         if let Some(choice) = choice_of(alloc, &parts[place], doms, closed, start)? {
             return Ok(Some(choice));
         }

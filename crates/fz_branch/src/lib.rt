@@ -7,6 +7,7 @@ pub mod choose;
 pub mod laws;
 mod pick;
 pub mod plan;
+mod shown;
 mod value;
 
 pub use choose::choose_among;

@@ -1,8 +1,9 @@
 //! Plans.
-ghost use Rattle.std.specs.Prelude.{◌≡◌, ◌≤◌, ◌^◌, length, map, IfOk};
+ghost use Rattle.std.specs.Prelude.{◌≡◌, ◌≤◌, ◌^◌, length, map, IfOk, IsTrue};
 ghost use Rattle.std.specs.List.{range_with_len};
-ghost use Rattle.fz_branch.specs.Plans.{plan_of, EndsInAll};
+ghost use Rattle.fz_branch.specs.Plans.{plan_of, plan_rows, EndsInAll};
 
+use crate::shown::{all_shown, shown_in, shown_parts};
 use fz_model::{Part, SearchPart};
 use fz_spec::search::{Pick, Value};
 use std::alloc::{AllocError, Global};
@@ -12,10 +13,12 @@ use std::marker::Model;
 #[derive(Drop)]
 pub struct Plan {
     parts: Vec<SearchPart>,
+    /// The last part is of all variables in order of declaration.
+    ends_in_all: bool,
 }
 
 impl Model for Plan {
-    ghost use Rattle.std.specs.Prelude.{List};
+    ghost use Rattle.std.specs.Prelude.{List, IsTrue};
     ghost use Rattle.fz_spec.specs.Instance as instance;
 
     ghost Value = { List instance.SearchPart };
@@ -24,7 +27,7 @@ impl Model for Plan {
 
     ghost use Rattle.fz_branch.specs.Plans.{EndsInAll};
 
-    ghost invariant = { λ p. EndsInAll p.parts.items };
+    ghost invariant = { λ p. IsTrue p.ends_in_all → EndsInAll p.parts.items };
 }
 
 impl Plan {
@@ -38,7 +41,28 @@ impl Plan {
         let mut parts = copies(alloc, model.search())?;
         let variables = all_variables(alloc, model.variables().len() as u32)?;
         parts.push(SearchPart::new(variables, Pick::InputOrder, Value::IndomainMin))?;
-        Ok(Plan { parts })
+        Ok(Plan {
+            parts,
+            ends_in_all: true,
+        })
+    }
+
+    /// The plan of a model whose rows are sought: its search parts cut down to the variables of the output, and behind them all of
+    /// these.
+    ///
+    /// # Errors
+    /// `AllocError` where there is no memory.
+    pub fn of_rows(alloc: Global, model: &fz_model::Model) -> Result<Plan, AllocError>
+        ensures { IfOk result (λ p. p ≡ plan_rows model.now) }
+    {
+        let shown = shown_in(alloc, model)?;
+        let mut parts = shown_parts(alloc, model, &shown)?;
+        let all = all_shown(alloc, model, &shown)?;
+        parts.push(SearchPart::new(all, Pick::InputOrder, Value::IndomainMin))?;
+        Ok(Plan {
+            parts,
+            ends_in_all: false,
+        })
     }
 
     /// The allocator that it was made with.
@@ -49,9 +73,15 @@ impl Plan {
     /// The parts, in order.
     pub fn parts(&self) -> &[SearchPart]
         ensures parts { result.now ≡ self.now }
-        ensures all { EndsInAll self.now }
     {
         &self.parts
+    }
+
+    /// Whether the last part is known to be of all variables in order of declaration.
+    pub(crate) fn ends_in_all(&self) -> bool
+        ensures { IsTrue result → EndsInAll self.now }
+    {
+        self.ends_in_all
     }
 }
 

@@ -2,7 +2,7 @@
 ghost use Rattle.std.specs.Prelude.{◌≡◌, ◌<◌, ◌+◌, ◌↔◌, true, IsTrue, IfOk};
 ghost use Rattle.std.specs.List.{list_any};
 ghost use Rattle.fz_tree.specs.Choice.{meets};
-ghost use Rattle.fz_tree.specs.Frontier.{IsEdge, edge_has_rest, meets_taken, others, cut_edge, kept_edge};
+ghost use Rattle.fz_tree.specs.Frontier.{IsEdge, edge_has_rest, meets_taken, others, settled_edge, cut_edge, kept_edge};
 ghost use Rattle.fz_region.specs.Places.{next_edge};
 
 use crate::choice::Choice;
@@ -89,6 +89,21 @@ impl Edge {
             }
         }
         false
+    }
+
+    /// The edge with nothing open after the taken alternative.
+    ///
+    /// # Errors
+    /// `AllocError` where the choice can't be copied.
+    pub fn settled(&self) -> Result<Edge, AllocError>
+        ensures { IfOk result (λ e. e ≡ settled_edge self.now) }
+    {
+        let choice = self.choice.copy()?;
+        Ok(Edge {
+            choice,
+            taken: self.taken,
+            last: self.taken,
+        })
     }
 
     /// The same edge once more.

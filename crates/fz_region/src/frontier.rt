@@ -3,7 +3,7 @@ ghost use Rattle.std.specs.Prelude.{◌≡◌, ◌≤◌, ◌<◌, ◌++◌, ◌
 ghost use Rattle.std.specs.Bool.{OnTrue, OnFalse};
 ghost use Rattle.std.specs.List.{list_any};
 ghost use Rattle.fz_tree.specs.Choice.{IsChoice};
-ghost use Rattle.fz_tree.specs.Frontier.{AreEdges, In, is_in, is_below, times_in, can_cut, has_rest, closed, branched, moved, part_of, rest_of, AreParts, cut_edge, kept_edge};
+ghost use Rattle.fz_tree.specs.Frontier.{AreEdges, In, is_in, is_below, times_in, can_cut, has_rest, closed, branched, moved, part_of, rest_of, node_below, AreParts, cut_edge, kept_edge};
 
 use crate::choice::Choice;
 use crate::edge::Edge;
@@ -165,6 +165,24 @@ impl Frontier {
         };
         self.drop_part();
         Ok(Some(part))
+    }
+
+    /// The node below the taken alternatives alone: a frontier of its own, on whose edges nothing else is open.
+    ///
+    /// # Errors
+    /// `AllocError` where there is no memory.
+    pub fn node(&self) -> Result<Frontier, AllocError>
+        ensures { IfOk result (λ f. f ≡ node_below self.now) }
+    {
+        let mut edges = Edges::new(self.allocator());
+        for place in 0..self.edges.len() {
+            let edge = self.edges.edge(place).settled()?;
+            edges.push(edge)?;
+        }
+        Ok(Frontier {
+            edges,
+            current_open: true,
+        })
     }
 
     /// Whether an assignment is in the frontier: it meets all taken decisions and the place below is open, or for one edge it meets

@@ -8,17 +8,17 @@ use Rattle.fz_book.proofs.book.Book.take.Goals as goal
 
 pub returns-in_default-clause-stranger : goal.returns-in_default-clause-stranger
 returns-in_default-clause-stranger c =
-    let nowhere : IsNowhere c.deref-2.result.now c.args.account.before = subst (λ (f : Frontier). IsNowhere c.deref-2.result.now f) c.before-2.ensures.before c.in_default.ensures.place in (
+    let nowhere : IsNowhere c.deref.result.now c.args.account.before = subst (λ (f : Frontier). IsNowhere c.deref.result.now f) c.before-2.ensures.before c.in_default.ensures.place in (
       λ t. (
-        sym (ap (λ (r : Roomy). r.book.model) c.self.view_is) ∙ sym c.deref.ensures ∙ c.same.ensures.0 c.if-not-same.false ∙ c.model.ensures.model,
+        c.is_own.ensures.own.0 c.if-not-is_own.false,
         not_open c.args.self.now.book c.args.account.before
-            (subst (λ (ps : List Part). IsNowhere ps c.args.account.before) (c.deref-2.ensures.value ∙ ap (λ (r : Roomy). r.book.parts) c.self.view_is) nowhere),
+            (subst (λ (ps : List Part). IsNowhere ps c.args.account.before) (c.deref.ensures.value ∙ ap (λ (r : Roomy). r.book.parts) c.self.view_is) nowhere),
       ),
       λ h. tt,
     )
 
 pub take_at-requires-clause-prefers : goal.take_at-requires-clause-prefers
 take_at-requires-clause-prefers c =
-    let prefers : PrefersClaimed c.deref-2.result.now c.args.account.before c.in-Some.place =
-    subst (λ (f : Frontier). PrefersClaimed c.deref-2.result.now f c.in-Some.place) c.before-2.ensures.before c.in-Some.ensures.prefers in
-    subst (λ (ps : List Part). PrefersClaimed ps c.args.account.before c.in-Some.place) (c.deref-2.ensures.value ∙ ap (λ (r : Roomy). r.book.parts) c.self.view_is) prefers
+    let prefers : PrefersClaimed c.deref.result.now c.args.account.before c.in-Some.place =
+    subst (λ (f : Frontier). PrefersClaimed c.deref.result.now f c.in-Some.place) c.before-2.ensures.before c.in-Some.ensures.prefers in
+    subst (λ (ps : List Part). PrefersClaimed ps c.args.account.before c.in-Some.place) (c.deref.ensures.value ∙ ap (λ (r : Roomy). r.book.parts) c.self.view_is) prefers

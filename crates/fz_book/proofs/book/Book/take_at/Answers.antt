@@ -18,14 +18,14 @@ taking c =
     let test : IsTrue c.is_bettered_by-adds_witness.result ↔ IsSomeAnd c.args.account.witness (λ w. Betters b.model w (incumbent b)) =
     subst (λ (k : Book). IsTrue c.is_bettered_by-adds_witness.result ↔ IsSomeAnd c.args.account.witness (λ w. Betters k.model w (incumbent k))) (sym same) c.is_bettered_by-adds_witness.ensures.better in
     take_code b c.args.account c.settle.new.recorded.items c.settle.new.parts.items c.args.place c.is_bettered_by-adds_witness.result c.self.invariant c.is_bettered_by-adds_witness.ensures.law
-    (ap (λ (k : Book). k.model) same ∙ c.requires.model) at prefers test
+    (ap (λ (k : Book). k.model) same ∙ c.requires.model) (ap (λ (k : Book). k.mode) same ∙ c.requires.mode) at prefers test
     (c.settle.ensures.recorded ∙ ap (λ (l : List (List ℤ)). l ++ (c.args.account.found ++ witness_if c.is_bettered_by-adds_witness.result c.args.account.witness)) c.room_for.ensures.recorded)
     (c.settle.ensures.parts ∙ ap (λ (ps : List Part). parts_after ps c.args.place c.args.account) c.room_for.ensures.parts)
 
 pub invariant_of-self-2 : goal.invariant_of-self-2
 invariant_of-self-2 c =
     takes (book_of c.self.inside) c.args.account (after_taking (book_of c.self.inside) c.settle.new.recorded.items c.settle.new.parts.items) c.self.invariant c.is_bettered_by-adds_witness.ensures.law
-    (ap (λ (r : Roomy). r.book.model) c.self.view_is ∙ c.requires.model) (taking c)
+    (ap (λ (r : Roomy). r.book.model) c.self.view_is ∙ c.requires.model) (ap (λ (r : Roomy). r.book.mode) c.self.view_is ∙ c.requires.mode) (taking c)
 
 pub returns-clause-taken : goal.returns-clause-taken
 returns-clause-taken c =
