@@ -11,3 +11,5 @@ pub mod Told
 pub mod Takes
 mod Copies
 mod Walking
+pub mod Fixed
+pub mod Below

@@ -5,3 +5,4 @@ pub mod Cuts
 pub mod Learns
 pub mod Tasks
 pub mod Commits
+pub mod Below

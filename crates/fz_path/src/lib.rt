@@ -2,7 +2,8 @@
 //! with Gecode", "Recomputation"; Gecode's `search/seq/path.hh`).
 //!
 //! What a path holds is an account of the frontier that it was started with. The space of a node is remade from the nearest copy
-//! above it by the taken decisions, and covers exactly these.
+//! above it by the taken decisions, and covers exactly these. Where rows are sought the tree is divided by what is printed, and a node
+//! where that is fixed is decided by a search below it, over the same spaces.
 #![tactic(auto)]
 
 mod beginning;
@@ -10,6 +11,8 @@ mod expand;
 pub mod laws;
 mod near;
 pub mod path;
+mod plans;
+mod rows;
 pub mod start;
 pub mod step;
 pub mod task;

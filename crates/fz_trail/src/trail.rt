@@ -7,7 +7,7 @@ ghost use Rattle.fz_tree.specs.declared.decision.Decision.{Decision};
 ghost use Rattle.fz_tree.specs.Frontier as frontier;
 ghost use Rattle.fz_tree.specs.Frontier.{AreEdges, next_edges};
 ghost use Rattle.fz_search_space.specs.Spaces.{Covers};
-ghost use Rattle.fz_trail.specs.Nodes.{IsAt, decisions_of};
+ghost use Rattle.fz_trail.specs.Nodes.{IsAt, AreDecidedAlike, decisions_of};
 ghost use Rattle.fz_trail.specs.Places.{IsNear, AreLeftDownTo, IsOneMore, IsUsedUp, HasUsedCopy, with_room, without_seconds, IsWayLong, IsOneBetween, IsDueBetween, AreBehind, half_down, nearest_node, last_of, IsDue, commits_for, depths_of, deepest_to, AreBelow, IsLastAbove};
 ghost use Rattle.fz_trail.specs.Trails.{IsTrail, IsKept, AreKept};
 ghost use Rattle.fz_trail.specs.declared.kept.TheConstants.{COPIES_MOST, COPIES_GONE};
@@ -169,6 +169,20 @@ impl<S: SearchSpace> Trail<S> {
         drop_current(&mut self.current, &mut self.spare);
         let depth = count_above(edges);
         drop_below(&mut self.copies, &mut self.spare, depth);
+    }
+
+    /// The path is back at a node with so many edges above it, and no copy below it stands any more. Nothing is known of how near
+    /// copies are above it.
+    pub fn come_back(&mut self, edges: usize)
+        ensures distances { (self.new.distance ≡ self.old.distance)
+            × (self.new.adaptive ≡ self.old.adaptive) }
+        ensures trail { (m : Instance) (known : Option (List ℤ)) (es fs : List frontier.Edge)
+            → edges ≡ length es → AreDecidedAlike es fs
+            → IsTrail S.spaced m known fs self.old → IsTrail S.spaced m known es self.new }
+    {
+        drop_current(&mut self.current, &mut self.spare);
+        drop_below(&mut self.copies, &mut self.spare, edges);
+        self.sparse = edges;
     }
 
     /// The space of the node below the edges. A tick is a commit.
