@@ -5,6 +5,7 @@ use Rattle.fz_tree.specs.Account.{Account}
 use Rattle.fz_tree.specs.Book.{Book, IsOpen, Takes}
 use Rattle.fz_book.specs.declared.offered.Offered.{Offered}
 use Rattle.fz_book.specs.Offering.{Offers}
+use Rattle.fz_book.specs.Outcomes.{IsOwn}
 use Rattle.fz_io.specs.Outside.{with_more}
 use Rattle.fz_printing.specs.declared.printer.Stop.{Stop}
 use Rattle.fz_printing.specs.declared.printer.Stop.TheVariants.{Memory}
@@ -69,9 +70,9 @@ pub record Grew (old new : Printer) (before after : Option (List ℕ)) : Type 0 
   pub more : old.printed ≤ new.printed
   pub took : Took new.stopped old new before after
 
--- of another model, or of what isn't open
+-- of another model or mode, or of what isn't open
 abbrev pub IsOther : Account → Book → Type 0
-IsOther account b = (b.model ≡ account.model → ⊥) ⊎ (IsOpen b account.before → ⊥)
+IsOther account b = (IsOwn b account → ⊥) ⊎ (IsOpen b account.before → ⊥)
 
 -- The account is taken; or its book stays, since there was no memory or the account is of something else.
 abbrev pub AccountsTo : Account → Printer → Printer → Type 0

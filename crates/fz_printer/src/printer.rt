@@ -78,8 +78,8 @@ impl Printer {
         self.stopped
     }
 
-    /// Takes an account into its book, and prints what the book recorded with it. An account of another model, or of what isn't
-    /// open, is dropped.
+    /// Takes an account into its book, and prints what the book recorded with it. An account of another model or mode, or of what
+    /// isn't open, is dropped.
     pub fn account<S: Sink>(&mut self, alloc: Global, sink: &mut S, account: Account)
         requires working { stopped_of self.old ≡ None }
         requires ready { IsReady self.old }

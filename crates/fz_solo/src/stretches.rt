@@ -57,6 +57,7 @@ pub fn stretch<S: SearchSpace, K: Sink>(
     ensures searched { IfOk result
         (λ pause. Pauses halt pause (bare path.old) (bare path.new)) }
     ensures path { path.new.model ≡ path.old.model }
+    ensures path_mode { path.new.mode ≡ path.old.mode }
 {
     'steps: loop {
         let step = path.step()?;

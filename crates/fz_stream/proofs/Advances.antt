@@ -1,12 +1,11 @@
 -- What a stretch makes of a search, and of what is left.
 use Rattle.std.proofs.Common.{◌≡◌, ◌≢◌, ◌∙◌, ◌<◌, ◌⊎◌, inl, inr, if◌then◌else◌, Bool, true, false, Option, Some, None, IsSomeAnd, refl, sym, ap, subst, arith}
-use Rattle.fz_tree.specs.declared.mode.Mode.TheVariants.{All, Best}
+use Rattle.fz_tree.specs.declared.mode.Mode.TheVariants.{Best}
 use Rattle.fz_tree.specs.Frontier.{has_rest}
-use Rattle.fz_tree.specs.Better.{mode_of}
 use Rattle.fz_tree.specs.Account.{Account, rest_begun}
-use Rattle.fz_tree.specs.Book.{Book, BookLaw, Takes}
+use Rattle.fz_tree.specs.Book.{Book, Takes}
 use Rattle.fz_book.specs.Reports.{IsReportable}
-use Rattle.fz_path.specs.Paths.{Pathed, PathLaw, held_behind, is_spent, with_held}
+use Rattle.fz_path.specs.Paths.{Pathed, held_behind, is_spent, with_held}
 use Rattle.fz_printing.specs.declared.printer.Stop.TheVariants.{Memory}
 use Rattle.fz_printer.specs.declared.printer.Printer.{Printer}
 use Rattle.fz_printer.specs.Printed.{as_found_of, book_of, stopped_of}
@@ -22,9 +21,9 @@ use Rattle.fz_stream.specs.Streamed.{HasAdvanced, IsBatch, OnNoMemory}
 
 -- ---- the search
 
-pub quiet_path : (i : Bool) (q : Pathed) (b : Book) → q.model ≡ b.model → PathLaw q → BookLaw b → (i ≡ false) ⊎ (b.mode ≡ All) → IsQuiet i q
-quiet_path i q b model path book (inl none) = inl none
-quiet_path i q b model path book (inr all) = inr (path.own_mode ∙ (λ j. mode_of (model j).goal) ∙ sym book.own_mode ∙ all)
+pub quiet_path : (i : Bool) (q : Pathed) (b : Book) → q.mode ≡ b.mode → (i ≡ false) ⊎ (b.mode ≢ Best) → IsQuiet i q
+quiet_path i q b mode (inl none) = inl none
+quiet_path i q b mode (inr any) = inr (λ best. any (sym mode ∙ best))
 
 pub goes_on : (halt : Halt) (pause : Pause) (i : Bool) (q mid : Pathed) → Pauses halt pause q mid → (halt ≡ Each → pause ≢ Found) → (halt ≢ Each → IsQuiet i q) → GoesOnWith i q mid
 goes_on Each Found i q mid pauses told quiet = absurd (told refl refl)
@@ -60,10 +59,10 @@ reported_code i b new q mid r goes done taken = by mid.held refl
         let t = subst (λ (o : Option Account). IsSomeAnd o (λ c. Takes b c new × (r ≡ with_held mid (held_behind c)))) holds taken in
         subst (λ (x : Pathed). Searches i b q new x) (sym t.1) (Reports b new mid a (silent_code i b q mid goes) holds (λ best. spent_rest mid.held a holds (done best)) t.0)
 
--- an account is taken of a part that is spent, or where all are sought
-pub done_by : (b : Book) (held : Option Account) (halt : Halt) (pause : Pause) → (pause ≡ Closed) ⊎ IsBatch halt → (pause ≡ Closed → is_spent held ≡ true) → (IsBatch halt → b.mode ≡ All) → b.mode ≡ Best → is_spent held ≡ true
-done_by b held halt pause (inl closed) spent all best = spent closed
-done_by b held halt pause (inr batch) spent all best = absurd (let e = all batch in cc)
+-- an account is taken of a part that is spent, or where the search is not for a best one
+pub done_by : (b : Book) (held : Option Account) (halt : Halt) (pause : Pause) → (pause ≡ Closed) ⊎ IsBatch halt → (pause ≡ Closed → is_spent held ≡ true) → (IsBatch halt → b.mode ≢ Best) → b.mode ≡ Best → is_spent held ≡ true
+done_by b held halt pause (inl closed) spent any best = spent closed
+done_by b held halt pause (inr batch) spent any best = absurd (any batch best)
 
 -- ---- what is left
 

@@ -1,7 +1,7 @@
 //! Searching and printing, by turns.
 ghost use Rattle.std.specs.Prelude.{◌≡◌, ◌≢◌, ◌↔◌, ◌<◌, ◌^◌, ◌-◌, ◌⊎◌, [], None, Some, true, false, length, IfSome, IsSomeAnd, IsTrue, IsFalse};
 ghost use Rattle.fz_tree.specs.declared.mode.Mode.TheVariants as modes;
-ghost use Rattle.fz_tree.specs.Book.{BookLaw, Takes};
+ghost use Rattle.fz_tree.specs.Book.{Takes};
 ghost use Rattle.fz_book.specs.Reports.{IsReportable};
 ghost use Rattle.fz_path.specs.Paths.{bare, held_behind, with_held};
 ghost use Rattle.fz_printing.specs.declared.printer.Stop.TheVariants as stops;
@@ -41,6 +41,7 @@ pub fn stream<S: SearchSpace, K: Sink>(
     requires faults { K.faults sink.old < 2 ^ 64 - 1 }
     requires held { IfSome path.old.held (IsReportable (book_of printer.old)) }
     requires model { path.old.model ≡ (book_of printer.old).model }
+    requires mode { path.old.mode ≡ (book_of printer.old).mode }
     ensures streams { Streams printer.old (bare path.old) (K.taken sink.old)
         printer.new (bare path.new) (K.taken sink.new) }
     ensures ended { stopped_of printer.new ≡ None
@@ -67,12 +68,14 @@ fn takes_up<S: SearchSpace>(printer: &mut Printer, path: &mut Path<S>) -> bool
     requires working { stopped_of printer.old ≡ None }
     requires held { IfSome path.old.held (IsReportable (book_of printer.old)) }
     requires model { path.old.model ≡ (book_of printer.old).model }
+    requires mode { path.old.mode ≡ (book_of printer.old).mode }
     ensures holds { IsTrue result → (printer.new ≡ printer.old)
         × IsSomeAnd path.new.held (IsReportable (book_of printer.old)) }
     ensures nothing { IsFalse result → NothingOpen printer.old printer.new }
     ensures moved { OnNoMemory printer.new
         (HasTakenUp (book_of printer.old) (bare path.old) (bare path.new)) }
     ensures path { path.new.model ≡ path.old.model }
+    ensures path_mode { path.new.mode ≡ path.old.mode }
 {
     match take_up(printer.book(), path) {
         Ok(holds) => holds,
@@ -95,6 +98,7 @@ fn search_part<S: SearchSpace, K: Sink>(
     requires faults { K.faults sink.old < 2 ^ 64 - 1 }
     requires held { IsSomeAnd path.old.held (IsReportable (book_of printer.old)) }
     requires model { path.old.model ≡ (book_of printer.old).model }
+    requires mode { path.old.mode ≡ (book_of printer.old).mode }
     requires more { IsFilled printer.old → ⊥ }
     ensures streams { Streams printer.old (bare path.old) (K.taken sink.old)
         printer.new (bare path.new) (K.taken sink.new) }
@@ -104,6 +108,7 @@ fn search_part<S: SearchSpace, K: Sink>(
     ensures ready { stopped_of printer.new ≡ None → IsReady printer.new }
     ensures cause { CountsMark (K.faults sink.old) (K.faults sink.new) (stopped_of printer.new) }
     ensures path { path.new.model ≡ path.old.model }
+    ensures path_mode { path.new.mode ≡ path.old.mode }
 {
     let mut waited: u64 = 1;
     'stretches: loop {
@@ -146,6 +151,7 @@ fn advance<S: SearchSpace, K: Sink>(
     requires faults { K.faults sink.old < 2 ^ 64 - 1 }
     requires held { IsSomeAnd path.old.held (IsReportable (book_of printer.old)) }
     requires model { path.old.model ≡ (book_of printer.old).model }
+    requires mode { path.old.mode ≡ (book_of printer.old).mode }
     requires more { IsFilled printer.old → ⊥ }
     ensures streams { Streams printer.old (bare path.old) (K.taken sink.old)
         printer.new (bare path.new) (K.taken sink.new) }
@@ -154,8 +160,8 @@ fn advance<S: SearchSpace, K: Sink>(
     ensures ready { stopped_of printer.new ≡ None → IsReady printer.new }
     ensures cause { CountsMark (K.faults sink.old) (K.faults sink.new) (stopped_of printer.new) }
     ensures path { path.new.model ≡ path.old.model }
+    ensures path_mode { path.new.mode ≡ path.old.mode }
 {
-    let _ = path.model();
     let halt = halt_of(printer);
     let Ok(pause) = stretch(path, halt, waited, sink) else {
         printer.refuse();
@@ -172,17 +178,15 @@ fn advance<S: SearchSpace, K: Sink>(
 fn halt_of(printer: &Printer) -> Halt
     ensures each { result ≡ halts.Each → as_found_of printer.now ≡ true }
     ensures quiet { result ≢ halts.Each
-        → (as_found_of printer.now ≡ false) ⊎ ((book_of printer.now).mode ≡ modes.All) }
-    ensures batch { IsBatch result → (book_of printer.now).mode ≡ modes.All }
-    ensures law { BookLaw (book_of printer.now) }
+        → (as_found_of printer.now ≡ false) ⊎ ((book_of printer.now).mode ≢ modes.Best) }
+    ensures batch { IsBatch result → (book_of printer.now).mode ≢ modes.Best }
 {
-    let _ = printer.book().mode();
     if !printer.as_found() {
         return Halt::Never;
     }
     match printer.book().mode() {
         Mode::Best => Halt::Each,
-        Mode::All => Halt::Batch(still_wanted(printer)),
+        Mode::All | Mode::Rows => Halt::Batch(still_wanted(printer)),
     }
 }
 
@@ -249,6 +253,7 @@ fn report<S: SearchSpace, K: Sink>(
     ensures ready { stopped_of printer.new ≡ None → IsReady printer.new }
     ensures cause { CountsMark (K.faults sink.old) (K.faults sink.new) (stopped_of printer.new) }
     ensures path { path.new.model ≡ path.old.model }
+    ensures path_mode { path.new.mode ≡ path.old.mode }
 {
     let Ok(handed) = path.report() else {
         printer.refuse();

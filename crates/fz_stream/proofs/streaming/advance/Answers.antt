@@ -18,7 +18,7 @@ pub returns-in-Account-clause-streams : goal.returns-in-Account-clause-streams
 returns-in-Account-clause-streams g c =
     let p = c.args.printer.now in
     let q = (bare c.args.path.now) in
-    let quiet : c.halt_of-halt.result ≢ Each → IsQuiet (as_found_of p) q = λ n. quiet_path (as_found_of p) q (book_of p) c.requires.model c.model.ensures.law c.halt_of-halt.ensures.law (c.halt_of-halt.ensures.quiet n) in
+    let quiet : c.halt_of-halt.result ≢ Each → IsQuiet (as_found_of p) q = λ n. quiet_path (as_found_of p) q (book_of p) c.requires.mode (c.halt_of-halt.ensures.quiet n) in
     let other : c.message_of.result ≢ Better = λ e. (let f = sym c.in-Account.is ∙ e in cc) in
     let goes = goes_on c.halt_of-halt.result c.in-Ok.pause (as_found_of p) q (bare c.stretch.new.path) c.in-Ok.ensures.searched (c.message_of.ensures.told other) quiet in
     advanced p c.report.new.printer q (bare c.report.new.path) (g.K.Sink.taken c.args.sink.now) (g.K.Sink.taken c.report.new.sink) c.requires.working c.requires.ready c.requires.more c.report.ensures.grew c.report.ensures.ready
@@ -34,7 +34,7 @@ pub returns-in-Nothing-clause-streams : goal.returns-in-Nothing-clause-streams
 returns-in-Nothing-clause-streams g c =
     let p = c.args.printer.now in
     let q = (bare c.args.path.now) in
-    let quiet : c.halt_of-halt.result ≢ Each → IsQuiet (as_found_of p) q = λ n. quiet_path (as_found_of p) q (book_of p) c.requires.model c.model.ensures.law c.halt_of-halt.ensures.law (c.halt_of-halt.ensures.quiet n) in
+    let quiet : c.halt_of-halt.result ≢ Each → IsQuiet (as_found_of p) q = λ n. quiet_path (as_found_of p) q (book_of p) c.requires.mode (c.halt_of-halt.ensures.quiet n) in
     let other : c.message_of.result ≢ Better = λ e. (let f = sym c.in-Nothing.is ∙ e in cc) in
     silent p q (bare c.stretch.new.path) (g.K.Sink.taken c.args.sink.now) c.requires.ready
     (silent_code (as_found_of p) (book_of p) q (bare c.stretch.new.path) (goes_on c.halt_of-halt.result c.in-Ok.pause (as_found_of p) q (bare c.stretch.new.path) c.in-Ok.ensures.searched (c.message_of.ensures.told other) quiet))

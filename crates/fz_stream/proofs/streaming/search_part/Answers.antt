@@ -16,7 +16,9 @@ stretches-init g c = record {
   more = c.requires.more;
   held = c.requires.held;
   model = c.requires.model;
+  mode = c.requires.mode;
   path = refl;
+  path_mode = refl;
   faults = refl;
   parts = refl;
   streams = begins c.args.printer.now (bare c.args.path.now) (g.K.Sink.taken c.args.sink.now) c.requires.ready;
@@ -69,7 +71,9 @@ stretches-preserved g c =
       more = more_kept c.advance.new.printer c.hand_on_if_due.new.printer more c.hand_on_if_due.ensures.keeps c.hand_on_if_due.ensures.book;
       held = subst (λ (b : Book). IsSomeAnd c.advance.new.path.held (IsReportable b)) (sym c.hand_on_if_due.ensures.book) (on.reportable goes);
       model = c.advance.ensures.path ∙ c.stretches.invariant.model ∙ sym (ap (λ (b : Book). b.model) c.hand_on_if_due.ensures.book ∙ c.advance.ensures.streams.model);
+      mode = c.advance.ensures.path_mode ∙ c.stretches.invariant.mode ∙ sym (ap (λ (b : Book). b.mode) c.hand_on_if_due.ensures.book ∙ c.advance.ensures.streams.mode);
       path = c.advance.ensures.path ∙ c.stretches.invariant.path;
+      path_mode = c.advance.ensures.path_mode ∙ c.stretches.invariant.path_mode;
       faults =
           same_count (stopped_of c.hand_on_if_due.new.printer) (g.K.Sink.faults c.advance.new.sink) (g.K.Sink.faults c.hand_on_if_due.new.sink) c.hand_on_if_due.ensures.cause still
           ∙ same_count (stopped_of c.advance.new.printer) (g.K.Sink.faults c.stretches.sink) (g.K.Sink.faults c.advance.new.sink) c.advance.ensures.cause none ∙ c.stretches.invariant.faults;

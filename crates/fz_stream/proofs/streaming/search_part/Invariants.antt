@@ -14,7 +14,9 @@ invariant-stretches g l = record {
   more : IsFilled l.printer → ⊥;
   held : IsSomeAnd l.path.held (IsReportable (book_of l.printer));
   model : l.path.model ≡ (book_of l.printer).model;
+  mode : l.path.mode ≡ (book_of l.printer).mode;
   path : l.path.model ≡ l.initial.path.model;
+  path_mode : l.path.mode ≡ l.initial.path.mode;
   faults : g.K.Sink.faults l.sink ≡ g.K.Sink.faults l.initial.sink;
   parts : length (book_of l.printer).parts ≡ length (book_of l.initial.printer).parts;
   streams : Streams l.initial.printer (bare l.initial.path) (g.K.Sink.taken l.initial.sink) l.printer (bare l.path) (g.K.Sink.taken l.sink);

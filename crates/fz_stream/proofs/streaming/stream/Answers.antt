@@ -12,6 +12,7 @@ parts-init g c = record {
   ready = c.requires.ready;
   held = c.requires.held;
   model = c.requires.model;
+  mode = c.requires.mode;
   faults = refl;
   streams = begins c.args.printer.now (bare c.args.path.now) (g.K.Sink.taken c.args.sink.now) c.requires.ready;
 }
@@ -30,6 +31,7 @@ parts-preserved g c =
       ready = c.search_part.ensures.ready on.0;
       held = no_part c.search_part.new.path.held (book_of c.search_part.new.printer) on.1;
       model = c.search_part.ensures.path ∙ c.takes_up.ensures.path ∙ c.parts.invariant.model ∙ sym (c.search_part.ensures.streams.model ∙ ap (λ (x : Printer). (book_of x).model) same);
+      mode = c.search_part.ensures.path_mode ∙ c.takes_up.ensures.path_mode ∙ c.parts.invariant.mode ∙ sym (c.search_part.ensures.streams.mode ∙ ap (λ (x : Printer). (book_of x).mode) same);
       faults = same_count (stopped_of c.search_part.new.printer) (g.K.Sink.faults c.parts.sink) (g.K.Sink.faults c.search_part.new.sink) c.search_part.ensures.cause on.0 ∙ c.parts.invariant.faults;
       streams =
           went_on c.args.printer.now c.parts.printer c.takes_up.new.printer c.search_part.new.printer (bare c.args.path.now) (bare c.parts.path) (bare c.takes_up.new.path) (bare c.search_part.new.path) (g.K.Sink.taken c.args.sink.now) (g.K.Sink.taken c.parts.sink) (g.K.Sink.taken c.search_part.new.sink)

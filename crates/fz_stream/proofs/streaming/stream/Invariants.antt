@@ -11,6 +11,7 @@ invariant-parts g l = record {
   ready : IsReady l.printer;
   held : IfSome l.path.held (IsReportable (book_of l.printer));
   model : l.path.model ≡ (book_of l.printer).model;
+  mode : l.path.mode ≡ (book_of l.printer).mode;
   faults : g.K.Sink.faults l.sink ≡ g.K.Sink.faults l.initial.sink;
   streams : Streams l.initial.printer (bare l.initial.path) (g.K.Sink.taken l.initial.sink) l.printer (bare l.path) (g.K.Sink.taken l.sink);
 }
