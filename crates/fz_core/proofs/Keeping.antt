@@ -5,10 +5,10 @@ use Rattle.std.specs.List.{AllByRecursion, slice_get}
 use Rattle.std.proofs.lemmas.List.{length-set}
 use Rattle.std.proofs.lemmas.List.Sums.{sum_by-cons}
 use Rattle.fz_sets.proofs.Lists.{all_at, all_get, all_right}
-use Rattle.fz_spec.specs.Instance.{Instance}
 use Rattle.fz_tree.specs.Frontier.{Frontier, AreEdges, has_rest, part_of}
+use Rattle.fz_tree.specs.Rows.{AreAbout}
 use Rattle.fz_tree.specs.Account.{Account, rest_begun, with_given}
-use Rattle.fz_tree.specs.Book.{Part, Book, BookLaw, Takes, claimed_part, parts_after}
+use Rattle.fz_tree.specs.Book.{Part, Book, BookLaw, IsAt, Takes, claimed_part, parts_after}
 use Rattle.fz_tree.proofs.Accounts.{gives}
 use Rattle.fz_tree.proofs.Books.{claims, takes, all_set}
 use Rattle.fz_path.specs.Paths.{Pathed, held_behind}
@@ -19,7 +19,7 @@ use Rattle.fz_account.specs.declared.account.Learned.TheVariants as learned
 use Rattle.fz_core.specs.declared.event.Event.{Event}
 use Rattle.fz_core.specs.declared.event.Event.TheVariants.{Claim, Start, Step, Report, Steal, Learn}
 use Rattle.fz_core.specs.declared.event.Outcome.{Outcome}
-use Rattle.fz_core.specs.Cores.{Worker, Core, CoreLaw, IsWorkerOf, AreHeld, path_adds, hand_adds, worker_adds, claimed_adds, with_worker}
+use Rattle.fz_core.specs.Cores.{Worker, Core, CoreLaw, IsTaskOf, IsWorkerOf, AreHeld, path_adds, hand_adds, worker_adds, claimed_adds, with_worker}
 use Rattle.fz_core.specs.Events.{ClaimsAt, StartsAt, StepsAt, ReportsAt, StealsAt, LearnsAt, StaysAt, Happens, Refuses, holding}
 use Rattle.fz_core.proofs.Sums.{set_adds, claimed_more, claimed_after, left_adds}
 use Rattle.fz_core.proofs.Held.{IsClaimedIn, held_is_claimed}
@@ -36,18 +36,18 @@ get_set_other (x ∷ xs) (suc i) (suc k) y other = get_set_other xs i k y (λ sa
 
 -- ---- the law
 
-pub worker_of : (s : Core) (i : ℕ) (w : Worker) → CoreLaw s → slice_get s.workers i ≡ Some w → IsWorkerOf s.book.model w
-worker_of s i w law at = all_at (IsWorkerOf s.book.model) s.workers i w law.workers at
+pub worker_of : (s : Core) (i : ℕ) (w : Worker) → CoreLaw s → slice_get s.workers i ≡ Some w → IsWorkerOf s.book.model s.book.mode w
+worker_of s i w law at = all_at (IsWorkerOf s.book.model s.book.mode) s.workers i w law.workers at
 
 -- the law by what is known of new workers and a new book
-law_of : (old : Core) (ws : List Worker) (b : Book) (new : Core) → CoreLaw old → new.workers ≡ ws → new.book ≡ b → length ws ≡ length old.workers → BookLaw b → b.model ≡ old.book.model
-    → AllByRecursion (IsWorkerOf old.book.model) ws → AreHeld b.parts ws → CoreLaw new
-law_of old ws b new law is_workers is_book size of_book model workers held =
+law_of : (old : Core) (ws : List Worker) (b : Book) (new : Core) → CoreLaw old → new.workers ≡ ws → new.book ≡ b → length ws ≡ length old.workers → BookLaw b → b.model ≡ old.book.model → b.mode ≡ old.book.mode
+    → AllByRecursion (IsWorkerOf old.book.model old.book.mode) ws → AreHeld b.parts ws → CoreLaw new
+law_of old ws b new law is_workers is_book size of_book model mode workers held =
     let made : CoreLaw (record { workers = ws; book = b }) = record {
       several = rw size law.several;
       numbered = rw size law.numbered;
       book = of_book;
-      workers = subst (λ (m : Instance). AllByRecursion (IsWorkerOf m) ws) (sym model) workers;
+      workers = rw (model, mode) workers;
       held = held;
     } in
     subst (λ (x : Book). CoreLaw (record { workers = new.workers; book = x })) (sym is_book) (subst (λ (x : List Worker). CoreLaw (record { workers = x; book = b })) (sym is_workers) made)
@@ -58,19 +58,19 @@ law_of old ws b new law is_workers is_book size of_book model workers held =
 abbrev CountsAs : Worker → Worker → Type 0
 CountsAs w v = (g : Frontier → ℕ) → worker_adds g v ≡ worker_adds g w
 
-replaced : (old new : Core) (i : ℕ) (w v : Worker) → CoreLaw old → slice_get old.workers i ≡ Some w → IsWorkerOf old.book.model v → CountsAs w v → new ≡ with_worker old i v → CoreLaw new
+replaced : (old new : Core) (i : ℕ) (w v : Worker) → CoreLaw old → slice_get old.workers i ≡ Some w → IsWorkerOf old.book.model old.book.mode v → CountsAs w v → new ≡ with_worker old i v → CoreLaw new
 replaced old new i w v law at of_m same is =
     subst CoreLaw (sym is) (record {
       several = rw (length-set old.workers i v) law.several;
       numbered = rw (length-set old.workers i v) law.numbered;
       book = law.book;
-      workers = all_set (IsWorkerOf old.book.model) old.workers i v law.workers of_m;
+      workers = all_set (IsWorkerOf old.book.model old.book.mode) old.workers i v law.workers of_m;
       held = λ g. omega (arith, law.held g, same g, set_adds (worker_adds g) old.workers i w v at);
     })
 
 start_keeps : (w : ℕ) (old new : Core) → CoreLaw old → StartsAt w old new → CoreLaw new
 start_keeps w old new law s =
-    replaced old new w s.worker (record { path = s.path; hand = None }) law s.at (start_worker old.book.model s.worker s.task s.path (worker_of old w s.worker law s.at) s.full s.takes)
+    replaced old new w s.worker (record { path = s.path; hand = None }) law s.at (start_worker old.book.model old.book.mode s.worker s.task s.path (worker_of old w s.worker law s.at) s.full s.takes)
     (λ g. omega (arith, ap (λ (p : Pathed). path_adds g p.held) s.takes.is, ap (path_adds g) s.idle, ap (hand_adds g) s.full)) s.is
 
 -- an account that follows counts the same
@@ -80,16 +80,16 @@ follows_adds c old held hand holds follows = λ g.
 
 followed : (old new : Core) (i : ℕ) (w : Worker) (c : Account) (held : Option Account) → CoreLaw old → slice_get old.workers i ≡ Some w → w.path.held ≡ Some c → FollowsTo c held → new ≡ with_worker old i (holding w held) → CoreLaw new
 followed old new i w c held law at holds follows is =
-    replaced old new i w (holding w held) law at (follow_worker old.book.model w c held (worker_of old i w law at) holds follows) (follows_adds c w.path.held held w.hand holds follows) is
+    replaced old new i w (holding w held) law at (follow_worker old.book.model old.book.mode w c held (worker_of old i w law at) holds follows) (follows_adds c w.path.held held w.hand holds follows) is
 
 step_keeps : (w : ℕ) (answer : Outcome) (old new : Core) → CoreLaw old → StepsAt w answer old new → CoreLaw new
 step_keeps w answer old new law s =
-    let is = held_by old.book.model s.worker s.account (worker_of old w s.worker law s.at) s.holds in
+    let is = held_by old.book.model old.book.mode s.worker s.account (worker_of old w s.worker law s.at) s.holds in
     followed old new w s.worker s.account (Some s.stepped) law s.at s.holds (steps_to s.step s.account s.stepped is.law s.steps) s.is
 
 stay_keeps : (w : ℕ) (old new : Core) → CoreLaw old → StaysAt w old new → CoreLaw new
 stay_keeps w old new law s =
-    let is = held_by old.book.model s.worker s.account (worker_of old w s.worker law s.at) s.holds in
+    let is = held_by old.book.model old.book.mode s.worker s.account (worker_of old w s.worker law s.at) s.holds in
     followed old new w s.worker s.account s.held law s.at s.holds (stays_to s.account s.held is.law s.stays) s.is
 
 learned_adds : (l : Learned) (p : Pathed) (a : List ℤ) (path : Pathed) → Learns l p a path → (g : Frontier → ℕ) → path_adds g path.held ≡ path_adds g p.held
@@ -102,19 +102,26 @@ learned_adds learned.Ignored p a path learns = λ g. ap (λ (q : Pathed). path_a
 
 learn_keeps : (w i : ℕ) (answer : Outcome) (old new : Core) → CoreLaw old → LearnsAt w i answer old new → CoreLaw new
 learn_keeps w i answer old new law l =
-    replaced old new w l.worker (record { path = l.path; hand = l.worker.hand }) law l.at (learn_worker old.book.model l.worker l.learned l.assignment l.path (worker_of old w l.worker law l.at) l.learns)
+    replaced old new w l.worker (record { path = l.path; hand = l.worker.hand }) law l.at (learn_worker old.book.model old.book.mode l.worker l.learned l.assignment l.path (worker_of old w l.worker law l.at) l.learns)
     (λ g. ap (λ n. n + hand_adds g l.worker.hand) (learned_adds l.learned l.worker.path l.assignment l.path l.learns g)) l.is
 
 -- ---- a claim
+
+open_task : (b : Book) (f : Frontier) (i : ℕ) → BookLaw b → IsAt b.parts f i → IsTaskOf b.model b.mode (bare_task f)
+open_task b f i law at =
+    let d = claimed_part f in record {
+      edges = subst (λ (g : Frontier). AreEdges g.edges) (at.is d) (all_get (λ (p : Part). AreEdges p.frontier.edges) b.parts i d at.within law.edges);
+      about = subst (λ (g : Frontier). AreAbout b.mode b.model g.edges) (at.is d) (all_get (λ (p : Part). AreAbout b.mode b.model p.frontier.edges) b.parts i d at.within law.about);
+    }
 
 claim_keeps : (w : ℕ) (old new : Core) → CoreLaw old → ClaimsAt w old new → CoreLaw new
 claim_keeps w old new law s =
     let f = s.frontier in
     let v : Worker = record { path = s.worker.path; hand = Some (bare_task f) } in
-    let edges : AreEdges f.edges = subst (λ (g : Frontier). AreEdges g.edges) (s.claims.open_at.is (claimed_part f)) (all_get (λ (p : Part). AreEdges p.frontier.edges) old.book.parts s.claims.place (claimed_part f) s.claims.open_at.within law.book.edges) in
+    let task : IsTaskOf old.book.model old.book.mode (bare_task f) = open_task old.book f s.claims.place law.book s.claims.open_at in
     let parts : new.book.parts ≡ set old.book.parts s.claims.place (claimed_part f) = ap (λ (b : Book). b.parts) s.claims.is in
-    law_of old (set old.workers w v) new.book new law s.workers refl (length-set old.workers w v) (claims old.book f new.book law.book s.claims) (ap (λ (b : Book). b.model) s.claims.is)
-    (all_set (IsWorkerOf old.book.model) old.workers w v law.workers (takes_up old.book.model s.worker (bare_task f) (worker_of old w s.worker law s.at) edges))
+    law_of old (set old.workers w v) new.book new law s.workers refl (length-set old.workers w v) (claims old.book f new.book law.book s.claims) (ap (λ (b : Book). b.model) s.claims.is) (ap (λ (b : Book). b.mode) s.claims.is)
+    (all_set (IsWorkerOf old.book.model old.book.mode) old.workers w v law.workers (takes_up old.book.model old.book.mode s.worker (bare_task f) (worker_of old w s.worker law s.at) task))
     (λ g. omega (
       arith,
       law.held g,
@@ -152,10 +159,11 @@ report_keeps : (w : ℕ) (old new : Core) → CoreLaw old → ReportsAt w old ne
 report_keeps w old new law s =
     let v = holding s.worker (held_behind s.account) in
     let of_w = worker_of old w s.worker law s.at in
-    let is = held_by old.book.model s.worker s.account of_w s.holds in
+    let is = held_by old.book.model old.book.mode s.worker s.account of_w s.holds in
     let model : old.book.model ≡ s.account.model = sym (is.model ∙ of_w.model) in
-    law_of old (set old.workers w v) new.book new law s.workers refl (length-set old.workers w v) (takes old.book s.account new.book law.book is.law model s.takes) (ap (λ (b : Book). b.model) s.takes.is)
-    (all_set (IsWorkerOf old.book.model) old.workers w v law.workers (report_worker old.book.model s.worker s.account of_w s.holds))
+    let mode : old.book.mode ≡ s.account.mode = sym (is.mode ∙ of_w.mode) in
+    law_of old (set old.workers w v) new.book new law s.workers refl (length-set old.workers w v) (takes old.book s.account new.book law.book is.law model mode s.takes) (ap (λ (b : Book). b.model) s.takes.is) (ap (λ (b : Book). b.mode) s.takes.is)
+    (all_set (IsWorkerOf old.book.model old.book.mode) old.workers w v law.workers (report_worker old.book.model old.book.mode s.worker s.account of_w s.holds))
     (λ g. omega (
       arith,
       law.held g,
@@ -179,15 +187,17 @@ steal_keeps v w old new law s =
     let thief : Worker = record { path = s.thief.path; hand = Some s.task } in
     let between = set old.workers v left in
     let of_v = worker_of old v s.victim law s.at_victim in
-    let is = held_by old.book.model s.victim s.account of_v s.holds in
+    let is = held_by old.book.model old.book.mode s.victim s.account of_v s.holds in
     let model : old.book.model ≡ s.account.model = sym (is.model ∙ of_v.model) in
+    let mode : old.book.mode ≡ s.account.mode = sym (is.mode ∙ of_v.mode) in
     let of_taken = gives s.account is.law s.can in
     let at_thief : slice_get between w ≡ Some s.thief = get_set_other old.workers v w left (λ same. s.other (sym same)) ∙ s.at_thief in
     let part : AreEdges (part_of s.account.after).edges = (all_right (λ (f : Frontier). AreEdges f.edges) s.account.given (part_of s.account.after ∷ []) of_taken.edges.1).0 in
-    let task : AreEdges s.task.frontier.edges = subst (λ (f : Frontier). AreEdges f.edges) (sym s.part) part in
-    law_of old (set between w thief) new.book new law s.workers refl (length-set between w thief ∙ length-set old.workers v left) (takes old.book taken new.book law.book of_taken model s.takes) (ap (λ (b : Book). b.model) s.takes.is)
-    (all_set (IsWorkerOf old.book.model) between w thief (all_set (IsWorkerOf old.book.model) old.workers v left law.workers (victim_worker old.book.model s.victim s.account of_v s.holds s.can))
-    (takes_up old.book.model s.thief s.task (worker_of old w s.thief law s.at_thief) task))
+    let shown = (all_right (λ (f : Frontier). AreAbout s.account.mode s.account.model f.edges) s.account.given (part_of s.account.after ∷ []) (of_taken.about is.about).0).0 in
+    let task : IsTaskOf old.book.model old.book.mode s.task = record { edges = rw s.part part; about = rw (s.part, model, mode) shown } in
+    law_of old (set between w thief) new.book new law s.workers refl (length-set between w thief ∙ length-set old.workers v left) (takes old.book taken new.book law.book of_taken model mode s.takes) (ap (λ (b : Book). b.model) s.takes.is) (ap (λ (b : Book). b.mode) s.takes.is)
+    (all_set (IsWorkerOf old.book.model old.book.mode) between w thief (all_set (IsWorkerOf old.book.model old.book.mode) old.workers v left law.workers (victim_worker old.book.model old.book.mode s.victim s.account of_v s.holds s.can))
+    (takes_up old.book.model old.book.mode s.thief s.task (worker_of old w s.thief law s.at_thief) task))
     (λ g. omega (
       arith,
       law.held g,

@@ -7,7 +7,7 @@ use Rattle.std.proofs.lemmas.Option.{slice_get_within, get_or_from_slice_get}
 use Rattle.fz_sets.proofs.Lists.{all_of}
 use Rattle.fz_spec.specs.Instance.{Instance}
 use Rattle.fz_tree.specs.declared.mode.Mode.{Mode}
-use Rattle.fz_tree.specs.Better.{mode_of}
+use Rattle.fz_tree.specs.Better.{IsModeOf}
 use Rattle.fz_tree.proofs.Books.{opens}
 use Rattle.fz_path.proofs.Paths.{suits_nothing}
 use Rattle.fz_core.specs.declared.event.Event.{Event}
@@ -18,9 +18,10 @@ use Rattle.fz_core.specs.Runs.{Answers, Turns, Runs}
 use Rattle.fz_core.specs.Laws.{Reaches}
 use Rattle.fz_core.proofs.Keeping.{event_keeps, refusal_keeps}
 
-idle_is : (m : Instance) (mode : Mode) (commit adaptive : ℕ) → mode ≡ mode_of m.goal → 1 ≤ commit → 1 ≤ adaptive → IsWorkerOf m (idle m mode commit adaptive)
+idle_is : (m : Instance) (mode : Mode) (commit adaptive : ℕ) → IsModeOf m.goal mode → 1 ≤ commit → 1 ≤ adaptive → IsWorkerOf m mode (idle m mode commit adaptive)
 idle_is m mode commit adaptive own one two = record {
   model = refl;
+  mode = refl;
   law = record { own_mode = own; distances = (one, two); held = tt; known = tt; suits = suits_nothing mode };
   account = tt;
   task = tt;
@@ -34,14 +35,14 @@ all_copies {X} P n x p = all_of P (replicate n x) (λ i y at. subst P (sym (copy
         let within : i < n = omega (arith, slice_get_within (replicate n x) i y at, length-replicate n x) in
         sym (get_or_from_slice_get (replicate n x) i y y at) ∙ get_or-replicate n i x y within
 
-pub start_law : (m : Instance) (mode : Mode) (n commit adaptive : ℕ) → mode ≡ mode_of m.goal → 1 ≤ n → n < 2 ^ 32 → 1 ≤ commit → 1 ≤ adaptive → CoreLaw (starting m mode n commit adaptive)
+pub start_law : (m : Instance) (mode : Mode) (n commit adaptive : ℕ) → IsModeOf m.goal mode → 1 ≤ n → n < 2 ^ 32 → 1 ≤ commit → 1 ≤ adaptive → CoreLaw (starting m mode n commit adaptive)
 start_law m mode n commit adaptive own several numbered one two =
     let w = idle m mode commit adaptive in
     record {
       several = rw (length-replicate n w) several;
       numbered = rw (length-replicate n w) numbered;
       book = opens m mode own;
-      workers = all_copies (IsWorkerOf m) n w (idle_is m mode commit adaptive own one two);
+      workers = all_copies (IsWorkerOf m mode) n w (idle_is m mode commit adaptive own one two);
       held = λ g. omega (arith, sum_by-replicate (worker_adds g) n w);
     }
 

@@ -1,15 +1,15 @@
 -- A step keeps the law of the account that it is on, and the account is still one of the same frontier.
 use Rattle.std.proofs.Common.{◌≡◌, ◌∙◌, ◌||◌, Bool, true, false, sym, subst, refl, inl, inr}
-use Rattle.std.specs.Prelude.{if◌then◌else◌}
+use Rattle.std.specs.Prelude.{◌≢◌, ℤ, List, if◌then◌else◌}
 use Rattle.fz_tree.specs.declared.mode.Mode.{Mode}
-use Rattle.fz_tree.specs.declared.mode.Mode.TheVariants.{All, Best}
+use Rattle.fz_tree.specs.declared.mode.Mode.TheVariants.{All, Rows, Best}
 use Rattle.fz_tree.specs.Frontier.{can_cut, moved}
-use Rattle.fz_tree.specs.Account.{Account, AccountLaw, with_after, with_witness}
+use Rattle.fz_tree.specs.Account.{Account, AccountLaw, with_after, with_found, with_witness}
 use Rattle.fz_tree.proofs.Accounts.{branches, fails, moves, adds, learns}
 use Rattle.fz_tree.proofs.Onlies.{none_better}
 use Rattle.fz_path.specs.declared.step.Step.{Step}
 use Rattle.fz_path.specs.declared.step.Step.TheVariants.{Expanded, Found, Closed, Idle}
-use Rattle.fz_path.specs.Steps.{at_node, added, Fails, Divides, Finds, NodeTo, StepsTo}
+use Rattle.fz_path.specs.Steps.{at_node, added, IsOnlyAt, Fails, Divides, Finds, NodeTo, StepsTo}
 
 -- a lawful account of the same frontier, which gave the same away
 pub record Follows (c new : Account) : Type 0 where
@@ -38,12 +38,16 @@ fails_follows c new law current f = subst (Follows c) (sym f.is) (record { law =
 
 divides_follows : (c new : Account) → AccountLaw c → c.after.current_open ≡ true → Divides c new → Follows c new
 divides_follows c new law current d =
-    subst (Follows c) (sym d.is) (record { law = branches c d.choice law current d.chooses d.reachable d.fits; model = refl; mode = refl; before = refl; given = refl })
+    subst (Follows c) (sym d.is) (record { law = branches c d.choice law current d.chooses d.reachable d.fits d.about; model = refl; mode = refl; before = refl; given = refl })
+
+finds_one : (c : Account) (x : List ℤ) → AccountLaw c → c.mode ≢ Best → c.after.current_open ≡ true → IsOnlyAt c x → Follows c (with_found c x)
+finds_one c x law finds current only = record { law = adds c x law finds current only; model = refl; mode = refl; before = refl; given = refl }
 
 added_follows : (mode : Mode) (c new : Account) → c.mode ≡ mode → AccountLaw c → c.after.current_open ≡ true → (f : Finds c new) → Follows c (added mode c f.assignment)
-added_follows All c new is law current f = record { law = adds c f.assignment law is current f.only; model = refl; mode = refl; before = refl; given = refl }
+added_follows All c new is law current f = finds_one c f.assignment law (λ best. let bad : All ≡ Best = sym is ∙ best in cc) current f.only
+added_follows Rows c new is law current f = finds_one c f.assignment law (λ best. let bad : Rows ≡ Best = sym is ∙ best in cc) current f.only
 added_follows Best c new is law current f = record {
-  law = fails (with_witness c f.assignment) (learns c f.assignment law is f.only.satisfies f.better) current (none_better c.model c.after.edges c.witness f.assignment f.only f.better);
+  law = fails (with_witness c f.assignment) (learns c f.assignment law is f.only.satisfies f.better) current (none_better c.mode c.model c.after.edges c.witness f.assignment is f.only f.better);
   model = refl;
   mode = refl;
   before = refl;

@@ -5,6 +5,7 @@ use Rattle.fz_spec.specs.Instance.{Instance}
 use Rattle.fz_tree.specs.declared.mode.Mode.{Mode}
 use Rattle.fz_tree.specs.Frontier.{Frontier, AreEdges}
 use Rattle.fz_tree.specs.Account.{Account, AccountLaw}
+use Rattle.fz_tree.specs.Rows.{AreAbout}
 use Rattle.fz_tree.specs.Book.{Book, BookLaw, Part, opening}
 use Rattle.fz_path.specs.Paths.{Pathed, PathLaw, idle_path}
 use Rattle.fz_path.specs.Tasks.{Tasked}
@@ -56,22 +57,29 @@ AreHeld ps ws = (g : Frontier → ℕ) → sum_by (claimed_adds g) ps ≡ sum_by
 
 -- ---- the law
 
--- What a path holds between two events keeps the law of accounts, and its witness is what the path knows. What was given away is
--- reported in the same event.
+-- What a path holds between two events keeps the law of accounts, and its witness is what the path knows. Where rows are sought, it
+-- is of a frontier that is divided by what is printed. What was given away is reported in the same event.
 pub record IsOwn (known : Option (List ℤ)) (c : Account) : Type 0 where
   pub law : AccountLaw c
+  pub about : AreAbout c.mode c.model c.before.edges
   pub witness : c.witness ≡ known
   pub given : c.given ≡ []
 
-pub record IsWorkerOf (m : Instance) (w : Worker) : Type 0 where
+-- a task for a path of this model and mode
+pub record IsTaskOf (m : Instance) (mode : Mode) (t : Tasked) : Type 0 where
+  pub edges : AreEdges t.frontier.edges
+  pub about : AreAbout mode m t.frontier.edges
+
+pub record IsWorkerOf (m : Instance) (sought : Mode) (w : Worker) : Type 0 where
   pub model : w.path.model ≡ m
+  pub mode : w.path.mode ≡ sought
   pub law : PathLaw w.path
   pub account : IfSome w.path.held (IsOwn w.path.known)
-  pub task : IfSome w.hand (λ (t : Tasked). AreEdges t.frontier.edges)
+  pub task : IfSome w.hand (IsTaskOf m sought)
 
 pub record CoreLaw (s : Core) : Type 0 where
   pub several : 1 ≤ length s.workers
   pub numbered : length s.workers < 2 ^ 32
   pub book : BookLaw s.book
-  pub workers : AllByRecursion (IsWorkerOf s.book.model) s.workers
+  pub workers : AllByRecursion (IsWorkerOf s.book.model s.book.mode) s.workers
   pub held : AreHeld s.book.parts s.workers

@@ -2,7 +2,7 @@
 use Rattle.std.specs.Prelude.{◌==◌, ℤ, Bool, false, not, ◌&&◌, nat_lt, List, [], length, Option, Some, None, is_some, is_none}
 use Rattle.std.specs.List.{list_all}
 use Rattle.fz_tree.specs.declared.mode.Mode.{Mode}
-use Rattle.fz_tree.specs.declared.mode.Mode.TheVariants.{All, Best}
+use Rattle.fz_tree.specs.declared.mode.Mode.TheVariants.{All, Rows, Best}
 use Rattle.fz_tree.specs.Book.{Book, is_claimed}
 use Rattle.fz_path.specs.Paths.{can_cut_held}
 use Rattle.fz_core.specs.declared.event.Event.{Event}
@@ -35,6 +35,7 @@ has_unclaimed b = not (list_all is_claimed b.parts)
 -- those recorded as better than all before, which only a search for the best one records
 abbrev pub improving_in : Mode → List (List ℤ) → List (List ℤ)
 improving_in All recorded = []
+improving_in Rows recorded = []
 improving_in Best recorded = recorded
 
 abbrev pub improving : Book → List (List ℤ)

@@ -1,12 +1,13 @@
 -- Laws of machines, whatever the events.
-use Rattle.std.specs.Prelude.{◌≡◌, ℕ, ◌+◌, ◌<◌, ◌≤◌, ◌^◌, ℤ, List, [], ◌∷◌, ◌++◌, true, Option, Some, None, sum_by, if◌then◌else◌, map}
+use Rattle.std.specs.Prelude.{◌≡◌, ◌≢◌, ℕ, ◌+◌, ◌<◌, ◌≤◌, ◌^◌, ℤ, List, [], ◌∷◌, ◌++◌, true, Option, Some, None, sum_by, if◌then◌else◌, map}
 use Rattle.std.specs.List.{AllByRecursion, list_all, flat_map}
 use Rattle.std.specs.List.Sorted.{IsPermutation}
 use Rattle.fz_spec.specs.Instance.{Instance, Satisfies, Lists}
 use Rattle.fz_tree.specs.declared.mode.Mode.{Mode}
-use Rattle.fz_tree.specs.declared.mode.Mode.TheVariants.{All, Best}
+use Rattle.fz_tree.specs.declared.mode.Mode.TheVariants.{All, Rows, Best}
 use Rattle.fz_tree.specs.Frontier.{Frontier, times_in}
-use Rattle.fz_tree.specs.Better.{mode_of, Betters}
+use Rattle.fz_tree.specs.Better.{IsModeOf, Betters}
+use Rattle.fz_tree.specs.Rows.{ListsRows}
 use Rattle.fz_tree.specs.Account.{Account, times_found}
 use Rattle.fz_tree.specs.Book.{Part, incumbent, is_claimed, times_recorded}
 use Rattle.fz_path.specs.Tasks.{Tasked}
@@ -21,7 +22,7 @@ pub record Reaches (s : Core) : Type 0 where
   pub workers : ℕ
   pub commit_distance : ℕ
   pub adaptive_distance : ℕ
-  pub own_mode : mode ≡ mode_of model.goal
+  pub own_mode : IsModeOf model.goal mode
   pub several : 1 ≤ workers
   pub numbered : workers < 2 ^ 32
   pub distances : (1 ≤ commit_distance) × (1 ≤ adaptive_distance)
@@ -57,7 +58,7 @@ held s = flat_map worker_held s.workers ++ unclaimed_in s.book.parts
 abbrev pub OpenIsHeld : Type 0
 OpenIsHeld = (s : Core) → Reaches s → IsPermutation (map (λ (p : Part). p.frontier) s.book.parts) (held s)
 
--- how often an assignment is found in a path, and in how many open places of it
+-- how often an assignment, or one of its row, is found in a path, and in how many open places of it
 abbrev pub path_has : Instance → List ℤ → Option Account → ℕ
 path_has m a None = 0
 path_has m a (Some c) = times_found c.mode m a c.found + times_in c.after a
@@ -68,10 +69,10 @@ worker_has m a w = path_has m a w.path.held + hand_adds (λ (f : Frontier). time
 abbrev pub unclaimed_has : List ℤ → Part → ℕ
 unclaimed_has a p = if p.claimed then 0 else times_in p.frontier a
 
--- Where all are sought, each satisfying assignment is recorded once, or found once in one path, or in one open place of a path, a
--- hand or an unclaimed part.
+-- Where all are sought, or their rows, each satisfying assignment, or one of its row, is recorded once, or found once in one path, or
+-- it is in one open place of a path, a hand or an unclaimed part.
 abbrev pub EachIsOnce : Type 0
-EachIsOnce = (s : Core) (a : List ℤ) → Reaches s → s.book.mode ≡ All → Satisfies s.book.model a
+EachIsOnce = (s : Core) (a : List ℤ) → Reaches s → s.book.mode ≢ Best → Satisfies s.book.model a
     → times_recorded s.book a + sum_by (worker_has s.book.model a) s.workers + sum_by (unclaimed_has a) s.book.parts ≡ 1
 
 -- ---- the end
@@ -89,9 +90,12 @@ pub record IsQuiet (s : Core) : Type 0 where
 abbrev pub QuietIsClosed : Type 0
 QuietIsClosed = (s : Core) → Reaches s → IsQuiet s → s.book.parts ≡ []
 
--- It records each satisfying assignment once, or its incumbent is one that none betters.
+-- It records each satisfying assignment once, or one of each row, or its incumbent is one that none betters.
 abbrev pub QuietListsAll : Type 0
 QuietListsAll = (s : Core) → Reaches s → IsQuiet s → s.book.mode ≡ All → Lists s.book.model s.book.recorded
+
+abbrev pub QuietListsRows : Type 0
+QuietListsRows = (s : Core) → Reaches s → IsQuiet s → s.book.mode ≡ Rows → ListsRows s.book.model s.book.recorded
 
 abbrev pub QuietIsBest : Type 0
 QuietIsBest = (s : Core) (a : List ℤ) → Reaches s → IsQuiet s → s.book.mode ≡ Best → Satisfies s.book.model a → Betters s.book.model a (incumbent s.book) → ⊥

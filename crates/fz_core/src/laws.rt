@@ -1,5 +1,5 @@
 //! Laws of machines: each is the clause of a function that does nothing, so that the clause is proved.
-ghost use Rattle.fz_core.specs.Laws.{EventsKeepLaw, OpenIsHeld, EachIsOnce, QuietIsClosed, QuietListsAll, QuietIsBest};
+ghost use Rattle.fz_core.specs.Laws.{EventsKeepLaw, OpenIsHeld, EachIsOnce, QuietIsClosed, QuietListsAll, QuietListsRows, QuietIsBest};
 
 /// Whatever the events, book, paths and accounts keep their laws, and the claimed parts are what paths and hands hold. Where a
 /// best solution is sought too, with what was recorded learnt in any order, late or never.
@@ -12,7 +12,8 @@ pub fn open_is_held()
     ensures { OpenIsHeld }
 {}
 
-/// Where all are sought, each satisfying assignment is recorded, found by one path, or in one open place, once in all.
+/// Where all are sought, or their rows, each satisfying assignment, or one of its row, is recorded, found by one path, or in one open
+/// place, once in all.
 pub fn each_is_once()
     ensures { EachIsOnce }
 {}
@@ -25,6 +26,11 @@ pub fn quiet_is_closed()
 /// In a search for all satisfying assignments it has each of them once then.
 pub fn quiet_lists_all()
     ensures { QuietListsAll }
+{}
+
+/// In a search for all rows it has one assignment of each then.
+pub fn quiet_lists_rows()
+    ensures { QuietListsRows }
 {}
 
 /// In a search for a best one no satisfying assignment betters its incumbent then.

@@ -7,11 +7,11 @@ use Rattle.std.proofs.lemmas.Option.{slice_get_within, get_or_from_slice_get, sl
 use Rattle.std.proofs.lemmas.Bool.{and_parts, ltb-true, ne_eqb}
 use Rattle.std.proofs.lemmas.Bool.Decides.{Decides-eqb}
 use Rattle.fz_tree.specs.declared.mode.Mode.{Mode}
-use Rattle.fz_tree.specs.declared.mode.Mode.TheVariants.{All, Best}
+use Rattle.fz_tree.specs.declared.mode.Mode.TheVariants.{All, Rows, Best}
 use Rattle.fz_tree.specs.Frontier.{Frontier, part_of}
 use Rattle.fz_tree.specs.Account.{Account, with_given}
 use Rattle.fz_spec.specs.Instance.{Instance}
-use Rattle.fz_tree.specs.Better.{mode_of}
+use Rattle.fz_tree.specs.Better.{IsModeOf}
 use Rattle.fz_tree.specs.Book.{Book, Claims, Takes, opening, is_claimed}
 use Rattle.fz_account.specs.declared.account.Learned.{Learned}
 use Rattle.fz_path.specs.declared.step.Step as stepping
@@ -172,9 +172,9 @@ reportable : (s : Core) (i : ℕ) (w : Worker) (held : Option Account) → CoreL
 reportable s i w None law at holds = tt
 reportable s i w (Some c) law at holds =
     let of_w = worker_of s i w law at in
-    let is = held_by s.book.model w c of_w holds in
+    let is = held_by s.book.model s.book.mode w c of_w holds in
     let k = held_is_claimed s.book.parts s.workers i w c law.held at holds in
-    record { model = sym (is.model ∙ of_w.model); is_open = (k.place, k.at); given = is.given }
+    record { model = sym (is.model ∙ of_w.model); mode = sym (is.mode ∙ of_w.mode); is_open = (k.place, k.at); given = is.given }
 
 -- the same of the worker as it is read
 reportable_read : (s old : Core) (i : ℕ) (w read : Worker) → CoreLaw s → s ≡ old → worker_at old i ≡ Some w → read ≡ get_or s.workers i read → IfSome read.path.held (IsReportable s.book)
@@ -278,6 +278,7 @@ steal_code s old v w read now other path hand task b view lawful is does at seen
 
 told_in : (mode : Mode) (recorded : List (List ℤ)) (i : ℕ) (a : List ℤ) → nat_lt i (length (improving_in mode recorded)) ≡ true → a ≡ get_or recorded i a → slice_get (improving_in mode recorded) i ≡ Some a
 told_in All recorded i a within is = absurd (omega (arith, ltb-true i 0 within))
+told_in Rows recorded i a within is = absurd (omega (arith, ltb-true i 0 within))
 told_in Best recorded i a within is = slice_get_read recorded (length recorded) i a refl (ltb-true i (length recorded) within) is
 
 pub learn_code : (s old : Core) (i number : ℕ) (read : Worker) (path new : Pathed) (hand : Option Tasked) (recorded : List (List ℤ)) (a : List ℤ) (learned : Learned) (answer : Outcome) → s ≡ old → is_lawful old (Learn i number) ≡ true → read ≡ get_or s.workers i read
@@ -324,7 +325,7 @@ step_law s old i read path new hand (Err e) law view lawful is seen does falls e
 -- ---- the start
 
 -- slots are the workers that were made, and made the number of the one that would come next
-pub new_law : (m : Instance) (mode : Mode) (n commit adaptive : ℕ) (slots : List Worker) (b : Book) → mode ≡ mode_of m.goal → 1 ≤ n → n < 2 ^ 32 → 1 ≤ commit → 1 ≤ adaptive → slots ≡ replicate n (idle m mode commit adaptive) → b ≡ opening m mode
+pub new_law : (m : Instance) (mode : Mode) (n commit adaptive : ℕ) (slots : List Worker) (b : Book) → IsModeOf m.goal mode → 1 ≤ n → n < 2 ^ 32 → 1 ≤ commit → 1 ≤ adaptive → slots ≡ replicate n (idle m mode commit adaptive) → b ≡ opening m mode
     → CoreLaw (record { workers = slots; book = b })
 new_law m mode n commit adaptive slots b own several numbered one two is book =
     let core : List Worker → Book → Core = λ ws x. record { workers = ws; book = x } in
@@ -352,6 +353,7 @@ learns_within s old w i view lawful =
 
 improving_within : (mode : Mode) (recorded : List (List ℤ)) (i : ℕ) → i < length (improving_in mode recorded) → i < length recorded
 improving_within All recorded i h = absurd (omega (arith, h))
+improving_within Rows recorded i h = absurd (omega (arith, h))
 improving_within Best recorded i h = h
 
 -- of a number that is recorded

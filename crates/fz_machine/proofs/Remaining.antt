@@ -7,7 +7,7 @@ use Rattle.std.proofs.lemmas.List.Sums.{sum_by-set, sum_by-cons, sum_by-append, 
 use Rattle.fz_spec.specs.Instance.{Instance, Satisfies}
 use Rattle.fz_model.specs.Kept.{IsModel}
 use Rattle.fz_tree.specs.declared.mode.Mode.{Mode}
-use Rattle.fz_tree.specs.declared.mode.Mode.TheVariants.{All, Best}
+use Rattle.fz_tree.specs.declared.mode.Mode.TheVariants.{All, Rows, Best}
 use Rattle.fz_tree.specs.Better.{Betters}
 use Rattle.fz_tree.specs.Frontier.{Frontier, AreEdges, has_rest, can_cut, part_of, rest_of, moved}
 use Rattle.fz_tree.specs.Account.{Account, rest_begun, with_after, with_given}
@@ -135,7 +135,7 @@ known_sound s i w law at =
 pub start_less : (w : ℕ) (old new : Core) → CoreLaw old → IsModel old.book.model → StartsAt w old new → core_left new < core_left old
 start_less w old new law model s =
     let m = old.book.model in
-    let of_t = taking_worker m s.worker s.task s.path (worker_of old w s.worker law s.at) s.takes in
+    let of_t = taking_worker m old.book.mode s.worker s.task s.path (worker_of old w s.worker law s.at) s.takes in
     let sound : IfSome s.takes.path.known (Satisfies m) = subst (λ (n : Instance). IfSome s.takes.path.known (Satisfies n)) of_t.model of_t.law.known in
     replaced_less old new w s.worker (record { path = s.path; hand = None }) s.at s.is
     (omega (arith, ap (λ (p : Pathed). path_left m p.held) s.takes.is, ap (path_left m) s.idle, ap (hand_left m) s.full, score_most m s.takes.path.known model sound))
@@ -153,6 +153,7 @@ node_same c false = (refl, refl)
 
 added_learns : (m : Instance) (mode : Mode) (c : Account) (x : List ℤ) → score_left m (Some x) ≤ score_left m c.witness → LearnsBy m c (added mode c x)
 added_learns m All c x less = record { found = omega (arith, length-append c.found (x ∷ [])); witness = omega arith }
+added_learns m Rows c x less = record { found = omega (arith, length-append c.found (x ∷ [])); witness = omega arith }
 added_learns m Best c x less = record { found = omega arith; witness = less }
 
 node_learns : (m : Instance) (step : Step) (c new : Account) → IsModel m → c.model ≡ m → IfSome c.witness (Satisfies m) → NodeTo step c new → LearnsBy m c new
@@ -197,7 +198,7 @@ pub step_less : (w : ℕ) (answer : Outcome) (old new : Core) → CoreLaw old �
 step_less w answer old new law model s rest =
     let m = old.book.model in
     let of_w = worker_of old w s.worker law s.at in
-    let is = held_by m s.worker s.account of_w s.holds in
+    let is = held_by m old.book.mode s.worker s.account of_w s.holds in
     let follows = step_follows s.step s.account s.stepped is.law s.steps in
     let of_m : s.account.model ≡ m = is.model ∙ of_w.model in
     let sound : IfSome s.account.witness (Satisfies m) = subst (λ (n : Instance). IfSome s.account.witness (Satisfies n)) of_m is.law.witness in
@@ -242,7 +243,7 @@ steal_less v w old new law s =
     let left = holding s.victim (held_behind taken) in
     let thief : Worker = record { path = s.thief.path; hand = Some s.task } in
     let between = set old.workers v left in
-    let is = held_by m s.victim s.account (worker_of old v s.victim law s.at_victim) s.holds in
+    let is = held_by m old.book.mode s.victim s.account (worker_of old v s.victim law s.at_victim) s.holds in
     let same = takes_same old v s.victim s.account taken new.book law s.at_victim s.holds refl s.takes in
     let at_thief : slice_get between w ≡ Some s.thief = get_set_other old.workers v w left (λ same. s.other (sym same)) ∙ s.at_thief in
     omega (

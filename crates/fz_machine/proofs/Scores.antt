@@ -6,7 +6,7 @@ use Rattle.std.proofs.lemmas.Int.{ints}
 use Rattle.fz_spec.specs.Instance.{Instance, Satisfies, AreImproving, score}
 use Rattle.fz_model.specs.Kept.{IsModel}
 use Rattle.fz_tree.specs.declared.mode.Mode.{Mode}
-use Rattle.fz_tree.specs.declared.mode.Mode.TheVariants.{All, Best}
+use Rattle.fz_tree.specs.declared.mode.Mode.TheVariants.{All, Rows, Best}
 use Rattle.fz_tree.specs.Better.{Betters}
 use Rattle.fz_tree.specs.Book.{Book, BookLaw, SuitsRecord}
 use Rattle.fz_core.proofs.Scores.{is_score}
@@ -42,6 +42,7 @@ improving_short m (x ∷ xs) model sound improving =
 
 few_in : (mode : Mode) (m : Instance) (l : List (List ℤ)) → IsModel m → AllByRecursion (Satisfies m) l → SuitsRecord mode m l → length (improving_in mode l) ≤ SCORES
 few_in All m l model sound improving = omega arith
+few_in Rows m l model sound improving = omega arith
 few_in Best m l model sound improving = improving_short m l model sound improving
 
 pub few_improving : (b : Book) → IsModel b.model → BookLaw b → length (improving b) ≤ SCORES

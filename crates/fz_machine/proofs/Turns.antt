@@ -8,8 +8,8 @@ use Rattle.fz_sets.proofs.Lists.{some_is, all_at, all_of}
 use Rattle.fz_spec.specs.Instance.{Instance, Satisfies}
 use Rattle.fz_model.specs.Kept.{IsModel}
 use Rattle.fz_tree.specs.declared.mode.Mode.{Mode}
-use Rattle.fz_tree.specs.declared.mode.Mode.TheVariants.{All, Best}
-use Rattle.fz_tree.specs.Better.{Betters, mode_of}
+use Rattle.fz_tree.specs.declared.mode.Mode.TheVariants.{All, Rows, Best}
+use Rattle.fz_tree.specs.Better.{Betters}
 use Rattle.fz_tree.specs.Frontier.{has_rest}
 use Rattle.fz_tree.specs.Account.{Account}
 use Rattle.fz_tree.specs.Book.{incumbent_of, is_claimed}
@@ -139,6 +139,7 @@ first_can s u first =
 
 recorded_some : (mode : Mode) (recorded : List (List ℤ)) (P : List ℤ → Type 0) → IsSomeAnd (incumbent_of mode recorded) P → 0 < length (improving_in mode recorded)
 recorded_some All recorded P some = absurd some
+recorded_some Rows recorded P some = absurd some
 recorded_some Best [] P some = absurd some
 recorded_some Best (x ∷ xs) P some = omega arith
 
@@ -150,6 +151,7 @@ record IsIncumbent (mode : Mode) (recorded : List (List ℤ)) (a : List ℤ) : T
 
 told_incumbent : (mode : Mode) (recorded : List (List ℤ)) (i : ℕ) (a : List ℤ) → i ≡ length (improving_in mode recorded) - 1 → slice_get (improving_in mode recorded) i ≡ Some a → IsIncumbent mode recorded a
 told_incumbent All recorded i a is told = absurd (let bad : None ≡ Some a = told in cc)
+told_incumbent Rows recorded i a is told = absurd (let bad : None ≡ Some a = told in cc)
 told_incumbent Best recorded i a is told =
     let at : slice_get recorded (length recorded - 1) ≡ Some a = subst (λ n. slice_get recorded n ≡ Some a) is told in
     record { best = refl; incumbent = at; at = at }
@@ -239,13 +241,13 @@ learn_less w i answer old new law model l last busy news =
     let told = told_incumbent old.book.mode old.book.recorded i l.assignment last l.told in
     let of_w = worker_of old w l.worker law l.at in
     let holds = busy_holds l.worker p.held refl (subst (λ (o : Option Worker). is_busy o ≡ true) l.at busy) in
-    let is = held_by m l.worker holds.0 of_w holds.1 in
+    let is = held_by m old.book.mode l.worker holds.0 of_w holds.1 in
     let known : holds.0.witness ≡ p.known = (subst (λ (o : Option Account). IfSome o (IsOwn p.known)) holds.1 of_w.account).witness in
     let better : Betters m l.assignment p.known =
     subst (λ (o : Option (List ℤ)). IsSomeAnd o (λ (a : List ℤ). Betters m a p.known)) told.incumbent (subst (HasNews old) l.at news) in
     let satisfies : Satisfies m l.assignment = all_at (Satisfies m) old.book.recorded (length old.book.recorded - 1) l.assignment law.book.sound told.at in
     let fresh : IsNews p l.assignment = record {
-      best = of_w.law.own_mode ∙ ap (λ (n : Instance). mode_of n.goal) of_w.model ∙ sym law.book.own_mode ∙ told.best;
+      best = of_w.mode ∙ told.best;
       satisfies = subst (λ (n : Instance). Satisfies n l.assignment) (sym of_w.model) satisfies;
       better = subst (λ (n : Instance). Betters n l.assignment p.known) (sym of_w.model) better;
     } in

@@ -1,7 +1,7 @@
 //! Machines.
 ghost use Rattle.std.specs.Prelude.{◌≡◌, ◌≤◌, ◌<◌, true, length, option_copied, option_map, is_some, IfOk, IfErr, OnErr};
 ghost use Rattle.std.specs.Arc.{arc_value};
-ghost use Rattle.fz_tree.specs.Better.{mode_of};
+ghost use Rattle.fz_tree.specs.Better.{IsModeOf};
 ghost use Rattle.fz_tree.specs.Book.{BookLaw};
 ghost use Rattle.fz_path.specs.Paths.{bare};
 ghost use Rattle.fz_core.specs.Cores.{CoreLaw, starting, worker_at};
@@ -53,7 +53,7 @@ impl<S: SearchSpace> Machine<S> {
         adaptive_distance: u32,
     ) -> Result<Machine<S>, AllocFailed<Arc<fz_model::Model>>>
         requires accepts { S.accepts (arc_value model) }
-        requires mode { mode ≡ mode_of (arc_value model).goal }
+        requires mode { IsModeOf (arc_value model).goal mode }
         requires workers { 1 ≤ workers }
         requires commit_distance { 1 ≤ commit_distance }
         requires adaptive_distance { 1 ≤ adaptive_distance }
@@ -132,7 +132,7 @@ impl<S: SearchSpace> Machine<S> {
         ensures { result.now ≡ improving self.now.book }
     {
         match self.book.mode() {
-            Mode::All => &[],
+            Mode::All | Mode::Rows => &[],
             Mode::Best => self.book.recorded(),
         }
     }

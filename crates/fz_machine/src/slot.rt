@@ -2,7 +2,7 @@
 ghost use Rattle.std.specs.Prelude.{◌≡◌, ◌≤◌, replicate, true, None, Some, is_some, IfOk, IfSome, OnOk, OnErr};
 ghost use Rattle.std.specs.List.{slice_get};
 ghost use Rattle.std.specs.Arc.{arc_value};
-ghost use Rattle.fz_tree.specs.Better.{mode_of};
+ghost use Rattle.fz_tree.specs.Better.{IsModeOf};
 ghost use Rattle.fz_tree.specs.Account as accounts;
 ghost use Rattle.fz_tree.specs.Account.{with_given};
 ghost use Rattle.fz_tree.specs.Book.{Takes};
@@ -53,7 +53,7 @@ impl<S: SearchSpace> Slot<S> {
         adaptive_distance: u32,
     ) -> Result<Slot<S>, AllocError>
         requires accepts { S.accepts (arc_value model.now) }
-        requires mode { mode ≡ mode_of (arc_value model.now).goal }
+        requires mode { IsModeOf (arc_value model.now).goal mode }
         requires commit_distance { 1 ≤ commit_distance }
         requires adaptive_distance { 1 ≤ adaptive_distance }
         ensures { IfOk result (λ w. w
@@ -152,7 +152,7 @@ pub fn idle_slots<S: SearchSpace>(
     adaptive_distance: u32,
 ) -> Result<Vec<Slot<S>>, AllocError>
     requires accepts { S.accepts (arc_value model.now) }
-    requires mode { mode ≡ mode_of (arc_value model.now).goal }
+    requires mode { IsModeOf (arc_value model.now).goal mode }
     requires commit_distance { 1 ≤ commit_distance }
     requires adaptive_distance { 1 ≤ adaptive_distance }
     ensures { IfOk result (λ slots. slots.items ≡ replicate workers

@@ -1,8 +1,8 @@
 -- How a team ends.
-use Rattle.std.specs.Prelude.{◌≡◌, ℕ, ◌+◌, ◌≤◌, ℤ, List, [], length, Option, None, All, IsSomeAnd}
+use Rattle.std.specs.Prelude.{◌≡◌, ℕ, ◌+◌, ◌≤◌, ℤ, List, [], length, Option, All, IsSomeAnd}
 use Rattle.fz_spec.specs.Instance.{Instance, Satisfies}
+use Rattle.fz_tree.specs.declared.mode.Mode.{Mode}
 use Rattle.fz_tree.specs.Book.{Book}
-use Rattle.fz_path.specs.Paths.{Pathed}
 use Rattle.atomic_table.specs.Seated.{TableId}
 use Rattle.fz_bound.specs.Rule.{UNSET, PARTS}
 use Rattle.fz_bound.specs.Seats.{Seated}
@@ -11,17 +11,12 @@ use Rattle.fz_team.specs.declared.end.End.TheVariants.{Enough, Closed, Short, St
 use Rattle.fz_team.specs.declared.member.Member.{Member}
 use Rattle.fz_team.specs.Members.{IsMember, least_score}
 
--- a path of this model that holds nothing
-pub record IsIdleOf (m : Instance) (p : Pathed) : Type 0 where
-  pub held : p.held ≡ None
-  pub model : p.model ≡ m
-
--- Enough and Closed come only with a book of the model handed in that shows it.
-abbrev pub Ends : End → Option ℕ → Instance → Book → Type 0
-Ends Enough enough m b = (b.model ≡ m) × IsSomeAnd enough (λ n. n ≤ length b.recorded)
-Ends Closed enough m b = (b.model ≡ m) × (b.parts ≡ [])
-Ends Short enough m b = Unit {0}
-Ends Stopped enough m b = Unit {0}
+-- Enough and Closed come only with a book of the model and mode handed in that shows it.
+abbrev pub Ends : End → Option ℕ → Instance → Mode → Book → Type 0
+Ends Enough enough m mode b = (b.model ≡ m) × (b.mode ≡ mode) × IsSomeAnd enough (λ n. n ≤ length b.recorded)
+Ends Closed enough m mode b = (b.model ≡ m) × (b.mode ≡ mode) × (b.parts ≡ [])
+Ends Short enough m mode b = Unit {0}
+Ends Stopped enough m mode b = Unit {0}
 
 -- each of them satisfies, and the word is the least of their scores
 pub record IsWordOf (m : Instance) (bests : List (List ℤ)) (word : ℕ) : Type 0 where

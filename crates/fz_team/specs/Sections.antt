@@ -2,6 +2,7 @@
 use Rattle.std.specs.Prelude.{◌≡◌, false, Option, Some, None, IfSome}
 use Rattle.fz_tree.specs.Account.{Account}
 use Rattle.fz_tree.specs.Book.{Book, Takes, IsOpen}
+use Rattle.fz_book.specs.Outcomes.{IsOwn}
 use Rattle.fz_path.specs.Paths.{Pathed, Walked, bare, with_held, held_behind, can_cut_held}
 use Rattle.fz_path.specs.declared.task.Cut.{Cut}
 use Rattle.fz_path.specs.Cuts.{IsCutOf, held_behind_cut}
@@ -10,11 +11,11 @@ use Rattle.fz_team.specs.declared.section.Handed.TheVariants.{Taken, Dropped}
 use Rattle.fz_team.specs.declared.section.Reported.{Reported}
 use Rattle.fz_team.specs.declared.section.CutOff.{CutOff}
 
--- an account of this model, of what is open in the book
+-- an account of the book's model and mode, of what is open in it
 abbrev pub IsOwnOf : Book → Account → Type 0
-IsOwnOf b c = (b.model ≡ c.model) × IsOpen b c.before
+IsOwnOf b c = IsOwn b c × IsOpen b c.before
 
--- it is taken exactly where it is of the book's model and of an open frontier; else the book is as before
+-- it is taken exactly where it is of the book's model and mode and of an open frontier; else the book is as before
 abbrev pub HandsIn : Handed → Account → Book → Book → Type 0
 HandsIn Taken c old new = Takes old c new
 HandsIn Dropped c old new = (IsOwnOf old c → ⊥) × (new ≡ old)

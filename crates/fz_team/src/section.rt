@@ -15,7 +15,7 @@ use std::alloc::AllocError;
 pub enum Handed {
     /// The book took it.
     Taken,
-    /// It was of another model, or of no open frontier.
+    /// It was of another model or mode, or of no open frontier.
     Dropped,
 }
 

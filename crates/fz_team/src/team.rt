@@ -11,6 +11,7 @@ use crate::member::Member;
 use crate::score::NO_SCORE;
 use crate::work::work;
 use crossbeam_utils::CachePadded;
+use fz_account::Mode;
 use fz_book::{Book, has_enough};
 use fz_bound::{Bound, Seat};
 use fz_collect::Outbox;
@@ -49,9 +50,10 @@ pub fn run<R: Threads + Wait + Sync, S: SearchSpace + Send, G: Gate + Sync>(
 ) -> TeamEnd
     requires several { (1 ≤ vec_len paths) × (vec_len paths ≤ 64) }
     ensures law { BookLaw result.book.book }
-    ensures end { Ends result.end enough book.book.model result.book.book }
+    ensures end { Ends result.end enough book.book.model book.book.mode result.book.book }
     ensures bests { HasBests result.end book.book.model result.bests.items result.word }
 {
+    let mode = book.mode();
     match team_of(alloc, &book, paths) {
         Ok(
             Team {
@@ -62,7 +64,7 @@ pub fn run<R: Threads + Wait + Sync, S: SearchSpace + Send, G: Gate + Sync>(
                 members,
             },
         ) => rounds(
-            rt, alloc, book, &model, &paths, bound, seat, members, enough, gate, outbox,
+            rt, alloc, book, &model, mode, &paths, bound, seat, members, enough, gate, outbox,
         ),
         Err(_) => short(alloc, book),
     }
@@ -172,6 +174,7 @@ fn rounds<R: Threads + Wait + Sync, S: SearchSpace + Send, G: Gate + Sync>(
     alloc: Global,
     book: Book,
     model: &Model,
+    mode: Mode,
     paths: &[CachePadded<Mutex<Path<S>>>],
     bound: Bound,
     seat: Seat,
@@ -182,7 +185,7 @@ fn rounds<R: Threads + Wait + Sync, S: SearchSpace + Send, G: Gate + Sync>(
 ) -> TeamEnd
     requires { IsTeam model.now bound (length paths.now) seat members.items }
     ensures law { BookLaw result.book.book }
-    ensures end { Ends result.end enough model.now result.book.book }
+    ensures end { Ends result.end enough model.now mode result.book.book }
     ensures bests { HasBests result.end model.now result.bests.items result.word }
 {
     let mut book = book;
@@ -196,7 +199,7 @@ fn rounds<R: Threads + Wait + Sync, S: SearchSpace + Send, G: Gate + Sync>(
             return short(alloc, book);
         };
         members = after;
-        if let Some(end) = end_of(&book, model, enough) {
+        if let Some(end) = end_of(&book, model, mode, enough) {
             return closing(alloc, book, model, bound, seat, members, end);
         }
         if outbox.is_stopped() {
@@ -262,11 +265,11 @@ fn in_threads<R: Threads + Wait + Sync, S: SearchSpace + Send, G: Gate + Sync>(
     )
 }
 
-/// The end that a book shows. A book of another model shows none but want of memory.
-fn end_of(book: &Book, model: &Model, enough: Option<u32>) -> Option<End>
-    ensures { IfSome result (λ end. Ends end enough model.now book.now.book) }
+/// The end that a book shows. A book of another model or mode shows none but want of memory.
+fn end_of(book: &Book, model: &Model, mode: Mode, enough: Option<u32>) -> Option<End>
+    ensures { IfSome result (λ end. Ends end enough model.now mode book.now.book) }
 {
-    if !book.model().same(model) {
+    if book.mode() != mode || !book.model().same(model) {
         return Some(End::Short);
     }
     if has_enough(book, enough) {
