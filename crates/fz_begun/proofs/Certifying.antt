@@ -4,11 +4,11 @@ use Rattle.std.specs.Prelude.{ℤ, slice_get}
 use Rattle.fz_spec.specs.declared.goal.Goal.{Goal}
 use Rattle.fz_spec.specs.declared.goal.Goal.TheVariants.{Satisfy, Minimize, Maximize}
 use Rattle.fz_spec.specs.declared.term.Term.{Term}
-use Rattle.fz_spec.specs.Instance.{Instance, Lists}
+use Rattle.fz_spec.specs.Instance.{Instance}
 use Rattle.fz_model.specs.Kept.{IsModel}
 use Rattle.fz_certain.proofs.Growing.{cert_exists}
 use Rattle.fz_cmd.specs.Meaning.{Options}
-use Rattle.fz_runs.specs.Runs.{EndsBest, IsCertificate, PrintsFor, PrintsGoal, PrintsWanted, certified, wanted, wanted_of}
+use Rattle.fz_runs.specs.Runs.{EndsBest, IsCertificate, PrintsFor, PrintsGoal, PrintsWanted, ListsEach, certified, wanted, wanted_of}
 use Rattle.fz_begun.specs.Begun.{IsCertifiable}
 
 -- ---- a best one, or none
@@ -22,8 +22,9 @@ last_is_best m (x ∷ y ∷ ys) goal ends =
     let last : slice_get (y ∷ ys) (suc (length ys) - 1) ≡ slice_get (x ∷ y ∷ ys) (suc (suc (length ys)) - 1) = ap (slice_get (y ∷ ys)) one ∙ ap (slice_get (x ∷ y ∷ ys)) (sym two) in
     subst (λ (head : Option (List ℤ)). IsCertifiable m (Some head)) last (last_is_best m (y ∷ ys) goal ends)
 
-none_listed : (m : Instance) → Lists m [] → IsCertifiable m (Some None)
-none_listed m lists = (tt, λ b satisfies better. (let once = lists.each_once b satisfies in omega (arith, once)))
+none_listed : (d : Bool) (m : Instance) → ListsEach d m [] → IsCertifiable m (Some None)
+none_listed false m lists = (tt, λ b satisfies better. (let once = lists.each_once b satisfies in omega (arith, once)))
+none_listed true m lists = (tt, λ b satisfies better. (let once = lists.each_once b satisfies in omega (arith, once)))
 
 some_wanted : (all : Bool) (limit : Option ℕ) → wanted_of all limit ≡ Some 0 → ⊥
 some_wanted all (Some zero) is = cc is
@@ -31,16 +32,16 @@ some_wanted all (Some (suc n)) is = cc is
 some_wanted true None is = cc is
 some_wanted false None is = cc is
 
-none_wanted : (m : Instance) (w : Option ℕ) (shown : List ℕ) → (w ≡ Some 0 → ⊥) → PrintsWanted w m [] shown → IsCertifiable m (Some None)
-none_wanted m None shown some prints = none_listed m prints.lists
-none_wanted m (Some n) shown some (inl few) = absurd (some (ap Some (sym few.are.count)))
-none_wanted m (Some n) shown some (inr all) = none_listed m all.1.lists
+none_wanted : (d : Bool) (m : Instance) (w : Option ℕ) (shown : List ℕ) → (w ≡ Some 0 → ⊥) → PrintsWanted d w m [] shown → IsCertifiable m (Some None)
+none_wanted d m None shown some prints = none_listed d m prints.lists
+none_wanted d m (Some n) shown some (inl few) = absurd (some (ap Some (sym few.are.count)))
+none_wanted d m (Some n) shown some (inr all) = none_listed d m all.1.lists
 
 -- ---- by the goal
 
-of_satisfy : (asked : Bool) (m : Instance) (o : Options) (l : List (List ℤ)) (shown : List ℕ) → PrintsWanted (wanted o) m l shown → IsCertifiable m (certified asked Satisfy l)
+of_satisfy : (asked : Bool) (m : Instance) (o : Options) (l : List (List ℤ)) (shown : List ℕ) → PrintsWanted o.distinct (wanted o) m l shown → IsCertifiable m (certified asked Satisfy l)
 of_satisfy false m o l shown prints = tt
-of_satisfy true m o [] shown prints = none_wanted m (wanted o) shown (some_wanted o.all o.limit) prints
+of_satisfy true m o [] shown prints = none_wanted o.distinct m (wanted o) shown (some_wanted o.all o.limit) prints
 of_satisfy true m o (a ∷ l) shown prints = tt
 
 ends_best : (generate : Option ℕ) (all : Bool) (t : Term) (m : Instance) (l : List (List ℤ)) (shown : List ℕ) → PrintsGoal generate all t m l shown → EndsBest m l

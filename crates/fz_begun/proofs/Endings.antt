@@ -9,16 +9,22 @@ use Rattle.std.proofs.lemmas.List.Concat.{flat_map-append}
 use Rattle.fz_spec.specs.declared.goal.Goal.{Goal}
 use Rattle.fz_spec.specs.declared.goal.Goal.TheVariants.{Satisfy, Minimize, Maximize}
 use Rattle.fz_spec.specs.declared.term.Term.{Term}
-use Rattle.fz_spec.specs.Instance.{Instance, Satisfies, occurrences, is_same}
-use Rattle.fz_spec.specs.Run.{PrintsAll, block, blocks, closing}
-use Rattle.fz_tree.proofs.Counts.{one_if, count_append}
+use Rattle.fz_spec.specs.Instance.{Instance, Satisfies, is_same}
+use Rattle.fz_spec.specs.Run.{block, blocks, closing}
+use Rattle.fz_tree.specs.declared.mode.Mode.{Mode}
+use Rattle.fz_tree.specs.Rows.{key}
+use Rattle.fz_tree.specs.Account.{times_found}
+use Rattle.fz_tree.proofs.Counts.{one_if}
+use Rattle.fz_tree.proofs.Same.{found_both}
 use Rattle.fz_cmd.specs.Meaning.{Options}
 use Rattle.fz_print.specs.Ending.{statistics_text}
 use Rattle.fz_model.specs.Kept.{IsModel}
-use Rattle.fz_runs.specs.Runs.{AreSome, PrintsWanted, PrintsGoal, PrintsFor, wanted, counted, certified}
+use Rattle.fz_runs.specs.Runs.{AreSome, PrintsEach, PrintsWanted, PrintsGoal, PrintsFor, wanted, counted, certified}
+use Rattle.fz_runs.specs.Modes.{mode_of}
+use Rattle.fz_runs.proofs.Times.{times_are}
 use Rattle.fz_begun.specs.Begun.{IsBelow, AreFound, AreBegun, IsShort, CanEnd}
 use Rattle.fz_begun.proofs.Certifying.{certifiable, certificate_exists}
-use Rattle.fz_begun.proofs.Extensions.{ListsAll, lists_all, GoesUp, goes_up_from}
+use Rattle.fz_begun.proofs.Extensions.{ListsAll, lists_all, lists_each, GoesUp, goes_up_from}
 
 -- ---- pieces of a list
 
@@ -28,11 +34,11 @@ all_front P [] [] (suc n) h = tt
 all_front P [] (x ∷ k) (suc n) h = (h.0, all_front P [] k n h.1)
 all_front P (y ∷ l) k n h = (h.0, all_front P l k n h.1)
 
-pub fewer : (a : List ℤ) (l k : List (List ℤ)) (n : ℕ) → occurrences a (l ++ take n k) ≤ occurrences a (l ++ k)
-fewer a l k n =
-    let e = count_append (is_same a) l (take n k) in
-    let f = count_append (is_same a) l k in
-    let g = sum_by-take-le (λ x. one_if (is_same a x)) k n in
+pub fewer : (mode : Mode) (m : Instance) (a : List ℤ) (l k : List (List ℤ)) (n : ℕ) → times_found mode m a (l ++ take n k) ≤ times_found mode m a (l ++ k)
+fewer mode m a l k n =
+    let e = found_both mode m a l (take n k) in
+    let f = found_both mode m a l k in
+    let g = sum_by-take-le (λ x. one_if (is_same (key mode m a) (key mode m x))) k n in
     omega (arith, e, f, g)
 
 -- ---- bytes
@@ -65,24 +71,24 @@ all_text m l more = ap (λ u. u ++ closing (l ++ more)) (flat_map-append (block 
 end_some : (front end : List ℕ) → 0 < length end → 0 < length (front ++ end)
 end_some front end h = omega (arith, h, length-append front end)
 
-all_of : (m : Instance) (l : List (List ℤ)) (whole : ListsAll m l) → PrintsAll m (l ++ whole.more) (blocks m l ++ (blocks m whole.more ++ closing (l ++ whole.more)))
-all_of m l whole = record { lists = whole.lists; text = sym (all_text m l whole.more) }
+all_of : (d : Bool) (m : Instance) (l : List (List ℤ)) (whole : ListsAll d m l) → PrintsEach d m (l ++ whole.more) (blocks m l ++ (blocks m whole.more ++ closing (l ++ whole.more)))
+all_of d m l whole = record { lists = lists_each d m (l ++ whole.more) whole.sound whole.each_once; text = sym (all_text m l whole.more) }
 
-some_of : (m : Instance) (n : ℕ) (l : List (List ℤ)) (whole : ListsAll m l) → length l ≤ n → n ≤ length (l ++ whole.more) → AreSome m n (l ++ take (n - length l) whole.more)
-some_of m n l whole few many =
+some_of : (d : Bool) (m : Instance) (n : ℕ) (l : List (List ℤ)) (whole : ListsAll d m l) → length l ≤ n → n ≤ length (l ++ whole.more) → AreSome d m n (l ++ take (n - length l) whole.more)
+some_of d m n l whole few many =
     let size = length-append l whole.more in
     let within : n - length l ≤ length whole.more = omega (arith, size, many) in
     record {
-      sound = all_front (Satisfies m) l whole.more (n - length l) whole.lists.sound;
-      different = λ a s. (let once = whole.lists.each_once a s in let less = fewer a l whole.more (n - length l) in omega (arith, once, less));
+      sound = all_front (Satisfies m) l whole.more (n - length l) whole.sound;
+      different = λ a s. (let once = whole.each_once a s in let less = fewer (mode_of d) m a l whole.more (n - length l) in omega (arith, once, less, times_are d m a (l ++ take (n - length l) whole.more)));
       count = (let part = length-take-le (n - length l) whole.more within in let e = length-append l (take (n - length l) whole.more) in omega (arith, part, e, few));
     }
 
-shows_some : (o : Options) (m : Instance) (n : ℕ) (l : List (List ℤ)) (whole : ListsAll m l) → wanted o ≡ Some n → length l ≤ n → (length (l ++ whole.more) < n) ⊎ (n ≤ length (l ++ whole.more)) → Shows o m Satisfy l
+shows_some : (o : Options) (m : Instance) (n : ℕ) (l : List (List ℤ)) (whole : ListsAll o.distinct m l) → wanted o ≡ Some n → length l ≤ n → (length (l ++ whole.more) < n) ⊎ (n ≤ length (l ++ whole.more)) → Shows o m Satisfy l
 shows_some o m n l whole asked few (inl less) = record {
   listed = l ++ whole.more;
   rest = blocks m whole.more ++ closing (l ++ whole.more);
-  prints = subst (λ (w : Option ℕ). PrintsWanted w m (l ++ whole.more) (blocks m l ++ (blocks m whole.more ++ closing (l ++ whole.more)))) (sym asked) (inr (less, all_of m l whole));
+  prints = subst (λ (w : Option ℕ). PrintsWanted o.distinct w m (l ++ whole.more) (blocks m l ++ (blocks m whole.more ++ closing (l ++ whole.more)))) (sym asked) (inr (less, all_of o.distinct m l whole));
   some = λ _. end_some (blocks m whole.more) (closing (l ++ whole.more)) (closing_some (l ++ whole.more));
 }
 shows_some o m n l whole asked few (inr many) =
@@ -90,25 +96,25 @@ shows_some o m n l whole asked few (inr many) =
     record {
       listed = l ++ take k whole.more;
       rest = blocks m (take k whole.more);
-      prints = subst (λ (w : Option ℕ). PrintsWanted w m (l ++ take k whole.more) (blocks m l ++ blocks m (take k whole.more))) (sym asked)
-          (inl (record { are = some_of m n l whole few many; text = sym (flat_map-append (block m) l (take k whole.more)) }));
+      prints = subst (λ (w : Option ℕ). PrintsWanted o.distinct w m (l ++ take k whole.more) (blocks m l ++ blocks m (take k whole.more))) (sym asked)
+          (inl (record { are = some_of o.distinct m n l whole few many; text = sym (flat_map-append (block m) l (take k whole.more)) }));
       some = λ short.
           let below : length l < n = subst (λ (w : Option ℕ). IsBelow w (length l)) asked short in
           let size = length-append l whole.more in
           blocks_some m k whole.more (omega (arith, size, many)) (omega (arith, below));
     }
 
-shows_wanted : (o : Options) (m : Instance) (w : Option ℕ) (l : List (List ℤ)) → wanted o ≡ w → AreFound m w l → Shows o m Satisfy l
+shows_wanted : (o : Options) (m : Instance) (w : Option ℕ) (l : List (List ℤ)) → wanted o ≡ w → AreFound o.distinct m w l → Shows o m Satisfy l
 shows_wanted o m None l asked found =
-    let whole = lists_all m l found.sound found.different in
+    let whole = lists_all o.distinct m l found.sound (λ a s. (let few = found.different a s in omega (arith, few, times_are o.distinct m a l))) in
     record {
       listed = l ++ whole.more;
       rest = blocks m whole.more ++ closing (l ++ whole.more);
-      prints = subst (λ (v : Option ℕ). PrintsWanted v m (l ++ whole.more) (blocks m l ++ (blocks m whole.more ++ closing (l ++ whole.more)))) (sym asked) (all_of m l whole);
+      prints = subst (λ (v : Option ℕ). PrintsWanted o.distinct v m (l ++ whole.more) (blocks m l ++ (blocks m whole.more ++ closing (l ++ whole.more)))) (sym asked) (all_of o.distinct m l whole);
       some = λ _. end_some (blocks m whole.more) (closing (l ++ whole.more)) (closing_some (l ++ whole.more));
     }
 shows_wanted o m (Some n) l asked found =
-    let whole = lists_all m l found.sound found.different in
+    let whole = lists_all o.distinct m l found.sound (λ a s. (let few = found.different a s in omega (arith, few, times_are o.distinct m a l))) in
     shows_some o m n l whole asked found.within (elim (cases_lt (length (l ++ whole.more)) n) [ inl less ↦ inl less | inr other ↦ inr (omega (arith, other)) ])
 
 -- each better one, up to a best one

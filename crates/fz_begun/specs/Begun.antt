@@ -1,15 +1,15 @@
 -- Solutions that a run may begin with, and what may follow them.
-use Rattle.std.specs.Prelude.{◌≡◌, ℕ, ℤ, ◌≤◌, ◌<◌, true, Option, Some, None, List, ◌++◌, length}
+use Rattle.std.specs.Prelude.{◌≡◌, ℕ, ℤ, ◌≤◌, ◌<◌, Bool, true, Option, Some, None, List, ◌++◌, length}
 use Rattle.std.specs.List.{AllByRecursion}
 use Rattle.fz_spec.specs.declared.goal.Goal.{Goal}
 use Rattle.fz_spec.specs.declared.goal.Goal.TheVariants.{Satisfy, Minimize, Maximize}
-use Rattle.fz_spec.specs.Instance.{Instance, Satisfies, AreImproving, occurrences}
+use Rattle.fz_spec.specs.Instance.{Instance, Satisfies, AreImproving}
 use Rattle.fz_spec.specs.Run.{blocks}
 use Rattle.fz_model.specs.Kept.{IsModel}
 use Rattle.fz_refutes.specs.Texts.{IsHead}
 use Rattle.fz_refutes.specs.Makers.{HasNoBetter}
 use Rattle.fz_cmd.specs.Meaning.{Options}
-use Rattle.fz_runs.specs.Runs.{IsRunText, wanted}
+use Rattle.fz_runs.specs.Runs.{IsRunText, times_listed, wanted}
 
 -- no more than are asked for, and fewer
 abbrev pub IsWithin : Option ℕ → ℕ → Type 0
@@ -20,10 +20,10 @@ abbrev pub IsBelow : Option ℕ → ℕ → Type 0
 IsBelow None count = Unit {0}
 IsBelow (Some n) count = count < n
 
--- satisfying assignments, no two of them the same, and no more than are asked for
-pub record AreFound (m : Instance) (asked : Option ℕ) (l : List (List ℤ)) : Type 0 where
+-- satisfying assignments, no two of them the same, or with the same row, and no more than are asked for
+pub record AreFound (distinct : Bool) (m : Instance) (asked : Option ℕ) (l : List (List ℤ)) : Type 0 where
   pub sound : AllByRecursion (Satisfies m) l
-  pub different : (a : List ℤ) → Satisfies m a → occurrences a l ≤ 1
+  pub different : (a : List ℤ) → Satisfies m a → times_listed distinct m a l ≤ 1
   pub within : IsWithin asked (length l)
 
 -- satisfying assignments, each better than the one before it, where a run shows all better ones
@@ -35,7 +35,7 @@ pub record AreBettered (o : Options) (m : Instance) (l : List (List ℤ)) : Type
 
 -- what a run may show first, by the goal
 abbrev pub AreBegun : Goal → Options → Instance → List (List ℤ) → Type 0
-AreBegun Satisfy o m l = AreFound m (wanted o) l
+AreBegun Satisfy o m l = AreFound o.distinct m (wanted o) l
 AreBegun (Minimize term) o m l = AreBettered o m l
 AreBegun (Maximize term) o m l = AreBettered o m l
 

@@ -40,9 +40,17 @@ interleave_rule = number_rule (codes "interleave") 0 18446744073709551615
 abbrev pub stats_rule : Rule
 stats_rule = record (new_rule (codes "stats")) { short = Some 115; action = Some SetTrue }
 
+-- --NAME
+abbrev pub flag_rule : Text → Rule
+flag_rule name = record (new_rule name) { long = Some name; action = Some SetTrue }
+
+-- --distinct
+abbrev pub distinct_rule : Rule
+distinct_rule = flag_rule (codes "distinct")
+
 -- --certificate
 abbrev pub certificate_rule : Rule
-certificate_rule = record (new_rule (codes "certificate")) { long = Some (codes "certificate"); action = Some SetTrue }
+certificate_rule = flag_rule (codes "certificate")
 
 -- --generate 1..1000
 abbrev pub generate_rule : Rule
@@ -57,4 +65,4 @@ abbrev pub plain_app : App
 plain_app = on_top (λ s. record s { no_binary_name = true; disable_help_flag = true }) (new_app (codes "fzn"))
 
 abbrev pub fzn_app : App
-fzn_app = fold with_rule plain_app (all_rule ∷ limit_rule ∷ workers_rule ∷ distance_rule ∷ adaptive_rule ∷ interleave_rule ∷ stats_rule ∷ certificate_rule ∷ generate_rule ∷ file_rule ∷ [])
+fzn_app = fold with_rule plain_app (all_rule ∷ limit_rule ∷ distinct_rule ∷ workers_rule ∷ distance_rule ∷ adaptive_rule ∷ interleave_rule ∷ stats_rule ∷ certificate_rule ∷ generate_rule ∷ file_rule ∷ [])

@@ -10,11 +10,12 @@ use Rattle.fz_cmd.specs.declared.words.Numbers.{Numbers}
 use Rattle.fz_cmd.specs.declared.options.TheConstants.{ADAPTIVE_DISTANCE, ADAPTIVE_DISTANCE_LEAST, ADAPTIVE_DISTANCE_MOST, COMMIT_DISTANCE, COMMIT_DISTANCE_LEAST, COMMIT_DISTANCE_MOST, WORKERS, WORKERS_LEAST, WORKERS_MOST}
 use Rattle.fz_cmd.specs.Command.{fzn_app}
 
--- All solutions or not, how many of them, by how many workers, the commit distance, the adaptive distance, the seed of the workers' turns,
+-- All solutions or not, how many of them, whether each block of values is printed once, by how many workers, the commit distance, the adaptive distance, the seed of the workers' turns,
 -- whether statistics are printed, whether a certificate is, of how many items a model is generated, and the text that is read.
 pub record Options : Type 0 where
   pub all : Bool
   pub limit : Option ℕ
+  pub distinct : Bool
   pub workers : ℕ
   pub commit_distance : ℕ
   pub adaptive_distance : ℕ
@@ -76,7 +77,7 @@ numbers_of rows =
 
 -- A certificate is of one best solution of a model that is read, or of none, and nothing else is printed behind it.
 abbrev pub suits_no_certificate : List Row → Numbers → Bool
-suits_no_certificate rows n = is_on (codes "all") rows || is_some n.limit || is_on (codes "stats") rows || is_some n.generate
+suits_no_certificate rows n = is_on (codes "all") rows || is_some n.limit || is_on (codes "distinct") rows || is_on (codes "stats") rows || is_some n.generate
 
 -- The options that the numbers, the flags and the name of a file give. Where a model is generated no file may be named; beside a certificate
 -- stands no option that it doesn't suit.
@@ -84,6 +85,7 @@ abbrev pub with_file : List Row → Numbers → Option Text → Option Options
 with_file rows n file = cond ((is_some n.generate && is_some file) || (is_on (codes "certificate") rows && suits_no_certificate rows n)) None (Some (record {
   all = is_on (codes "all") rows;
   limit = n.limit;
+  distinct = is_on (codes "distinct") rows;
   workers = n.workers;
   commit_distance = n.commit_distance;
   adaptive_distance = n.adaptive_distance;

@@ -1,7 +1,7 @@
 //! The command that clap reads the words by.
 ghost use Rattle.std.specs.Prelude.{◌≡◌, false, IfOk, map, string_bytes};
 ghost use Rattle.clap.specs.Words.{app_of, rule_of, rows_of, found_of, matches_of, fault_of, FailsBy};
-ghost use Rattle.fz_cmd.specs.Command.{all_rule, limit_rule, workers_rule, number_rule, stats_rule, certificate_rule, file_rule, plain_app, fzn_app};
+ghost use Rattle.fz_cmd.specs.Command.{all_rule, limit_rule, workers_rule, number_rule, stats_rule, flag_rule, file_rule, plain_app, fzn_app};
 
 use crate::options::{
     ADAPTIVE_DISTANCE_LEAST, ADAPTIVE_DISTANCE_MOST, COMMIT_DISTANCE_LEAST, COMMIT_DISTANCE_MOST,
@@ -63,14 +63,12 @@ fn stats_arg<'a>(alloc: Global) -> Arg<'a>
         .action(ArgAction::SetTrue)
 }
 
-/// `--certificate`
-fn certificate_arg<'a>(alloc: Global) -> Arg<'a>
-    ensures rule { rule_of result ≡ certificate_rule }
+/// `--NAME`
+fn flag_arg<'a>(alloc: Global, name: &'a str) -> Arg<'a>
+    ensures rule { rule_of result ≡ flag_rule name.now }
     ensures local { result.global ≡ false }
 {
-    Arg::new(alloc, "certificate")
-        .long("certificate")
-        .action(ArgAction::SetTrue)
+    Arg::new(alloc, name).long(name).action(ArgAction::SetTrue)
 }
 
 /// FILE
@@ -97,8 +95,10 @@ fn command<'a>(alloc: Global) -> Result<Command<'a>, AllocError>
     let with_all = plain(alloc).arg(all)?;
     let limit = limit_arg(alloc);
     let with_limit = with_all.arg(limit)?;
+    let distinct = flag_arg(alloc, "distinct");
+    let with_distinct = with_limit.arg(distinct)?;
     let workers = workers_arg(alloc);
-    let with_workers = with_limit.arg(workers)?;
+    let with_workers = with_distinct.arg(workers)?;
     let distance = number_arg(
         alloc,
         "commit-distance",
@@ -117,7 +117,7 @@ fn command<'a>(alloc: Global) -> Result<Command<'a>, AllocError>
     let with_interleave = with_adaptive.arg(interleave)?;
     let stats = stats_arg(alloc);
     let with_stats = with_interleave.arg(stats)?;
-    let certificate = certificate_arg(alloc);
+    let certificate = flag_arg(alloc, "certificate");
     let with_certificate = with_stats.arg(certificate)?;
     let generate = number_arg(alloc, "generate", ITEMS_LEAST as u64, ITEMS_MOST as u64);
     let with_generate = with_certificate.arg(generate)?;

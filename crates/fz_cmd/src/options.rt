@@ -31,6 +31,7 @@ pub const ADAPTIVE_DISTANCE: u32 = 2;
 pub struct Options {
     pub(crate) all: bool,
     pub(crate) limit: Option<u32>,
+    pub(crate) distinct: bool,
     pub(crate) workers: u32,
     pub(crate) commit_distance: u32,
     pub(crate) adaptive_distance: u32,
@@ -66,6 +67,13 @@ impl Options {
         ensures { result ≡ self.now.limit }
     {
         self.limit
+    }
+
+    /// Whether `--distinct` was given: of solutions of which the same is printed, one.
+    pub fn distinct(&self) -> bool
+        ensures { result ≡ self.now.distinct }
+    {
+        self.distinct
     }
 
     /// The number of workers.

@@ -77,6 +77,7 @@ fn with_file(
     Ok(Some(Options {
         all: is_on(matches, "all"),
         limit: numbers.limit,
+        distinct: is_on(matches, "distinct"),
         workers: numbers.workers,
         commit_distance: numbers.commit_distance,
         adaptive_distance: numbers.adaptive_distance,
@@ -94,6 +95,7 @@ fn suits_no_certificate(matches: &ArgMatches<'_>, numbers: Numbers) -> bool
 {
     is_on(matches, "all")
         || numbers.limit.is_some()
+        || is_on(matches, "distinct")
         || is_on(matches, "stats")
         || numbers.generate.is_some()
 }

@@ -1,12 +1,13 @@
 -- What a run prints, by what is asked for.
-use Rattle.std.specs.Prelude.{◌≡◌, ◌⊎◌, ℕ, zero, suc, ◌<◌, ◌≤◌, ◌-◌, ℤ, Bool, true, false, Option, Some, None, List, [], ◌∷◌, ◌++◌, length, slice_get}
+use Rattle.std.specs.Prelude.{◌≡◌, ◌⊎◌, ℕ, zero, suc, ◌<◌, ◌≤◌, ◌-◌, ℤ, Bool, true, false, Option, Some, None, List, [], ◌∷◌, ◌++◌, length, count_by, slice_get}
 use Rattle.std.specs.List.{AllByRecursion}
 use Rattle.fz_spec.specs.Constraints.{term_value}
 use Rattle.fz_spec.specs.declared.term.Term.{Term}
 use Rattle.fz_spec.specs.declared.goal.Goal.{Goal}
 use Rattle.fz_spec.specs.declared.goal.Goal.TheVariants.{Satisfy, Minimize, Maximize}
-use Rattle.fz_spec.specs.Instance.{Instance, Satisfies, AreImproving, IsBest, occurrences}
-use Rattle.fz_spec.specs.Run.{PrintsAll, blocks, closing}
+use Rattle.fz_spec.specs.Instance.{Instance, Satisfies, Lists, AreImproving, IsBest, is_same, occurrences}
+use Rattle.fz_spec.specs.Run.{blocks, closing}
+use Rattle.fz_tree.specs.Rows.{row_of, ListsRows}
 use Rattle.fz_refutes.specs.Texts.{IsCert}
 use Rattle.fz_cmd.specs.Meaning.{Options}
 use Rattle.fz_print.specs.Ending.{statistics_text, summary_text}
@@ -22,21 +23,37 @@ wanted_of false None = Some 1
 abbrev pub wanted : Options → Option ℕ
 wanted o = wanted_of o.all o.limit
 
--- so many satisfying assignments, no two of them the same
-pub record AreSome (m : Instance) (n : ℕ) (l : List (List ℤ)) : Type 0 where
+-- how often a solution is in a list: the same assignment, or under `--distinct` one of the same row
+abbrev pub times_listed : Bool → Instance → List ℤ → List (List ℤ) → ℕ
+times_listed false m a l = occurrences a l
+times_listed true m a l = count_by (λ (x : List ℤ). is_same (row_of m a) (row_of m x)) l
+
+-- all solutions, each once; or each of their rows once
+abbrev pub ListsEach : Bool → Instance → List (List ℤ) → Type 0
+ListsEach false m l = Lists m l
+ListsEach true m l = ListsRows m l
+
+-- so many satisfying assignments, no two of them the same, or with the same row
+pub record AreSome (distinct : Bool) (m : Instance) (n : ℕ) (l : List (List ℤ)) : Type 0 where
   pub sound : AllByRecursion (Satisfies m) l
-  pub different : (a : List ℤ) → Satisfies m a → occurrences a l ≤ 1
+  pub different : (a : List ℤ) → Satisfies m a → times_listed distinct m a l ≤ 1
   pub count : length l ≡ n
 
+-- all of them, in the order of this list, and the closing line
+pub record PrintsEach (distinct : Bool) (m : Instance) (l : List (List ℤ)) (printed : List ℕ) : Type 0 where
+  pub lists : ListsEach distinct m l
+  pub text : printed ≡ blocks m l ++ closing l
+
 -- so many solutions, in the order of this list, and no closing line
-pub record PrintsSome (m : Instance) (n : ℕ) (l : List (List ℤ)) (printed : List ℕ) : Type 0 where
-  pub are : AreSome m n l
+pub record PrintsSome (distinct : Bool) (m : Instance) (n : ℕ) (l : List (List ℤ)) (printed : List ℕ) : Type 0 where
+  pub are : AreSome distinct m n l
   pub text : printed ≡ blocks m l
 
--- All solutions where all are asked for; else as many as are asked for; and all of them where fewer satisfy.
-abbrev pub PrintsWanted : Option ℕ → Instance → List (List ℤ) → List ℕ → Type 0
-PrintsWanted None m l printed = PrintsAll m l printed
-PrintsWanted (Some n) m l printed = PrintsSome m n l printed ⊎ ((length l < n) × PrintsAll m l printed)
+-- All solutions where all are asked for; else as many as are asked for; and all of them where there are fewer. Where each row is
+-- asked for once, of the solutions of a row one is printed.
+abbrev pub PrintsWanted : Bool → Option ℕ → Instance → List (List ℤ) → List ℕ → Type 0
+PrintsWanted distinct None m l printed = PrintsEach distinct m l printed
+PrintsWanted distinct (Some n) m l printed = PrintsSome distinct m n l printed ⊎ ((length l < n) × PrintsEach distinct m l printed)
 
 -- the last of a list is a best solution; a list of none says that nothing satisfies
 abbrev pub EndsBest : Instance → List (List ℤ) → Type 0
@@ -73,7 +90,7 @@ PrintsGoal (Some items) all goal m l printed = PrintsSummary items goal m l prin
 
 -- By the goal: solutions, as many as are asked for; or a best one, where `-n` says nothing.
 abbrev pub PrintsFor : Goal → Options → Instance → List (List ℤ) → List ℕ → Type 0
-PrintsFor Satisfy o m l printed = PrintsWanted (wanted o) m l printed
+PrintsFor Satisfy o m l printed = PrintsWanted o.distinct (wanted o) m l printed
 PrintsFor (Minimize goal) o m l printed = PrintsGoal o.generate o.all goal m l printed
 PrintsFor (Maximize goal) o m l printed = PrintsGoal o.generate o.all goal m l printed
 

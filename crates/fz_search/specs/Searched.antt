@@ -1,9 +1,9 @@
 -- What a search leaves of its book, and what is shown of it.
 use Rattle.std.specs.Prelude.{◌≡◌, ℕ, ℤ, ◌<◌, ◌≤◌, ◌⊎◌, Bool, true, false, length, take, Option, Some, None, IsSomeAnd, List, []}
-use Rattle.fz_spec.specs.Instance.{Instance, Lists}
+use Rattle.fz_spec.specs.Instance.{Instance}
 use Rattle.fz_spec.specs.declared.goal.Goal.{Goal}
 use Rattle.fz_spec.specs.declared.goal.Goal.TheVariants.{Satisfy, Minimize, Maximize}
-use Rattle.fz_tree.specs.Better.{mode_of}
+use Rattle.fz_tree.specs.declared.mode.Mode.{Mode}
 use Rattle.fz_tree.specs.Book.{Book, BookLaw, opening}
 use Rattle.fz_path.specs.Paths.{Pathed, idle_path}
 use Rattle.fz_solo.specs.Searches.{Searches}
@@ -12,7 +12,8 @@ use Rattle.fz_printer.specs.Printed.{book_of, as_found_of, wanted_of, printed_of
 use Rattle.fz_core.specs.Cores.{Core, starting}
 use Rattle.fz_machine.specs.Schedule.{HasGone}
 use Rattle.fz_cmd.specs.Meaning.{Options}
-use Rattle.fz_runs.specs.Runs.{AreSome, AreBest, wanted}
+use Rattle.fz_runs.specs.Runs.{AreSome, AreBest, ListsEach, wanted}
+use Rattle.fz_runs.specs.Modes.{mode_for}
 
 -- how many recorded solutions are enough: where a best one is sought, no number is
 abbrev pub enough_for : Goal → Options → Option ℕ
@@ -36,8 +37,9 @@ abbrev pub HasEnded : Option ℕ → Book → Type 0
 HasEnded None b = b.parts ≡ []
 HasEnded (Some n) b = (n ≤ length b.recorded) ⊎ (b.parts ≡ [])
 
-pub record IsSearched (m : Instance) (w : Option ℕ) (b : Book) : Type 0 where
+pub record IsSearched (m : Instance) (mode : Mode) (w : Option ℕ) (b : Book) : Type 0 where
   pub model : b.model ≡ m
+  pub own_mode : b.mode ≡ mode
   pub law : BookLaw b
   pub ended : HasEnded w b
 
@@ -45,10 +47,11 @@ pub record IsSearched (m : Instance) (w : Option ℕ) (b : Book) : Type 0 where
 abbrev pub PrintsAsAsked : Instance → Options → Printer → Type 0
 PrintsAsAsked m o p = (as_found_of p ≡ false) ⊎ ((as_found_of p ≡ shows_found m.goal o) × (wanted_of p ≡ enough_for m.goal o))
 
--- What a search leaves of its printer: a book of the model and its law, and what the sink took. Unless it stopped, all that is due is
+-- What a search leaves of its printer: a book of the model, of what is sought, and its law, and what the sink took. Unless it stopped, all that is due is
 -- printed, and the search has ended.
 pub record IsPrinted (m : Instance) (o : Options) (p : Printer) (before after : Option (List ℕ)) : Type 0 where
   pub model : (book_of p).model ≡ m
+  pub mode : (book_of p).mode ≡ mode_for m.goal o
   pub law : BookLaw (book_of p)
   pub prints : PrintsAsAsked m o p
   pub printed : HasPrinted p before after
@@ -61,12 +64,12 @@ pub record IsPrinted (m : Instance) (o : Options) (p : Printer) (before after : 
 -- By one worker that keeps copies at the distances that are asked for; the book is told each better one where all are to be shown.
 pub record IsAlone (m : Instance) (o : Options) (b : Book) : Type 0 where
   pub path : Pathed
-  pub searched : Searches (shows_found m.goal o) (opening m (mode_of m.goal)) (idle_path m (mode_of m.goal) o.commit_distance o.adaptive_distance) b path
+  pub searched : Searches (shows_found m.goal o) (opening m (mode_for m.goal o)) (idle_path m (mode_for m.goal o) o.commit_distance o.adaptive_distance) b path
 
 -- By as many workers as are asked for, which keep copies at these distances and take turns by the schedule that the seed begins.
 pub record IsByTurns (m : Instance) (o : Options) (seed : ℕ) (b : Book) : Type 0 where
   pub core : Core
-  pub gone : HasGone (enough_for m.goal o) seed (starting m (mode_of m.goal) o.workers o.commit_distance o.adaptive_distance) core
+  pub gone : HasGone (enough_for m.goal o) seed (starting m (mode_for m.goal o) o.workers o.commit_distance o.adaptive_distance) core
   pub is : b ≡ core.book
 
 abbrev pub IsSearchedBy : Option ℕ → Instance → Options → Book → Type 0
@@ -75,16 +78,16 @@ IsSearchedBy (Some seed) m o b = IsByTurns m o seed b
 
 -- ---- what is shown
 
--- what is shown of a book: all solutions and a closing line, or as many as are asked for and none
-abbrev pub IsListing : Instance → Option ℕ → List (List ℤ) → Bool → Type 0
-IsListing m None l true = Lists m l
-IsListing m None l false = ⊥
-IsListing m (Some n) l true = (length l < n) × Lists m l
-IsListing m (Some n) l false = AreSome m n l
+-- what is shown of a book: all solutions, or each of their rows, and a closing line; or as many as are asked for and none
+abbrev pub IsListing : Bool → Instance → Option ℕ → List (List ℤ) → Bool → Type 0
+IsListing distinct m None l true = ListsEach distinct m l
+IsListing distinct m None l false = ⊥
+IsListing distinct m (Some n) l true = (length l < n) × ListsEach distinct m l
+IsListing distinct m (Some n) l false = AreSome distinct m n l
 
 -- the same by the goal: a best one comes with a closing line always
 abbrev pub IsShown : Goal → Options → Instance → List (List ℤ) → Bool → Type 0
-IsShown Satisfy o m l complete = IsListing m (wanted o) l complete
+IsShown Satisfy o m l complete = IsListing o.distinct m (wanted o) l complete
 IsShown (Minimize term) o m l complete = (complete ≡ true) × AreBest (shows_all o.generate o.all) m l
 IsShown (Maximize term) o m l complete = (complete ≡ true) × AreBest (shows_all o.generate o.all) m l
 

@@ -2,9 +2,10 @@
 ghost use Rattle.std.specs.Prelude.{◌≡◌, ◌≢◌, ◌-◌, ◌<◌, ◌^◌, ℕ, Option, List, None, Some, true, drop, length, IfOk, OnErr};
 ghost use Rattle.std.specs.Arc.{arc_value};
 ghost use Rattle.fz_tree.specs.declared.mode.Mode.TheVariants as modes;
-ghost use Rattle.fz_tree.specs.Better.{mode_of};
+ghost use Rattle.fz_tree.specs.Better.{IsModeOf};
 ghost use Rattle.fz_tree.specs.Book.{opening};
 ghost use Rattle.fz_core.specs.Cores.{starting};
+ghost use Rattle.fz_runs.specs.Modes.{mode_for, mode_of};
 ghost use Rattle.fz_runs.specs.Runs as runs;
 ghost use Rattle.fz_runs.specs.Runs.{AreBest};
 ghost use Rattle.fz_search.specs.Searched as searched;
@@ -88,7 +89,7 @@ fn search_alone<S: SearchSpace, K: Sink>(
     ensures no_fault { OnErr result (K.faults sink.new ≡ K.faults sink.old) }
 {
     let distance = options.commit_distance();
-    let mode = mode_of(model.goal());
+    let mode = mode_for(model.goal(), options);
     let book = begin(alloc, model, mode)?;
     let adaptive = options.adaptive_distance();
     let mut path: Path<S> = Path::idle(alloc, model.clone()?, mode, distance, adaptive)?;
@@ -113,7 +114,7 @@ fn search_by_turns<S: SearchSpace>(
         (λ p. IsByTurns (arc_value model.now) options.now seed (book_of p)) }
     ensures working { IfOk result (λ p. stopped_of p ≡ None) }
 {
-    let mode = mode_of(model.goal());
+    let mode = mode_for(model.goal(), options);
     let mut machine = new_machine::<S>(alloc, model, mode, options)?;
     let enough = enough_for(model.goal(), options);
     machine.run(seed, enough)?;
@@ -128,7 +129,7 @@ fn new_machine<S: SearchSpace>(
     options: &Options,
 ) -> Result<Machine<S>, AllocError>
     requires accepts { S.accepts (arc_value model.now) }
-    requires mode { mode ≡ mode_of (arc_value model.now).goal }
+    requires mode { IsModeOf (arc_value model.now).goal mode }
     ensures { IfOk result (λ m. m ≡ starting (arc_value model.now) mode
         options.now.workers options.now.commit_distance options.now.adaptive_distance) }
 {
@@ -143,11 +144,13 @@ fn new_machine<S: SearchSpace>(
     Ok(machine)
 }
 
-/// Whether all solutions of a goal are sought, or a best one.
-pub(crate) fn mode_of(goal: &Goal) -> Mode
-    ensures { result ≡ mode_of goal.now }
+/// Whether all solutions of a goal are sought, or each of their rows, or a best one.
+pub(crate) fn mode_for(goal: &Goal, options: &Options) -> Mode
+    ensures is { result ≡ mode_for goal.now options.now }
+    ensures own { IsModeOf goal.now result }
 {
     match goal {
+        Goal::Satisfy if options.distinct() => Mode::Rows,
         Goal::Satisfy => Mode::All,
         Goal::Minimize(_) | Goal::Maximize(_) => Mode::Best,
     }
@@ -155,7 +158,7 @@ pub(crate) fn mode_of(goal: &Goal) -> Mode
 
 /// A book of a model.
 pub(crate) fn begin(alloc: Global, model: &Arc<Model>, mode: Mode) -> Result<Book, AllocError>
-    requires { mode ≡ mode_of (arc_value model.now).goal }
+    requires { IsModeOf (arc_value model.now).goal mode }
     ensures opened { IfOk result (λ b. b.book ≡ opening (arc_value model.now) mode) }
     ensures whole { IfOk result (λ b. b.gone ≡ 0) }
 {
@@ -207,6 +210,7 @@ pub(crate) fn shows_found(goal: &Goal, options: &Options) -> bool
 /// How many are shown of a search that has ended, where each that its book recorded is shown, and whether they are all.
 pub fn tally_of(book: &Book, options: &Options) -> Tally
     requires searched { IsSearched book.now.book.model
+        (mode_for book.now.book.model.goal options.now)
         (enough_for book.now.book.model.goal options.now) book.now.book }
     requires shows { searched.shows_found book.now.book.model.goal options.now ≡ true }
     ensures shown { IsShown book.now.book.model.goal options.now book.now.book.model
@@ -236,27 +240,29 @@ fn tally_among(recorded: usize, wanted: Option<u32>) -> Tally
 /// What is shown of a search that has ended, and whose book has let go of nothing.
 pub fn listing_of<'a>(book: &'a Book, options: &Options) -> Listing<'a>
     requires searched { IsSearched book.now.book.model
+        (mode_for book.now.book.model.goal options.now)
         (enough_for book.now.book.model.goal options.now) book.now.book }
     requires whole { book.now.gone ≡ 0 }
     ensures { IsShown book.now.book.model.goal options.now book.now.book.model
         result.found.now result.complete }
 {
     match book.model().goal() {
-        Goal::Satisfy => solutions_of(book, wanted(options)),
+        Goal::Satisfy => solutions_of(book, options),
         Goal::Minimize(_) => best_of(book, shows_all(options)),
         Goal::Maximize(_) => best_of(book, shows_all(options)),
     }
 }
 
 /// The solutions that were asked for.
-fn solutions_of(book: &Book, wanted: Option<u32>) -> Listing<'_>
-    requires searched { IsSearched book.now.book.model wanted book.now.book }
-    requires mode { book.now.book.mode ≡ modes.All }
+fn solutions_of<'a>(book: &'a Book, options: &Options) -> Listing<'a>
+    requires searched { IsSearched book.now.book.model (mode_of options.now.distinct)
+        (runs.wanted options.now) book.now.book }
     requires whole { book.now.gone ≡ 0 }
-    ensures { IsListing book.now.book.model wanted result.found.now result.complete }
+    ensures { IsListing options.now.distinct book.now.book.model (runs.wanted options.now)
+        result.found.now result.complete }
 {
     let found = book.recorded();
-    match wanted {
+    match wanted(options) {
         Some(count) if count as usize <= found.len() => Listing {
             found: &found[..count as usize],
             complete: false,
@@ -270,8 +276,7 @@ fn solutions_of(book: &Book, wanted: Option<u32>) -> Listing<'_>
 
 /// A best solution, and where all are to be shown the ones before it.
 fn best_of(book: &Book, all: bool) -> Listing<'_>
-    requires searched { IsSearched book.now.book.model None book.now.book }
-    requires mode { book.now.book.mode ≡ modes.Best }
+    requires searched { IsSearched book.now.book.model modes.Best None book.now.book }
     requires whole { book.now.gone ≡ 0 }
     ensures best { AreBest all book.now.book.model result.found.now }
     ensures complete { result.complete ≡ true }

@@ -1,12 +1,12 @@
 //! The search of a model by several workers in threads.
 ghost use Rattle.std.specs.Prelude.{◌≡◌, ◌-◌, ◌<◌, ◌≤◌, ◌^◌, ◌⊎◌, [], None, IfOk, OnErr, vec_len};
 ghost use Rattle.std.specs.Arc.{arc_value};
-ghost use Rattle.fz_tree.specs.Better.{mode_of};
+ghost use Rattle.fz_tree.specs.Better.{IsModeOf};
 ghost use Rattle.fz_printer.specs.Printed.{book_of, stopped_of, CountsMark, IsReady};
 ghost use Rattle.fz_printer.specs.Gathered.{Gathers, IsFilled};
 ghost use Rattle.fz_search.specs.Searched.{IsPrinted};
 
-use crate::searching::{begin, enough_for, mode_of, shows_found};
+use crate::searching::{begin, enough_for, mode_for, shows_found};
 use fz_account::Mode;
 use fz_cmd::Options;
 use fz_collect::{Outbox, gather};
@@ -50,7 +50,7 @@ pub fn search_in_threads<
     ensures no_fault { OnErr result (K.faults sink.new ≡ K.faults sink.old) }
 {
     let distance = options.commit_distance();
-    let mode = mode_of(model.goal());
+    let mode = mode_for(model.goal(), options);
     let book = begin(alloc, model, mode)?;
     let adaptive = options.adaptive_distance();
     let mut path: Path<S> = Path::idle(alloc, model.clone()?, mode, distance, adaptive)?;
@@ -87,6 +87,7 @@ fn search_all<T: Threads + Wait + Sync, S: SearchSpace + Send, K: Sink + Send, G
     requires faults { K.faults sink.old < 2 ^ 64 - 1 }
     requires idle { path.old.held ≡ None }
     requires model { path.old.model ≡ (book_of printer.old).model }
+    requires mode { path.old.mode ≡ (book_of printer.old).mode }
     ensures gathers { Gathers printer.old (K.taken sink.old) (K.faults sink.old)
         printer.new (K.taken sink.new) (K.faults sink.new) }
     ensures ended { stopped_of printer.new ≡ None
@@ -153,7 +154,7 @@ fn work<T: Threads + Wait + Sync, S: SearchSpace + Send, G: Gate + Sync>(
 ) -> Result<(), AllocError>
     requires { S.accepts (arc_value model.now) }
 {
-    let mode = mode_of(model.goal());
+    let mode = mode_for(model.goal(), options);
     let book = begin(alloc, model, mode)?;
     let paths = paths_of::<S>(alloc, model, mode, options)?;
     let enough = enough_for(model.goal(), options);
@@ -169,7 +170,7 @@ fn paths_of<S: SearchSpace>(
     options: &Options,
 ) -> Result<Vec<Path<S>>, AllocError>
     requires accepts { S.accepts (arc_value model.now) }
-    requires mode { mode ≡ mode_of (arc_value model.now).goal }
+    requires mode { IsModeOf (arc_value model.now).goal mode }
     ensures several { IfOk result (λ v. (1 ≤ vec_len v) × (vec_len v ≤ 64)) }
 {
     let distance = options.commit_distance();

@@ -11,9 +11,10 @@ use Rattle.fz_print.specs.Ending.{statistics_text}
 use Rattle.fz_model.specs.Kept.{IsModel}
 use Rattle.fz_tree.specs.declared.mode.Mode.{Mode}
 use Rattle.fz_tree.specs.declared.mode.Mode.TheVariants as modes
-use Rattle.fz_tree.specs.Better.{mode_of}
+use Rattle.fz_tree.specs.Better.{IsModeOf}
 use Rattle.fz_tree.specs.Book.{Book, BookLaw, incumbent, incumbent_of}
 use Rattle.fz_runs.specs.Runs.{IsCertificate, IsRunText, certified, counted}
+use Rattle.fz_runs.specs.Modes.{mode_for}
 use Rattle.fz_begun.specs.Begun.{IsCertifiable}
 use Rattle.fz_begun.proofs.Certifying.{certifiable, certificate_exists}
 use Rattle.fz_io.specs.Outside.{with_more, with_more-none, with_more-with_more}
@@ -48,7 +49,7 @@ has_searched_apart (Err e) m o taken c printed none = (refl, refl)
 -- a search has ended where it wasn't stopped
 pub ended : (m : Instance) (o : Options) (p : Printer) (before after : Option (List ℕ)) → IsPrinted m o p before after → stopped_of p ≡ None → IsEnded o p
 ended m o p before after h none = record {
-  searched = record { model = refl; law = h.law; ended = subst (λ (x : Instance). HasEnded (enough_for x.goal o) (book_of p)) (sym h.model) (h.ended none) };
+  searched = record { model = refl; own_mode = subst (λ (x : Instance). (book_of p).mode ≡ mode_for x.goal o) (sym h.model) h.mode; law = h.law; ended = subst (λ (x : Instance). HasEnded (enough_for x.goal o) (book_of p)) (sym h.model) (h.ended none) };
   prints = subst (λ (x : Instance). PrintsAsAsked x o p) (sym h.model) h.prints;
   stopped = none;
   ready = h.ready none;
@@ -169,13 +170,15 @@ certified_by_count true Satisfy (a ∷ l) n last count is = rw (← count) refl
 certified_by_count true (Minimize t) l n last count is = ap Some (is (λ e. cc e))
 certified_by_count true (Maximize t) l n last count is = ap Some (is (λ e. cc e))
 
-last_by : (goal : Goal) (o : Options) (mode : Mode) (l : List (List ℤ)) → mode ≡ mode_of goal → goal ≢ Satisfy
+last_by : (goal : Goal) (o : Options) (mode : Mode) (l : List (List ℤ)) → IsModeOf goal mode → goal ≢ Satisfy
     → incumbent_of mode l ≡ slice_get (take (due_among true (enough_for goal o) (length l)) l) (length (take (due_among true (enough_for goal o) (length l)) l) - 1)
 last_by Satisfy o mode l is other = absurd (other refl)
 last_by (Minimize t) o modes.Best l is other = ap (λ (k : List (List ℤ)). slice_get k (length k - 1)) (all_due l)
 last_by (Minimize t) o modes.All l is other = absurd (cc is)
+last_by (Minimize t) o modes.Rows l is other = absurd (cc is)
 last_by (Maximize t) o modes.Best l is other = ap (λ (k : List (List ℤ)). slice_get k (length k - 1)) (all_due l)
 last_by (Maximize t) o modes.All l is other = absurd (cc is)
+last_by (Maximize t) o modes.Rows l is other = absurd (cc is)
 
 -- the last of those that are shown as they are recorded is the best so far
 pub last_shown : (o : Options) (b : Book) → BookLaw b → b.model.goal ≢ Satisfy → incumbent b ≡ slice_get (first_shown o b) (length (first_shown o b) - 1)

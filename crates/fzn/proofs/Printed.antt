@@ -11,11 +11,11 @@ use Rattle.fz_runs.specs.Runs.{AreBest, PrintsWanted, PrintsBest, PrintsGoal, Pr
 use Rattle.fz_search.specs.Searched.{IsListing, IsShown, shows_all}
 use Rattle.fz_printing.specs.Texts.{best_text, listing_text, shown_text}
 
-listing_prints : (m : Instance) (w : Option ℕ) (l : List (List ℤ)) (complete : Bool) → IsListing m w l complete → PrintsWanted w m l (listing_text m l complete)
-listing_prints m None l true h = record { lists = h; text = refl }
-listing_prints m None l false h = absurd h
-listing_prints m (Some n) l true h = inr (h.0, record { lists = h.1; text = refl })
-listing_prints m (Some n) l false h = inl (record { are = h; text = append-nil (blocks m l) })
+listing_prints : (d : Bool) (m : Instance) (w : Option ℕ) (l : List (List ℤ)) (complete : Bool) → IsListing d m w l complete → PrintsWanted d w m l (listing_text m l complete)
+listing_prints d m None l true h = record { lists = h; text = refl }
+listing_prints d m None l false h = absurd h
+listing_prints d m (Some n) l true h = inr (h.0, record { lists = h.1; text = refl })
+listing_prints d m (Some n) l false h = inl (record { are = h; text = append-nil (blocks m l) })
 
 best_prints : (all : Bool) (m : Instance) (l : List (List ℤ)) (complete : Bool) → complete ≡ true → AreBest all m l → PrintsBest all m l (listing_text m l complete)
 best_prints all m l true is best = record { are = best; text = refl }
@@ -27,6 +27,6 @@ goal_prints None all t m l complete is best = best_prints all m l complete is be
 goal_prints (Some items) all t m l complete is best = record { are = best; text = refl }
 
 pub shown_prints : (goal : Goal) (m : Instance) (o : Options) (l : List (List ℤ)) (complete : Bool) → IsShown goal o m l complete → PrintsFor goal o m l (shown_text goal o.generate m l complete)
-shown_prints goals.Satisfy m o l complete h = listing_prints m (wanted o) l complete h
+shown_prints goals.Satisfy m o l complete h = listing_prints o.distinct m (wanted o) l complete h
 shown_prints (goals.Minimize t) m o l complete h = goal_prints o.generate o.all t m l complete h.0 h.1
 shown_prints (goals.Maximize t) m o l complete h = goal_prints o.generate o.all t m l complete h.0 h.1

@@ -8,9 +8,9 @@ use Rattle.fz_spec.specs.declared.goal.Goal.TheVariants.{Satisfy, Minimize, Maxi
 use Rattle.fz_language.specs.Reads.{Reads, Accepted}
 use Rattle.fz_model.specs.Kept.{IsModel}
 use Rattle.fz_cmd.specs.Meaning.{Options}
-use Rattle.fz_tree.specs.Better.{mode_of}
 use Rattle.fz_tree.specs.Book.{Book, BookLaw}
 use Rattle.fz_runs.specs.Runs.{IsRunText, wanted}
+use Rattle.fz_runs.specs.Modes.{mode_for}
 use Rattle.fz_io.specs.Outside.{with_more}
 use Rattle.fz_begun.specs.Begun.{AreBegun, CanEnd, IsShort, IsWithin}
 use Rattle.fz_begun.specs.Begun as begun
@@ -40,8 +40,8 @@ few_enough found None count n h = tt
 few_enough false (Some k) count n h = omega (arith, h)
 few_enough true (Some k) count n h = omega (arith, h)
 
-begun_by : (goal : Goal) (o : Options) (b : Book) (n : ℕ) → BookLaw b → b.mode ≡ mode_of goal → shows_found goal o ≡ true → IsWithin (enough_for goal o) n → AreBegun goal o b.model (take n b.recorded)
-begun_by Satisfy o b n law mode shows within = are_found (wanted o) b n law mode within
+begun_by : (goal : Goal) (o : Options) (b : Book) (n : ℕ) → BookLaw b → b.mode ≡ mode_for goal o → shows_found goal o ≡ true → IsWithin (enough_for goal o) n → AreBegun goal o b.model (take n b.recorded)
+begun_by Satisfy o b n law mode shows within = are_found o.distinct (wanted o) b n law mode within
 begun_by (Minimize t) o b n law mode shows within = let asks = asks_all o.generate o.all shows in are_bettered o b n law mode asks.0 asks.1
 begun_by (Maximize t) o b n law mode shows within = let asks = asks_all o.generate o.all shows in are_bettered o b n law mode asks.0 asks.1
 
@@ -79,6 +79,7 @@ front_of_blocks text o m l before after reads kept begun f =
 
 -- what is known of one that prints solutions as they are found
 record AsFound (o : Options) (p : Printer) : Type 0 where
+  mode : (book_of p).mode ≡ mode_for (book_of p).model.goal o
   law : BookLaw (book_of p)
   shows : shows_found (book_of p).model.goal o ≡ true
   wants : wanted_of p ≡ enough_for (book_of p).model.goal o
@@ -87,7 +88,7 @@ record AsFound (o : Options) (p : Printer) : Type 0 where
 first_begun : (o : Options) (p : Printer) (n : ℕ) → AsFound o p → n ≤ due_of p → AreBegun (book_of p).model.goal o (book_of p).model (take n (book_of p).recorded)
 first_begun o p n a few =
     let b = book_of p in
-    begun_by b.model.goal o b n a.law a.law.own_mode a.shows (subst (λ (w : Option ℕ). IsWithin w n) a.wants (few_enough (as_found_of p) (wanted_of p) (length b.recorded) n few))
+    begun_by b.model.goal o b n a.law a.mode a.shows (subst (λ (w : Option ℕ). IsWithin w n) a.wants (few_enough (as_found_of p) (wanted_of p) (length b.recorded) n few))
 
 found_stopped : (text : List ℕ) (o : Options) (p : Printer) (stop : Stop) (before after : Option (List ℕ)) → Reads text (Accepted (book_of p).model) → IsModel (book_of p).model → AsFound o p → HasPrintedAt (Some stop) p before after
     → PrintsOf NoMemory text o before after
@@ -120,19 +121,19 @@ unfound_stopped text o p stop before after unfound within h =
       | inr front ↦ absurd (none_of_none before after (subst (λ n. TakesFront (blocks b.model (take n b.recorded)) before after) none front))
     ]
 
-by_asked : (found : Bool) (text : List ℕ) (o : Options) (p : Printer) (stop : Stop) (before after : Option (List ℕ)) → as_found_of p ≡ found → Reads text (Accepted (book_of p).model) → IsModel (book_of p).model → BookLaw (book_of p)
+by_asked : (found : Bool) (text : List ℕ) (o : Options) (p : Printer) (stop : Stop) (before after : Option (List ℕ)) → as_found_of p ≡ found → Reads text (Accepted (book_of p).model) → IsModel (book_of p).model → (book_of p).mode ≡ mode_for (book_of p).model.goal o → BookLaw (book_of p)
     → PrintsAsAsked (book_of p).model o p → printed_of p ≤ due_of p → HasPrintedAt (Some stop) p before after → PrintsOf NoMemory text o before after
-by_asked false text o p stop before after is reads kept law asked within h = unfound_stopped text o p stop before after is within h
-by_asked true text o p stop before after is reads kept law asked within h =
+by_asked false text o p stop before after is reads kept mode law asked within h = unfound_stopped text o p stop before after is within h
+by_asked true text o p stop before after is reads kept mode law asked within h =
     elim asked [
       | inl not ↦ absurd (cc (is, not))
-      | inr shown ↦ found_stopped text o p stop before after reads kept (record { law = law; shows = sym shown.0 ∙ is; wants = shown.1; within = within }) h
+      | inr shown ↦ found_stopped text o p stop before after reads kept (record { mode = mode; law = law; shows = sym shown.0 ∙ is; wants = shown.1; within = within }) h
     ]
 
 -- what the sink took, of a search that was stopped, is a front that lacks something
 pub stopped_short : (m : Instance) (o : Options) (p : Printer) (stop : Stop) (before after : Option (List ℕ)) → IsModel m → IsPrinted m o p before after → stopped_of p ≡ Some stop → PrintsModel NoMemory m o before after
 stopped_short m o p stop before after kept h is text reads =
-    by_asked (as_found_of p) text o p stop before after refl (subst (λ (x : Instance). Reads text (Accepted x)) (sym h.model) reads) (subst IsModel (sym h.model) kept) h.law (subst (λ (x : Instance). PrintsAsAsked x o p) (sym h.model) h.prints) h.within
+    by_asked (as_found_of p) text o p stop before after refl (subst (λ (x : Instance). Reads text (Accepted x)) (sym h.model) reads) (subst IsModel (sym h.model) kept) (subst (λ (x : Instance). (book_of p).mode ≡ mode_for x.goal o) (sym h.model) h.mode) h.law (subst (λ (x : Instance). PrintsAsAsked x o p) (sym h.model) h.prints) h.within
     (subst (λ (s : Option Stop). HasPrintedAt s p before after) is h.printed)
 
 -- and so it is a front, where the sink failed

@@ -14,6 +14,7 @@ use Rattle.fzn.specs.Promises.{Prints}
 use Rattle.fz_printing.specs.Texts.{TakesFront}
 use Rattle.fz_certify.specs.Taken.{TakesOne, TakesFrontOfOne}
 use Rattle.fz_runs.specs.Runs.{IsRunText}
+use Rattle.fz_runs.specs.Modes.{mode_for}
 use Rattle.fz_language.specs.Reads.{Reads, Accepted}
 use Rattle.fz_printer.specs.declared.printer.Printer.{Printer}
 use Rattle.fz_printer.specs.Printed.{book_of, stopped_of, CountsMark, IsReady}
@@ -66,7 +67,7 @@ HasSearched m o result before after c d = MatchResult result (λ p. IsPrinted m 
 
 -- the search has ended, and all that was due on its way is printed
 pub record IsEnded (o : Options) (p : Printer) : Type 0 where
-  pub searched : IsSearched (book_of p).model (enough_for (book_of p).model.goal o) (book_of p)
+  pub searched : IsSearched (book_of p).model (mode_for (book_of p).model.goal o) (enough_for (book_of p).model.goal o) (book_of p)
   pub prints : PrintsAsAsked (book_of p).model o p
   pub stopped : stopped_of p ≡ None
   pub ready : IsReady p

@@ -39,12 +39,14 @@ use std::thread::Threads;
 /// Reads a FlatZinc text, searches for its solutions, and prints them.
 ///
 /// `words` are the arguments of the program: `-a` for all solutions, `-n N` for N of them (0 for all), one where neither is given;
+/// `--distinct` for one of those of which the same is printed, where the model has no goal;
 /// `--commit-distance N` for how often a copy of a node is kept, `--adaptive-distance N` for how long a way has a copy in its
 /// middle; `-p N` for a search by so many workers (1 where it isn't given); `--interleave SEED` for workers that take turns on one
 /// thread by a schedule which the seed begins; `-s` for statistics; `--certificate` for a certificate; `--generate N` for a model that is generated, a knapsack of N
 /// items, in place of one that is read; and FILE. The text is that of FILE; no FILE is `-`, standard input. A text may have
 /// 67,108,864 bytes. Printed is a block for each satisfying assignment, in any order, and
-/// `==========`; of `-n N` N different blocks alone, where so many satisfy; of a model with a goal the block of a best assignment
+/// `==========`; of `-n N` N blocks of different assignments alone, where so many satisfy; with
+/// `--distinct` each block of values once in place of each assignment; of a model with a goal the block of a best assignment
 /// and `==========`, with `-a` maybe behind others, each better than the one before it; of a generated model `items=N best=V` in
 /// place of both; where none satisfies, `=====UNSATISFIABLE=====` alone; of a text that is refused, the place, the code and
 /// `=====ERROR=====`. Behind all but a refusal `-s` prints how many assignments were listed; behind `==========` of a model with a
