@@ -22,6 +22,11 @@ class Text:
         """A variable that isn't printed."""
         return self.variable(name, kind, False)
 
+    def introduced(self, name, kind):
+        """A variable that isn't printed, of which the words of the search say nothing."""
+        self.declarations.append(f"var {kind}: {name} :: var_is_introduced;")
+        return name
+
     def add(self, constraint):
         self.constraints.append(f"constraint {constraint};")
 

@@ -10,6 +10,7 @@ struct Given {
     words: &'static [&'static str],
     all: bool,
     limit: Option<u32>,
+    distinct: bool,
     workers: u32,
     commit_distance: u32,
     adaptive_distance: u32,
@@ -25,6 +26,7 @@ const NONE: Given = Given {
     words: &[],
     all: false,
     limit: None,
+    distinct: false,
     workers: 1,
     commit_distance: 8,
     adaptive_distance: 2,
@@ -35,7 +37,7 @@ const NONE: Given = Given {
     file: "-",
 };
 
-const GIVEN: [Given; 22] = [
+const GIVEN: [Given; 24] = [
     NONE,
     Given {
         words: &["-a", "-"],
@@ -68,6 +70,18 @@ const GIVEN: [Given; 22] = [
         words: &["-n=3", "m.fzn"],
         limit: Some(3),
         file: "m.fzn",
+        ..NONE
+    },
+    Given {
+        words: &["--distinct"],
+        distinct: true,
+        ..NONE
+    },
+    Given {
+        words: &["-a", "--distinct", "--generate", "4"],
+        all: true,
+        distinct: true,
+        generate: Some(4),
         ..NONE
     },
     Given {
@@ -155,7 +169,7 @@ const GIVEN: [Given; 22] = [
     },
 ];
 
-const REFUSED: [&[&str]; 36] = [
+const REFUSED: [&[&str]; 39] = [
     &["-a", "-a"],
     &["-n"],
     &["-n", "-1"],
@@ -188,6 +202,9 @@ const REFUSED: [&[&str]; 36] = [
     &["--certificate", "-s"],
     &["--certificate", "--generate", "4"],
     &["--certificate", "--certificate"],
+    &["--certificate", "--distinct"],
+    &["--distinct", "--distinct"],
+    &["--distinct=1"],
     &["--all"],
     &["-z"],
     &["--help"],
@@ -205,6 +222,7 @@ fn of(alloc: Global, words: &[&str]) -> Result<Option<Options>, AllocError> {
 fn is_given(options: &Options, given: &Given) -> bool {
     options.all() == given.all
         && options.limit() == given.limit
+        && options.distinct() == given.distinct
         && options.workers() == given.workers
         && options.commit_distance() == given.commit_distance
         && options.adaptive_distance() == given.adaptive_distance

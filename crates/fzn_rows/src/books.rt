@@ -94,7 +94,7 @@ fn search_of(rt: &impl Abort, alloc: Global, text: &str) -> (Book, Path<Space>) 
 /// A search of three values that stops where so many are recorded, and then goes on with the same path.
 fn check_search(rt: &impl Abort, alloc: Global, enough: Option<u32>, end: End, count: usize) {
     let (mut book, mut path) = search_of(rt, alloc, THREE_VALUES);
-    assert!(rt; path.is_idle() && path.model().same(book.model()));
+    assert!(rt; path.is_idle() && path.mode() == book.mode() && path.model().same(book.model()));
     assert!(rt; finish(&mut book, &mut path, enough, true).ok() == Some(end));
     assert_eq!(rt; book.recorded().len(), count);
     assert!(rt; finish(&mut book, &mut path, None, true).ok() == Some(End::Closed));
@@ -110,7 +110,7 @@ fn a_search_goes_on_behind_enough(rt: HostRuntime) {
 /// A search for the greatest value records each better one where it improves the book on its way, and else the best alone.
 fn check_greatest(rt: &impl Abort, alloc: Global, improving: bool, values: &[&[i32]]) {
     let (mut book, mut path) = search_of(rt, alloc, GREATEST_OF_THREE);
-    assert!(rt; path.is_idle() && path.model().same(book.model()));
+    assert!(rt; path.is_idle() && path.mode() == book.mode() && path.model().same(book.model()));
     assert!(rt; finish(&mut book, &mut path, None, improving).ok() == Some(End::Closed));
     check_values(rt, book.recorded(), values);
 }

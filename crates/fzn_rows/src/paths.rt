@@ -1,5 +1,8 @@
 //! Paths.
-use crate::reading::{EACH_OF_THREE, LEAST_OF_THREE, TWO_BY_TWO, TWO_VALUES, one, path_of};
+use crate::reading::{
+    EACH_OF_THREE, HIDDEN_FIRST, LEAST_OF_THREE, NOTHING_BELOW, ONE_ROW, ONE_SHOWN, TWO_BY_TWO,
+    TWO_VALUES, one, path_of, rows_path_of,
+};
 use crate::wanted::{Told, check_account, check_part};
 use fz_account::Learned;
 use fz_path::{Path, Start, Step, Task};
@@ -92,6 +95,48 @@ fn a_path_searches_each_value(rt: HostRuntime) {
     assert_eq!(rt; path.depth(), 1);
     let steps = [Step::Found, Step::Found, Step::Found, Step::Closed];
     check_steps(&rt, &mut path, &steps);
+}
+
+/// A text, and what the steps of a search for its rows answer.
+type RowsOf = (&'static str, &'static [Step]);
+
+const ROWS: [RowsOf; 5] = [
+    (
+        ONE_SHOWN,
+        &[Step::Expanded, Step::Found, Step::Found, Step::Closed],
+    ),
+    (
+        NOTHING_BELOW,
+        &[Step::Expanded, Step::Expanded, Step::Expanded, Step::Closed],
+    ),
+    (ONE_ROW, &[Step::Found, Step::Closed]),
+    (TWO_BY_TWO, &[Step::Found, Step::Closed]),
+    (
+        HIDDEN_FIRST,
+        &[
+            Step::Expanded,
+            Step::Found,
+            Step::Expanded,
+            Step::Found,
+            Step::Found,
+            Step::Closed,
+        ],
+    ),
+];
+
+fn rows() -> &'static [RowsOf] {
+    &ROWS
+}
+
+/// Where rows are sought, a node whose row is fixed is found or closed by one step, by whether something satisfies below it.
+#[test]
+fn a_path_searches_rows(rt: HostRuntime) {
+    for (text, steps) in rows() {
+        let mut path = rows_path_of(&rt, rt.alloc(), text);
+        check_steps(&rt, &mut path, &[Step::Idle]);
+        assert!(rt; starts(&rt, rt.alloc(), &mut path));
+        check_steps(&rt, &mut path, steps);
+    }
 }
 
 /// A path whose one open alternative is cut off holds nothing more.

@@ -1,7 +1,7 @@
 //! Models of texts, and what searches them.
 ghost use Rattle.std.specs.Prelude.{◌≡◌};
 ghost use Rattle.fz_sets.specs.Sets.{IsWithinLimits};
-ghost use Rattle.fz_tree.specs.Better.{mode_of};
+ghost use Rattle.fz_tree.specs.Better.{IsModeOf};
 
 use fz_account::Mode;
 use fz_book::Book;
@@ -31,6 +31,20 @@ pub(crate) const TWO_BY_TWO: &str = "var 1..2: x; var 1..2: y; solve satisfy;";
 
 pub(crate) const THREE_BY_THREE: &str = "var 1..3: x; var 1..3: y; solve satisfy;";
 
+pub(crate) const ONE_SHOWN: &str = "var 1..2: x :: output_var; var 1..2: y; solve satisfy;";
+
+/// Three that aren't shown are to be two different values, which is seen once one of them is fixed.
+pub(crate) const NOTHING_BELOW: &str =
+    "var 1..2: x :: output_var; var 1..2: a; var 1..2: b; var 1..2: c; constraint int_ne(a, b); constraint int_ne(b, c); constraint int_ne(a, c); solve satisfy;";
+
+/// One row, which what is known of the numbers leaves alone.
+pub(crate) const ONE_ROW: &str =
+    "var 1..2: x :: output_var; var 1..2: y; constraint int_lt(x, y); solve satisfy;";
+
+/// The words of the search name what isn't shown first.
+pub(crate) const HIDDEN_FIRST: &str =
+    "var 1..3: x :: output_var; var 1..3: a; var 1..3: b; var 1..3: c; constraint int_ne(a, b); constraint int_ne(b, c); constraint int_ne(a, c); constraint int_ne(x, a); solve :: int_search([a, b, c, x], input_order, indomain_min) satisfy;";
+
 pub(crate) const TWO_THAT_DIFFER: &str =
     "var 1..2: x; var 1..2: y; constraint int_ne(x, y); solve satisfy;";
 
@@ -42,7 +56,7 @@ pub(crate) fn model_of(rt: &impl Abort, alloc: Global, text: &str) -> Arc<Model>
 
 /// The mode of a goal.
 pub(crate) fn mode(goal: &Goal) -> Mode
-    ensures { result ≡ mode_of goal.now }
+    ensures { IsModeOf goal.now result }
 {
     match goal {
         Goal::Satisfy => Mode::All,
@@ -62,6 +76,25 @@ pub(crate) fn space_of(rt: &impl Abort, alloc: Global, text: &str) -> Space {
 pub(crate) fn path_of(rt: &impl Abort, alloc: Global, text: &str) -> Path<Space> {
     let model = model_of(rt, alloc, text);
     let mode = mode(model.goal());
+    Path::idle(alloc, model, mode, 8, 2)
+        .ok()
+        .expect(rt, "memory")
+}
+
+/// The mode of a search for rows, where there is no other goal.
+fn rows_of(goal: &Goal) -> Mode
+    ensures { IsModeOf goal.now result }
+{
+    match goal {
+        Goal::Satisfy => Mode::Rows,
+        Goal::Minimize(_) | Goal::Maximize(_) => Mode::Best,
+    }
+}
+
+/// An idle path of a text's model that searches for rows.
+pub(crate) fn rows_path_of(rt: &impl Abort, alloc: Global, text: &str) -> Path<Space> {
+    let model = model_of(rt, alloc, text);
+    let mode = rows_of(model.goal());
     Path::idle(alloc, model, mode, 8, 2)
         .ok()
         .expect(rt, "memory")

@@ -40,9 +40,10 @@ static ROWS: [Row; 8] = [
             "usage: fzn [options] [FILE]
   -a                     all solutions; of a model with a goal, each better than the one before it
   -n N                   N solutions, 0 for all: 0 to 4294967295, else one, or all with -a
+  --distinct             of solutions of which the same is printed, one
   -p N                   N workers, each in a thread: 1 to 64, else 1
   -s                     statistics behind all else
-  --certificate          a proof behind a best solution, or behind none; not with -a, -n, -s, --generate
+  --certificate          a proof behind a best solution, or behind none; not with -a, -n, -s, --distinct, --generate
   --commit-distance N    a copy of a node is kept at each Nth edge: 1 to 1000000, else 8
   --adaptive-distance N  a copy is kept in the middle of a way of N edges: 1 to 1000000, else 2
   --interleave N         workers take turns, by a schedule that N begins: 0 to 18446744073709551615

@@ -6,6 +6,8 @@ mod complaints;
 #[cfg(test)]
 mod copies;
 #[cfg(test)]
+mod distinct;
+#[cfg(test)]
 mod examples;
 #[cfg(test)]
 mod faults;

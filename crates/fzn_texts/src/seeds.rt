@@ -1,6 +1,6 @@
 //! Several workers on one model, by many seeds. The model has four free Booleans: a tree of 15 nodes that branch and 16 solutions.
 ghost use Rattle.std.specs.Prelude.{◌≡◌, ◌≤◌};
-ghost use Rattle.fz_tree.specs.Better.{mode_of};
+ghost use Rattle.fz_tree.specs.Better.{IsModeOf};
 
 use fz_account::Mode;
 use fz_book::End;
@@ -18,7 +18,7 @@ const FOUR: &str = "var bool: a; var bool: b; var bool: c; var bool: d; solve sa
 
 /// The mode of a goal.
 fn mode(goal: &Goal) -> Mode
-    ensures { result ≡ mode_of goal.now }
+    ensures { IsModeOf goal.now result }
 {
     match goal {
         Goal::Satisfy => Mode::All,
