@@ -1,7 +1,8 @@
 //! Terms over a store: a variable has its domain, a number itself alone.
-ghost use Rattle.std.specs.Prelude.{◌≡◌, ◌≢◌, ◌↔◌, ℤ, pos, ◌+ℤ◌, ◌≤ℤ◌, ◌<ℤ◌, List, length, IfOk, OnErr, IsTrue, IsNone, IfSome, MatchOption};
+ghost use Rattle.std.specs.Prelude.{◌≡◌, ◌≢◌, ◌↔◌, ◌<◌, ℤ, pos, ◌+ℤ◌, ◌≤ℤ◌, ◌<ℤ◌, List, length, IfOk, OnErr, IsTrue, IsNone, IfSome, MatchOption};
 ghost use Rattle.std.specs.List.{AllByRecursion};
 ghost use Rattle.fz_bits.specs.Windows.{IsBit};
+ghost use Rattle.fz_bits.specs.Words.{AreOnes};
 ghost use Rattle.fz_sets.specs.Sets.{IsInSet, IsWithinLimits, LEAST, GREATEST};
 ghost use Rattle.fz_dom.specs.Changes.{IsFromTo};
 ghost use Rattle.fz_dom.specs.Shape.{least, greatest};
@@ -11,6 +12,7 @@ ghost use Rattle.fz_prop.specs.Stores.{Shrinks, IsTermOf, FitsTerm, IsTermChange
 
 use crate::store::Store;
 use fz_bits::Window;
+use fz_bits::word::run_of;
 use fz_dom::{Change, Dom, single};
 use fz_spec::term::Term;
 use std::alloc::AllocError;
@@ -88,6 +90,39 @@ pub fn window_of(store: &Store, term: Term) -> Option<Window>
         Term::Var(variable) => store.dom(variable).window(0),
         Term::Num(number) => Some(single(number)),
     }
+}
+
+/// The bits of what is left of a term, where bit 0 stands for a base.
+pub fn word_of(store: &Store, term: Term, base: i32) -> u64
+    requires { IsTermOf (length store.now.doms) term }
+    ensures { AreOnes result (λ j. IsInSet (term_set store.now.doms term) (base +ℤ pos j)) }
+{
+    match term {
+        Term::Var(variable) => store.dom(variable).word_at(i64::from(base)),
+        Term::Num(number) => run_between(number, number, base),
+    }
+}
+
+/// The bits of the numbers from a low to a high, both among them, where bit 0 stands for a base.
+fn run_between(low: i32, high: i32, base: i32) -> u64
+    ensures { AreOnes result (λ j. (low ≤ℤ (base +ℤ pos j)) × ((base +ℤ pos j) ≤ℤ high)) }
+{
+    let first = i64::from(low) - i64::from(base);
+    let last = i64::from(high) - i64::from(base);
+    if last < 0 || 63 < first {
+        return 0;
+    }
+    run_of(place_of(first), place_of(last))
+}
+
+/// The place of a bit that is nearest to a number.
+fn place_of(number: i64) -> u32
+    ensures below { result < 64 }
+    ensures at { pos 0 ≤ℤ number → number ≤ℤ pos 63 → pos result ≡ number }
+    ensures low { number ≤ℤ pos 0 → result ≡ 0 }
+    ensures high { pos 63 ≤ℤ number → result ≡ 63 }
+{
+    number.clamp(0, 63) as u32
 }
 
 /// Whether one number is left of each of these terms.

@@ -8,11 +8,11 @@ ghost use Rattle.fz_prop.specs.Stores.{IsTermOf, FitsTerm};
 ghost use Rattle.fz_varelement.specs.Matching.{AreMatches, IsJoined, Has, HasRoom, AreWithin};
 
 use crate::numbers::{Matches, Numbers};
-use crate::words::{term_at, word_of};
+use crate::words::term_at;
 use fz_bits::Window;
 use fz_bits::word::{common, either};
 use fz_prop::Store;
-use fz_prop::terms::window_of;
+use fz_prop::terms::{window_of, word_of};
 use fz_spec::term::Term;
 
 /// Some of 64 indices, and some of 64 numbers.

@@ -1,5 +1,5 @@
 //! Whether all that is left has a match, seen by words of bits.
-ghost use Rattle.std.specs.Prelude.{◌≡◌, ◌↔◌, ◌<◌, ◌≤ℤ◌, ◌<ℤ◌, ◌+ℤ◌, pos, true, ℤ, length, IfSome, IsTrue, MatchOption};
+ghost use Rattle.std.specs.Prelude.{◌≡◌, ◌↔◌, ◌<ℤ◌, ◌+ℤ◌, pos, true, ℤ, length, IfSome, IsTrue, MatchOption};
 ghost use Rattle.std.specs.List.{AllByRecursion};
 ghost use Rattle.fz_bits.specs.Words.{AreOnes};
 ghost use Rattle.fz_sets.specs.Sets.{IsInSet};
@@ -9,9 +9,9 @@ ghost use Rattle.fz_strength.specs.VariableElements.{StandsAt};
 ghost use Rattle.fz_prop.specs.Stores.{IsTermOf};
 ghost use Rattle.fz_varelement.specs.Matching.{AreAllMatched, AreFound};
 
-use fz_bits::word::{common, either, run_of};
+use fz_bits::word::{common, either};
 use fz_prop::Store;
-use fz_prop::terms::{greatest_of, least_of};
+use fz_prop::terms::{greatest_of, least_of, word_of};
 use fz_spec::term::Term;
 
 /// Whether each index that is left and each number of a value is seen to have a match. Where the value is more than 64 wide none
@@ -71,39 +71,6 @@ fn found_in(
         };
         place = next;
     }
-}
-
-/// The bits of what is left of a term, where bit 0 stands for a base.
-pub fn word_of(store: &Store, term: Term, base: i32) -> u64
-    requires { IsTermOf (length store.now.doms) term }
-    ensures { AreOnes result (λ j. IsInSet (term_set store.now.doms term) (base +ℤ pos j)) }
-{
-    match term {
-        Term::Var(variable) => store.dom(variable).word_at(i64::from(base)),
-        Term::Num(number) => window_of(number, number, base),
-    }
-}
-
-/// The bits of the numbers from a low to a high, both among them, where bit 0 stands for a base.
-fn window_of(low: i32, high: i32, base: i32) -> u64
-    ensures { AreOnes result (λ j. (low ≤ℤ (base +ℤ pos j)) × ((base +ℤ pos j) ≤ℤ high)) }
-{
-    let first = i64::from(low) - i64::from(base);
-    let last = i64::from(high) - i64::from(base);
-    if last < 0 || 63 < first {
-        return 0;
-    }
-    run_of(place_of(first), place_of(last))
-}
-
-/// The place of a bit that is nearest to a number.
-fn place_of(number: i64) -> u32
-    ensures below { result < 64 }
-    ensures at { pos 0 ≤ℤ number → number ≤ℤ pos 63 → pos result ≡ number }
-    ensures low { number ≤ℤ pos 0 → result ≡ 0 }
-    ensures high { pos 63 ≤ℤ number → result ≡ 63 }
-{
-    number.clamp(0, 63) as u32
 }
 
 /// The least number of a term above a value, if there is one.

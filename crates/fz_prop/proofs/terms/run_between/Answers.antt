@@ -2,8 +2,8 @@ use Rattle.std.proofs.Common.{◌≤ℤ◌, ◌-ℤ◌, refl, pos, arith, rules,
 use mir.Val.{SFits}
 use Rattle.std.proofs.lemmas.Int.{ints}
 use Rattle.fz_dom.proofs.Nearest.{window_none, window_some}
-use Rattle.fz_varelement.proofs.words.window_of.Goals as goal
-use Rattle.fz_varelement.proofs.words.window_of.Goals.{then-last-lt0-via-then-last-lt0, then-last-lt0-via-else-last-lt0+then-first-gt63}
+use Rattle.fz_prop.proofs.terms.run_between.Goals as goal
+use Rattle.fz_prop.proofs.terms.run_between.Goals.{then-last-lt0-via-then-last-lt0, then-last-lt0-via-else-last-lt0+then-first-gt63}
 
 pub returns-then-last-lt0 : goal.returns-then-last-lt0
 returns-then-last-lt0 c = λ i l. window_none c.args.low c.args.high c.args.base i l (elim c.then-last-lt0.branch [
