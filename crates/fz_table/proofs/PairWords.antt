@@ -1,5 +1,5 @@
 -- Words of partners, row by row.
-use Rattle.std.proofs.Common.{◌≡◌, ◌<◌, ◌≤◌, ◌+◌, ◌*◌, ◌/◌, ℕ, zero, suc, List, refl, sym, subst, ◌∙◌, ap, arith, length, ◌⊎◌, inl, inr, get_or, set, pos, replicate}
+use Rattle.std.proofs.Common.{◌≡◌, ◌<◌, ◌+◌, ◌*◌, ◌/◌, ℕ, zero, suc, List, refl, sym, subst, ◌∙◌, ap, arith, length, ◌⊎◌, inl, inr, get_or, set, pos, replicate}
 use Rattle.std.specs.Prelude.{ℤ, ◌↔◌, ◌+ℤ◌, slice_get, Some}
 use Rattle.std.proofs.lemmas.Bool.{cases_eq}
 use Rattle.std.proofs.lemmas.Int.{ints}
@@ -8,7 +8,7 @@ use Rattle.fz_bits.specs.Words.{HasBit, AreOnes}
 use Rattle.fz_bits.specs.Windows.{IsBit}
 use Rattle.fz_bits.proofs.Windows.{none_in}
 use Rattle.fz_table.specs.declared.pairs.Pairs.{Pairs}
-use Rattle.fz_table.specs.Partners.{IsRowOfTwo, ArePartners, HasRoom, ArePairsOf}
+use Rattle.fz_table.specs.Partners.{ArePartners, HasRoom, ArePairsOf}
 
 -- the word of a number has its partners
 pub partners_word : (pairs : Pairs) (number : ℤ) (place word : ℕ) → place < 64 → number ≡ pairs.first +ℤ pos place → word ≡ get_or pairs.words.items place 0
@@ -71,25 +71,27 @@ partners_more old new place bit word x y small inside is_x small_bit is_y ones s
 -- the partners are those of the rows before one
 pub record ArePartnersBelow (table : List ℤ) (pairs : Pairs) (row : ℕ) : Type 0 where
   pub partners : (n m : ℤ) → ArePartners pairs n m ↔ ((i : ℕ) × (i < row) × (slice_get table (i * 2 + 0) ≡ Some n) × (slice_get table (i * 2 + 1) ≡ Some m))
-  pub room : HasRoom pairs.base
+  pub firsts : HasRoom pairs.first
+  pub seconds : HasRoom pairs.base
 
 zeros_at : (count k : ℕ) → let none : ℕ = 0 in get_or (replicate count none) k none ≡ none
 zeros_at zero k = refl
 zeros_at (suc count) zero = refl
 zeros_at (suc count) (suc k) = zeros_at count k
 
-pub below_none : (table : List ℤ) (pairs : Pairs) (count : ℕ) → pairs.words.items ≡ replicate count 0 → HasRoom pairs.base → ArePartnersBelow table pairs 0
-below_none table pairs count none room = record {
+pub below_none : (table : List ℤ) (pairs : Pairs) (count : ℕ) → pairs.words.items ≡ replicate count 0 → HasRoom pairs.first → HasRoom pairs.base → ArePartnersBelow table pairs 0
+below_none table pairs count none firsts seconds = record {
   partners = λ n m. (
     (λ p. absurd (none_in pairs.base m (subst (λ (w : ℕ). IsBit pairs.base w m) (ap (λ (xs : List ℕ). get_or xs p.0 0) none ∙ zeros_at count p.0) p.3))),
     (λ w. let below = w.1 in absurd (omega (arith, below))),
   );
-  room = room;
+  firsts = firsts;
+  seconds = seconds;
 }
 
-pub below_more : (table : List ℤ) (old new : Pairs) (row : ℕ) (x y : ℤ) → slice_get table (row * 2 + 0) ≡ Some x → slice_get table (row * 2 + 1) ≡ Some y → new.base ≡ old.base
+pub below_more : (table : List ℤ) (old new : Pairs) (row : ℕ) (x y : ℤ) → slice_get table (row * 2 + 0) ≡ Some x → slice_get table (row * 2 + 1) ≡ Some y → new.first ≡ old.first → new.base ≡ old.base
     → ((n m : ℤ) → ArePartners new n m ↔ (ArePartners old n m ⊎ ((n ≡ x) × (m ≡ y)))) → ArePartnersBelow table old row → ArePartnersBelow table new (row + 1)
-below_more table old new row x y at_x at_y same more h = record {
+below_more table old new row x y at_x at_y same_first same_base more h = record {
   partners = λ n m. (
     (λ p. elim ((more n m).0 p) [
       | inl before ↦ let w = (h.partners n m).0 before in let below = w.1 in (w.0, omega (arith, below), w.2, w.3)
@@ -103,7 +105,8 @@ below_more table old new row x y at_x at_y same more h = record {
       | inr ne ↦ let below = w.1 in inl ((h.partners n m).1 (w.0, omega (arith, below, ne), w.2, w.3))
     ])),
   );
-  room = subst HasRoom (sym same) h.room;
+  firsts = subst HasRoom (sym same_first) h.firsts;
+  seconds = subst HasRoom (sym same_base) h.seconds;
 }
 
 pub below_all : (table : List ℤ) (pairs : Pairs) (row : ℕ) → row ≡ length table / 2 → ArePartnersBelow table pairs row → ArePairsOf table pairs
@@ -112,5 +115,6 @@ below_all table pairs row end h = record {
     (λ p. let w = (h.partners n m).0 p in let below = subst (λ (k : ℕ). w.0 < k) end w.1 in (w.0, (below, w.2), (below, w.3))),
     (λ w. (h.partners n m).1 (w.0, subst (λ (k : ℕ). w.0 < k) (sym end) w.1.0, w.1.1, w.2.1)),
   );
-  room = h.room;
+  firsts = h.firsts;
+  seconds = h.seconds;
 }

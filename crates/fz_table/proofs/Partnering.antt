@@ -1,6 +1,6 @@
 -- The numbers that have a partner, first number by first number.
-use Rattle.std.proofs.Common.{◌≡◌, ℕ, ◌<◌, ◌≤◌, ◌^◌, List, ◌⊎◌, inl, inr, refl, sym, ap, subst, ◌∙◌, arith}
-use Rattle.std.specs.Prelude.{◌↔◌, ℤ, pos, ◌+ℤ◌, slice_index, slice_set}
+use Rattle.std.proofs.Common.{◌≡◌, ℕ, ◌<◌, ◌^◌, ◌⊎◌, inl, inr, refl, sym, subst, arith}
+use Rattle.std.specs.Prelude.{◌↔◌, ℤ, pos, ◌+ℤ◌}
 use Rattle.std.proofs.lemmas.Int.{ints}
 use Rattle.fz_bits.specs.Words.{HasBit, AreOnes}
 use Rattle.fz_bits.specs.Windows.{IsBit}
@@ -84,11 +84,15 @@ but_nothing R D E Left P Q none h = record {
 
 -- ---- words of one base
 
-pub both_bits : (base : ℤ) (a b both : ℕ) (E : ℤ → Type 0) → AreOnes b (λ i. E (base +ℤ pos i)) → AreOnes both (λ k. HasBit a k × HasBit b k)
-    → (m : ℤ) → IsBit base both m ↔ (IsBit base a m × E m)
-both_bits base a b both E wanted ones m = (
-  (λ is. let two = (ones is.0 is.1).0 is.3 in ((is.0, is.1, is.2, two.0), subst E (sym is.2) ((wanted is.0 is.1).0 two.1))),
-  (λ h. let is = h.0 in (is.0, is.1, is.2, (ones is.0 is.1).1 (is.3, (wanted is.0 is.1).1 (subst E is.2 h.1)))),
+pub both_bits : (base : ℤ) (a b both : ℕ) → AreOnes both (λ k. HasBit a k × HasBit b k) → (m : ℤ) → IsBit base both m ↔ (IsBit base a m × IsBit base b m)
+both_bits base a b both ones m = (
+  (λ is. let two = (ones is.0 is.1).0 is.3 in ((is.0, is.1, is.2, two.0), (is.0, is.1, is.2, two.1))),
+  (λ h.
+      let one = h.0 in
+      let other = h.1 in
+      let at = one.2 in
+      let same : other.0 ≡ one.0 = omega (arith, ints, at, other.2) in
+      (one.0, one.1, one.2, (ones one.0 one.1).1 (one.3, subst (λ (k : ℕ). HasBit b k) same other.3))),
 )
 
 pub either_bits : (base : ℤ) (a b one : ℕ) → AreOnes one (λ k. HasBit a k ⊎ HasBit b k) → (m : ℤ) → IsBit base one m ↔ (IsBit base a m ⊎ IsBit base b m)

@@ -1,18 +1,18 @@
 -- Tables of two columns: their rows are pairs of numbers.
-use Rattle.std.proofs.Common.{◌≡◌, ◌<◌, ◌≤◌, ◌+◌, ◌*◌, ◌/◌, ℕ, zero, suc, List, [], ◌∷◌, Bool, true, false, refl, sym, subst, ◌∙◌, ap, arith, length, ◌⊎◌, inl, inr, get_or, pos}
-use Rattle.std.specs.Prelude.{ℤ, slice_get, slice_range, Some}
-use Rattle.std.proofs.Math.Nat.{le-div_iff_mul-le, suc-mul}
+use Rattle.std.proofs.Common.{◌≡◌, ◌<◌, ◌≤◌, ◌+◌, ◌*◌, ◌/◌, ℕ, zero, suc, List, [], ◌∷◌, Bool, true, false, refl, sym, subst, ◌∙◌, ap, arith, length, ◌⊎◌, pos}
+use Rattle.std.specs.Prelude.{ℤ, ◌+ℤ◌, slice_get, slice_range, Some}
+use Rattle.std.proofs.Math.Nat.{le-div_iff_mul-le}
 use Rattle.fz_sets.specs.Sets.{IsInSet}
 use Rattle.fz_spec.specs.declared.term.Term.{Term}
-use Rattle.fz_spec.specs.declared.term.Term.TheVariants.{Num}
 use Rattle.fz_spec.specs.Constraints.{term_value}
 use Rattle.fz_spec.specs.Truth.{IsRowOf}
-use Rattle.fz_strength.specs.Domains.{term_set, AreDomains, Within, IsNarrower}
+use Rattle.fz_strength.specs.Domains.{term_set, AreDomains, IsNarrower}
 use Rattle.fz_strength.specs.Events.{IsFixedIn}
-use Rattle.fz_strength.specs.Tables.{LieWithin, IsLeftRow, AreSupported}
+use Rattle.fz_strength.specs.Tables.{IsLeftRow, AreSupported}
 use Rattle.fz_prop.specs.Answers.{IsAnswerOf}
 use Rattle.fz_prop.specs.Outcomes.{rested_by}
 use Rattle.fz_prop.specs.Stores.{IsTermOf}
+use Rattle.fz_bits.specs.Words.{AreOnes}
 use Rattle.fz_bits.specs.Windows.{IsBit}
 use Rattle.fz_table.specs.declared.keep_pairs.Left.{Left}
 use Rattle.fz_table.specs.declared.matching.Matches.{Matches}
@@ -109,18 +109,34 @@ rested_answer true x y table ds es was_x is_x is_y domains narrower line one = (
 
 -- ---- what is left of two terms
 
-pub left_matching : (table : List ℤ) (pairs : Pairs) (left : Left) (kept : Matches) (x y : Term) (ds : List (List (ℤ × ℤ))) → ArePairsOf table pairs → AreLeftOf left ds x y
+in_ones : (base : ℤ) (word : ℕ) (D : ℤ → Type 0) → AreOnes word (λ i. D (base +ℤ pos i)) → (n : ℤ) → IsBit base word n → D n
+in_ones base word D ones n is = subst D (sym is.2) ((ones is.0 is.1).0 is.3)
+
+bit_of : (base : ℤ) (word k : ℕ) (D : ℤ → Type 0) → AreOnes word (λ i. D (base +ℤ pos i)) → k < 64 → (n : ℤ) → n ≡ base +ℤ pos k → D n → IsBit base word n
+bit_of base word k D ones small n at is = (k, small, at, (ones k small).1 (subst D at is))
+
+pub left_matching : (table : List ℤ) (pairs : Pairs) (left : Left) (kept : Matches) (x y : Term) (ds : List (List (ℤ × ℤ))) → ArePairsOf table pairs → AreLeftOf left pairs ds x y
     → kept.firsts.base ≡ left.first.base → kept.seconds.base ≡ pairs.base
     → AreMatching (ArePartners pairs) (λ n. IsBit left.first.base left.first.bits n) (λ m. IsBit left.second.base left.second.bits m)
     (λ n. IsBit left.first.base kept.firsts.bits n) (λ m. IsBit pairs.base kept.seconds.bits m)
     → MatchLeft (IsRowOfTwo table) x y ds (λ n. IsBit kept.firsts.base kept.firsts.bits n) (λ m. IsBit kept.seconds.base kept.seconds.bits m)
 left_matching table pairs left kept x y ds are is first_base second_base h =
+    let D : ℤ → Type 0 = λ n. IsInSet (term_set ds x) n in
+    let E : ℤ → Type 0 = λ m. IsInSet (term_set ds y) m in
     let to : (n m : ℤ) → IsPairOf (ArePartners pairs) (λ k. IsBit left.first.base left.first.bits k) (λ k. IsBit left.second.base left.second.bits k) n m
-    → IsPairOf (IsRowOfTwo table) (λ k. IsInSet (term_set ds x) k) (λ k. IsInSet (term_set ds y) k) n m = λ n m p.
-    record { partners = (are.partners n m).0 p.partners; first = (is.firsts n).0 p.first; second = (is.seconds m).0 p.second } in
-    let from : (n m : ℤ) → IsPairOf (IsRowOfTwo table) (λ k. IsInSet (term_set ds x) k) (λ k. IsInSet (term_set ds y) k) n m
+    → IsPairOf (IsRowOfTwo table) D E n m = λ n m p. record {
+      partners = (are.partners n m).0 p.partners;
+      first = in_ones pairs.first left.first.bits D is.firsts n (subst (λ (b : ℤ). IsBit b left.first.bits n) is.first_base p.first);
+      second = in_ones pairs.base left.second.bits E is.seconds m (subst (λ (b : ℤ). IsBit b left.second.bits m) is.second_base p.second);
+    } in
+    let from : (n m : ℤ) → IsPairOf (IsRowOfTwo table) D E n m
     → IsPairOf (ArePartners pairs) (λ k. IsBit left.first.base left.first.bits k) (λ k. IsBit left.second.base left.second.bits k) n m = λ n m p.
-    record { partners = (are.partners n m).1 p.partners; first = (is.firsts n).1 p.first; second = (is.seconds m).1 p.second } in
+    let partners = (are.partners n m).1 p.partners in
+    let bit = partners.3 in record {
+      partners = partners;
+      first = subst (λ (b : ℤ). IsBit b left.first.bits n) (sym is.first_base) (bit_of pairs.first left.first.bits partners.0 D is.firsts partners.1 n partners.2 p.first);
+      second = subst (λ (b : ℤ). IsBit b left.second.bits m) (sym is.second_base) (bit_of pairs.base left.second.bits bit.0 E is.seconds bit.1 m bit.2 p.second);
+    } in
     record {
       firsts = λ n. (
         (λ bit. let p = (h.firsts n).0 (subst (λ (b : ℤ). IsBit b kept.firsts.bits n) first_base bit) in (p.0, to n p.0 p.1)),

@@ -1,5 +1,5 @@
 -- Tables of two columns: which numbers are partners, and what is left of two terms where each number has a partner.
-use Rattle.std.specs.Prelude.{◌≡◌, ◌↔◌, ◌⊎◌, ◌<◌, ◌≤ℤ◌, ◌+ℤ◌, ℕ, ℤ, pos, List, slice_index}
+use Rattle.std.specs.Prelude.{◌≡◌, ◌↔◌, ◌<◌, ◌≤ℤ◌, ◌+ℤ◌, ℕ, ℤ, pos, List, slice_index}
 use Rattle.fz_sets.specs.Sets.{IsInSet, LEAST, GREATEST}
 use Rattle.fz_bits.specs.Windows.{IsBit}
 use Rattle.fz_spec.specs.declared.term.Term.{Term}
@@ -21,7 +21,8 @@ HasRoom base = (LEAST ≤ℤ base) × ((base +ℤ pos 63) ≤ℤ GREATEST)
 
 pub record ArePairsOf (table : List ℤ) (pairs : Pairs) : Type 0 where
   pub partners : (n m : ℤ) → ArePartners pairs n m ↔ IsRowOfTwo table n m
-  pub room : HasRoom pairs.base
+  pub firsts : HasRoom pairs.first
+  pub seconds : HasRoom pairs.base
 
 -- ---- numbers with a partner
 

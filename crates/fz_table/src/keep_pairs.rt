@@ -1,5 +1,5 @@
 //! Keeping the numbers of two terms that have a partner in the other.
-ghost use Rattle.std.specs.Prelude.{◌≡◌, ◌↔◌, ◌⊎◌, [], ◌∷◌, length, IfOk, IfSome, IsTrue};
+ghost use Rattle.std.specs.Prelude.{◌≡◌, ◌↔◌, ◌⊎◌, [], ◌∷◌, length, IfOk, IsTrue};
 ghost use Rattle.fz_dom.specs.declared.change.Change.TheVariants as changes;
 ghost use Rattle.fz_strength.specs.Events.{IsFixedIn};
 ghost use Rattle.fz_strength.specs.Tables.{AreSupported};
@@ -12,31 +12,34 @@ ghost use Rattle.fz_table.specs.Rows.{IsRowAt};
 use crate::matching::matches_of;
 use crate::pairs::Pairs;
 use fz_bits::Window;
-use fz_prop::terms::{keep_window, value_of, window_of};
+use fz_prop::terms::{keep_window, value_of, word_of};
 use fz_prop::{Answer, Change, Store};
 use fz_spec::term::Term;
 use std::alloc::AllocError;
 
-/// What is left of two terms.
+/// What is left of two terms, as far as it is near to the numbers of pairs.
 #[derive(Clone, Copy)]
 pub struct Left {
     pub first: Window,
     pub second: Window,
 }
 
-/// What is left of two variables, where that is narrow.
-pub fn left_of(store: &Store, first: Term, second: Term) -> Option<Left>
+/// What is left of two terms, as far as it is near to the numbers of pairs.
+fn left_of(store: &Store, first: Term, second: Term, pairs: &Pairs) -> Left
     requires first { IsTermOf (length store.now.doms) first }
     requires second { IsTermOf (length store.now.doms) second }
-    ensures { IfSome result (λ left. AreLeftOf left store.now.doms first second) }
+    ensures { AreLeftOf result pairs.now store.now.doms first second }
 {
-    let (Term::Var(_), Term::Var(_)) = (first, second) else {
-        return None;
-    };
-    Some(Left {
-        first: window_of(store, first)?,
-        second: window_of(store, second)?,
-    })
+    Left {
+        first: Window {
+            base: pairs.first,
+            bits: word_of(store, first, pairs.first),
+        },
+        second: Window {
+            base: pairs.base,
+            bits: word_of(store, second, pairs.base),
+        },
+    }
 }
 
 /// Narrows a store so that the values of two terms are a row of a table: each keeps the numbers that have a partner among what is
@@ -47,12 +50,10 @@ pub fn keep_pairs(
     second: Term,
     table: &[i32],
     pairs: &Pairs,
-    left: Left,
 ) -> Result<Answer, AllocError>
     requires first { IsTermOf (length store.old.doms) first }
     requires second { IsTermOf (length store.old.doms) second }
     requires pairs { ArePairsOf table.now pairs.now }
-    requires left { AreLeftOf left store.old.doms first second }
     ensures shrinks { Shrinks store.old store.new }
     ensures correct { IsCorrectOf (IsRowAt (first ∷ second ∷ []) table.now)
         store.old.doms store.new.doms }
@@ -60,6 +61,7 @@ pub fn keep_pairs(
         (AreSupported (first ∷ second ∷ []) table.now) store.old.doms store.new.doms) }
 {
     let _ = table;
+    let left = left_of(store, first, second, pairs);
     let kept = matches_of(pairs, left.first, left.second);
     let change = keep_window(store, first, kept.firsts)?;
     if let Change::Wiped = change {

@@ -6,6 +6,7 @@ mod column;
 mod columns;
 mod keep;
 mod keep_pairs;
+mod layout;
 mod matching;
 mod near;
 mod pairs;

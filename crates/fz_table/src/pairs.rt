@@ -16,7 +16,7 @@ pub struct Pairs {
     pub words: Vec<u64>,
 }
 
-/// Bit 0 of a word stands for a number between these.
+/// The first number, and that of bit 0, are between these.
 const LOWEST_BASE: i32 = -2147483646;
 
 const HIGHEST_BASE: i32 = 2147483583;
@@ -41,7 +41,8 @@ pub fn pairs_of_two(alloc: Global, table: &[i32], width: usize) -> Result<Option
 fn pairs_of(alloc: Global, table: &[i32]) -> Result<Option<Pairs>, AllocError>
     ensures { IfOk result (λ o. IfSome o (λ p. ArePairsOf table.now p)) }
 {
-    let (first, last) = ends_at(table, 0);
+    let (lowest, last) = ends_at(table, 0);
+    let first = lowest.clamp(LOWEST_BASE, HIGHEST_BASE);
     let Some(count) = words_for(first, last, table.len() / 2) else {
         return Ok(None);
     };
@@ -81,6 +82,7 @@ fn ends_at(table: &[i32], place: usize) -> (i32, i32)
 
 /// Adds a row, if both numbers have their place.
 fn add(pairs: &mut Pairs, first: i32, second: i32) -> bool
+    ensures first { pairs.new.first ≡ pairs.old.first }
     ensures base { pairs.new.base ≡ pairs.old.base }
     ensures added { IsTrue result → (n m : ℤ) → ArePartners pairs.new n m
         ↔ (ArePartners pairs.old n m ⊎ ((n ≡ first) × (m ≡ second))) }

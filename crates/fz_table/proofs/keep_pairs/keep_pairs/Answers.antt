@@ -20,7 +20,7 @@ returns-in-Wiped-clause-answer c =
     let Q : ℤ → Type 0 = λ m. IsBit kept.seconds.base kept.seconds.bits m in
     let r = c.args.store.now in
     let s = c.keep_window.new.store in
-    let left : MatchLeft R x y r.doms P Q = left_matching c.args.table.now c.args.pairs.now c.args.left kept x y r.doms c.requires.pairs c.requires.left
+    let left : MatchLeft R x y r.doms P Q = left_matching c.args.table.now c.args.pairs.now c.left_of-left.result kept x y r.doms c.requires.pairs c.left_of-left.ensures
     c.matches_of-kept.ensures.first_base c.matches_of-kept.ensures.second_base c.matches_of-kept.ensures.matching in
     λ a within holds. fails_at_first R x y P Q r s c.requires.first c.requires.second left (rw c.in-Wiped.is at c.in_ok-change.ensures.change) a within
     (pair_of_row c.args.table.now (term_value a x) (term_value a y) holds)
@@ -39,7 +39,7 @@ returns-in_err-other-clause-correct c =
     let Q : ℤ → Type 0 = λ m. IsBit kept.seconds.base kept.seconds.bits m in
     let r = c.args.store.now in
     let s = c.keep_window.new.store in
-    let left : MatchLeft R x y r.doms P Q = left_matching c.args.table.now c.args.pairs.now c.args.left kept x y r.doms c.requires.pairs c.requires.left
+    let left : MatchLeft R x y r.doms P Q = left_matching c.args.table.now c.args.pairs.now c.left_of-left.result kept x y r.doms c.requires.pairs c.left_of-left.ensures
     c.matches_of-kept.ensures.first_base c.matches_of-kept.ensures.second_base c.matches_of-kept.ensures.matching in
     λ a holds within. subst (λ (u : Stored). Within u.doms a) (sym c.in_err-other.ensures.err)
     (correct_once R c.in_ok-change.change x y P Q r s c.requires.first c.requires.second left c.in_ok-change.ensures.change c.in_ok-change.ensures.shrinks a
@@ -59,7 +59,7 @@ returns-in-Wiped-other-clause-correct c =
     let Q : ℤ → Type 0 = λ m. IsBit kept.seconds.base kept.seconds.bits m in
     let r = c.args.store.now in
     let s = c.keep_window.new.store in
-    let left : MatchLeft R x y r.doms P Q = left_matching c.args.table.now c.args.pairs.now c.args.left kept x y r.doms c.requires.pairs c.requires.left
+    let left : MatchLeft R x y r.doms P Q = left_matching c.args.table.now c.args.pairs.now c.left_of-left.result kept x y r.doms c.requires.pairs c.left_of-left.ensures
     c.matches_of-kept.ensures.first_base c.matches_of-kept.ensures.second_base c.matches_of-kept.ensures.matching in
     let t = c.keep_window-2.new.store in
     λ a holds within. correct_twice R c.in_ok-change.change c.in_ok-other.other x y P Q r s t c.requires.first c.requires.second left
@@ -75,7 +75,7 @@ returns-in-Wiped-other-clause-answer c =
     let Q : ℤ → Type 0 = λ m. IsBit kept.seconds.base kept.seconds.bits m in
     let r = c.args.store.now in
     let s = c.keep_window.new.store in
-    let left : MatchLeft R x y r.doms P Q = left_matching c.args.table.now c.args.pairs.now c.args.left kept x y r.doms c.requires.pairs c.requires.left
+    let left : MatchLeft R x y r.doms P Q = left_matching c.args.table.now c.args.pairs.now c.left_of-left.result kept x y r.doms c.requires.pairs c.left_of-left.ensures
     c.matches_of-kept.ensures.first_base c.matches_of-kept.ensures.second_base c.matches_of-kept.ensures.matching in
     let t = c.keep_window-2.new.store in
     λ a within holds. fails_at_second R c.in_ok-change.change x y P Q r s t c.requires.first c.requires.second left c.in_ok-change.ensures.change c.in_ok-change.ensures.shrinks
@@ -95,7 +95,7 @@ returns-then-has_changed_both-clause-correct c =
     let Q : ℤ → Type 0 = λ m. IsBit kept.seconds.base kept.seconds.bits m in
     let r = c.args.store.now in
     let s = c.keep_window.new.store in
-    let left : MatchLeft R x y r.doms P Q = left_matching c.args.table.now c.args.pairs.now c.args.left kept x y r.doms c.requires.pairs c.requires.left
+    let left : MatchLeft R x y r.doms P Q = left_matching c.args.table.now c.args.pairs.now c.left_of-left.result kept x y r.doms c.requires.pairs c.left_of-left.ensures
     c.matches_of-kept.ensures.first_base c.matches_of-kept.ensures.second_base c.matches_of-kept.ensures.matching in
     let t = c.keep_window-2.new.store in
     λ a holds within. correct_twice R c.in_ok-change.change c.in_ok-other.other x y P Q r s t c.requires.first c.requires.second left
@@ -122,7 +122,7 @@ returns-clause-correct c =
     let Q : ℤ → Type 0 = λ m. IsBit kept.seconds.base kept.seconds.bits m in
     let r = c.args.store.now in
     let s = c.keep_window.new.store in
-    let left : MatchLeft R x y r.doms P Q = left_matching c.args.table.now c.args.pairs.now c.args.left kept x y r.doms c.requires.pairs c.requires.left
+    let left : MatchLeft R x y r.doms P Q = left_matching c.args.table.now c.args.pairs.now c.left_of-left.result kept x y r.doms c.requires.pairs c.left_of-left.ensures
     c.matches_of-kept.ensures.first_base c.matches_of-kept.ensures.second_base c.matches_of-kept.ensures.matching in
     let t = c.keep_window-2.new.store in
     λ a holds within. correct_twice R c.in_ok-change.change c.in_ok-other.other x y P Q r s t c.requires.first c.requires.second left
@@ -138,7 +138,7 @@ returns-clause-answer c =
     let Q : ℤ → Type 0 = λ m. IsBit kept.seconds.base kept.seconds.bits m in
     let r = c.args.store.now in
     let s = c.keep_window.new.store in
-    let left : MatchLeft R x y r.doms P Q = left_matching c.args.table.now c.args.pairs.now c.args.left kept x y r.doms c.requires.pairs c.requires.left
+    let left : MatchLeft R x y r.doms P Q = left_matching c.args.table.now c.args.pairs.now c.left_of-left.result kept x y r.doms c.requires.pairs c.left_of-left.ensures
     c.matches_of-kept.ensures.first_base c.matches_of-kept.ensures.second_base c.matches_of-kept.ensures.matching in
     let t = c.keep_window-2.new.store in
     let narrower = (shrinks_twice r s t c.in_ok-change.ensures.shrinks c.in_ok-other.ensures.shrinks).narrower in

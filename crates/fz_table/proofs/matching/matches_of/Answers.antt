@@ -1,5 +1,5 @@
-use Rattle.std.proofs.Common.{◌≡◌, ◌∙◌, ◌<◌, ◌^◌, ℕ, refl, sym, subst, arith, rules, ◌⊎◌}
-use Rattle.std.specs.Prelude.{ℤ, ◌↔◌, ◌+ℤ◌, pos}
+use Rattle.std.proofs.Common.{◌≡◌, ◌∙◌, ◌<◌, ◌^◌, refl, sym, subst, arith, rules}
+use Rattle.std.specs.Prelude.{ℤ, ◌↔◌}
 use Rattle.std.proofs.lemmas.Int.{ints}
 use Rattle.std.proofs.Math.Facts.{to_z-of_z}
 use mir.Val.{SFits}
@@ -25,7 +25,7 @@ numbers-init c =
     }
 
 pub first-number-requires-clause-ceiling : goal.first-number-requires-clause-ceiling
-first-number-requires-clause-ceiling c = let e = c.numbers.invariant.left_base in let high = c.requires in omega (arith, ints)
+first-number-requires-clause-ceiling c = let e = c.numbers.invariant.left_base in let high = c.requires.first_base in omega (arith, ints)
 
 pub without-left-requires-clause-low : goal.without-left-requires-clause-low
 without-left-requires-clause-low c =
@@ -61,7 +61,8 @@ numbers-preserved-then-shared-ne0 c =
     let here : IsBit base c.numbers.left.bits j = rw inv.left_base at c.first-number.ensures.number in
     let partners : (m : ℤ) → IsBit pairs.base c.partners_of.result m ↔ ArePartners pairs j m = rw (to_z-of_z fits_j) at c.partners_of.ensures in
     let both : (m : ℤ) → IsBit pairs.base c.common-shared.result m ↔ (IsBit pairs.base c.partners_of.result m × E m) =
-    both_bits pairs.base c.partners_of.result c.rebased-wanted.result c.common-shared.result E (rw (to_z-of_z fits_b) at c.rebased-wanted.ensures) c.common-shared.ensures in
+    subst (λ (b : ℤ). (m : ℤ) → IsBit pairs.base c.common-shared.result m ↔ (IsBit pairs.base c.partners_of.result m × IsBit b c.args.seconds.bits m)) (sym c.requires.second_base)
+    (both_bits pairs.base c.partners_of.result c.args.seconds.bits c.common-shared.result c.common-shared.ensures) in
     let shared : (m : ℤ) → IsBit pairs.base c.common-shared.result m ↔ (R j m × E m) = λ m. (
       (λ is. let h = (both m).0 is in ((partners m).0 h.0, h.1)),
       (λ h. (both m).1 ((partners m).1 h.0, h.1)),
@@ -92,7 +93,8 @@ numbers-preserved c =
     let E : ℤ → Type 0 = λ m. IsBit c.args.seconds.base c.args.seconds.bits m in
     let partners : (m : ℤ) → IsBit pairs.base c.partners_of.result m ↔ ArePartners pairs j m = rw (to_z-of_z fits_j) at c.partners_of.ensures in
     let both : (m : ℤ) → IsBit pairs.base c.common-shared.result m ↔ (IsBit pairs.base c.partners_of.result m × E m) =
-    both_bits pairs.base c.partners_of.result c.rebased-wanted.result c.common-shared.result E (rw (to_z-of_z fits_b) at c.rebased-wanted.ensures) c.common-shared.ensures in
+    subst (λ (b : ℤ). (m : ℤ) → IsBit pairs.base c.common-shared.result m ↔ (IsBit pairs.base c.partners_of.result m × IsBit b c.args.seconds.bits m)) (sym c.requires.second_base)
+    (both_bits pairs.base c.partners_of.result c.args.seconds.bits c.common-shared.result c.common-shared.ensures) in
     record {
       kept_base = inv.kept_base;
       found_base = inv.found_base;

@@ -1,4 +1,4 @@
-use Rattle.std.proofs.Common.{◌≡◌, ◌∙◌, ◌≤◌, ℕ, List, ap, sym, arith, rules, get_or, length}
+use Rattle.std.proofs.Common.{◌∙◌, ◌≤◌, ℕ, List, ap, sym, arith, rules, get_or, length}
 use Rattle.std.proofs.Math.Facts.{to_z-of_z}
 use Rattle.std.proofs.lemmas.List.{get_or_past}
 use mir.Val.{SFits}

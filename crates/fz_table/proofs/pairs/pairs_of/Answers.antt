@@ -1,4 +1,4 @@
-use Rattle.std.proofs.Common.{◌≡◌, ◌<◌, ◌+◌, ◌*◌, ◌/◌, ℕ, length, get_or, subst, arith, rules, replicate}
+use Rattle.std.proofs.Common.{◌≡◌, ◌<◌, ◌+◌, ◌*◌, ℕ, length, get_or, subst, arith, rules, replicate}
 use Rattle.std.specs.Prelude.{slice_get, Some, pos}
 use Rattle.std.proofs.lemmas.Int.{ints}
 use Rattle.std.proofs.lemmas.Option.{slice_get-get_or}
@@ -11,12 +11,16 @@ use Rattle.fz_table.proofs.pairs.pairs_of.Goals as goal
 
 pub loop-row-init : goal.loop-row-init
 loop-row-init c =
+    let fits_first : SFits w32 c.clamp-first.result = search rules in
+    let low_first = c.clamp-first.ensures.lower_bound in
+    let high_first = c.clamp-first.ensures.upper_bound in
+    let firsts : HasRoom c.clamp-first.result = (omega (arith, ints, low_first), omega (arith, ints, high_first)) in
     let fits : SFits w32 c.clamp-base.result = search rules in
     let low = c.clamp-base.ensures.lower_bound in
     let high = c.clamp-base.ensures.upper_bound in
-    let room : HasRoom c.clamp-base.result = (omega (arith, ints, low), omega (arith, ints, high)) in
+    let seconds : HasRoom c.clamp-base.result = (omega (arith, ints, low), omega (arith, ints, high)) in
     let zeros : c.in_ok-words.words.items ≡ replicate c.in-Some.count 0 = search rules in
-    below_none c.args.table.now _ c.in-Some.count zeros (rw (to_z-of_z fits) room)
+    below_none c.args.table.now _ c.in-Some.count zeros (rw (to_z-of_z fits_first) firsts) (rw (to_z-of_z fits) seconds)
 
 pub loop-row-preserved : goal.loop-row-preserved
 loop-row-preserved c =
@@ -32,7 +36,7 @@ loop-row-preserved c =
     let at_y : slice_get table (row * 2 + 1) ≡ Some y = slice_get-get_or table (row * 2 + 1) (pos 0) in_y in
     let fits_x : SFits w32 x = search rules in
     let fits_y : SFits w32 y = search rules in
-    below_more table c.loop-row.pairs c.add.new.pairs row x y at_x at_y c.add.ensures.base
+    below_more table c.loop-row.pairs c.add.new.pairs row x y at_x at_y c.add.ensures.first c.add.ensures.base
     (rw (to_z-of_z fits_x, to_z-of_z fits_y) at (c.add.ensures.added c.if-not-add.false)) c.loop-row.invariant
 
 pub returns : goal.returns

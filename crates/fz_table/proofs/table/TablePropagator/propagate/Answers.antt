@@ -7,23 +7,23 @@ use Rattle.fz_strength.specs.Sayings.{Row, truth_of, line_of}
 use Rattle.fz_prop.specs.Answers.{Narrows}
 use Rattle.fz_table.proofs.table.TablePropagator.propagate.Goals as goal
 
-pub returns : goal.returns
-returns c =
+pub returns-in-Columns : goal.returns-in-Columns
+returns-in-Columns c =
     let says = Row c.self.inside.terms.items c.self.inside.numbers.items in
-    let kept = rw (c.deref-2.ensures.value, c.deref-3.ensures.value) at c.keep_rows.ensures in
+    let kept = rw (c.deref-in-Columns.ensures.value, c.deref-in-Columns-2.ensures.value) at c.keep_rows.ensures in
     let narrows : Narrows (truth_of says) (line_of says) c.keep_rows.result c.args.store.now c.keep_rows.new.store =
     record { shrinks = kept.shrinks; correct = kept.correct; answer = kept.answer } in
     rw (← c.self.view_is) narrows
 
-pub returns-in-Some-left_of : goal.returns-in-Some-left_of
-returns-in-Some-left_of c =
+pub returns-in-Pairs : goal.returns-in-Pairs
+returns-in-Pairs c =
     let terms = c.self.inside.terms.items in
     let says = Row terms c.self.inside.numbers.items in
     let x = c.index.result.now in
-    let y = c.index-in-Some.result.now in
+    let y = c.index-in-Pairs.result.now in
     let size : length terms ≡ 2 = search rules in
     let at_x : slice_get terms 0 ≡ Some x = slice_get_read terms (length terms) 0 x refl (omega (arith, size)) c.index.ensures in
-    let at_y : slice_get terms 1 ≡ Some y = slice_get_read terms (length terms) 1 y refl (omega (arith, size)) c.index-in-Some.ensures in
+    let at_y : slice_get terms 1 ≡ Some y = slice_get_read terms (length terms) 1 y refl (omega (arith, size)) c.index-in-Pairs.ensures in
     let two : terms ≡ x ∷ y ∷ [] = two_of terms x y size at_x at_y in
     let numbers = c.self.inside.numbers.items in
     let kept = rw c.deref.ensures.value at c.keep_pairs.ensures in
