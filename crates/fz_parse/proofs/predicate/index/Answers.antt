@@ -1,4 +1,4 @@
-use Rattle.std.proofs.Common.{refl}
+use Rattle.std.proofs.Common.{refl, ◌∙◌, arith}
 use Rattle.std.proofs.lemmas.Result.{err_from_is_err_and}
 use Rattle.fz_language.specs.Grammar as grammar
 use Rattle.fz_grammar.specs.Reading.{head}
@@ -58,3 +58,35 @@ pub returns-clause-taken : goal.returns-clause-taken
 returns-clause-taken c =
     let h = head grammar.flatzinc c.args.lexer.now.tokens in
     λ l. reads_by {n = grammar.Index} (later (grammar.rules grammar.Index) h c.is.ensures.found c.if-is.false) (leaf_then (c.in_ok-low.ensures.taken l) (leaf_then (c.in_ok-take-2.ensures.taken l refl) (leaf_then (c.in_ok-high.ensures.taken l) ended)))
+
+pub returns-in_err-take-clause-same : goal.returns-in_err-take-clause-same
+returns-in_err-take-clause-same c =
+    c.take.ensures.same
+
+pub returns-then-is-clause-forward : goal.returns-then-is-clause-forward
+returns-then-is-clause-forward c =
+    c.in_ok-take.ensures.forward
+
+pub returns-then-is-clause-same : goal.returns-then-is-clause-same
+returns-then-is-clause-same c =
+    c.take.ensures.same
+
+pub returns-in_err-low-clause-same : goal.returns-in_err-low-clause-same
+returns-in_err-low-clause-same c =
+    c.integer.ensures.same
+
+pub returns-in_err-take-2-clause-same : goal.returns-in_err-take-2-clause-same
+returns-in_err-take-2-clause-same c =
+    c.in_err-take-2.ensures.same ∙ c.integer.ensures.same
+
+pub returns-in_err-high-clause-same : goal.returns-in_err-high-clause-same
+returns-in_err-high-clause-same c =
+    c.in_err-high.ensures.same ∙ c.in_ok-take-2.ensures.same ∙ c.integer.ensures.same
+
+pub returns-clause-forward : goal.returns-clause-forward
+returns-clause-forward c =
+    omega (arith, c.in_ok-low.ensures.forward, c.in_ok-take-2.ensures.forward, c.in_ok-high.ensures.forward)
+
+pub returns-clause-same : goal.returns-clause-same
+returns-clause-same c =
+    c.in_ok-high.ensures.same ∙ c.in_ok-take-2.ensures.same ∙ c.integer.ensures.same
