@@ -1,7 +1,9 @@
 //! The top call.
 ghost use Rattle.std.specs.Arc.{arc_value};
-ghost use Rattle.std.specs.Prelude.{◌≡◌, ◌≢◌, ◌⊎◌, ℕ, ◌-◌, ◌^◌, ◌<◌, ◌≤◌, List, Option, None, true, false, IfSome, IfOk, OnOk, OnErr, length, map, option_copied, option_map, string_bytes};
+ghost use Rattle.std.specs.Prelude.{◌≡◌, ◌≢◌, ◌⊎◌, ℕ, ◌-◌, ◌^◌, ◌<◌, ◌≤◌, List, Option, None, true, false, IfSome, IfOk, OnOk, OnErr, length, map, MatchResult, option_copied, option_map, string_bytes};
 ghost use Rattle.fz_io.specs.Outside.{one_more, AllFlushed};
+ghost use Rattle.fz_language.specs.Reads.{Accepted, Reads};
+ghost use Rattle.fz_reader.specs.Refusals.{IsRefusal};
 ghost use Rattle.fz_print.specs.Refusal.{text_of};
 ghost use Rattle.fz_cmd.specs.Meaning.{options_of};
 ghost use Rattle.fz_gen.specs.Knapsack as texts;
@@ -266,7 +268,7 @@ fn run_generated<F: Fn(Arc<Model>, &mut S) -> Result<Printer, AllocError>, S: Si
     ensures cause { HasSinkCause result (S.faults sink.old) (S.faults sink.new) }
 {
     match knapsack(alloc, items) {
-        Ok(generated) => run_text(alloc, search_by, &generated, options, sink),
+        Ok(generated) => run_text(alloc, search_by, generated, options, sink),
         Err(_) => Status::NoMemory,
     }
 }
@@ -298,7 +300,7 @@ fn run_file<F: Fn(Arc<Model>, &mut S) -> Result<Printer, AllocError>, R: Source,
     ensures used { result ≢ Status.Usage }
 {
     match read_text(alloc, file_of(options), source) {
-        Ok(text) => run_text(alloc, search_by, &text, options, sink),
+        Ok(text) => run_text(alloc, search_by, text, options, sink),
         Err(Stop::Fault) => Status::SourceFault,
         Err(Stop::Memory) => Status::NoMemory,
     }
@@ -345,11 +347,11 @@ fn read_selected<R: Source>(alloc: Global, source: &mut R) -> Result<Vec<u8>, St
     }
 }
 
-/// The run of a text.
+/// The run of a text, which is let go before the search.
 fn run_text<F: Fn(Arc<Model>, &mut S) -> Result<Printer, AllocError>, S: Sink>(
     alloc: Global,
     search_by: &F,
-    text: &[u8],
+    text: Vec<u8>,
     options: &Options,
     sink: &mut S,
 ) -> Status
@@ -358,15 +360,23 @@ fn run_text<F: Fn(Arc<Model>, &mut S) -> Result<Printer, AllocError>, S: Sink>(
         → HasSearched (arc_value m) options.now r
         (S.taken s.now) (S.taken t.now) (S.faults s.now) (S.faults t.now) }
     requires faults { S.faults sink.old < 2 ^ 64 - 1 }
-    ensures printed { PrintsOf result text.now options.now (S.taken sink.old) (S.taken sink.new) }
+    ensures printed { PrintsOf result text.items options.now (S.taken sink.old) (S.taken sink.new) }
     ensures flushed { IsFlushed result (S.taken sink.old) (S.taken sink.new) (S.flushed sink.new) }
     ensures cause { HasSinkCause result (S.faults sink.old) (S.faults sink.new) }
 {
-    match model_of(alloc, text) {
+    match read_model(alloc, text) {
         Ok(Ok(model)) => run_model(alloc, search_by, model, options, sink),
         Ok(Err(refused)) => refuse(alloc, refused, sink),
         Err(_) => Status::NoMemory,
     }
+}
+
+/// What is read of a text, which is let go.
+fn read_model(alloc: Global, text: Vec<u8>) -> Result<Result<Model, Refusal>, AllocError>
+    ensures { IfOk result (λ reading. MatchResult reading
+        (λ model. Reads text.items (Accepted model)) (IsRefusal text.items)) }
+{
+    model_of(alloc, &text)
 }
 
 /// Searches a model, and prints what is asked for.
