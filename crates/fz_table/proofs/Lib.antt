@@ -6,6 +6,7 @@ pub mod Building
 pub mod Walking
 pub mod Finding
 pub mod Windowed
+pub mod Packing
 pub mod LeftRows
 pub mod Keeping
 pub mod Partnering

@@ -91,9 +91,3 @@ HasOneBetween column p q i = (k : ℕ) × (s : Support) × (p ≤ k) × (k < q) 
 -- a row of the set has a number in a support from a place up to another
 abbrev pub StandsBetween : List Support → List ℕ → ℕ → ℕ → ℤ → Type 0
 StandsBetween column rows p q n = (k : ℕ) × (s : Support) × (p ≤ k) × (k < q) × (slice_get column k ≡ Some s) × (s.number ≡ n) × (i : ℕ) × HasMember rows i × IsOneOf s.rows i
-
--- what a column keeps: its numbers don't fall, where each of them ends, and its numbers are in its ranges
-pub record IsKept (column : List Support) (ends : List ℕ) (spans : List (ℤ × ℤ)) : Type 0 where
-  pub order : AreInOrder column
-  pub ended : AreEnds column ends
-  pub spanned : (s : Support) → IsIn s column → IsInSet spans s.number

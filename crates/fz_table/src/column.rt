@@ -8,6 +8,7 @@ ghost use Rattle.fz_bits.specs.Windows.{IsBit};
 ghost use Rattle.fz_table.specs.Supports.{IsIn, AreInOrder, HasNumber, AreSized, StandsIn, IsLeftIn};
 
 use crate::near::{join_near, numbers_near};
+use crate::packed::{Packed, packed_of};
 use crate::row_set::{clear, meet};
 use crate::spans::Spans;
 use crate::supports::Support;
@@ -29,18 +30,20 @@ pub struct Column {
     ends: Vec<usize>,
     /// The ranges of its numbers.
     spans: Spans,
+    /// The same as words of one width, where these are few.
+    packed: Option<Packed>,
 }
 
 impl Model for Column {
     ghost use Rattle.std.specs.Prelude.{List};
     ghost use Rattle.fz_table.specs.declared.supports.Support.{Support};
-    ghost use Rattle.fz_table.specs.Supports.{IsKept};
+    ghost use Rattle.fz_table.specs.Packed.{IsKept};
 
     ghost Value = { List Support };
 
     ghost view = { λ c. c.supports.items };
 
-    ghost invariant = { λ c. IsKept c.supports.items c.ends.items c.spans };
+    ghost invariant = { λ c. IsKept c.supports.items c.ends.items c.spans c.packed };
 }
 
 impl Column {
@@ -54,10 +57,12 @@ impl Column {
     {
         let ends = ends_of(alloc, &supports)?;
         let spans = spans_of(alloc, &supports)?;
+        let packed = packed_of(alloc, &supports)?;
         Ok(Column {
             supports,
             ends,
             spans,
+            packed,
         })
     }
 
@@ -103,8 +108,21 @@ impl Column {
         ensures size { length rows.new ≡ length rows.old }
     {
         match window_of(store, Term::Var(variable)) {
-            Some(window) => join_near(&self.supports, &self.ends, window, rows),
+            Some(window) => self.join_near(window, rows),
             None => self.join_in(store.dom(variable), rows),
+        }
+    }
+
+    /// Puts the rows that have a number of a window into a set.
+    fn join_near(&self, window: Window, rows: &mut [u64])
+        requires { AreSized self.now (length rows.old) }
+        ensures rows { (i : ℕ) → HasMember rows.new i ↔ (HasMember rows.old i
+            ⊎ ((n : ℤ) × HasNumber self.now n i × IsBit window.base window.bits n)) }
+        ensures size { length rows.new ≡ length rows.old }
+    {
+        match &self.packed {
+            Some(packed) => packed.join_window(window, rows),
+            None => join_near(&self.supports, &self.ends, window, rows),
         }
     }
 
@@ -140,7 +158,10 @@ impl Column {
         ensures numbers { (n : ℤ) → IsBit window.base result.bits n
             ↔ (IsBit window.base window.bits n × StandsIn self.now rows.now n) }
     {
-        numbers_near(&self.supports, &self.ends, window, rows)
+        match &self.packed {
+            Some(packed) => packed.numbers_within(window, rows),
+            None => numbers_near(&self.supports, &self.ends, window, rows),
+        }
     }
 
     /// The numbers of a domain that some rows have.

@@ -9,6 +9,7 @@ mod keep_pairs;
 mod layout;
 mod matching;
 mod near;
+mod packed;
 mod pairs;
 mod row_set;
 mod rows;

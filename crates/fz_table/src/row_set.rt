@@ -1,5 +1,5 @@
 //! Sets of rows as words, 64 rows to each.
-ghost use Rattle.std.specs.Prelude.{◌≡◌, ◌<◌, ◌↔◌, ◌⊎◌, ℕ, length, IsTrue, false};
+ghost use Rattle.std.specs.Prelude.{◌≡◌, ◌<◌, ◌≤◌, ◌↔◌, ◌⊎◌, ℕ, length, IsTrue, false};
 ghost use Rattle.fz_bits.specs.Members.{HasMember, IsOneOf, words_for};
 
 use fz_bits::Chunk;
@@ -62,4 +62,28 @@ pub fn is_empty(rows: &[u64]) -> bool
         }
     }
     true
+}
+
+/// Puts the rows of words into a set.
+pub fn join_all(rows: &mut [u64], words: &[u64])
+    requires { length words.now ≤ length rows.old }
+    ensures members { (i : ℕ) → HasMember rows.new i ↔ (HasMember rows.old i ⊎ HasMember words.now i) }
+    ensures size { length rows.new ≡ length rows.old }
+{
+    for (word, bits) in words.iter().enumerate() {
+        join(rows, Chunk { word, bits: *bits });
+    }
+}
+
+/// Whether a row of words is in a set.
+pub fn meets_any(rows: &[u64], words: &[u64]) -> bool
+    requires { length words.now ≤ length rows.now }
+    ensures { IsTrue result ↔ ((i : ℕ) × HasMember rows.now i × HasMember words.now i) }
+{
+    for (word, bits) in words.iter().enumerate() {
+        if meets(rows, Chunk { word, bits: *bits }) {
+            return true;
+        }
+    }
+    false
 }

@@ -1,0 +1,6 @@
+use Rattle.fz_table.proofs.Packing.{AreMissed}
+use Rattle.fz_table.proofs.row_set.meets_any.Given as goal
+
+-- the words so far have none
+abbrev pub invariant-loop-word : goal.invariant-loop-word
+invariant-loop-word l = AreMissed l.rows l.words l.word
