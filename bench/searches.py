@@ -312,6 +312,22 @@ def doubles(count, greatest, seed):
     return text
 
 
+def both_signs(kind, count, greatest, divisors, values, seed, order):
+    """Sums of numbers, of divisors or factors, and of what a constraint makes of these, all of both signs; they are searched in an order."""
+    text, dice = Text(), random.Random(seed)
+    names = {letter: [f"{letter}{i}" for i in range(count)] for letter in "xyz"}
+    for letter, (low, high) in zip("xyz", ((-greatest, greatest), divisors, values)):
+        for name in names[letter]:
+            text.variable(name, f"{low}..{high}")
+    for x, y, z in zip(*names.values()):
+        text.add(f"{kind}({x},{y},{z})")
+    for letter, (low, high) in zip("zxy", (values, (-greatest, greatest), divisors)):
+        text.linear("eq", [(dice.choice([1, 2, 3, -1, -2]), name) for name in names[letter]], dice.randint(low, high))
+    for letter in order:
+        text.divide(names[letter])
+    return text
+
+
 # A model, and the words it is run with.
 MODELS = {
     "colouring_80": (lambda: colouring(80, 400, 4, 1), ["-n", "20000"]),
@@ -348,4 +364,7 @@ MODELS = {
     "lessons_7": (lambda: lessons(7, 41, 4), ["-a"]),
     "remainders_6": (lambda: remainders(6, 24, 5, 1), ["-a"]),
     "doubles_6": (lambda: doubles(6, 20, 8), ["-a"]),
+    "quotients_of_both_signs_4": (lambda: both_signs("int_div", 4, 20, (-6, 6), (1, 6), 12, "zxy"), ["-a"]),
+    "remainders_of_both_signs_4": (lambda: both_signs("int_mod", 4, 12, (-5, 5), (-4, 4), 2, "zyx"), ["-a"]),
+    "products_of_both_signs_4": (lambda: both_signs("int_times", 4, 6, (-4, 6), (-12, 12), 14, "xyz"), ["-a"]),
 }

@@ -4,7 +4,7 @@ pub mod Same
 pub mod Sizing
 pub mod Places
 pub mod Steps
-pub mod Reaching
 pub mod Divisions
 pub mod Helping
 pub mod Parted
+pub mod Sides

@@ -1,7 +1,7 @@
 -- What a truncated quotient and its rest are, signs aside.
 use Rattle.std.proofs.Common.{◌≡◌, ◌≢◌, ℕ, zero, suc, ◌+◌, ◌*◌, ◌/◌, ◌%◌, ◌<◌, refl, sym, arith}
-use Rattle.std.specs.Prelude.{ℤ, pos, negsuc, neg_ℤ, ◌≤ℤ◌, ◌<ℤ◌, int_div, int_rem, unsigned_abs}
-use Rattle.std.proofs.lemmas.Int.{ints, rem_below, by_lt_z}
+use Rattle.std.specs.Prelude.{ℤ, pos, negsuc, neg_ℤ, ◌≤ℤ◌, int_div, int_rem, unsigned_abs}
+use Rattle.std.proofs.lemmas.Int.{ints, rem_below}
 use Rattle.std.proofs.Math.Nat.{div-add-mod', zero-mod}
 use Rattle.fz_num.proofs.Products.{neg_size}
 use Rattle.fz_arith.specs.Sizes.{IsParted}
@@ -35,18 +35,3 @@ rest_down (pos zero) (negsuc n) to = let e = zero-mod (suc n) in omega (arith, i
 rest_down (pos (suc a)) w to = absurd (omega (arith, ints, to))
 rest_down (negsuc a) (pos n) to = neg_down (suc a % n)
 rest_down (negsuc a) (negsuc n) to = neg_down (suc a % suc n)
-
--- a rest has the sign of what is divided
-pub record HasSignOf (u v : ℤ) : Type 0 where
-  pub over : pos 0 <ℤ v → pos 0 ≤ℤ u
-  pub under : v <ℤ pos 0 → u ≤ℤ pos 0
-  pub up : pos 0 ≤ℤ u → pos 0 ≤ℤ v
-  pub down : u ≤ℤ pos 0 → v ≤ℤ pos 0
-
-pub rest_sign : (u w : ℤ) → HasSignOf u (int_rem u w)
-rest_sign u w = record {
-  over = λ over. by_lt_z u (pos 0) (λ less. let d = rest_down u w (omega (arith, ints, less)) in absurd (omega (arith, ints, over, d))) (λ to. omega (arith, ints, to));
-  under = λ under. by_lt_z (pos 0) u (λ less. let d = rest_up u w (omega (arith, ints, less)) in absurd (omega (arith, ints, under, d))) (λ to. omega (arith, ints, to));
-  up = rest_up u w;
-  down = rest_down u w;
-}

@@ -1,5 +1,5 @@
 pub mod Extremes
 pub mod Factors
 pub mod Narrowing
-pub mod Dividends
 pub mod Sizes
+pub mod Ranges

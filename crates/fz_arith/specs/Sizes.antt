@@ -1,10 +1,9 @@
 -- How large numbers are, and what divides and what is left, signs aside.
-use Rattle.std.specs.Prelude.{◌≡◌, ℕ, ◌+◌, ◌*◌, ◌≤◌, ◌<◌, ℤ, List}
-use Rattle.fz_spec.specs.declared.term.Term.{Term}
-use Rattle.fz_arith.specs.declared.sized.Several.{Several}
+use Rattle.std.specs.Prelude.{◌≡◌, ℕ, ◌+◌, ◌*◌, ◌≤◌, ◌<◌}
+use Rattle.fz_strength.specs.declared.operation.Operation.{Operation}
+use Rattle.fz_strength.specs.declared.operation.Operation.TheVariants.{Times, Quotient, Remainder}
 use Rattle.fz_arith.specs.declared.sizes.Sizes.{Sizes}
 use Rattle.fz_arith.specs.declared.sizes.Triple.{Triple}
-use Rattle.fz_arith.specs.Narrowing.{LiesBetween}
 
 -- a size lies from the least to the greatest
 abbrev pub IsSized : Sizes → ℕ → Type 0
@@ -23,10 +22,9 @@ pub record IsParted (m n k rest : ℕ) : Type 0 where
   pub sum : m ≡ k * n + rest
   pub below : rest < n
 
--- bounds are of these terms
-abbrev pub AreOfTerms : Several → Term → Term → Term → Type 0
-AreOfTerms s x y z = (s.first.term ≡ x) × (s.second.term ≡ y) × (s.value.term ≡ z)
-
--- the numbers of the terms lie between
-abbrev pub AreBetween : List ℤ → Several → Type 0
-AreBetween a s = LiesBetween a s.first × LiesBetween a s.second × LiesBetween a s.value
+-- k is the size of what an operation makes of numbers of the sizes m and n, as far as a product, a quotient or a rest tells
+abbrev pub IsSizedBy : Operation → ℕ → ℕ → ℕ → Type 0
+IsSizedBy Times m n k = k ≡ m * n
+IsSizedBy Quotient m n k = (rest : ℕ) × IsParted m n k rest
+IsSizedBy Remainder m n k = (times : ℕ) × IsParted m n times k
+IsSizedBy operation m n k = Unit {0}

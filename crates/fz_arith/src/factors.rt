@@ -12,7 +12,7 @@ ghost use Rattle.fz_arith.specs.Factors.{IsRoot};
 ghost use Rattle.fz_arith.specs.Narrowing.{IsHelped, only_wiped};
 
 use crate::narrow::keep_between;
-use crate::sized::{bounds_of_product, bounds_of_quotient, bounds_of_rest, keep_all};
+use crate::sized::keep_sized;
 use fz_prop::terms::{greatest_of, least_of};
 use fz_prop::{Change, Store};
 use fz_spec::term::Term;
@@ -35,11 +35,13 @@ pub fn keep_operands(
         store.old store.new) }
 {
     match (operation, operands) {
+        (Operation::Plus, [x, y]) if is_same(*x, value) => keep_zero(store, *x, *y),
+        (Operation::Plus, [x, y]) if is_same(*y, value) => keep_zero(store, *y, *x),
         (Operation::Plus, [x, y]) if is_same(*x, *y) => keep_half(store, *x, value),
         (Operation::Times, [x, y]) if is_same(*x, *y) => keep_root(store, *x, value),
         (Operation::Times, [x, y]) => keep_product(store, *x, *y, value),
-        (Operation::Quotient, [x, y]) => keep_quotient(store, *x, *y, value),
-        (Operation::Remainder, [x, y]) => keep_rest(store, *x, *y, value),
+        (Operation::Quotient, [x, y]) => keep_sized(store, Operation::Quotient, *x, *y, value),
+        (Operation::Remainder, [x, y]) => keep_sized(store, Operation::Remainder, *x, *y, value),
         _ => Ok(Change::Same),
     }
 }
@@ -49,6 +51,28 @@ fn is_same(x: Term, y: Term) -> bool
     ensures { IsTrue result ↔ (x ≡ y) }
 {
     x == y
+}
+
+/// Keeps a summand that leaves the other as it is: it is 0.
+fn keep_zero(store: &mut Store, x: Term, y: Term) -> Result<Change, AllocError>
+    requires { IsTermOf (length store.old.doms) y }
+    ensures shrinks { Shrinks store.old store.new }
+    ensures correct { IsCorrectOf (EquationTruth (equation Plus (x ∷ y ∷ []) x))
+        store.old.doms store.new.doms }
+    ensures helped { IfOk result (λ r. IsHelped r (equation Plus (x ∷ y ∷ []) x)
+        store.old store.new) }
+    ensures turned_correct { IsCorrectOf (EquationTruth (equation Plus (y ∷ x ∷ []) x))
+        store.old.doms store.new.doms }
+    ensures turned_helped { IfOk result (λ r. IsHelped r (equation Plus (y ∷ x ∷ []) x)
+        store.old store.new) }
+{
+    let _ = store.doms();
+    let bounds = Bounds {
+        term: y,
+        low: 0,
+        high: 0,
+    };
+    keep_between(store, bounds)
 }
 
 /// Keeps what twice is a value between its halves.
@@ -81,7 +105,7 @@ fn keep_root(store: &mut Store, x: Term, value: Term) -> Result<Change, AllocErr
     keep_between(store, bounds)
 }
 
-/// Keeps factors by the sizes of their product and of one another. No more is told, since the line alone says when to go on.
+/// Keeps factors and their product by the sizes of one another. No more is told, since the line alone says when to go on.
 fn keep_product(store: &mut Store, x: Term, y: Term, value: Term) -> Result<Change, AllocError>
     requires x { IsTermOf (length store.old.doms) x }
     requires y { IsTermOf (length store.old.doms) y }
@@ -92,9 +116,7 @@ fn keep_product(store: &mut Store, x: Term, y: Term, value: Term) -> Result<Chan
     ensures helped { IfOk result (λ r. IsHelped r (equation Times (x ∷ y ∷ []) value)
         store.old store.new) }
 {
-    let _ = store.doms();
-    let bounds = bounds_of_product(store, x, y, value);
-    let change = keep_all(store, &[bounds.first, bounds.second, bounds.value])?;
+    let change = keep_sized(store, Operation::Times, x, y, value)?;
     Ok(only_wiped(change))
 }
 
@@ -106,38 +128,6 @@ fn only_wiped(change: Change) -> Change
         Change::Wiped => Change::Wiped,
         Change::Changed | Change::Same => Change::Same,
     }
-}
-
-/// Keeps what is divided, a divisor and their quotient by the sizes of one another.
-fn keep_quotient(store: &mut Store, x: Term, y: Term, value: Term) -> Result<Change, AllocError>
-    requires x { IsTermOf (length store.old.doms) x }
-    requires y { IsTermOf (length store.old.doms) y }
-    requires value { IsTermOf (length store.old.doms) value }
-    ensures shrinks { Shrinks store.old store.new }
-    ensures correct { IsCorrectOf (EquationTruth (equation Quotient (x ∷ y ∷ []) value))
-        store.old.doms store.new.doms }
-    ensures helped { IfOk result (λ r. IsHelped r (equation Quotient (x ∷ y ∷ []) value)
-        store.old store.new) }
-{
-    let _ = store.doms();
-    let bounds = bounds_of_quotient(store, x, y, value);
-    keep_all(store, &[bounds.first, bounds.second, bounds.value])
-}
-
-/// Keeps what is divided, a divisor and the rest by the sizes of one another.
-fn keep_rest(store: &mut Store, x: Term, y: Term, value: Term) -> Result<Change, AllocError>
-    requires x { IsTermOf (length store.old.doms) x }
-    requires y { IsTermOf (length store.old.doms) y }
-    requires value { IsTermOf (length store.old.doms) value }
-    ensures shrinks { Shrinks store.old store.new }
-    ensures correct { IsCorrectOf (EquationTruth (equation Remainder (x ∷ y ∷ []) value))
-        store.old.doms store.new.doms }
-    ensures helped { IfOk result (λ r. IsHelped r (equation Remainder (x ∷ y ∷ []) value)
-        store.old store.new) }
-{
-    let _ = store.doms();
-    let bounds = bounds_of_rest(store, x, y, value);
-    keep_all(store, &[bounds.first, bounds.second, bounds.value])
 }
 
 /// The bounds of what times itself is a value.

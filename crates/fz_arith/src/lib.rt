@@ -5,10 +5,10 @@
 
 pub mod arithmetic;
 mod bounds;
-mod dividends;
 mod ends;
 mod factors;
 mod narrow;
+mod ranges;
 mod sized;
 mod sizes;
 

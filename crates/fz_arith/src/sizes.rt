@@ -1,6 +1,8 @@
 //! The sizes of numbers of which one is the product, the quotient or the rest of the two others: signs aside, these are natural numbers.
 ghost use Rattle.std.specs.Prelude.{ℕ, ◌+◌, ◌-◌, ◌*◌, ◌^◌, ◌≤◌, ◌<◌};
-ghost use Rattle.fz_arith.specs.Sizes.{IsSized, AreSized, AreAtMost, IsParted};
+ghost use Rattle.fz_arith.specs.Sizes.{IsSized, AreSized, AreAtMost, IsParted, IsSizedBy};
+
+use fz_strength::operation::Operation;
 
 /// From the least to the greatest size of a number.
 #[derive(Clone, Copy)]
@@ -103,7 +105,7 @@ fn rest_of(divisor: Sizes) -> Sizes
 }
 
 /// The sizes that two factors and their product may have.
-pub fn sizes_of_product(first: Sizes, second: Sizes, value: Sizes) -> Triple
+fn sizes_of_product(first: Sizes, second: Sizes, value: Sizes) -> Triple
     requires first { AreAtMost (2 ^ 31) first }
     requires second { AreAtMost (2 ^ 31) second }
     requires value { AreAtMost (2 ^ 31) value }
@@ -121,7 +123,7 @@ pub fn sizes_of_product(first: Sizes, second: Sizes, value: Sizes) -> Triple
 }
 
 /// The sizes that what is divided, a divisor and their quotient may have.
-pub fn sizes_of_quotient(first: Sizes, second: Sizes, value: Sizes) -> Triple
+fn sizes_of_quotient(first: Sizes, second: Sizes, value: Sizes) -> Triple
     requires first { AreAtMost (2 ^ 31) first }
     requires second { AreAtMost (2 ^ 31) second }
     requires value { AreAtMost (2 ^ 31) value }
@@ -146,7 +148,7 @@ pub fn sizes_of_quotient(first: Sizes, second: Sizes, value: Sizes) -> Triple
 }
 
 /// The sizes that what is divided, a divisor and the rest may have.
-pub fn sizes_of_rest(first: Sizes, second: Sizes, value: Sizes) -> Triple
+fn sizes_of_rest(first: Sizes, second: Sizes, value: Sizes) -> Triple
     requires first { AreAtMost (2 ^ 31) first }
     requires second { AreAtMost (2 ^ 31) second }
     requires value { AreAtMost (2 ^ 31) value }
@@ -175,6 +177,29 @@ pub fn sizes_of_rest(first: Sizes, second: Sizes, value: Sizes) -> Triple
         value: Sizes {
             low: rest.low,
             high: rest.high.min(most),
+        },
+    }
+}
+
+/// The sizes that two operands and what an operation makes of them may have.
+pub fn sizes_by(operation: Operation, first: Sizes, second: Sizes, value: Sizes) -> Triple
+    requires first { AreAtMost (2 ^ 31) first }
+    requires second { AreAtMost (2 ^ 31) second }
+    requires value { AreAtMost (2 ^ 31) value }
+    ensures sizes { (m n k : ℕ) → IsSizedBy operation m n k → IsSized first m → IsSized second n
+        → IsSized value k → AreSized result m n k }
+    ensures first { AreAtMost (2 ^ 63 - 1) result.first }
+    ensures second { AreAtMost (2 ^ 63 - 1) result.second }
+    ensures value { AreAtMost (2 ^ 63 - 1) result.value }
+{
+    match operation {
+        Operation::Times => sizes_of_product(first, second, value),
+        Operation::Quotient => sizes_of_quotient(first, second, value),
+        Operation::Remainder => sizes_of_rest(first, second, value),
+        _ => Triple {
+            first,
+            second,
+            value,
         },
     }
 }
