@@ -149,14 +149,23 @@ fn highest(range: Range, sizes: Sizes) -> i64
     }
 }
 
+/// The numbers of such sizes on the sides of 0 on which a range lies.
+fn with_sizes(range: Range, sizes: Sizes) -> Range
+    requires { AreAtMost (2 ^ 63 - 1) sizes }
+    ensures { (u : ℤ) → IsIn range u → IsSized sizes (unsigned_abs u) → IsIn result u }
+{
+    Range {
+        low: lowest(range, sizes),
+        high: highest(range, sizes),
+    }
+}
+
 /// What is left of a range whose numbers have such sizes.
 fn sized(range: Range, sizes: Sizes) -> Range
     requires { AreAtMost (2 ^ 63 - 1) sizes }
     ensures { (u : ℤ) → IsIn range u → IsSized sizes (unsigned_abs u) → IsIn result u }
 {
-    let low = lowest(range, sizes);
-    let high = highest(range, sizes);
-    met(range, Range { low, high })
+    met(range, with_sizes(range, sizes))
 }
 
 /// What is left of ranges, by the sizes of their numbers.
