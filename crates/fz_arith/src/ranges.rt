@@ -1,5 +1,5 @@
 //! Ranges of three numbers of which one is the product, the quotient or the rest of the two others: on each side of 0 these are sizes.
-ghost use Rattle.std.specs.Prelude.{◌≡◌, ◌∷◌, [], ◌⊎◌, IsFalse, ◌-◌, ◌^◌, ℤ, ◌≤ℤ◌, ◌↔◌, IsTrue, unsigned_abs};
+ghost use Rattle.std.specs.Prelude.{◌≡◌, ◌∷◌, [], ◌⊎◌, IsFalse, ◌-◌, ◌^◌, ℤ, pos, ◌≤ℤ◌, ◌↔◌, IsTrue, unsigned_abs};
 ghost use Rattle.fz_strength.specs.Operations.{IsResult};
 ghost use Rattle.fz_arith.specs.Sizes.{IsSized, AreAtMost, IsSizedBy};
 ghost use Rattle.fz_arith.specs.Ranges.{IsIn, AreIn, IsNear, AreNear, IsEmpty, IsOnSide, IsTurned, IsScaling, turned};
@@ -271,6 +271,13 @@ fn is_loose(operation: Operation, ranges: Ranges) -> bool {
     }
 }
 
+/// Whether both operands are 0 or more.
+fn are_natural(ranges: Ranges) -> bool
+    ensures { IsTrue result → (u w v : ℤ) → AreIn ranges u w v → (pos 0 ≤ℤ u) × (pos 0 ≤ℤ w) }
+{
+    0 <= ranges.first.low && 0 <= ranges.second.low
+}
+
 /// What is left of the ranges of two operands and of their product, quotient or rest.
 pub fn narrowed(operation: Operation, ranges: Ranges) -> Ranges
     requires near { AreNear ranges }
@@ -278,6 +285,9 @@ pub fn narrowed(operation: Operation, ranges: Ranges) -> Ranges
     ensures { (u w v : ℤ) → AreIn ranges u w v → IsResult operation (u ∷ w ∷ []) v
         → AreIn result u w v }
 {
+    if are_natural(ranges) {
+        return on_sides(operation, ranges, false, false);
+    }
     if is_loose(operation, ranges) {
         return ranges;
     }
