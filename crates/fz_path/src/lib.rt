@@ -7,6 +7,7 @@
 #![tactic(auto)]
 
 mod beginning;
+mod due;
 mod expand;
 pub mod laws;
 mod near;
@@ -17,6 +18,7 @@ pub mod start;
 pub mod step;
 pub mod task;
 
+pub use due::{is_report_due, pays_report};
 pub use fz_trail::Steps;
 pub use path::Path;
 pub use start::Start;

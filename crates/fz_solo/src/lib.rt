@@ -5,4 +5,4 @@ pub mod solo;
 pub mod stretches;
 
 pub use solo::{finish, take_up};
-pub use stretches::{Halt, Pause, is_report_due, stretch};
+pub use stretches::{Halt, Pause, stretch};

@@ -6,17 +6,9 @@ ghost use Rattle.fz_solo.specs.Walks.{weight_held};
 ghost use Rattle.fz_solo.specs.Stretches.{AlwaysKept, Pauses};
 
 use fz_io::outside::Sink;
-use fz_path::{Path, Step};
+use fz_path::{Path, Step, is_report_due, pays_report};
 use fz_search_space::SearchSpace;
 use std::alloc::AllocError;
-
-/// How many solutions are found, at least, until they are reported; and how many edges may be compared for a report for each number of
-/// theirs, and for each time that they have waited.
-const BATCH: u64 = 256;
-
-const EDGES_A_NUMBER: u64 = 32;
-
-const EDGES_A_WAIT: u64 = 20_000;
 
 /// When a stretch ends while something is left: at whatever is found; where as many are found as are wanted or as pay for a report;
 /// or never.
@@ -96,22 +88,6 @@ fn is_batch<S: SearchSpace>(path: &Path<S>, wanted: Option<u64>) -> bool {
         return true;
     }
     is_report_due(path, 0)
-}
-
-/// Whether what is found is to be reported: it waited, or it is as much as pays for a report.
-pub fn is_report_due<S: SearchSpace>(path: &Path<S>, waited: u64) -> bool {
-    (0 < waited || BATCH <= path.found_count()) && pays_report(path, waited)
-}
-
-/// Whether something is found, and the path has no more edges than its numbers pay for, and so many times that they waited.
-fn pays_report<S: SearchSpace>(path: &Path<S>, waited: u64) -> bool {
-    let numbers = path
-        .found_count()
-        .saturating_mul(path.model().variables().len() as u64);
-    let edges = numbers
-        .saturating_mul(EDGES_A_NUMBER)
-        .saturating_add(waited.saturating_mul(EDGES_A_WAIT));
-    path.found_count() > 0 && path.depth() <= edges
 }
 
 /// Why the stretch ends where the sink is to hand on: what is found is to be told, too, if that pays.
