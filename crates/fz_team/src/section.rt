@@ -40,10 +40,7 @@ fn make_room<S: SearchSpace>(book: &mut Book, path: &Path<S>) -> Result<(), Allo
     ensures given { OnOk result (1 ≤ book.new.given_room) }
     ensures book { book.new.book ≡ book.old.book }
 {
-    let Some(found) = path.found_count().checked_add(1) else {
-        return Err(AllocError);
-    };
-    book.make_room(found, 1)
+    book.make_room(path.found_count() + 1, 1)
 }
 
 /// The book takes an account for which it has room. One that it doesn't take is dropped: what it is of stays open.

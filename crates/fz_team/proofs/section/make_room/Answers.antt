@@ -1,9 +1,8 @@
-use Rattle.std.proofs.Common.{arith}
-use Rattle.std.proofs.lemmas.Result.{on_ok_weaker}
+use Rattle.std.proofs.Common.{◌≤◌, ◌+◌, OnOk, subst}
 use Rattle.fz_team.proofs.section.make_room.Goals as goal
 
 pub returns-clause-found : goal.returns-clause-found
-returns-clause-found g c = on_ok_weaker c.make_room.result (λ room. omega (arith, room)) c.make_room.ensures.found
+returns-clause-found g c = subst (λ n. OnOk c.make_room.result (n + 1 ≤ c.make_room.new.self.found_room)) c.found_count.ensures.count c.make_room.ensures.found
 
 pub returns-clause-given : goal.returns-clause-given
 returns-clause-given g c = c.make_room.ensures.given
