@@ -261,11 +261,11 @@ fn has_zero(range: Range) -> bool {
     range.low <= 0 && 0 <= range.high
 }
 
-/// Whether sizes tell nothing: of a product where it and both factors may be 0, since each factor can be anything then.
+/// Whether sizes tell nothing: of a product that may be 0, as may a factor. The other can be anything then, and the line bounds that one.
 fn is_loose(operation: Operation, ranges: Ranges) -> bool {
     match operation {
         Operation::Times => {
-            has_zero(ranges.first) && has_zero(ranges.second) && has_zero(ranges.value)
+            has_zero(ranges.value) && (has_zero(ranges.first) || has_zero(ranges.second))
         }
         _ => false,
     }
@@ -285,11 +285,11 @@ pub fn narrowed(operation: Operation, ranges: Ranges) -> Ranges
     ensures { (u w v : ℤ) → AreIn ranges u w v → IsResult operation (u ∷ w ∷ []) v
         → AreIn result u w v }
 {
-    if are_natural(ranges) {
-        return on_sides(operation, ranges, false, false);
-    }
     if is_loose(operation, ranges) {
         return ranges;
+    }
+    if are_natural(ranges) {
+        return on_sides(operation, ranges, false, false);
     }
     let rising = on_sides(operation, ranges, false, false);
     let turned = on_sides(operation, ranges, false, true);
