@@ -261,12 +261,19 @@ fn has_zero(range: Range) -> bool {
     range.low <= 0 && 0 <= range.high
 }
 
-/// Whether sizes tell nothing: of a product that may be 0, as may a factor. The other can be anything then, and the line bounds that one.
-fn is_loose(operation: Operation, ranges: Ranges) -> bool {
+fn is_fixed(range: Range) -> bool {
+    range.low == range.high
+}
+
+/// Whether the line says all: where both operands are fixed, or of a product that may be 0, as may a factor, so that the other can be
+/// anything.
+pub fn is_loose(operation: Operation, ranges: Ranges) -> bool {
+    let (first, second) = (ranges.first, ranges.second);
+    if is_fixed(first) && is_fixed(second) {
+        return true;
+    }
     match operation {
-        Operation::Times => {
-            has_zero(ranges.value) && (has_zero(ranges.first) || has_zero(ranges.second))
-        }
+        Operation::Times => has_zero(ranges.value) && (has_zero(first) || has_zero(second)),
         _ => false,
     }
 }
@@ -285,9 +292,6 @@ pub fn narrowed(operation: Operation, ranges: Ranges) -> Ranges
     ensures { (u w v : ℤ) → AreIn ranges u w v → IsResult operation (u ∷ w ∷ []) v
         → AreIn result u w v }
 {
-    if is_loose(operation, ranges) {
-        return ranges;
-    }
     if are_natural(ranges) {
         return on_sides(operation, ranges, false, false);
     }

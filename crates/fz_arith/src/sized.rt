@@ -12,7 +12,7 @@ ghost use Rattle.fz_arith.specs.Narrowing.{LiesBetween, IsHelped};
 ghost use Rattle.fz_arith.specs.Ranges.{IsIn, IsNear, IsScaling};
 
 use crate::narrow::keep_between;
-use crate::ranges::{Range, Ranges, narrowed};
+use crate::ranges::{Range, Ranges, is_loose, narrowed};
 use fz_prop::terms::{greatest_of, least_of};
 use fz_prop::{Change, Store};
 use fz_spec::term::Term;
@@ -66,6 +66,9 @@ pub fn keep_sized(
         second: range_of(store, y),
         value: range_of(store, value),
     };
+    if is_loose(operation, ranges) {
+        return Ok(Change::Same);
+    }
     let left = narrowed(operation, ranges);
     let bounds = [
         within(x, left.first),
