@@ -1,7 +1,6 @@
 //! Books, and searches of whole books.
 use crate::reading::{
-    GREATEST_OF_THREE, LEAST_OF_THREE, THREE_VALUES, TWO_VALUES, book_of, mode, model_of, one,
-    path_of,
+    GREATEST_OF_THREE, LEAST_OF_THREE, THREE_VALUES, TWO_VALUES, book_of, one, path_of,
 };
 use crate::wanted::{check_book, check_values, take};
 use fz_account::Account;
@@ -81,14 +80,7 @@ fn a_book_of_the_least(rt: HostRuntime) {
 
 /// A book of a text's model, and an idle path that is to search it.
 fn search_of(rt: &impl Abort, alloc: Global, text: &str) -> (Book, Path<Space>) {
-    let model = model_of(rt, alloc, text);
-    let mode = mode(model.goal());
-    let same = model.clone().ok().expect(rt, "memory");
-    let book = Book::begin(alloc, same, mode).ok().expect(rt, "memory");
-    let path = Path::idle(alloc, model, mode, 8, 2)
-        .ok()
-        .expect(rt, "memory");
-    (book, path)
+    (book_of(rt, alloc, text), path_of(rt, alloc, text))
 }
 
 /// A search of three values that stops where so many are recorded, and then goes on with the same path.

@@ -100,7 +100,7 @@ fn a_path_searches_each_value(rt: HostRuntime) {
 /// A text, and what the steps of a search for its rows answer.
 type RowsOf = (&'static str, &'static [Step]);
 
-const ROWS: [RowsOf; 5] = [
+static ROWS: [RowsOf; 5] = [
     (
         ONE_SHOWN,
         &[Step::Expanded, Step::Found, Step::Found, Step::Closed],
