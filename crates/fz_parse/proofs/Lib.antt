@@ -2,4 +2,5 @@ pub mod Follows
 pub mod Takes
 pub mod Lists
 pub mod Depths
+pub mod Putting
 pub mod Verdicts

@@ -43,14 +43,6 @@ pub more_at : {X Y Z : Type 0} (w : Y → Option X) (f : Z → Y) (zs : List Z) 
     → all_of (map w (map f (take (i + 1) zs))) ≡ Some (xs ++ x ∷ [])
 more_at w f zs i d xs x h e k = rw add-one (more w f zs i d xs x h e k)
 
--- the same of an element that is read
-pub all_more : {X Y Z : Type 0} (w : Y → Option X) (f : Z → Y) (zs : List Z) (i : ℕ) (z : Z) (xs : List X) (x : X) → i < length zs → z ≡ get_or zs i z → w (f z) ≡ Some x → all_of (map w (map f (take i zs))) ≡ Some xs
-    → all_of (map w (map f (take (i + 1) zs))) ≡ Some (xs ++ x ∷ [])
-all_more w f zs i z xs x h is e k = more_at w f zs i z xs x h (ap (λ y. w (f y)) (sym is) ∙ e) k
-
-pub all_stop : {X Y Z : Type 0} (w : Y → Option X) (f : Z → Y) (zs : List Z) (i : ℕ) (z : Z) (xs : List X) → i < length zs → z ≡ get_or zs i z → w (f z) ≡ None → all_of (map w (map f (take i zs))) ≡ Some xs → None ≡ all_of (map w (map f zs))
-all_stop w f zs i z xs h is e k = sym (stop w f zs i z xs h (ap (λ y. w (f y)) (sym is) ∙ e) k)
-
 pub all_done : {X Y Z : Type 0} (w : Y → Option X) (f : Z → Y) (zs : List Z) (i : ℕ) (xs : List X) → length zs ≤ i → all_of (map w (map f (take i zs))) ≡ Some xs → all_of (map w (map f zs)) ≡ Some xs
 all_done {X} {Y} {Z} w f zs i xs h k = subst (λ (ys : List Z). all_of (map w (map f ys)) ≡ Some xs) (take_all i zs h) k
 
@@ -66,3 +58,8 @@ all_mapped g w (z ∷ zs) = one g (w z) (map w zs) (map (λ z. option_map g (w z
     one : {X Y : Type 0} (g : X → Y) (o : Option X) (os : List (Option X)) (ps : List (Option Y)) → all_of ps ≡ option_map (map g) (all_of os) → all_of (option_map g o ∷ ps) ≡ option_map (map g) (all_of (o ∷ os))
     one g (Some x) os ps e = ap (option_map (λ ys. g x ∷ ys)) e ∙ mapped g x (all_of os)
     one g None os ps e = refl
+
+-- those so far before those of the elements that are left
+
+abbrev pub with_left : {X : Type 0} → List X → Option (List X) → Option (List X)
+with_left xs left = option_map (λ ys. xs ++ ys) left

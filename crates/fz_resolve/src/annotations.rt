@@ -1,5 +1,5 @@
 //! Annotations of output.
-ghost use Rattle.std.specs.Prelude.{◌≡◌, ◌==◌, ◌&&◌, length, ◌∷◌, [], ◌-◌, ◌^◌, min, IfOk, bytes_eq, map, option_map, option_copied, slice_get};
+ghost use Rattle.std.specs.Prelude.{◌≡◌, ◌==◌, ◌&&◌, length, ◌∷◌, [], ◌-◌, ◌^◌, min, IfOk, MatchOption, bytes_eq, map, option_map, option_copied, slice_get};
 ghost use Rattle.fz_spec.specs.Instance as instance;
 ghost use Rattle.fz_language.specs.Annotations as said;
 ghost use Rattle.fz_language.specs.Numerals.{all_of};
@@ -8,7 +8,9 @@ ghost use Rattle.fz_language.specs.Trees as lang;
 ghost use Rattle.fz_syntax.specs.Trees as trees;
 ghost use Rattle.fz_language.specs.Annotations.{shape_among};
 
-use fz_syntax::{Annotation, Argument, Basic, Number, SetLiteral};
+use fz_syntax::{
+    Annotation, Argument, Basic, Nested, Number, SetLiteral, first_at, first_of, only_of,
+};
 use std::alloc::{AllocError, Global};
 
 pub const OUTPUT_VAR: &[u8] = b"output_var";
@@ -39,7 +41,7 @@ fn is_named(annotation: &Annotation<'_>, name: &[u8]) -> bool
 
 /// The arguments of an annotation, none where there are no parentheses.
 pub fn arguments_of<'i, 'a>(annotation: &'i Annotation<'a>) -> &'i [Argument<'a>]
-    ensures { map trees.argument_of result.now
+    ensures { trees.trees_of result.now
         ≡ said.arguments_of (trees.annotation_of annotation.now) }
 {
     match &annotation.arguments {
@@ -70,7 +72,7 @@ fn is_plain(annotation: &Annotation<'_>, name: &[u8]) -> bool
         result ≡ (bytes_eq name.now tree.name.bytes && (length (said.arguments_of tree) == 0)) }
 {
     if is_named(annotation, name) {
-        arguments_of(annotation).is_empty()
+        first_of(arguments_of(annotation)).is_none()
     } else {
         false
     }
@@ -98,34 +100,31 @@ pub fn output_array_at(annotations: &[Annotation<'_>]) -> Option<u32>
     }
 }
 
-/// The elements of an argument that is a list.
-fn elements_of<'i, 'a>(argument: &'i Argument<'a>) -> &'i [Argument<'a>]
-    ensures { map trees.argument_of result.now
-        ≡ said.bracketed (trees.argument_of argument.now ∷ []) }
+/// The elements of an argument, if it is a list.
+fn elements_of<'i, 'a>(argument: Nested<'i, 'a>) -> Option<&'i [Argument<'a>]>
+    ensures { let elements = said.bracketed (trees.nested_of argument.entry ∷ []) in
+        MatchOption result (elements ≡ []) (λ list. elements ≡ trees.trees_of list.now) }
 {
     match argument {
-        Argument::Brackets { arguments, .. } => arguments,
-        _ => &[],
+        Nested::Brackets { arguments, .. } => Some(arguments),
+        _ => None,
     }
 }
 
-/// The elements of the one list that is the argument.
-fn bracketed<'i, 'a>(arguments: &'i [Argument<'a>]) -> &'i [Argument<'a>]
-    ensures { map trees.argument_of result.now
-        ≡ said.bracketed (map trees.argument_of arguments.now) }
+/// The elements of the one argument, if it is a list.
+fn bracketed<'i, 'a>(arguments: &'i [Argument<'a>]) -> Option<&'i [Argument<'a>]>
+    ensures { let elements = said.bracketed (trees.trees_of arguments.now) in
+        MatchOption result (elements ≡ []) (λ list. elements ≡ trees.trees_of list.now) }
 {
-    match arguments {
-        [only] => elements_of(only),
-        _ => &[],
-    }
+    elements_of(only_of(arguments)?)
 }
 
 /// The index range that an argument is.
-fn range_of(argument: &Argument<'_>) -> Option<(i32, i32)>
-    ensures { result ≡ said.range_of (trees.argument_of argument.now) }
+fn range_of(argument: Nested<'_, '_>) -> Option<(i32, i32)>
+    ensures { result ≡ said.range_of (trees.nested_of argument.entry) }
 {
     match argument {
-        Argument::Simple(Basic::Literal(set)) => range_in(set),
+        Nested::Simple(Basic::Literal(set)) => range_in(set),
         _ => None,
     }
 }
@@ -144,12 +143,12 @@ fn range_in(set: &SetLiteral) -> Option<(i32, i32)>
 }
 
 /// The place of an argument that is an index range.
-fn range_at(argument: &Argument<'_>) -> Option<u32>
-    ensures { let tree = trees.argument_of argument.now in
+fn range_at(argument: Nested<'_, '_>) -> Option<u32>
+    ensures { let tree = trees.nested_of argument.entry in
         result ≡ option_map (λ r. said.place_of tree) (said.range_of tree) }
 {
     match argument {
-        Argument::Simple(Basic::Literal(set)) => range_in_at(set),
+        Nested::Simple(Basic::Literal(set)) => range_in_at(set),
         _ => None,
     }
 }
@@ -174,14 +173,16 @@ fn ranges_of(
     arguments: &[Argument<'_>],
 ) -> Result<Option<Vec<(i32, i32)>>, AllocError>
     ensures { IfOk result (λ found. option_map (λ ranges. ranges.items) found
-        ≡ all_of (map said.range_of (map trees.argument_of arguments.now))) }
+        ≡ all_of (map said.range_of (trees.trees_of arguments.now))) }
 {
     let mut ranges = Vec::new(alloc);
-    for argument in arguments {
+    let mut place = 0;
+    'places: while let Some((argument, next)) = first_at(arguments, place) {
         match range_of(argument) {
             Some(range) => ranges.push(range)?,
             None => return Ok(None),
         }
+        place = next;
     }
     Ok(Some(ranges))
 }
@@ -194,11 +195,10 @@ pub fn shape_of(
     ensures { IfOk result (λ shape. option_map (λ ranges. ranges.items) shape
         ≡ said.shape_in (trees.annotation_of annotation.now)) }
 {
-    let elements = bracketed(arguments_of(annotation));
-    if elements.is_empty() {
-        return Ok(None);
+    match bracketed(arguments_of(annotation)) {
+        Some(elements) if first_of(elements).is_some() => ranges_of(alloc, elements),
+        _ => Ok(None),
     }
-    ranges_of(alloc, elements)
 }
 
 /// The index ranges of the annotation `output_array` among annotations, if it has its form.
@@ -215,14 +215,23 @@ pub fn output_shape(
     }
 }
 
+/// The argument behind so many others.
+fn argument_at<'i, 'a>(arguments: &'i [Argument<'a>], place: u32) -> Option<Nested<'i, 'a>>
+    ensures { option_map trees.nested_of result ≡ slice_get (trees.trees_of arguments.now) place }
+{
+    let (first, rest) = first_of(arguments)?;
+    if place == 0 {
+        Some(first)
+    } else {
+        argument_at(rest, place - 1)
+    }
+}
+
 /// The place of a seventh index range of an annotation.
 fn seventh_at(annotation: &Annotation<'_>) -> Option<u32>
     ensures { result ≡ slice_get (said.seventh (trees.annotation_of annotation.now)) 0 }
 {
-    match bracketed(arguments_of(annotation)).get(6) {
-        Some(argument) => range_at(argument),
-        None => None,
-    }
+    range_at(argument_at(bracketed(arguments_of(annotation))?, 6)?)
 }
 
 /// The place of a seventh index range of the annotation `output_array`.

@@ -1,17 +1,17 @@
 -- Search annotations, as the code reads them.
-use Rattle.std.specs.Prelude.{ℕ, List, [], ◌∷◌, Option, Some, None, Bool, false, cond, not, ◌||◌, map, bytes_eq, codes, flat_map}
+use Rattle.std.specs.Prelude.{ℕ, List, [], ◌∷◌, Option, Some, None, Bool, false, cond, not, ◌||◌, bytes_eq, codes, flat_map}
 use Rattle.fz_spec.specs.Instance.{SearchPart}
 use Rattle.fz_language.specs.Trees.{Call}
 use Rattle.fz_language.specs.Trees as lang
 use Rattle.fz_language.specs.Entries.{Environment}
 use Rattle.fz_language.specs.Search.{parts_in, part_of, as_argument}
 use Rattle.fz_syntax.specs.declared.annotation.Argument.{Argument}
-use Rattle.fz_syntax.specs.Trees.{argument_of, joined}
+use Rattle.fz_syntax.specs.Trees.{arguments_of}
 use Rattle.fz_solve.specs.declared.search.Words.{Words}
 
 -- the parts of a call of this name and these arguments
 abbrev pub parts_of_call : Environment → lang.Name → List Argument → List SearchPart
-parts_of_call env name arguments = parts_in env (Call name (joined (map argument_of arguments)))
+parts_of_call env name arguments = parts_in env (Call name (arguments_of arguments))
 
 -- the one, or none
 abbrev pub option_list : Option ℕ → List ℕ

@@ -1,5 +1,5 @@
 //! Search annotations of the solve item. One that isn't of their form is ignored.
-ghost use Rattle.std.specs.Prelude.{◌≡◌, ◌++◌, ◌∷◌, [], IfOk, OnOk, List, Some, None, map, flat_map, bytes_eq, option_map, codes};
+ghost use Rattle.std.specs.Prelude.{◌≡◌, ◌↔◌, ◌≤◌, ◌++◌, ◌∷◌, [], IfOk, OnOk, IsTrue, Some, None, length, map, flat_map, bytes_eq, option_map, codes};
 ghost use Rattle.fz_language.specs.Numerals.{all_of};
 ghost use Rattle.fz_language.specs.Search as searches;
 ghost use Rattle.fz_language.specs.Trees as lang;
@@ -10,9 +10,8 @@ ghost use Rattle.fz_solve.specs.Searches.{parts_of_call, option_list, word_of, p
 use fz_model::{SearchPart, Term};
 use fz_resolve::{Entry, Names};
 use fz_spec::search::{Pick, Value};
-use fz_syntax::{Annotation, Argument, Basic, Name};
+use fz_syntax::{Annotation, Argument, Basic, Name, Nested, first_at, first_of, only_of};
 use std::alloc::{AllocError, Global};
-use std::slice;
 
 /// Which of the search words stood before.
 #[derive(Clone, Copy)]
@@ -130,23 +129,37 @@ fn push_call<'a>(
     if !is_seq_search(name.bytes) {
         return Ok(());
     }
-    if arguments.len() != 1 {
-        return Ok(());
+    match only_of(arguments) {
+        Some(list) => push_sequence(alloc, names, list, parts),
+        None => Ok(()),
     }
-    match &arguments[0] {
-        Argument::Brackets {
+}
+
+/// Adds the parts of the members of a list, where the argument of a sequence is one.
+#[cycle(calls)]
+fn push_sequence<'a>(
+    alloc: Global,
+    names: &Names<'a>,
+    list: Nested<'_, 'a>,
+    parts: &mut Vec<SearchPart>,
+) -> Result<(), AllocError>
+    ensures { let arguments = lang.More (trees.nested_of list.entry) lang.Nil in
+        OnOk result (parts.new.items ≡ parts.old.items
+        ++ searches.parts_of_list (environment_of names.now) arguments) }
+{
+    match list {
+        Nested::Brackets {
             arguments: members,
             ..
         } => {
-            for member in members {
+            let mut place = 0;
+            'places: while let Some((member, next)) = first_at(members, place) {
                 push_member_call(alloc, names, member, parts)?;
+                place = next;
             }
             Ok(())
         }
-        Argument::Simple(_) => Ok(()),
-        Argument::Text { .. } => Ok(()),
-        Argument::Unary { .. } => Ok(()),
-        Argument::Call { .. } => Ok(()),
+        _ => Ok(()),
     }
 }
 
@@ -155,38 +168,18 @@ fn push_call<'a>(
 fn push_member_call<'a>(
     alloc: Global,
     names: &Names<'a>,
-    member: &Argument<'a>,
+    member: Nested<'_, 'a>,
     parts: &mut Vec<SearchPart>,
 ) -> Result<(), AllocError>
     ensures { OnOk result (parts.new.items ≡ parts.old.items
-        ++ searches.parts_in (environment_of names.now) (trees.argument_of member.now)) }
+        ++ searches.parts_in (environment_of names.now) (trees.nested_of member.entry)) }
 {
     match member {
-        Argument::Unary {
-            at,
-            bytes,
-            argument,
-        } => {
-            let name = Name {
-                bytes: *bytes,
-                at: *at,
-            };
-            push_call(alloc, names, name, slice::from_ref(&**argument), parts)?;
-            Ok(())
-        }
-        Argument::Call {
-            at,
-            bytes,
-            arguments,
-        } => {
-            let name = Name {
-                bytes: *bytes,
-                at: *at,
-            };
+        Nested::Call { name, arguments } => {
             push_call(alloc, names, name, arguments, parts)?;
             Ok(())
         }
-        Argument::Simple(_) | Argument::Text { .. } | Argument::Brackets { .. } => Ok(()),
+        _ => Ok(()),
     }
 }
 
@@ -210,28 +203,40 @@ fn push_part<'a>(
     parts: &mut Vec<SearchPart>,
 ) -> Result<(), AllocError>
     ensures { OnOk result (parts.new.items ≡ parts.old.items
-        ++ searches.part_in (environment_of names.now) (map trees.argument_of arguments.now)) }
+        ++ searches.part_in (environment_of names.now) (trees.trees_of arguments.now)) }
 {
-    if arguments.len() != 3 && arguments.len() != 4 {
+    let Some((variables, rest)) = first_of(arguments) else {
+        return Ok(());
+    };
+    let Some((pick, rest)) = first_of(rest) else {
+        return Ok(());
+    };
+    let Some((value, rest)) = first_of(rest) else {
+        return Ok(());
+    };
+    if !is_one_at_most(rest) {
         return Ok(());
     }
-    push_words(
-        alloc,
-        names,
-        &arguments[0],
-        named(&arguments[1]),
-        named(&arguments[2]),
-        parts,
-    )?;
+    push_words(alloc, names, variables, named(pick), named(value), parts)?;
     Ok(())
 }
 
+/// Whether there are no two.
+fn is_one_at_most(arguments: &[Argument<'_>]) -> bool
+    ensures { IsTrue result ↔ (length (trees.trees_of arguments.now) ≤ 1) }
+{
+    match first_of(arguments) {
+        Some((_, rest)) => first_of(rest).is_none(),
+        None => true,
+    }
+}
+
 /// The name that an argument is.
-fn named<'a>(argument: &Argument<'a>) -> Option<Name<'a>>
-    ensures { option_map trees.name_of result ≡ word_of (trees.argument_of argument.now) }
+fn named<'a>(argument: Nested<'_, 'a>) -> Option<Name<'a>>
+    ensures { option_map trees.name_of result ≡ word_of (trees.nested_of argument.entry) }
 {
     match argument {
-        Argument::Simple(Basic::Named { at, bytes }) => Some(Name {
+        Nested::Simple(Basic::Named { at, bytes }) => Some(Name {
             bytes: *bytes,
             at: *at,
         }),
@@ -243,13 +248,13 @@ fn named<'a>(argument: &Argument<'a>) -> Option<Name<'a>>
 fn push_words<'a>(
     alloc: Global,
     names: &Names<'a>,
-    variables: &Argument<'a>,
+    variables: Nested<'_, 'a>,
     pick: Option<Name<'a>>,
     value: Option<Name<'a>>,
     parts: &mut Vec<SearchPart>,
 ) -> Result<(), AllocError>
     ensures { OnOk result (parts.new.items ≡ parts.old.items
-        ++ part_of_words (environment_of names.now) (trees.argument_of variables.now)
+        ++ part_of_words (environment_of names.now) (trees.nested_of variables.entry)
         (option_map trees.name_of pick.entry) (option_map trees.name_of value.entry)) }
 {
     match (pick, value) {
@@ -262,13 +267,13 @@ fn push_words<'a>(
 fn push_over<'a>(
     alloc: Global,
     names: &Names<'a>,
-    variables: &Argument<'a>,
+    variables: Nested<'_, 'a>,
     pick: Name<'a>,
     value: Name<'a>,
     parts: &mut Vec<SearchPart>,
 ) -> Result<(), AllocError>
     ensures { OnOk result (parts.new.items ≡ parts.old.items
-        ++ searches.part_of (environment_of names.now) (trees.argument_of variables.now)
+        ++ searches.part_of (environment_of names.now) (trees.nested_of variables.entry)
         (trees.name_of pick.entry) (trees.name_of value.entry)) }
 {
     match variables_in(alloc, names, variables)? {
@@ -284,14 +289,14 @@ fn push_over<'a>(
 fn variables_in<'a>(
     alloc: Global,
     names: &Names<'a>,
-    argument: &Argument<'a>,
+    argument: Nested<'_, 'a>,
 ) -> Result<Option<Vec<u32>>, AllocError>
     ensures { IfOk result (λ found. option_map (λ variables. variables.items) found
-        ≡ searches.variables_in (environment_of names.now) (trees.argument_of argument.now)) }
+        ≡ searches.variables_in (environment_of names.now) (trees.nested_of argument.entry)) }
 {
     match argument {
-        Argument::Brackets { arguments, .. } => Ok(members(alloc, names, arguments)?),
-        Argument::Simple(Basic::Named { at, bytes }) => match names.entry(Name {
+        Nested::Brackets { arguments, .. } => Ok(members(alloc, names, arguments)?),
+        Nested::Simple(Basic::Named { at, bytes }) => match names.entry(Name {
             bytes: *bytes,
             at: *at,
         }) {
@@ -332,14 +337,16 @@ fn members<'a>(
 ) -> Result<Option<Vec<u32>>, AllocError>
     ensures { IfOk result (λ found. option_map (λ variables. variables.items) found
         ≡ option_map searches.joined (all_of (map (searches.member (environment_of names.now))
-        (map trees.argument_of arguments.now)))) }
+        (trees.trees_of arguments.now)))) }
 {
     let mut variables = Vec::new(alloc);
-    for argument in arguments {
+    let mut place = 0;
+    'places: while let Some((argument, next)) = first_at(arguments, place) {
         match member(names, argument) {
             Some(variable) => push_member(&mut variables, variable)?,
             None => return Ok(None),
         }
+        place = next;
     }
     Ok(Some(variables))
 }
@@ -355,13 +362,13 @@ fn push_member(variables: &mut Vec<u32>, variable: Option<u32>) -> Result<(), Al
 }
 
 /// The variable that a member of a list is, if it is one; nothing where the list isn't of the form.
-fn member<'a>(names: &Names<'a>, argument: &Argument<'a>) -> Option<Option<u32>>
+fn member<'a>(names: &Names<'a>, argument: Nested<'_, 'a>) -> Option<Option<u32>>
     ensures { option_map (λ v. option_list v) result
-        ≡ searches.member (environment_of names.now) (trees.argument_of argument.now) }
+        ≡ searches.member (environment_of names.now) (trees.nested_of argument.entry) }
 {
     match argument {
-        Argument::Simple(Basic::Truth { .. }) | Argument::Simple(Basic::Numeral(_)) => Some(None),
-        Argument::Simple(Basic::Named { at, bytes }) => match names.entry(Name {
+        Nested::Simple(Basic::Truth { .. }) | Nested::Simple(Basic::Numeral(_)) => Some(None),
+        Nested::Simple(Basic::Named { at, bytes }) => match names.entry(Name {
             bytes: *bytes,
             at: *at,
         }) {

@@ -1,5 +1,5 @@
 -- Which tree of the definitions each tree of the code is.
-use Rattle.std.specs.Prelude.{List, [], ◌∷◌, map, option_to_list, Some, None}
+use Rattle.std.specs.Prelude.{ℕ, List, [], ◌∷◌, map, take, drop, length, option_to_list, Some, None}
 use Rattle.fz_language.specs.Trees as trees
 use Rattle.fz_language.specs.Trees.{Nil, More}
 use Rattle.fz_syntax.specs.declared.leaf.Name.{Name}
@@ -19,8 +19,10 @@ use Rattle.fz_syntax.specs.declared.value_type.Plain.{Plain}
 use Rattle.fz_syntax.specs.declared.value_type.Plain.TheVariants as plain
 use Rattle.fz_syntax.specs.declared.value_type.ValueType.{ValueType}
 use Rattle.fz_syntax.specs.declared.value_type.ValueType.TheVariants as value_type
-use Rattle.fz_syntax.specs.declared.annotation.Argument.{Argument, fold-Argument}
-use Rattle.fz_syntax.specs.declared.annotation.Argument.TheOpen.{Argument-F}
+use Rattle.fz_syntax.specs.declared.annotation.Argument.{Argument}
+use Rattle.fz_syntax.specs.declared.annotation.Argument.TheVariants as argument
+use Rattle.fz_syntax.specs.declared.annotation.Nested.{Nested}
+use Rattle.fz_syntax.specs.declared.annotation.Nested.TheVariants as nested
 use Rattle.fz_syntax.specs.declared.annotation.Annotation.{Annotation}
 use Rattle.fz_syntax.specs.declared.item.Index.{Index}
 use Rattle.fz_syntax.specs.declared.item.Index.TheVariants as index
@@ -89,19 +91,48 @@ abbrev pub joined : List trees.Argument → trees.Arguments
 joined [] = Nil
 joined (a ∷ rest) = More a (joined rest)
 
--- one layer of an argument, with each argument inside already seen as its tree
-abbrev pub layer : Argument-F trees.Argument → trees.Argument
-layer (Argument-F.Simple basic) = trees.Simple (basic_of basic)
-layer (Argument-F.Text at) = trees.Text at
-layer (Argument-F.Unary at bytes argument) = trees.Call (record { bytes = bytes.now; at = at }) (joined (argument.value ∷ []))
-layer (Argument-F.Call at bytes arguments) = trees.Call (record { bytes = bytes.now; at = at }) (joined arguments.value.items)
-layer (Argument-F.Brackets at arguments) = trees.Brackets at (joined arguments.items)
+-- how many arguments it has
+abbrev pub count_of : Argument → ℕ
+count_of (argument.Simple basic) = 0
+count_of (argument.Text at) = 0
+count_of (argument.Call at bytes count) = count
+count_of (argument.Brackets at count) = count
 
-abbrev pub argument_of : Argument → trees.Argument
-argument_of = fold-Argument trees.Argument layer
+-- an argument that has these
+abbrev pub with_inside : Argument → List trees.Argument → trees.Argument
+with_inside (argument.Simple basic) inside = trees.Simple (basic_of basic)
+with_inside (argument.Text at) inside = trees.Text at
+with_inside (argument.Call at bytes count) inside = trees.Call (record { bytes = bytes.now; at = at }) (joined inside)
+with_inside (argument.Brackets at count) inside = trees.Brackets at (joined inside)
+
+-- an argument before others, of which so many as it has stand inside it
+abbrev pub put : Argument → List trees.Argument → List trees.Argument
+put a behind = with_inside a (take (count_of a) behind) ∷ drop (count_of a) behind
+
+-- arguments in one list, before others
+abbrev pub before : List Argument → List trees.Argument → List trees.Argument
+before [] behind = behind
+before (a ∷ rest) behind = put a (before rest behind)
+
+abbrev pub trees_of : List Argument → List trees.Argument
+trees_of arguments = before arguments []
 
 abbrev pub arguments_of : List Argument → trees.Arguments
-arguments_of arguments = joined (map argument_of arguments)
+arguments_of arguments = joined (trees_of arguments)
+
+-- one with those inside it
+abbrev pub nested_of : Nested → trees.Argument
+nested_of (nested.Simple basic) = trees.Simple (basic_of basic.now)
+nested_of (nested.Text at) = trees.Text at
+nested_of (nested.Call name arguments) = trees.Call (name_of name) (arguments_of arguments.now)
+nested_of (nested.Brackets at arguments) = trees.Brackets at (arguments_of arguments.now)
+
+-- how many stand inside it, those inside these too
+abbrev pub inside : Nested → ℕ
+inside (nested.Simple basic) = 0
+inside (nested.Text at) = 0
+inside (nested.Call name arguments) = length arguments.now
+inside (nested.Brackets at arguments) = length arguments.now
 
 abbrev pub annotation_of : Annotation → trees.Annotation
 annotation_of a = record { name = name_of a.name; arguments = elim a.arguments [ Some arguments ↦ Some (arguments_of arguments.items) | None ↦ None ] }

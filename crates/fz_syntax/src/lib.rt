@@ -12,7 +12,7 @@ pub mod leaf;
 pub mod program;
 pub mod value_type;
 
-pub use annotation::{Annotation, Argument};
+pub use annotation::{Annotation, Argument, Nested, first_at, first_of, only_of};
 pub use expression::{Basic, Elements, Expression, ListLiteral, Number, SetLiteral};
 pub use item::{
     ArrayItem, ConstraintItem, Index, Item, ParameterItem, PredicateItem, PredicateParameter,

@@ -1,9 +1,16 @@
-use Rattle.std.proofs.Common.{◌≡◌, take, map, Some}
+use Rattle.std.proofs.Common.{◌≡◌, ◌≤◌, ◌-◌, length, map, drop}
 use Rattle.fz_language.specs.Numerals.{all_of}
 use Rattle.fz_language.specs.Annotations.{range_of}
-use Rattle.fz_syntax.specs.Trees.{argument_of}
+use Rattle.fz_syntax.specs.Trees.{trees_of}
+use Rattle.fz_resolve.proofs.AllOf.{with_left}
 use Rattle.fz_resolve.proofs.annotations.ranges_of.Given as goal
 
--- those so far
-abbrev pub invariant-loop-argument : goal.invariant-loop-argument
-invariant-loop-argument l = all_of (map range_of (map argument_of (take l.argument-index l.arguments))) ≡ Some l.ranges.items
+-- those so far before those that are left
+abbrev pub invariant-places : goal.invariant-places
+invariant-places l = record {
+  within : l.place ≤ length l.arguments;
+  parted : with_left l.ranges.items (all_of (map range_of (trees_of (drop l.place l.arguments)))) ≡ all_of (map range_of (trees_of l.arguments));
+}
+
+abbrev pub decreases-places : goal.decreases-places
+decreases-places l = length l.arguments - l.place
