@@ -10,3 +10,4 @@ pub mod Grown
 pub mod Reifying
 pub mod Numbers
 pub mod Keeping
+pub mod Partnering

@@ -3,3 +3,4 @@ pub mod Stores
 pub mod Answers
 pub mod Outcomes
 pub mod Truths
+pub mod Matching

@@ -15,7 +15,8 @@ use Rattle.fz_prop.specs.Outcomes.{rested_by}
 use Rattle.fz_prop.specs.Stores.{Stored, Shrinks, IsTermOf, IsTermChange}
 use Rattle.fz_prop.proofs.Filled.{narrower_ranges, still_only}
 use Rattle.fz_prop.proofs.TermChanges.{term_within, narrower_term, only_in, within_kept, kept_term, none_kept, falls_of, same_store}
-use Rattle.fz_table.specs.Partners.{IsPairOf, AreMatching, AreMatchedBy}
+use Rattle.fz_prop.specs.Matching.{IsPairOf, AreMatching}
+use Rattle.fz_table.specs.Partners.{AreMatchedBy}
 
 -- ---- changes of terms
 

@@ -9,7 +9,6 @@ pub mod Windowed
 pub mod Packing
 pub mod LeftRows
 pub mod Keeping
-pub mod Partnering
 pub mod Coupling
 pub mod TwoColumns
 pub mod PairWords

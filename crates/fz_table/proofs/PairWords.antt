@@ -8,7 +8,8 @@ use Rattle.fz_bits.specs.Words.{HasBit, AreOnes}
 use Rattle.fz_bits.specs.Windows.{IsBit}
 use Rattle.fz_bits.proofs.Windows.{none_in}
 use Rattle.fz_table.specs.declared.pairs.Pairs.{Pairs}
-use Rattle.fz_table.specs.Partners.{ArePartners, HasRoom, ArePairsOf}
+use Rattle.fz_prop.specs.Matching.{HasRoom}
+use Rattle.fz_table.specs.Partners.{ArePartners, ArePairsOf}
 
 -- the word of a number has its partners
 pub partners_word : (pairs : Pairs) (number : ℤ) (place word : ℕ) → place < 64 → number ≡ pairs.first +ℤ pos place → word ≡ get_or pairs.words.items place 0

@@ -18,7 +18,8 @@ use Rattle.fz_table.specs.declared.keep_pairs.Left.{Left}
 use Rattle.fz_table.specs.declared.matching.Matches.{Matches}
 use Rattle.fz_table.specs.declared.pairs.Pairs.{Pairs}
 use Rattle.fz_table.specs.Lefts.{AreLeftOf}
-use Rattle.fz_table.specs.Partners.{IsRowOfTwo, ArePartners, ArePairsOf, IsPairOf, AreMatching, AreMatchedBy}
+use Rattle.fz_prop.specs.Matching.{IsPairOf, AreMatching}
+use Rattle.fz_table.specs.Partners.{IsRowOfTwo, ArePartners, ArePairsOf, AreMatchedBy}
 use Rattle.fz_table.specs.Rows.{IsRowAt}
 use Rattle.fz_table.proofs.Slices.{part_get, part_inside, part_length}
 use Rattle.fz_table.proofs.Coupling.{MatchLeft, always, for_good, some_number}

@@ -1,9 +1,10 @@
 -- Tables of two columns: which numbers are partners, and what is left of two terms where each number has a partner.
-use Rattle.std.specs.Prelude.{◌≡◌, ◌↔◌, ◌<◌, ◌≤ℤ◌, ◌+ℤ◌, ℕ, ℤ, pos, List, slice_index}
-use Rattle.fz_sets.specs.Sets.{IsInSet, LEAST, GREATEST}
+use Rattle.std.specs.Prelude.{◌≡◌, ◌↔◌, ◌<◌, ◌+ℤ◌, ℕ, ℤ, pos, List, slice_index}
+use Rattle.fz_sets.specs.Sets.{IsInSet}
 use Rattle.fz_bits.specs.Windows.{IsBit}
 use Rattle.fz_spec.specs.declared.term.Term.{Term}
 use Rattle.fz_strength.specs.Domains.{term_set}
+use Rattle.fz_prop.specs.Matching.{HasRoom}
 use Rattle.fz_table.specs.declared.pairs.Pairs.{Pairs}
 use Rattle.fz_table.specs.Supports.{IsNumberAt}
 
@@ -15,27 +16,12 @@ IsRowOfTwo table n m = (i : ℕ) × IsNumberAt table 2 0 i n × IsNumberAt table
 abbrev pub ArePartners : Pairs → ℤ → ℤ → Type 0
 ArePartners pairs n m = (k : ℕ) × (k < 64) × (n ≡ pairs.first +ℤ pos k) × IsBit pairs.base (slice_index pairs.words.items k) m
 
--- the 64 numbers from a base on lie within the limits
-abbrev pub HasRoom : ℤ → Type 0
-HasRoom base = (LEAST ≤ℤ base) × ((base +ℤ pos 63) ≤ℤ GREATEST)
-
 pub record ArePairsOf (table : List ℤ) (pairs : Pairs) : Type 0 where
   pub partners : (n m : ℤ) → ArePartners pairs n m ↔ IsRowOfTwo table n m
   pub firsts : HasRoom pairs.first
   pub seconds : HasRoom pairs.base
 
 -- ---- numbers with a partner
-
--- a number with one property and its partner with another
-pub record IsPairOf (R : ℤ → ℤ → Type 0) (D E : ℤ → Type 0) (n m : ℤ) : Type 0 where
-  pub partners : R n m
-  pub first : D n
-  pub second : E m
-
--- the first numbers of all such pairs, and the second ones
-pub record AreMatching (R : ℤ → ℤ → Type 0) (D E P Q : ℤ → Type 0) : Type 0 where
-  pub firsts : (n : ℤ) → P n ↔ ((m : ℤ) × IsPairOf R D E n m)
-  pub seconds : (m : ℤ) → Q m ↔ ((n : ℤ) × IsPairOf R D E n m)
 
 -- each number that is left of two terms has a partner that is left of the other
 pub record AreMatchedBy (R : ℤ → ℤ → Type 0) (ds : List (List (ℤ × ℤ))) (x y : Term) : Type 0 where

@@ -1,7 +1,8 @@
 //! The numbers of two windows that have a partner in the other.
 ghost use Rattle.std.specs.Prelude.{◌≡◌, ◌↔◌, ◌≤ℤ◌, ℤ, pos, ◌+ℤ◌};
 ghost use Rattle.fz_bits.specs.Windows.{IsBit};
-ghost use Rattle.fz_table.specs.Partners.{ArePartners, AreMatching};
+ghost use Rattle.fz_prop.specs.Matching.{AreMatching};
+ghost use Rattle.fz_table.specs.Partners.{ArePartners};
 
 use crate::pairs::{Pairs, place_of};
 use fz_bits::Window;

@@ -8,7 +8,7 @@ use Rattle.fz_bits.specs.Windows.{IsBit}
 use Rattle.fz_bits.proofs.Windows.{within_window, none_in}
 use Rattle.fz_bits.proofs.Words.{positive}
 use Rattle.fz_table.specs.Partners.{ArePartners}
-use Rattle.fz_table.proofs.Partnering.{but_all, but_none, but_more, but_nothing, both_bits, either_bits, some_bit, no_bits}
+use Rattle.fz_prop.proofs.Partnering.{but_all, but_none, but_more, but_nothing, both_bits, either_bits, some_bit, no_bits}
 use Rattle.fz_table.proofs.matching.matches_of.Goals as goal
 
 pub numbers-init : goal.numbers-init

@@ -1,7 +1,7 @@
 use Rattle.std.specs.Prelude.{◌≡◌}
 use Rattle.fz_bits.specs.Windows.{IsBit}
 use Rattle.fz_table.specs.Partners.{ArePartners}
-use Rattle.fz_table.proofs.Partnering.{AreMatchingBut}
+use Rattle.fz_prop.proofs.Partnering.{AreMatchingBut}
 use Rattle.fz_table.proofs.matching.matches_of.Given as goal
 
 -- the pairs of the first numbers that are no longer left

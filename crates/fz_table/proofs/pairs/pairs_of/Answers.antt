@@ -5,7 +5,7 @@ use Rattle.std.proofs.lemmas.Option.{slice_get-get_or}
 use Rattle.std.proofs.Math.Facts.{to_z-of_z}
 use mir.Val.{SFits}
 use mir.Syntax.{w32}
-use Rattle.fz_table.specs.Partners.{HasRoom}
+use Rattle.fz_prop.specs.Matching.{HasRoom}
 use Rattle.fz_table.proofs.PairWords.{below_none, below_more, below_all}
 use Rattle.fz_table.proofs.pairs.pairs_of.Goals as goal
 

@@ -8,7 +8,7 @@ use Rattle.std.specs.Int.{w64, trailing_zeros}
 use Rattle.fz_bits.proofs.Words.{first_bit, positive}
 use Rattle.fz_bits.proofs.Windows.{none_in}
 use Rattle.fz_prop.proofs.Grown.{same_or_other}
-use Rattle.fz_table.specs.Partners.{IsPairOf, AreMatching}
+use Rattle.fz_prop.specs.Matching.{IsPairOf, AreMatching}
 
 -- ---- the loop
 
