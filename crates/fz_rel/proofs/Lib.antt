@@ -6,3 +6,4 @@ pub mod Shown
 pub mod Sets
 pub mod Outside
 pub mod ReifiedSets
+pub mod Missing

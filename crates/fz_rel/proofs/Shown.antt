@@ -1,4 +1,4 @@
--- What the ends of two terms show of a relation.
+-- What the ends of two terms show of a relation, and what is true of all their numbers.
 use Rattle.std.proofs.Common.{◌≡◌, List, refl, sym, ap, subst, ◌∙◌, inl, inr, arith, length}
 use Rattle.std.specs.Prelude.{ℤ, pos, ◌≤ℤ◌}
 use Rattle.std.proofs.lemmas.Int.{ints}
@@ -9,18 +9,21 @@ use Rattle.fz_spec.specs.declared.term.Term.{Term}
 use Rattle.fz_spec.specs.Constraints.{term_value}
 use Rattle.fz_strength.specs.declared.relation.Relation.{Relation}
 use Rattle.fz_strength.specs.declared.relation.Relation.TheVariants.{Equal, NotEqual, AtMost, Below}
-use Rattle.fz_strength.specs.Domains.{term_set, AreDomains}
+use Rattle.fz_strength.specs.Domains.{term_set}
 use Rattle.fz_strength.specs.Events.{IsOnly}
 use Rattle.fz_strength.specs.Promises.{IsTruth}
 use Rattle.fz_strength.specs.Relations.{Relates, RestsAs, RestsAgainst, IsShown, IsRefuted}
 use Rattle.fz_strength.proofs.Terms.{in_single}
 use Rattle.fz_prop.specs.Stores.{IsTermOf}
 use Rattle.fz_prop.specs.Truths.{HasRanges, AreSides, TruthWith, LineWith, IsAbout}
-use Rattle.fz_prop.proofs.Filled.{term_ranges, narrower_ranges, one_left}
+use Rattle.fz_prop.proofs.Filled.{narrower_ranges, one_left}
 use Rattle.fz_prop.proofs.Reifying.{shown_about, refuted_about}
 use Rattle.fz_prop.proofs.TermChanges.{term_within, narrower_term}
 use Rattle.fz_rel.specs.Truths.{TruthOf}
+use Rattle.fz_sets.proofs.Numbers.{above_of_not, most_of_not}
+use Rattle.fz_prop.proofs.Numbers.{same_of_not}
 use Rattle.fz_rel.specs.Reified.{sides_of}
+use Rattle.fz_rel.specs.Seen.{AreAll, AreNone}
 
 in_order : (d : List (ℤ × ℤ)) → HasRanges d → least d ≤ℤ greatest d
 in_order d has = (greatest_member d has.some has.ranges).1 (least d) (least_member d has.some has.ranges).0
@@ -88,65 +91,46 @@ shown_true Below d e x y has_d has_e shown in_d in_e =
     let low_y = (least_member e has_e.some has_e.ranges).1 y in_e in
     omega (arith, ints, high_x, low_y, shown)
 
-pub refuted_false : (relation : Relation) (d e : List (ℤ × ℤ)) (x y : ℤ) → HasRanges d → HasRanges e → IsRefuted relation d e → IsInSet d x → IsInSet e y → Relates relation x y → ⊥
-refuted_false Equal d e x y has_d has_e refuted in_d in_e same = shown_true NotEqual d e x y has_d has_e refuted in_d in_e same
-refuted_false NotEqual d e x y has_d has_e refuted in_d in_e apart = apart (shown_true Equal d e x y has_d has_e refuted in_d in_e)
-refuted_false AtMost d e x y has_d has_e refuted in_d in_e most =
-    let below = shown_true Below e d y x has_e has_d refuted in_e in_d in
-    omega (arith, ints, below, most)
-refuted_false Below d e x y has_d has_e refuted in_d in_e below =
-    let most = shown_true AtMost e d y x has_e has_d refuted in_e in_d in
-    omega (arith, ints, below, most)
+-- what is true of all numbers has its line
 
--- what is shown has its line
-pub shown_rests : (relation : Relation) (d e : List (ℤ × ℤ)) → HasRanges d → HasRanges e → IsShown relation d e → RestsAs relation d e
-shown_rests Equal d e has_d has_e shown = let both = all_one d e has_d has_e shown.0 shown.1 in both.0 ∙ sym both.1
-shown_rests NotEqual d e has_d has_e shown = (
-  (λ u only i. shown_true NotEqual d e u u has_d has_e shown (subst (λ (f : List (ℤ × ℤ)). IsInSet f u) (sym only) (in_single u u refl)) i refl),
-  (λ u only i. shown_true NotEqual d e u u has_d has_e shown i (subst (λ (f : List (ℤ × ℤ)). IsInSet f u) (sym only) (in_single u u refl)) refl),
+pub all_rests : (relation : Relation) (d e : List (ℤ × ℤ)) → HasRanges d → HasRanges e → AreAll relation d e → RestsAs relation d e
+all_rests Equal d e has_d has_e all =
+    let low_d = least_member d has_d.some has_d.ranges in
+    let low_e = least_member e has_e.some has_e.ranges in
+    let first = one_left d (least e) has_d (λ u i. all u (least e) i low_e.0) in
+    let second = one_left e (least e) has_e (λ w i. sym (all (least d) w low_d.0 i) ∙ all (least d) (least e) low_d.0 low_e.0) in
+    first ∙ sym second
+all_rests NotEqual d e has_d has_e all = (
+  (λ u only i. all u u (subst (λ (f : List (ℤ × ℤ)). IsInSet f u) (sym only) (in_single u u refl)) i refl),
+  (λ u only i. all u u i (subst (λ (f : List (ℤ × ℤ)). IsInSet f u) (sym only) (in_single u u refl)) refl),
 )
-shown_rests AtMost d e has_d has_e shown =
-    let order_d = in_order d has_d in
-    let order_e = in_order e has_e in (
-      omega (arith, ints, order_d, shown),
-      omega (arith, ints, order_e, shown),
-    )
-shown_rests Below d e has_d has_e shown =
-    let order_d = in_order d has_d in
-    let order_e = in_order e has_e in (
-      omega (arith, ints, order_d, shown),
-      omega (arith, ints, order_e, shown),
-    )
+all_rests AtMost d e has_d has_e all = (
+  all (least d) (least e) (least_member d has_d.some has_d.ranges).0 (least_member e has_e.some has_e.ranges).0,
+  all (greatest d) (greatest e) (greatest_member d has_d.some has_d.ranges).0 (greatest_member e has_e.some has_e.ranges).0,
+)
+all_rests Below d e has_d has_e all = (
+  all (least d) (least e) (least_member d has_d.some has_d.ranges).0 (least_member e has_e.some has_e.ranges).0,
+  all (greatest d) (greatest e) (greatest_member d has_d.some has_d.ranges).0 (greatest_member e has_e.some has_e.ranges).0,
+)
 
-pub refuted_rests : (relation : Relation) (d e : List (ℤ × ℤ)) → HasRanges d → HasRanges e → IsRefuted relation d e → RestsAgainst relation d e
-refuted_rests Equal d e has_d has_e refuted = shown_rests NotEqual d e has_d has_e refuted
-refuted_rests NotEqual d e has_d has_e refuted = shown_rests Equal d e has_d has_e refuted
-refuted_rests AtMost d e has_d has_e refuted = shown_rests Below e d has_e has_d refuted
-refuted_rests Below d e has_d has_e refuted = shown_rests AtMost e d has_e has_d refuted
+pub none_rests : (relation : Relation) (d e : List (ℤ × ℤ)) → HasRanges d → HasRanges e → AreNone relation d e → RestsAgainst relation d e
+none_rests Equal d e has_d has_e none = all_rests NotEqual d e has_d has_e none
+none_rests NotEqual d e has_d has_e none = all_rests Equal d e has_d has_e (λ u w i j. same_of_not u w (none u w i j))
+none_rests AtMost d e has_d has_e none = all_rests Below e d has_e has_d (λ w u j i. above_of_not u w (none u w i j))
+none_rests Below d e has_d has_e none = all_rests AtMost e d has_e has_d (λ w u j i. most_of_not u w (none u w i j))
 
--- and lasts: where domains get narrower, ends move towards each other
+-- what is seen of the relation that is true exactly where this one is false
+pub none_equal : (d e : List (ℤ × ℤ)) → AreAll NotEqual d e → AreNone Equal d e
+none_equal d e all u w i j same = all u w i j same
 
-record IsPartOf (d f : List (ℤ × ℤ)) : Type 0 where
-  low : least d ≤ℤ least f
-  high : greatest f ≤ℤ greatest d
+pub none_apart : (d e : List (ℤ × ℤ)) → AreAll Equal d e → AreNone NotEqual d e
+none_apart d e all u w i j apart = apart (all u w i j)
 
-part_of : (d f : List (ℤ × ℤ)) → HasRanges d → HasRanges f → ((x : ℤ) → IsInSet f x → IsInSet d x) → IsPartOf d f
-part_of d f has_d has_f all = record {
-  low = (least_member d has_d.some has_d.ranges).1 (least f) (all (least f) (least_member f has_f.some has_f.ranges).0);
-  high = (greatest_member d has_d.some has_d.ranges).1 (greatest f) (all (greatest f) (greatest_member f has_f.some has_f.ranges).0);
-}
+pub none_most : (d e : List (ℤ × ℤ)) → AreAll Below e d → AreNone AtMost d e
+none_most d e all u w i j most = let below = all w u j i in omega (arith, ints, below, most)
 
-shown_still : (relation : Relation) (d e f g : List (ℤ × ℤ)) → IsPartOf d f → IsPartOf e g → IsShown relation d e → IsShown relation f g
-shown_still Equal d e f g part_d part_e shown = let first = shown.0 in let second = shown.1 in (omega (arith, ints, part_d, part_e, first), omega (arith, ints, part_d, part_e, second))
-shown_still NotEqual d e f g part_d part_e shown = elim shown [ inl h ↦ inl (omega (arith, ints, part_d, part_e, h)) | inr h ↦ inr (omega (arith, ints, part_d, part_e, h)) ]
-shown_still AtMost d e f g part_d part_e shown = omega (arith, ints, part_d, part_e, shown)
-shown_still Below d e f g part_d part_e shown = omega (arith, ints, part_d, part_e, shown)
-
-refuted_still : (relation : Relation) (d e f g : List (ℤ × ℤ)) → IsPartOf d f → IsPartOf e g → IsRefuted relation d e → IsRefuted relation f g
-refuted_still Equal d e f g part_d part_e refuted = shown_still NotEqual d e f g part_d part_e refuted
-refuted_still NotEqual d e f g part_d part_e refuted = shown_still Equal d e f g part_d part_e refuted
-refuted_still AtMost d e f g part_d part_e refuted = shown_still Below e d g f part_e part_d refuted
-refuted_still Below d e f g part_d part_e refuted = shown_still AtMost e d g f part_e part_d refuted
+pub none_below : (d e : List (ℤ × ℤ)) → AreAll AtMost e d → AreNone Below d e
+none_below d e all u w i j below = let most = all w u j i in omega (arith, ints, below, most)
 
 -- ---- the sides of a relation of two terms
 
@@ -156,31 +140,21 @@ are_sides relation x y ds is_x is_y = record {
   zero = λ es domains narrower line shown. not_against relation (term_set es x) (term_set es y) (narrower_ranges ds es x is_x domains narrower) (narrower_ranges ds es y is_y domains narrower) line shown;
 }
 
--- where the ends show the relation, a reified one is about the number 1 of its Boolean, and where they refute it, about 0
-pub shown_one : (relation : Relation) (x y r : Term) (ds : List (List (ℤ × ℤ))) → IsTermOf (length ds) x → IsTermOf (length ds) y → IsTermOf (length ds) r → AreDomains ds
-    → IsShown relation (term_set ds x) (term_set ds y) → IsAbout r (λ u. u ≡ pos 1) (TruthWith (TruthOf relation x y) r) (LineWith (sides_of relation x y) r) ds
-shown_one relation x y r ds is_x is_y is_r filled shown =
-    let has_x = term_ranges ds x is_x filled in
-    let has_y = term_ranges ds y is_y filled in
+-- where all numbers stand in the relation, a reified one is about the number 1 of its Boolean, and where none do, about 0
+pub all_about : (relation : Relation) (x y r : Term) (ds : List (List (ℤ × ℤ))) → IsTermOf (length ds) x → IsTermOf (length ds) y → IsTermOf (length ds) r
+    → AreAll relation (term_set ds x) (term_set ds y) → IsAbout r (λ u. u ≡ pos 1) (TruthWith (TruthOf relation x y) r) (LineWith (sides_of relation x y) r) ds
+all_about relation x y r ds is_x is_y is_r all =
     shown_about (TruthOf relation x y) (sides_of relation x y) r ds is_r (are_sides relation x y ds is_x is_y)
-    (λ a within. shown_true relation (term_set ds x) (term_set ds y) (term_value a x) (term_value a y) has_x has_y shown (term_within ds a x is_x within) (term_within ds a y is_y within))
+    (λ a within. all (term_value a x) (term_value a y) (term_within ds a x is_x within) (term_within ds a y is_y within))
     (λ es domains narrower.
-    let in_x = narrower_ranges ds es x is_x domains narrower in
-    let in_y = narrower_ranges ds es y is_y domains narrower in
-    shown_rests relation (term_set es x) (term_set es y) in_x in_y
-    (shown_still relation (term_set ds x) (term_set ds y) (term_set es x) (term_set es y) (part_of (term_set ds x) (term_set es x) has_x in_x (narrower_term ds es x narrower))
-    (part_of (term_set ds y) (term_set es y) has_y in_y (narrower_term ds es y narrower)) shown))
+    all_rests relation (term_set es x) (term_set es y) (narrower_ranges ds es x is_x domains narrower) (narrower_ranges ds es y is_y domains narrower)
+    (λ u w i j. all u w (narrower_term ds es x narrower u i) (narrower_term ds es y narrower w j)))
 
-pub refuted_zero : (relation : Relation) (x y r : Term) (ds : List (List (ℤ × ℤ))) → IsTermOf (length ds) x → IsTermOf (length ds) y → IsTermOf (length ds) r → IsTruth ds r → AreDomains ds
-    → IsRefuted relation (term_set ds x) (term_set ds y) → IsAbout r (λ u. u ≡ pos 0) (TruthWith (TruthOf relation x y) r) (LineWith (sides_of relation x y) r) ds
-refuted_zero relation x y r ds is_x is_y is_r truth filled refuted =
-    let has_x = term_ranges ds x is_x filled in
-    let has_y = term_ranges ds y is_y filled in
+pub none_about : (relation : Relation) (x y r : Term) (ds : List (List (ℤ × ℤ))) → IsTermOf (length ds) x → IsTermOf (length ds) y → IsTermOf (length ds) r → IsTruth ds r
+    → AreNone relation (term_set ds x) (term_set ds y) → IsAbout r (λ u. u ≡ pos 0) (TruthWith (TruthOf relation x y) r) (LineWith (sides_of relation x y) r) ds
+none_about relation x y r ds is_x is_y is_r truth none =
     refuted_about (TruthOf relation x y) (sides_of relation x y) r ds is_r truth (are_sides relation x y ds is_x is_y)
-    (λ a within. refuted_false relation (term_set ds x) (term_set ds y) (term_value a x) (term_value a y) has_x has_y refuted (term_within ds a x is_x within) (term_within ds a y is_y within))
+    (λ a within. none (term_value a x) (term_value a y) (term_within ds a x is_x within) (term_within ds a y is_y within))
     (λ es domains narrower.
-    let in_x = narrower_ranges ds es x is_x domains narrower in
-    let in_y = narrower_ranges ds es y is_y domains narrower in
-    refuted_rests relation (term_set es x) (term_set es y) in_x in_y
-    (refuted_still relation (term_set ds x) (term_set ds y) (term_set es x) (term_set es y) (part_of (term_set ds x) (term_set es x) has_x in_x (narrower_term ds es x narrower))
-    (part_of (term_set ds y) (term_set es y) has_y in_y (narrower_term ds es y narrower)) refuted))
+    none_rests relation (term_set es x) (term_set es y) (narrower_ranges ds es x is_x domains narrower) (narrower_ranges ds es y is_y domains narrower)
+    (λ u w i j. none u w (narrower_term ds es x narrower u i) (narrower_term ds es y narrower w j)))

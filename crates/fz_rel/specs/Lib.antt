@@ -2,3 +2,4 @@ pub mod Truths
 pub mod Members
 pub mod Ends
 pub mod Reified
+pub mod Seen

@@ -2,7 +2,7 @@
 ghost use Rattle.std.specs.Prelude.{◌≡◌, ◌↔◌, ℤ, List, length, IsTrue};
 ghost use Rattle.fz_dom.specs.Shape.{least, greatest};
 ghost use Rattle.fz_strength.specs.Domains.{term_set};
-ghost use Rattle.fz_strength.specs.Relations.{IsShown, IsRefuted};
+ghost use Rattle.fz_strength.specs.Relations.{IsShown};
 ghost use Rattle.fz_prop.specs.Stores.{IsTermOf};
 ghost use Rattle.fz_rel.specs.Ends.{AreEnds};
 
@@ -39,18 +39,5 @@ pub fn is_shown(relation: Relation, x: Ends, y: Ends) -> bool
         Relation::NotEqual => x.high < y.low || y.high < x.low,
         Relation::AtMost => x.high <= y.low,
         Relation::Below => x.high < y.low,
-    }
-}
-
-/// Whether they show that none are.
-pub fn is_refuted(relation: Relation, x: Ends, y: Ends) -> bool
-    ensures { (d e : List (ℤ × ℤ)) → AreEnds x d → AreEnds y e
-        → IsTrue result ↔ IsRefuted relation d e }
-{
-    match relation {
-        Relation::Equal => is_shown(Relation::NotEqual, x, y),
-        Relation::NotEqual => is_shown(Relation::Equal, x, y),
-        Relation::AtMost => is_shown(Relation::Below, y, x),
-        Relation::Below => is_shown(Relation::AtMost, y, x),
     }
 }

@@ -11,6 +11,7 @@ mod others;
 pub mod reified;
 pub mod reified_member;
 mod relate;
+mod seen;
 
 pub use comparison::Comparison;
 pub use member::Membership;

@@ -9,8 +9,8 @@ ghost use Rattle.fz_prop.specs.Truths.{TruthWith};
 ghost use Rattle.fz_rel.specs.Truths.{TruthOf};
 ghost use Rattle.fz_rel.specs.Reified.{ReifiedLine};
 
-use crate::ends::{ends_of, is_refuted, is_shown};
 use crate::relate::{relate, relate_against};
+use crate::seen::{are_all, are_none};
 use fz_prop::terms::{keep_only, value_of};
 use fz_prop::{Answer, Propagator, Store};
 use fz_spec::term::Term;
@@ -78,7 +78,7 @@ fn keep_reified(
     Ok(answer)
 }
 
-/// Where both are left of a Boolean, fixes it if the ends of the terms decide.
+/// Where both are left of a Boolean, fixes it if what is left of the terms is seen to decide.
 fn decide(
     store: &mut Store,
     relation: Relation,
@@ -89,6 +89,8 @@ fn decide(
     requires x { IsTermOf (length store.old.doms) x }
     requires y { IsTermOf (length store.old.doms) y }
     requires r { IsTermOf (length store.old.doms) r }
+    requires fits_x { FitsTerm x }
+    requires fits_y { FitsTerm y }
     requires truth { IsTruth store.old.doms r }
     requires unfixed { IsFixedIn store.old.doms r → ⊥ }
     ensures shrinks { Shrinks store.old store.new }
@@ -98,12 +100,11 @@ fn decide(
         (ReifiedLine relation x y r) store.old.doms store.new.doms) }
 {
     let _ = store.doms();
-    let (ends_x, ends_y) = (ends_of(store, x), ends_of(store, y));
-    if is_shown(relation, ends_x, ends_y) {
+    if are_all(store, relation, x, y) {
         let change = keep_only(store, r, 1)?;
         return Ok(Answer::settled(change));
     }
-    if is_refuted(relation, ends_x, ends_y) {
+    if are_none(store, relation, x, y) {
         let change = keep_only(store, r, 0)?;
         return Ok(Answer::settled(change));
     }
