@@ -9,14 +9,15 @@ use Rattle.fz_spec.specs.declared.term.Term.{Term}
 use Rattle.fz_spec.specs.Constraints.{term_value}
 use Rattle.fz_strength.specs.declared.relation.Relation.{Relation}
 use Rattle.fz_strength.specs.declared.relation.Relation.TheVariants.{Equal, NotEqual, AtMost, Below}
-use Rattle.fz_strength.specs.Domains.{term_set}
+use Rattle.fz_strength.specs.Domains.{term_set, AreDomains}
 use Rattle.fz_strength.specs.Events.{IsOnly}
 use Rattle.fz_strength.specs.Promises.{IsTruth}
+use Rattle.fz_strength.specs.Lines.{LiesOutside}
 use Rattle.fz_strength.specs.Relations.{Relates, RestsAs, RestsAgainst, IsShown, IsRefuted}
 use Rattle.fz_strength.proofs.Terms.{in_single}
 use Rattle.fz_prop.specs.Stores.{IsTermOf}
 use Rattle.fz_prop.specs.Truths.{HasRanges, AreSides, TruthWith, LineWith, IsAbout}
-use Rattle.fz_prop.proofs.Filled.{narrower_ranges, one_left}
+use Rattle.fz_prop.proofs.Filled.{term_ranges, narrower_ranges, one_left}
 use Rattle.fz_prop.proofs.Reifying.{shown_about, refuted_about}
 use Rattle.fz_prop.proofs.TermChanges.{term_within, narrower_term}
 use Rattle.fz_rel.specs.Truths.{TruthOf}
@@ -90,6 +91,10 @@ shown_true Below d e x y has_d has_e shown in_d in_e =
     let high_x = (greatest_member d has_d.some has_d.ranges).1 x in_d in
     let low_y = (least_member e has_e.some has_e.ranges).1 y in_e in
     omega (arith, ints, high_x, low_y, shown)
+
+pub shown_outside : (x y : Term) (ds : List (List (ℤ × ℤ))) → IsTermOf (length ds) x → IsTermOf (length ds) y → AreDomains ds → IsShown NotEqual (term_set ds x) (term_set ds y)
+    → LiesOutside (term_set ds x) (term_set ds y)
+shown_outside x y ds is_x is_y domains shown = λ z i j. shown_true NotEqual (term_set ds x) (term_set ds y) z z (term_ranges ds x is_x domains) (term_ranges ds y is_y domains) shown i j refl
 
 -- what is true of all numbers has its line
 

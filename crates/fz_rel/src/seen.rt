@@ -2,6 +2,7 @@
 ghost use Rattle.std.specs.Prelude.{◌⊎◌, ◌↔◌, ◌+ℤ◌, ◌≤ℤ◌, ℤ, pos, List, length, IsTrue};
 ghost use Rattle.fz_sets.specs.Sets.{IsInSet};
 ghost use Rattle.fz_bits.specs.Windows.{IsBit};
+ghost use Rattle.fz_strength.specs.declared.relation.Relation.TheVariants.{NotEqual};
 ghost use Rattle.fz_strength.specs.Domains.{term_set};
 ghost use Rattle.fz_strength.specs.Lines.{LiesOutside};
 ghost use Rattle.fz_strength.specs.Relations.{IsShown, IsRefuted};
@@ -12,7 +13,7 @@ use crate::ends::{ends_of, is_shown};
 use fz_bits::Window;
 use fz_bits::word::common;
 use fz_prop::Store;
-use fz_prop::terms::{window_of, word_of};
+use fz_prop::terms::{has, value_of, window_of, word_of};
 use fz_spec::term::Term;
 use fz_strength::relation::Relation;
 
@@ -30,7 +31,7 @@ pub fn are_all(store: &Store, relation: Relation, x: Term, y: Term) -> bool
 {
     let _ = store.doms();
     match relation {
-        Relation::NotEqual if are_apart(store, x, y) => true,
+        Relation::NotEqual => are_apart(store, x, y),
         _ => is_shown(relation, ends_of(store, x), ends_of(store, y)),
     }
 }
@@ -54,7 +55,7 @@ pub fn are_none(store: &Store, relation: Relation, x: Term, y: Term) -> bool
     }
 }
 
-/// Whether two terms have no number in common, where one of them is at most 64 wide; else `false`.
+/// Whether two terms are seen to have no number in common: by their numbers where one of them is at most 64 wide, else by their ends.
 fn are_apart(store: &Store, x: Term, y: Term) -> bool
     requires x { IsTermOf (length store.now.doms) x }
     requires y { IsTermOf (length store.now.doms) y }
@@ -64,13 +65,19 @@ fn are_apart(store: &Store, x: Term, y: Term) -> bool
         → LiesOutside (term_set store.now.doms x) (term_set store.now.doms y) }
     ensures told { IsNarrow (term_set store.now.doms x) ⊎ IsNarrow (term_set store.now.doms y)
         → LiesOutside (term_set store.now.doms x) (term_set store.now.doms y) → IsTrue result }
+    ensures shown { IsShown NotEqual (term_set store.now.doms x) (term_set store.now.doms y)
+        → IsTrue result }
 {
+    let _ = store.doms();
+    if let Some(value) = value_of(store, y) {
+        return !has(store, x, value);
+    }
     if let Some(window) = window_of(store, x) {
         return misses(store, window, y);
     }
     match window_of(store, y) {
         Some(window) => misses(store, window, x),
-        None => false,
+        None => is_shown(Relation::NotEqual, ends_of(store, x), ends_of(store, y)),
     }
 }
 
