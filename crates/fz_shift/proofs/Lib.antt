@@ -1,0 +1,4 @@
+pub mod Bounded
+pub mod Turning
+pub mod Resting
+pub mod Shapes

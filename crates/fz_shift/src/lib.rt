@@ -1,0 +1,8 @@
+//! Equations of a few variables on whole domains.
+#![tactic(auto)]
+
+pub mod plane;
+mod shape;
+
+pub use plane::{Plane, keep_plane};
+pub use shape::plane_of;
