@@ -1,6 +1,6 @@
 -- A sum rests where all numbers have partners: the one at each end of a term has some that are at least and at most at the ends of theirs.
 use Rattle.std.proofs.Common.{◌≡◌, ◌<◌, List, [], ◌∷◌, arith, length, refl}
-use Rattle.std.specs.Prelude.{ℤ, pos, negsuc, neg_ℤ, ◌*ℤ◌, ◌≤ℤ◌, ◌+ℤ◌, ◌-ℤ◌}
+use Rattle.std.specs.Prelude.{ℤ, pos, negsuc, neg_ℤ, ◌*ℤ◌, ◌≤ℤ◌}
 use Rattle.std.proofs.lemmas.Int.{ints}
 use Rattle.fz_sets.specs.Sets.{AreRanges, IsInSet}
 use Rattle.fz_dom.specs.Shape.{least, greatest}
@@ -9,8 +9,8 @@ use Rattle.fz_num.proofs.Products.{mul_le, mul_ge}
 use Rattle.fz_spec.specs.declared.term.Term.{Term}
 use Rattle.fz_spec.specs.declared.term.Term.TheVariants.{Var}
 use Rattle.fz_strength.specs.declared.relation.Relation.TheVariants.{Equal}
-use Rattle.fz_strength.specs.Domains.{dom_at, term_set, AreDomains}
-use Rattle.fz_strength.specs.Sums.{least_product, greatest_product, least_sum, RestsAtMost, RestsSum}
+use Rattle.fz_strength.specs.Domains.{dom_at, AreDomains}
+use Rattle.fz_strength.specs.Sums.{least_product, greatest_product, RestsAtMost, RestsSum}
 use Rattle.fz_shift.specs.declared.plane.Plane.{Plane}
 use Rattle.fz_shift.specs.Planes.{AreInside, HasPartners}
 use Rattle.fz_shift.proofs.Turning.{turned_inside, turned_partners, turned_plane}

@@ -1,6 +1,6 @@
 -- A plane said the other way round, of the first variable less the second.
-use Rattle.std.proofs.Common.{◌≡◌, ◌*◌, ℕ, List, ap, arith, refl, subst, sym, zero, suc}
-use Rattle.std.specs.Prelude.{ℤ, pos, negsuc, neg_ℤ, ◌*ℤ◌, ◌+ℤ◌}
+use Rattle.std.proofs.Common.{◌≡◌, ◌*◌, ℕ, List, ap, arith, refl, subst, zero, suc}
+use Rattle.std.specs.Prelude.{ℤ, pos, negsuc, neg_ℤ, ◌*ℤ◌}
 use Rattle.std.proofs.lemmas.Int.{ints}
 use Rattle.fz_sets.specs.Sets.{IsInSet}
 use Rattle.fz_strength.specs.Domains.{dom_at, number_at}

@@ -16,7 +16,7 @@ struct Part {
 }
 
 /// The plane that a sum is which is to be a number, if it is one of three different variables, two of which have the factors 1
-/// and -1.
+/// and -1, and the third one farther from 0.
 pub fn plane_of(factors: &[i32], terms: &[Term], number: i32) -> Option<Plane>
     ensures { IfSome result (λ p. IsPlaneIn p factors.now terms.now number) }
 {
@@ -74,6 +74,9 @@ fn plane_at(across: Part, first: Term, second: Term, number: i32) -> Option<Plan
     else {
         return None;
     };
+    if -1 <= factor && factor <= 1 {
+        return None;
+    }
     if factor < -FACTOR_MOST || FACTOR_MOST < factor || number == i32::MIN {
         return None;
     }
