@@ -1,5 +1,5 @@
 //! What is waited for.
-ghost use Rattle.std.specs.Prelude.{◌≡◌, ◌++◌, IfOk, OnOk, map};
+ghost use Rattle.std.specs.Prelude.{◌≡◌, ◌||◌, ◌++◌, [], ◌∷◌, IfOk, OnOk, map};
 ghost use Rattle.fz_model.specs.Arguments.{argument_of};
 ghost use Rattle.fz_strength.specs.Clauses.{clause, disjunction, conjunction, clause_terms};
 ghost use Rattle.fz_strength.specs.declared.event.Event.TheVariants.{Fixed};
@@ -8,7 +8,7 @@ ghost use Rattle.fz_strength.specs.Lines.{terms_of, terms_among};
 ghost use Rattle.fz_strength.specs.Operations.{operand_event};
 ghost use Rattle.fz_strength.specs.Relations.{event_of, reified_event};
 ghost use Rattle.fz_strength.specs.Sayings.{waits_of};
-ghost use Rattle.fz_strength.specs.Sums.{is_difference, sum_event_of, left_terms, left_factors};
+ghost use Rattle.fz_strength.specs.Sums.{is_difference, is_far, is_plane, sum_event_of, left_terms, left_factors};
 ghost use Rattle.fz_says.specs.Said.{said_by, waits_in};
 
 use crate::saying::Saying;
@@ -124,13 +124,50 @@ fn sum_event(relation: Relation, factors: &[i32], last: Term) -> Event
     ensures { result ≡ sum_event_of relation (left_factors factors.now last) }
 {
     match relation {
-        Relation::Equal => match (last, factors) {
-            (Term::Num(_), [1, -1] | [-1, 1]) | (Term::Var(_), [1]) => Event::Any,
-            _ => Event::Bound,
-        },
+        Relation::Equal if is_kept_whole(factors, last) => Event::Any,
         Relation::NotEqual => Event::Fixed,
-        Relation::AtMost | Relation::Below => Event::Bound,
+        Relation::Equal | Relation::AtMost | Relation::Below => Event::Bound,
     }
+}
+
+/// Whether an equation of these factors is a difference of two terms or a plane of three.
+fn is_kept_whole(factors: &[i32], last: Term) -> bool
+    ensures { result ≡ (is_difference (left_factors factors.now last)
+        || is_plane (left_factors factors.now last)) }
+{
+    match (last, factors) {
+        (Term::Num(_), [k, l]) => is_difference(*k, *l),
+        (Term::Var(_), [l]) => is_difference(-1, *l),
+        (Term::Num(_), [k, l, m]) => is_plane(*k, *l, *m),
+        (Term::Var(_), [l, m]) => is_plane(-1, *l, *m),
+        _ => false,
+    }
+}
+
+/// Whether two of three factors make a difference, and the third is farther from 0.
+fn is_plane(k: i32, l: i32, m: i32) -> bool
+    ensures { result ≡ is_plane (k ∷ l ∷ m ∷ []) }
+{
+    is_far(k) && is_difference(l, m)
+        || is_far(l) && is_difference(k, m)
+        || is_far(m) && is_difference(k, l)
+}
+
+/// Whether two factors make a difference.
+fn is_difference(k: i32, l: i32) -> bool
+    ensures { result ≡ is_difference (k ∷ l ∷ []) }
+{
+    match (k, l) {
+        (1, -1) | (-1, 1) => true,
+        _ => false,
+    }
+}
+
+/// Whether a factor is farther from 0 than 1.
+fn is_far(k: i32) -> bool
+    ensures { result ≡ is_far k }
+{
+    k < -1 || 1 < k
 }
 
 /// Adds a change of a term.
