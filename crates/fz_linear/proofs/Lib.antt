@@ -12,3 +12,4 @@ pub mod Differences
 pub mod Pruning
 pub mod Whole
 pub mod Told
+pub mod Lying

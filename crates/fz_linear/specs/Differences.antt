@@ -1,7 +1,6 @@
 -- How the difference of two variables relates to a number: when an assignment makes it so, and what is left where its propagator
 -- rests.
-use Rattle.std.specs.Prelude.{Some, ◌≡◌, ◌≢◌, ◌⊎◌, ℕ, ℤ, pos, negsuc, neg_ℤ, ◌+ℤ◌, ◌-ℤ◌, ◌≤ℤ◌, List, [], ◌∷◌}
-use Rattle.std.specs.declared.option.Option.{Option}
+use Rattle.std.specs.Prelude.{◌≡◌, ◌≢◌, ◌⊎◌, ℕ, ℤ, pos, negsuc, neg_ℤ, ◌+ℤ◌, ◌-ℤ◌, ◌≤ℤ◌, List, [], ◌∷◌}
 use Rattle.fz_sets.specs.Sets.{IsInSet}
 use Rattle.fz_dom.specs.Shape.{least, greatest}
 use Rattle.fz_spec.specs.declared.term.Term.{Term}
@@ -13,7 +12,6 @@ use Rattle.fz_strength.specs.Events.{IsFixedIn}
 use Rattle.fz_strength.specs.Relations.{Relates}
 use Rattle.fz_linear.specs.declared.difference.Difference.{Difference}
 use Rattle.fz_prop.specs.declared.answer.Answer.{Answer}
-use Rattle.fz_prop.specs.declared.answer.Answer.TheVariants.{Failed}
 use Rattle.fz_prop.specs.Answers.{IsAnswerOf}
 
 -- the sum is the first variable less the second
@@ -60,8 +58,3 @@ IsAnswerDifference relation x y c answer ds es = IsAnswerOf answer (DifferenceTr
 pub record ArePartners (ds : List (List (ℤ × ℤ))) (x y : ℕ) (c : ℤ) : Type 0 where
   pub below : (z : ℤ) → IsInSet (dom_at ds x) z → IsInSet (dom_at ds y) (z -ℤ c)
   pub above : (z : ℤ) → IsInSet (dom_at ds y) z → IsInSet (dom_at ds x) (z +ℤ c)
-
--- of a sum that is to be a number, and is known to be a difference, nothing else is left, unless the run failed
-abbrev pub IsPruned : Relation → Option Difference → Answer → List (List (ℤ × ℤ)) → Type 0
-IsPruned Equal (Some d) answer ds = answer ≢ Failed → ArePartners ds d.first d.second d.above
-IsPruned relation difference answer ds = Unit {0}

@@ -5,4 +5,5 @@ pub mod Sums
 pub mod Gaps
 pub mod Precisions
 pub mod Differences
+pub mod Shapes
 pub mod Linears

@@ -1,6 +1,5 @@
 -- What the propagator of a linear constraint keeps.
-use Rattle.std.specs.Prelude.{◌≡◌, ◌≢◌, ◌+◌, ◌≤◌, ℕ, ℤ, negsuc, ◌≤ℤ◌, List, length, IfSome, IsNone}
-use Rattle.std.specs.declared.option.Option.{Option}
+use Rattle.std.specs.Prelude.{◌≡◌, ◌≢◌, ◌+◌, ◌≤◌, ℕ, ℤ, negsuc, ◌≤ℤ◌, List, length}
 use Rattle.std.specs.List.{AllByRecursion}
 use Rattle.fz_spec.specs.declared.limits.TheConstants.{ELEMENT_LIMIT}
 use Rattle.fz_spec.specs.declared.term.Term.{Term}
@@ -10,21 +9,21 @@ use Rattle.fz_strength.specs.Sayings.{Saying, Sum}
 use Rattle.fz_prop.specs.declared.answer.Answer.{Answer}
 use Rattle.fz_prop.specs.declared.answer.Answer.TheVariants.{Failed}
 use Rattle.fz_prop.specs.Stores.{FitsTerm}
-use Rattle.fz_linear.specs.Differences.{IsDifferenceOf, IsDifferenceIn, IsNoneOfTwo, ArePartners}
+use Rattle.fz_linear.specs.Differences.{IsDifferenceOf, ArePartners}
 use Rattle.fz_linear.specs.Precisions.{Allows}
-use Rattle.fz_linear.specs.declared.difference.Difference.{Difference}
+use Rattle.fz_linear.specs.Shapes.{IsShapeIn}
 use Rattle.fz_linear.specs.declared.narrow.Precision.{Precision}
+use Rattle.fz_linear.specs.declared.shape.Shape.{Shape}
 
 -- It is no strict order; it has a factor for each term, not too many, with numbers within the limits; its factors allow the bits in
--- which its sum is added up; and a difference that it keeps is its sum, which is none of two variables where it keeps none.
-pub record IsLinear (relation : Relation) (factors : List ℤ) (terms : List Term) (number : ℤ) (precision : Precision) (difference : Option Difference) : Type 0 where
+-- which its sum is added up; and it keeps what its sum is by its variables.
+pub record IsLinear (relation : Relation) (factors : List ℤ) (terms : List Term) (number : ℤ) (precision : Precision) (shape : Shape) : Type 0 where
   pub bounded : relation ≢ Below
   pub same : length factors ≡ length terms
   pub few : length terms ≤ ELEMENT_LIMIT + 1
   pub fits : AllByRecursion FitsTerm terms
   pub allowed : Allows precision factors
-  pub differs : IfSome difference (λ d. IsDifferenceIn d factors terms number)
-  pub told : IsNone difference → IsNoneOfTwo factors terms number
+  pub shaped : IsShapeIn shape factors terms number
 
 -- it says how far one variable is above another
 pub record IsDifferenceEquation (s : Saying) (x y : ℕ) (c : ℤ) : Type 0 where

@@ -11,6 +11,7 @@ pub mod narrow;
 mod pass;
 mod reach;
 pub mod relate;
+mod shape;
 mod side;
 pub mod sums;
 

@@ -12,10 +12,10 @@ ghost use Rattle.fz_prop.specs.Answers.{Narrows};
 ghost use Rattle.fz_prop.specs.Stores.{FitsTerm, IsTermOf};
 ghost use Rattle.fz_linear.specs.Linears.{IsPrunedOf};
 
-use crate::difference::{Difference, difference_of};
 use crate::front::is_long;
 use crate::narrow::{Precision, Weighted, precision_of};
 use crate::relate::relate_whole;
+use crate::shape::{Shape, shape_of};
 use fz_kept::Kept;
 use fz_prop::{Answer, Propagator, Store};
 use fz_spec::term::Term;
@@ -33,8 +33,8 @@ pub struct Linear {
     number: i32,
     /// In how many bits the sum is added up.
     precision: Precision,
-    /// What the sum is where it is the difference of two variables.
-    difference: Option<Difference>,
+    /// What the sum is by its variables.
+    shape: Shape,
 }
 
 impl Model for Linear {
@@ -46,7 +46,7 @@ impl Model for Linear {
     ghost view = { λ p. Sum p.relation p.factors.items p.terms.items p.number };
 
     ghost invariant = { λ p. IsLinear p.relation p.factors.items p.terms.items p.number
-        p.precision p.difference };
+        p.precision p.shape };
 }
 
 impl Linear {
@@ -73,14 +73,14 @@ impl Linear {
         let terms = terms_left(alloc, terms, last)?;
         let precision = precision_of(&factors);
         let number = number_right(last);
-        let difference = difference_of(&factors, &terms, number);
+        let shape = shape_of(&factors, &terms, number);
         Ok(Linear {
             relation,
             factors,
             terms,
             number,
             precision,
-            difference,
+            shape,
         })
     }
 }
@@ -145,14 +145,7 @@ impl Linear {
             terms: &self.terms,
             precision: self.precision,
         };
-        relate_whole(
-            store,
-            self.difference,
-            &sum,
-            self.relation,
-            self.number,
-            kept,
-        )
+        relate_whole(store, self.shape, &sum, self.relation, self.number, kept)
     }
 }
 

@@ -13,6 +13,5 @@ invariant_of-result c =
       few = search rules;
       fits = search rules;
       allowed = search rules;
-      differs = rw (c.deref-2.ensures.value, c.deref-3.ensures.value, to_z-of_z fits) at c.difference_of-difference.ensures.some;
-      told = rw (c.deref-2.ensures.value, c.deref-3.ensures.value, to_z-of_z fits) at c.difference_of-difference.ensures.none;
+      shaped = rw (c.deref-2.ensures.value, c.deref-3.ensures.value, to_z-of_z fits) at c.shape_of-shape.ensures;
     })

@@ -8,8 +8,8 @@ use Rattle.fz_strength.specs.Sayings.{Sum, truth_of, line_of}
 use Rattle.fz_kept.specs.Told.{IsTold}
 use Rattle.fz_prop.specs.declared.answer.Answer.{Answer}
 use Rattle.fz_prop.specs.Answers.{Narrows}
-use Rattle.fz_linear.specs.Differences.{IsPruned}
 use Rattle.fz_linear.specs.Linears.{IsPrunedOf}
+use Rattle.fz_linear.specs.Shapes.{IsPruned}
 use Rattle.fz_linear.proofs.Pruning.{pruned_of}
 use Rattle.fz_linear.proofs.linear.Linear.run.Goals as goal
 
@@ -34,8 +34,8 @@ returns-clause-pruned c =
     let p = c.self.inside in
     let after = c.relate_whole.new.store.doms in
     rw (← c.self.view_is)
-    (IfOk-weaker c.relate_whole.result (λ (r : Answer). IsPruned p.relation p.difference r after) (λ (r : Answer). IsPrunedOf (Sum p.relation p.factors.items p.terms.items p.number) r after)
-    (λ r h. pruned_of p.relation p.factors.items p.terms.items p.number p.difference r after c.self.invariant.differs c.self.invariant.told h)
+    (IfOk-weaker c.relate_whole.result (λ (r : Answer). IsPruned p.relation p.shape r after) (λ (r : Answer). IsPrunedOf (Sum p.relation p.factors.items p.terms.items p.number) r after)
+    (λ r h. pruned_of p.relation p.factors.items p.terms.items p.number p.shape r after c.self.invariant.shaped h)
     c.relate_whole.ensures.pruned)
 
 pub relate_whole-requires-clause-told : goal.relate_whole-requires-clause-told
