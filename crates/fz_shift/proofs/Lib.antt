@@ -2,3 +2,5 @@ pub mod Bounded
 pub mod Turning
 pub mod Resting
 pub mod Shapes
+pub mod Thirds
+pub mod Kept

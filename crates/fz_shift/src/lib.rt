@@ -1,6 +1,8 @@
 //! Equations of a few variables on whole domains.
 #![tactic(auto)]
 
+mod keeping;
+mod matching;
 pub mod plane;
 mod shape;
 

@@ -1,0 +1,121 @@
+use Rattle.std.proofs.Common.{◌≡◌, ◌∙◌, rules, w32, w64}
+use Rattle.std.specs.Prelude.{ℤ}
+use Rattle.std.proofs.Math.Facts.{to_z-of_z}
+use Rattle.std.proofs.lemmas.Result.{IfOk-weaker}
+use mir.Val.{SFits}
+use Rattle.fz_bits.specs.Windows.{IsBit}
+use Rattle.fz_prop.proofs.Twice.{shrinks_twice}
+use Rattle.fz_shift.proofs.Kept.{all_kept, near_pairs, of_points}
+use Rattle.fz_shift.proofs.keeping.keep_near.Goals as goal
+
+pub returns-in_err-keep_some-clause-correct : goal.returns-in_err-keep_some-clause-correct
+returns-in_err-keep_some-clause-correct c = λ a truth within.
+    let p = c.args.plane in
+    let ds = c.args.store.now.doms in
+    let found = c.matches_of-found.result in
+    let fits : SFits w32 c.args.second.base = search rules in
+    let far : SFits w64 c.from-base.result = search rules in
+    let base : c.from-base.result ≡ c.args.second.base = c.from-base.ensures ∙ to_z-of_z fits in
+    let D : ℤ → Type 0 = λ u. IsBit c.args.across.base c.args.across.bits u in
+    let E : ℤ → Type 0 = λ w. IsBit c.args.first.base c.args.first.bits w in
+    let P : ℤ → Type 0 = λ u. IsBit c.args.across.base found.across.bits u in
+    let Q : ℤ → Type 0 = λ w. IsBit c.args.first.base found.first.bits w in
+    let T : ℤ → Type 0 = λ v. IsBit c.args.second.base found.second v in
+    let pairs = near_pairs p ds D E P Q c.args.second.base c.args.second.bits found.second c.requires.across c.requires.first c.requires.second
+    (rw c.dom.ensures.dom at c.matches_of-found.ensures.matching) (rw (c.dom.ensures.dom, to_z-of_z far, base) at c.matches_of-found.ensures.seconds) in
+    (rw (to_z-of_z fits) at c.in_err-keep_some.ensures.stays) a within (all_kept p ds D E P Q T a c.requires.inside pairs truth within).2
+
+pub returns-then-not-branch-clause-correct : goal.returns-then-not-branch-clause-correct
+returns-then-not-branch-clause-correct c = λ a truth within.
+    let p = c.args.plane in
+    let ds = c.args.store.now.doms in
+    let found = c.matches_of-found.result in
+    let fits : SFits w32 c.args.second.base = search rules in
+    let far : SFits w64 c.from-base.result = search rules in
+    let base : c.from-base.result ≡ c.args.second.base = c.from-base.ensures ∙ to_z-of_z fits in
+    let D : ℤ → Type 0 = λ u. IsBit c.args.across.base c.args.across.bits u in
+    let E : ℤ → Type 0 = λ w. IsBit c.args.first.base c.args.first.bits w in
+    let P : ℤ → Type 0 = λ u. IsBit c.args.across.base found.across.bits u in
+    let Q : ℤ → Type 0 = λ w. IsBit c.args.first.base found.first.bits w in
+    let T : ℤ → Type 0 = λ v. IsBit c.args.second.base found.second v in
+    let pairs = near_pairs p ds D E P Q c.args.second.base c.args.second.bits found.second c.requires.across c.requires.first c.requires.second
+    (rw c.dom.ensures.dom at c.matches_of-found.ensures.matching) (rw (c.dom.ensures.dom, to_z-of_z far, base) at c.matches_of-found.ensures.seconds) in
+    (rw (to_z-of_z fits) at c.in_ok-keep_some.ensures.stays) a within (all_kept p ds D E P Q T a c.requires.inside pairs truth within).2
+
+pub returns-then-not-branch-clause-some : goal.returns-then-not-branch-clause-some
+returns-then-not-branch-clause-some c = λ a truth within.
+    let p = c.args.plane in
+    let ds = c.args.store.now.doms in
+    let found = c.matches_of-found.result in
+    let fits : SFits w32 c.args.second.base = search rules in
+    let far : SFits w64 c.from-base.result = search rules in
+    let base : c.from-base.result ≡ c.args.second.base = c.from-base.ensures ∙ to_z-of_z fits in
+    let D : ℤ → Type 0 = λ u. IsBit c.args.across.base c.args.across.bits u in
+    let E : ℤ → Type 0 = λ w. IsBit c.args.first.base c.args.first.bits w in
+    let P : ℤ → Type 0 = λ u. IsBit c.args.across.base found.across.bits u in
+    let Q : ℤ → Type 0 = λ w. IsBit c.args.first.base found.first.bits w in
+    let T : ℤ → Type 0 = λ v. IsBit c.args.second.base found.second v in
+    let pairs = near_pairs p ds D E P Q c.args.second.base c.args.second.bits found.second c.requires.across c.requires.first c.requires.second
+    (rw c.dom.ensures.dom at c.matches_of-found.ensures.matching) (rw (c.dom.ensures.dom, to_z-of_z far, base) at c.matches_of-found.ensures.seconds) in
+    rw c.if-not-branch.true at ((rw (to_z-of_z fits) at c.in_ok-keep_some.ensures.some) a within (all_kept p ds D E P Q T a c.requires.inside pairs truth within).2)
+
+pub returns-clause-shrinks : goal.returns-clause-shrinks
+returns-clause-shrinks c = shrinks_twice c.args.store.now c.keep_some.new.store c.keep_two.new.store c.in_ok-keep_some.ensures.shrinks c.keep_two.ensures.shrinks
+
+pub returns-clause-correct : goal.returns-clause-correct
+returns-clause-correct c = λ a truth within.
+    let p = c.args.plane in
+    let ds = c.args.store.now.doms in
+    let found = c.matches_of-found.result in
+    let fits : SFits w32 c.args.second.base = search rules in
+    let far : SFits w64 c.from-base.result = search rules in
+    let base : c.from-base.result ≡ c.args.second.base = c.from-base.ensures ∙ to_z-of_z fits in
+    let D : ℤ → Type 0 = λ u. IsBit c.args.across.base c.args.across.bits u in
+    let E : ℤ → Type 0 = λ w. IsBit c.args.first.base c.args.first.bits w in
+    let P : ℤ → Type 0 = λ u. IsBit c.args.across.base found.across.bits u in
+    let Q : ℤ → Type 0 = λ w. IsBit c.args.first.base found.first.bits w in
+    let T : ℤ → Type 0 = λ v. IsBit c.args.second.base found.second v in
+    let pairs = near_pairs p ds D E P Q c.args.second.base c.args.second.bits found.second c.requires.across c.requires.first c.requires.second
+    (rw c.dom.ensures.dom at c.matches_of-found.ensures.matching) (rw (c.dom.ensures.dom, to_z-of_z far, base) at c.matches_of-found.ensures.seconds) in
+    let kept = all_kept p ds D E P Q T a c.requires.inside pairs truth within in
+    (rw (c.matches_of-found.ensures.across_base, c.matches_of-found.ensures.first_base) at c.keep_two.ensures.stays) a
+    ((rw (to_z-of_z fits) at c.in_ok-keep_some.ensures.stays) a within kept.2) kept.0 kept.1
+
+pub returns-clause-points : goal.returns-clause-points
+returns-clause-points c =
+    let p = c.args.plane in
+    let ds = c.args.store.now.doms in
+    let found = c.matches_of-found.result in
+    let fits : SFits w32 c.args.second.base = search rules in
+    let far : SFits w64 c.from-base.result = search rules in
+    let base : c.from-base.result ≡ c.args.second.base = c.from-base.ensures ∙ to_z-of_z fits in
+    let D : ℤ → Type 0 = λ u. IsBit c.args.across.base c.args.across.bits u in
+    let E : ℤ → Type 0 = λ w. IsBit c.args.first.base c.args.first.bits w in
+    let P : ℤ → Type 0 = λ u. IsBit c.args.across.base found.across.bits u in
+    let Q : ℤ → Type 0 = λ w. IsBit c.args.first.base found.first.bits w in
+    let T : ℤ → Type 0 = λ v. IsBit c.args.second.base found.second v in
+    let pairs = near_pairs p ds D E P Q c.args.second.base c.args.second.bits found.second c.requires.across c.requires.first c.requires.second
+    (rw c.dom.ensures.dom at c.matches_of-found.ensures.matching) (rw (c.dom.ensures.dom, to_z-of_z far, base) at c.matches_of-found.ensures.seconds) in
+    IfOk-weaker c.keep_two.result _ _ (λ b two yes.
+    of_points p ds c.keep_some.new.store.doms c.keep_two.new.store.doms D E P Q T c.requires.apart pairs ((rw (to_z-of_z fits) at c.in_ok-keep_some.ensures.kept) (search rules)) (two yes))
+    (rw (c.matches_of-found.ensures.across_base, c.matches_of-found.ensures.first_base) at c.keep_two.ensures.two)
+
+pub returns-clause-some : goal.returns-clause-some
+returns-clause-some c =
+    let p = c.args.plane in
+    let ds = c.args.store.now.doms in
+    let found = c.matches_of-found.result in
+    let fits : SFits w32 c.args.second.base = search rules in
+    let far : SFits w64 c.from-base.result = search rules in
+    let base : c.from-base.result ≡ c.args.second.base = c.from-base.ensures ∙ to_z-of_z fits in
+    let D : ℤ → Type 0 = λ u. IsBit c.args.across.base c.args.across.bits u in
+    let E : ℤ → Type 0 = λ w. IsBit c.args.first.base c.args.first.bits w in
+    let P : ℤ → Type 0 = λ u. IsBit c.args.across.base found.across.bits u in
+    let Q : ℤ → Type 0 = λ w. IsBit c.args.first.base found.first.bits w in
+    let T : ℤ → Type 0 = λ v. IsBit c.args.second.base found.second v in
+    let pairs = near_pairs p ds D E P Q c.args.second.base c.args.second.bits found.second c.requires.across c.requires.first c.requires.second
+    (rw c.dom.ensures.dom at c.matches_of-found.ensures.matching) (rw (c.dom.ensures.dom, to_z-of_z far, base) at c.matches_of-found.ensures.seconds) in
+    IfOk-weaker c.keep_two.result _ _ (λ b some a truth within.
+    let kept = all_kept p ds D E P Q T a c.requires.inside pairs truth within in
+    some a ((rw (to_z-of_z fits) at c.in_ok-keep_some.ensures.stays) a within kept.2) kept.0 kept.1)
+    (rw (c.matches_of-found.ensures.across_base, c.matches_of-found.ensures.first_base) at c.keep_two.ensures.some)
