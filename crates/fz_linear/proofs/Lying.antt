@@ -1,5 +1,5 @@
 -- Variables of a sum that lie on a plane.
-use Rattle.std.proofs.Common.{◌≡◌, ◌∙◌, ◌<◌, ℕ, List, length, sym, subst}
+use Rattle.std.proofs.Common.{ℕ, List, length, sym, subst}
 use Rattle.std.specs.Prelude.{ℤ}
 use Rattle.fz_spec.specs.declared.term.Term.{Term}
 use Rattle.fz_strength.specs.declared.relation.Relation.TheVariants.{Equal}
@@ -9,7 +9,6 @@ use Rattle.fz_prop.specs.declared.answer.Answer.TheVariants.{Fix, NoFix, Subsume
 use Rattle.fz_prop.specs.Answers.{IsAnswerOf, IsCorrectOf}
 use Rattle.fz_shift.specs.declared.plane.Plane.{Plane}
 use Rattle.fz_shift.specs.Planes.{AreInside, HasPartners, PlaneTruth, IsPlaneIn}
-use Rattle.fz_linear.specs.Terms.{AreTermsOf}
 use Rattle.fz_linear.specs.Sums.{SumTruth, IsAnswerSum}
 
 -- what an answer says of the plane it says of the sum
