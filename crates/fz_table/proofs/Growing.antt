@@ -1,5 +1,5 @@
 -- Ranges of numbers that grow by their end.
-use Rattle.std.proofs.Common.{◌≡◌, ℕ, zero, suc, ◌-◌, ◌≤◌, List, [], ◌∷◌, ◌++◌, ◌⊎◌, inl, inr, refl, sym, subst, arith, length, drop, pos, ◌≤ℤ◌, ◌<ℤ◌, ◌-ℤ◌}
+use Rattle.std.proofs.Common.{◌≡◌, ℕ, zero, suc, ◌-◌, ◌≤◌, List, [], ◌∷◌, ◌++◌, ◌⊎◌, inl, inr, refl, sym, subst, arith, length, drop, slice_set, pos, ◌≤ℤ◌, ◌<ℤ◌, ◌-ℤ◌}
 use Rattle.std.specs.Prelude.{ℤ, ◌↔◌, slice_get, Some, nat_eq, IsTrue}
 use Rattle.std.specs.List.{AllByRecursion}
 use Rattle.std.proofs.lemmas.Bool.Decides.{nat_tests}
@@ -18,25 +18,33 @@ more_filled (r ∷ rs) n all = (all.0, more_filled rs n all.1)
 pub more_in : (rs : List (ℤ × ℤ)) (x n : ℤ) → IsInSet (rs ++ (x, x) ∷ []) n ↔ (IsInSet rs n ⊎ (n ≡ x))
 more_in rs x n = (in_more rs x n, λ h. elim h [ inl old ↦ in_before rs x n old | inr e ↦ in_last rs x n e ])
 
-pub grown_filled : (rs : List (ℤ × ℤ)) (low high x : ℤ) → high <ℤ x → AllByRecursion IsFilled (rs ++ (low, high) ∷ []) → AllByRecursion IsFilled (rs ++ (low, x) ∷ [])
-grown_filled [] low high x above all = let filled = all.0 in (omega (arith, ints), tt)
-grown_filled (r ∷ rs) low high x above all = (all.0, grown_filled rs low high x above all.1)
+-- a range grows by its end
+pub grown_filled : (rs : List (ℤ × ℤ)) (k : ℕ) (r : ℤ × ℤ) (x : ℤ) → slice_get rs k ≡ Some r → r.1 <ℤ x → AllByRecursion IsFilled rs → AllByRecursion IsFilled (slice_set rs k (r.0, x))
+grown_filled [] k r x at above all = absurd (cc (at))
+grown_filled (s ∷ rs) zero r x at above all =
+    let is : s ≡ r = cc (at) in
+    let filled : r.0 ≤ℤ r.1 = subst IsFilled is all.0 in
+    (omega (arith, ints, filled, above), all.1)
+grown_filled (s ∷ rs) (suc k) r x at above all = (all.0, grown_filled rs k r x at above all.1)
 
-pub grown_in : (rs : List (ℤ × ℤ)) (low high x n : ℤ) → high <ℤ x → (x -ℤ pos 1) ≡ high → AllByRecursion IsFilled (rs ++ (low, high) ∷ [])
-    → IsInSet (rs ++ (low, x) ∷ []) n ↔ (IsInSet (rs ++ (low, high) ∷ []) n ⊎ (n ≡ x))
-grown_in [] low high x n above next all =
-    let filled = all.0 in (
+pub grown_in : (rs : List (ℤ × ℤ)) (k : ℕ) (r : ℤ × ℤ) (x n : ℤ) → slice_get rs k ≡ Some r → r.1 <ℤ x → (x -ℤ pos 1) ≡ r.1 → AllByRecursion IsFilled rs
+    → IsInSet (slice_set rs k (r.0, x)) n ↔ (IsInSet rs n ⊎ (n ≡ x))
+grown_in [] k r x n at above next all = absurd (cc (at))
+grown_in (s ∷ rs) zero r x n at above next all =
+    let is : s ≡ r = cc (at) in
+    let filled : r.0 ≤ℤ r.1 = subst IsFilled is all.0 in
+    let InFirst : ℤ × ℤ → Type 0 = λ (q : ℤ × ℤ). (q.0 ≤ℤ n) × (n ≤ℤ q.1) in (
       (λ h. elim h [
-        | inl is ↦ let b = is.1 in by_lt_z n x (λ lt. inl (inl (is.0, omega (arith, ints)))) (λ le. inr (omega (arith, ints)))
-        | inr none ↦ absurd none
+        | inl w ↦ let b = w.1 in by_lt_z n x (λ lt. let up : n ≤ℤ r.1 = omega (arith, ints, lt, next) in inl (inl (subst InFirst (sym is) (w.0, up)))) (λ le. inr (omega (arith, ints, le, b)))
+        | inr later ↦ inl (inr later)
       ]),
       (λ h. elim h [
-        | inl old ↦ elim old [ inl is ↦ let a = is.0 in let b = is.1 in inl (a, omega (arith, ints)) | inr none ↦ absurd none ]
+        | inl old ↦ elim old [ inl here ↦ let w = subst InFirst is here in let b = w.1 in inl (w.0, omega (arith, ints, b, above)) | inr later ↦ inr later ]
         | inr e ↦ inl (omega (arith, ints, e, filled, above), omega (arith, ints, e))
       ]),
     )
-grown_in (r ∷ rs) low high x n above next all =
-    let more = grown_in rs low high x n above next all.1 in (
+grown_in (s ∷ rs) (suc k) r x n at above next all =
+    let more = grown_in rs k r x n at above next all.1 in (
       (λ h. elim h [
         | inl here ↦ inl (inl here)
         | inr later ↦ elim (more.0 later) [ inl old ↦ inl (inr old) | inr e ↦ inr e ]

@@ -9,7 +9,7 @@ use Rattle.fz_sets.specs.Sets.{IsInSet, IsInRange, AreRanges}
 use Rattle.fz_dom.proofs.Ranges.{AreRanges-tail, lower_bound, above_gap}
 use Rattle.fz_table.specs.declared.supports.Support.{Support}
 use Rattle.fz_bits.specs.Members.{HasMember, IsOneOf}
-use Rattle.fz_table.specs.Supports.{AreInOrder, StandsIn, IsLeftIn, AreEnds, IsFirst, IsEnd, HasOneBetween, StandsBetween}
+use Rattle.fz_table.specs.Supports.{AreInOrder, StandsIn, IsLeftIn, IsNext, AreEnds, IsFirst, IsEnd, HasOneBetween, StandsBetween}
 use Rattle.fz_table.proofs.Slices.{get_more, get_append_left}
 
 -- a support has what all from a place to another have
@@ -18,20 +18,8 @@ of_all P xs low high k s all at past below = subst P (get_or_from_slice_get xs k
 
 -- ---- where the next number begins
 
--- the ends of the supports before place n
-pub record AreEndsBelow (column : List Support) (ends : List ℕ) (n : ℕ) : Type 0 where
-  pub size : length ends ≡ n
-  pub ahead : (k end : ℕ) → slice_get ends k ≡ Some end → (k < end) × (end ≤ length column)
-  pub same : (k end j : ℕ) (s t : Support) → slice_get ends k ≡ Some end → slice_get column k ≡ Some s → slice_get column j ≡ Some t → k ≤ j → j < end → t.number ≡ s.number
-  pub above : (k end j : ℕ) (s t : Support) → slice_get ends k ≡ Some end → slice_get column k ≡ Some s → slice_get column j ≡ Some t → end ≤ j → s.number <ℤ t.number
-
-pub ends_none : (column : List Support) → AreEndsBelow column [] 0
-ends_none column = record {
-  size = refl;
-  ahead = λ k end at. absurd (cc (at));
-  same = λ k end j s t at. absurd (cc (at));
-  above = λ k end j s t at. absurd (cc (at));
-}
+pub ends_none : (column : List Support) → AreEnds column []
+ends_none column = λ k end at. absurd (cc (at))
 
 length_more : (xs : List ℕ) (x : ℕ) → length (xs ++ x ∷ []) ≡ length xs + 1
 length_more [] x = refl
@@ -49,47 +37,54 @@ place_more ends end n k e size at = elim (cases_lt k (length ends)) [
   ]
 ]
 
+-- the end of the supports whose numbers are at or below a support's comes next
+next_end : (column : List Support) (n end : ℕ) (x : Support) → AreInOrder column → slice_get column n ≡ Some x → end ≤ length column
+    → AllWithin (λ (s : Support). s.number ≤ℤ x.number) column 0 end → AllWithin (λ (s : Support). x.number <ℤ s.number) column end (length column) → IsNext column n end
+next_end column n end x order at inside to above = record {
+  further = elim (cases_lt n end) [
+    | inl below ↦ below
+    | inr past ↦
+        let over = of_all (λ (s : Support). x.number <ℤ s.number) column end (length column) n x above at past (slice_get_within column n x at) in
+        absurd (omega (arith, ints, over))
+  ];
+  inside = inside;
+  same = λ j s t at_s at_t past under.
+      let is_s : s ≡ x = cc (at, at_s) in
+      let number_is : s.number ≡ x.number = ap (λ (u : Support). u.number) is_s in
+      let up = order n j s t past at_s at_t in
+      let down = of_all (λ (u : Support). u.number ≤ℤ x.number) column 0 end j t to at_t (omega arith) under in
+      omega (arith, ints, number_is, up, down);
+}
+
+-- the ends of the supports before a place
+abbrev pub AreEndsBelow : List Support → List ℕ → ℕ → Type 0
+AreEndsBelow column ends n = (length ends ≡ n) × AreEnds column ends
+
 pub ends_more : (column : List Support) (ends : List ℕ) (n end : ℕ) (x : Support) → AreInOrder column → slice_get column n ≡ Some x → end ≤ length column
     → AllWithin (λ (s : Support). s.number ≤ℤ x.number) column 0 end → AllWithin (λ (s : Support). x.number <ℤ s.number) column end (length column)
     → AreEndsBelow column ends n → AreEndsBelow column (ends ++ end ∷ []) (n + 1)
 ends_more column ends n end x order at inside to above h =
-    let before : n < end = elim (cases_lt n end) [
-      | inl below ↦ below
-      | inr past ↦
-          let over = of_all (λ (s : Support). x.number <ℤ s.number) column end (length column) n x above at past (slice_get_within column n x at) in
-          absurd (omega (arith, ints, over))
-    ] in
-    record {
-      size = (let size = h.size in let more = length_more ends end in omega (arith, size, more));
-      ahead = λ k e at_e. elim (place_more ends end n k e h.size at_e) [
-        | inl old ↦ h.ahead k e old
-        | inr new ↦ let is_k = new.0 in let is_e = new.1 in (omega (arith, is_k, is_e, before), omega (arith, is_e, inside))
-      ];
-      same = λ k e j s t at_e at_s at_t past under. elim (place_more ends end n k e h.size at_e) [
-        | inl old ↦ h.same k e j s t old at_s at_t past under
+    let size = h.0 in (
+      omega (arith, size, length_more ends end),
+      λ k e at_e. elim (place_more ends end n k e size at_e) [
+        | inl old ↦ h.1 k e old
         | inr new ↦
-            let P : ℕ → Type 0 = λ (i : ℕ). slice_get column i ≡ Some s in
-            let is_s : s ≡ x = cc (at, subst P new.0 at_s) in
-            let number_is : s.number ≡ x.number = ap (λ (u : Support). u.number) is_s in
-            let is_e = new.1 in
-            let up = order k j s t past at_s at_t in
-            let down = of_all (λ (u : Support). u.number ≤ℤ x.number) column 0 end j t to at_t (omega arith) (omega (arith, under, is_e)) in
-            omega (arith, ints, number_is, up, down)
-      ];
-      above = λ k e j s t at_e at_s at_t past. elim (place_more ends end n k e h.size at_e) [
-        | inl old ↦ h.above k e j s t old at_s at_t past
-        | inr new ↦
-            let P : ℕ → Type 0 = λ (i : ℕ). slice_get column i ≡ Some s in
-            let is_s : s ≡ x = cc (at, subst P new.0 at_s) in
-            let number_is : s.number ≡ x.number = ap (λ (u : Support). u.number) is_s in
-            let is_e = new.1 in
-            let up = of_all (λ (u : Support). x.number <ℤ u.number) column end (length column) j t above at_t (omega (arith, past, is_e)) (slice_get_within column j t at_t) in
-            omega (arith, ints, number_is, up)
-      ];
-    }
+            let is : IsNext column n e = subst (IsNext column n) (sym new.1) (next_end column n end x order at inside to above) in
+            subst (λ (i : ℕ). IsNext column i e) (sym new.0) is
+      ],
+    )
 
-pub ends_all : (column : List Support) (ends : List ℕ) (n : ℕ) → length column ≡ n → AreEndsBelow column ends n → AreEnds column ends
-ends_all column ends n all h = record { size = h.size ∙ sym all; ahead = h.ahead; same = h.same; above = h.above }
+-- a place that is not listed
+pub next_place : (column : List Support) (place : ℕ) → place < length column → IsNext column place (place + 1)
+next_place column place below = record {
+  further = omega arith;
+  inside = omega (arith, below);
+  same = λ j s t at_s at_t past under.
+      let is : j ≡ place = omega (arith, past, under) in
+      let P : ℕ → Type 0 = λ (i : ℕ). slice_get column i ≡ Some t in
+      let same : t ≡ s = cc (at_s, subst P is at_t) in
+      ap (λ (u : Support). u.number) same;
+}
 
 -- ---- the first support at or above a value
 
@@ -106,18 +101,17 @@ below_none column place value inside = record {
   below = λ k s past under. absurd (omega (arith, past, under));
 }
 
-pub below_more : (column : List Support) (ends : List ℕ) (place : ℕ) (value : ℤ) (first end : ℕ) (x : Support) → AreEnds column ends → slice_get ends first ≡ Some end → slice_get column first ≡ Some x
-    → x.number <ℤ value → AreBelow column place value first → AreBelow column place value end
-below_more column ends place value first end x are at_end at low h =
-    let ahead = are.ahead first end at_end in
-    let further = ahead.0 in
+pub below_more : (column : List Support) (place : ℕ) (value : ℤ) (first end : ℕ) (x : Support) → IsNext column first end → slice_get column first ≡ Some x → x.number <ℤ value
+    → AreBelow column place value first → AreBelow column place value end
+below_more column place value first end x next at low h =
+    let further = next.further in
     let from = h.from in
     record {
       from = omega (arith, further, from);
-      to = ahead.1;
+      to = next.inside;
       below = λ k s past under at_s. elim (cases_lt k first) [
         | inl before ↦ h.below k s past before at_s
-        | inr after ↦ let same = are.same first end k x s at_end at at_s after under in omega (arith, ints, same, low)
+        | inr after ↦ let same = next.same k x s at at_s after under in omega (arith, ints, same, low)
       ];
     }
 

@@ -5,7 +5,7 @@ use Rattle.std.proofs.lemmas.Bool.{cases_eq, cases_lt}
 use Rattle.std.proofs.lemmas.Option.{slice_get_within}
 use Rattle.fz_table.specs.declared.supports.Support.{Support}
 use Rattle.fz_bits.specs.Members.{HasMember, IsOneOf}
-use Rattle.fz_table.specs.Supports.{AreEnds, HasNumber, StandsIn, StandsBetween}
+use Rattle.fz_table.specs.Supports.{IsNext, HasNumber, StandsIn, StandsBetween}
 
 -- ---- the rows of the numbers with a property
 
@@ -44,10 +44,10 @@ rows_joined column P old rows new place x at holds more same h = record {
   size = same ∙ h.size;
 }
 
-pub rows_passed : (column : List Support) (ends : List ℕ) (P : ℤ → Type 0) (old rows : List ℕ) (place end : ℕ) (x : Support) → AreEnds column ends → slice_get ends place ≡ Some end
+pub rows_passed : (column : List Support) (P : ℤ → Type 0) (old rows : List ℕ) (place end : ℕ) (x : Support) → IsNext column place end
     → slice_get column place ≡ Some x → (P x.number → ⊥) → AreRowsBelow column P old rows place → AreRowsBelow column P old rows end
-rows_passed column ends P old rows place end x are at_end at not h =
-    let ahead = (are.ahead place end at_end).0 in
+rows_passed column P old rows place end x next at not h =
+    let ahead = next.further in
     record {
       rows_are = λ i. (
         (λ has. elim ((h.rows_are i).0 has) [ inl had ↦ inl had | inr w ↦ let below = w.2 in inr (w.0, w.1, omega (arith, below, ahead), w.3, w.4, w.5) ]),
@@ -55,7 +55,7 @@ rows_passed column ends P old rows place end x are at_end at not h =
           | inl had ↦ inl had
           | inr w ↦ elim (cases_lt w.0 place) [
             | inl before ↦ inr (w.0, w.1, before, w.3, w.4, w.5)
-            | inr after ↦ absurd (not (subst P (are.same place end w.0 x w.1 at_end at w.3 after w.2) w.4))
+            | inr after ↦ absurd (not (subst P (next.same w.0 x w.1 at w.3 after w.2) w.4))
           ]
         ])),
       );
@@ -98,26 +98,26 @@ numbers_passed column rows P Q place end further none h n = (
 )
 
 -- a number is added, and the supports that have it are passed
-pub numbers_more : (column : List Support) (ends : List ℕ) (rows : List ℕ) (P Q R : ℤ → Type 0) (place end : ℕ) (x : Support) → AreEnds column ends → slice_get ends place ≡ Some end
+pub numbers_more : (column : List Support) (rows : List ℕ) (P Q R : ℤ → Type 0) (place end : ℕ) (x : Support) → IsNext column place end
     → slice_get column place ≡ Some x → P x.number → ((i : ℕ) × HasMember rows i × IsOneOf x.rows i) → ((n : ℤ) → R n ↔ (Q n ⊎ (n ≡ x.number)))
     → AreNumbersBelow column rows P Q place → AreNumbersBelow column rows P R end
-numbers_more column ends rows P Q R place end x are at_end at holds some more h n =
-    let ahead = (are.ahead place end at_end).0 in (
+numbers_more column rows P Q R place end x next at holds some more h n =
+    let ahead = next.further in (
       (λ is. elim ((more n).0 is) [
         | inl before ↦ let w = (h n).0 before in let below = w.1.3 in (w.0, (w.1.0, w.1.1, w.1.2, omega (arith, below, ahead), w.1.4, w.1.5, w.1.6, w.1.7, w.1.8))
         | inr e ↦ (subst P (sym e) holds, (place, x, omega arith, ahead, at, sym e, some.0, some.1, some.2))
       ]),
       (λ w. (more n).1 (elim (cases_lt w.1.0 place) [
         | inl before ↦ inl ((h n).1 (w.0, (w.1.0, w.1.1, w.1.2, before, w.1.4, w.1.5, w.1.6, w.1.7, w.1.8)))
-        | inr after ↦ inr (sym w.1.5 ∙ are.same place end w.1.0 x w.1.1 at_end at w.1.4 after w.1.3)
+        | inr after ↦ inr (sym w.1.5 ∙ next.same w.1.0 x w.1.1 at w.1.4 after w.1.3)
       ])),
     )
 
 -- a number without the property
-pub none_outside : (column : List Support) (ends : List ℕ) (rows : List ℕ) (P : ℤ → Type 0) (place end : ℕ) (x : Support) → AreEnds column ends → slice_get ends place ≡ Some end
+pub none_outside : (column : List Support) (rows : List ℕ) (P : ℤ → Type 0) (place end : ℕ) (x : Support) → IsNext column place end
     → slice_get column place ≡ Some x → (P x.number → ⊥)
     → (j : ℕ) (t : Support) (i : ℕ) → slice_get column j ≡ Some t → place ≤ j → j < end → P t.number → HasMember rows i → IsOneOf t.rows i → ⊥
-none_outside column ends rows P place end x are at_end at not j t i at_t after before holds has one = not (subst P (are.same place end j x t at_end at at_t after before) holds)
+none_outside column rows P place end x next at not j t i at_t after before holds has one = not (subst P (next.same j x t at at_t after before) holds)
 
 -- a support with none of the rows
 pub none_meets : (column : List Support) (rows : List ℕ) (P : ℤ → Type 0) (place : ℕ) (x : Support) → slice_get column place ≡ Some x → (((i : ℕ) × HasMember rows i × IsOneOf x.rows i) → ⊥)

@@ -24,10 +24,3 @@ pub record ArePacked (column : List Support) (packed : Packed) : Type 0 where
   pub whole : IsWhole packed
   pub width : (size : ℕ) → AreSized column size → packed.width ≤ size
   pub rows : (n : ℤ) (i : ℕ) → HasRow packed n i ↔ HasNumber column n i
-
--- what a column keeps: its numbers don't fall, where each of them ends, its numbers are in its ranges, and their rows are in the words
-pub record IsKept (column : List Support) (ends : List ℕ) (spans : List (ℤ × ℤ)) (words : Option Packed) : Type 0 where
-  pub order : AreInOrder column
-  pub ended : AreEnds column ends
-  pub spanned : (s : Support) → IsIn s column → IsInSet spans s.number
-  pub packed : IfSome words (λ p. ArePacked column p)

@@ -63,12 +63,15 @@ pub record AreColumnsOf (table : List ℤ) (width : ℕ) (columns : List (List S
 
 -- ---- places in a column
 
--- For each support, where the next number begins.
-pub record AreEnds (column : List Support) (ends : List ℕ) : Type 0 where
-  pub size : length ends ≡ length column
-  pub ahead : (k end : ℕ) → slice_get ends k ≡ Some end → (k < end) × (end ≤ length column)
-  pub same : (k end j : ℕ) (s t : Support) → slice_get ends k ≡ Some end → slice_get column k ≡ Some s → slice_get column j ≡ Some t → k ≤ j → j < end → t.number ≡ s.number
-  pub above : (k end j : ℕ) (s t : Support) → slice_get ends k ≡ Some end → slice_get column k ≡ Some s → slice_get column j ≡ Some t → end ≤ j → s.number <ℤ t.number
+-- up to a place that comes next all have the number of the support at another
+pub record IsNext (column : List Support) (place next : ℕ) : Type 0 where
+  pub further : place < next
+  pub inside : next ≤ length column
+  pub same : (j : ℕ) (s t : Support) → slice_get column place ≡ Some s → slice_get column j ≡ Some t → place ≤ j → j < next → t.number ≡ s.number
+
+-- for supports, as far as they are listed, a place that comes next
+abbrev pub AreEnds : List Support → List ℕ → Type 0
+AreEnds column ends = (k end : ℕ) → slice_get ends k ≡ Some end → IsNext column k end
 
 -- from a place on, the first support whose number is at or above a value
 pub record IsFirst (column : List Support) (place : ℕ) (value : ℤ) (first : ℕ) : Type 0 where

@@ -1,18 +1,20 @@
 //! Columns of a table: the rows whose number is left, and the numbers of some rows.
-ghost use Rattle.std.specs.Prelude.{◌≡◌, ◌<◌, ◌↔◌, ◌⊎◌, ℕ, ℤ, length, IfOk};
+ghost use Rattle.std.specs.Prelude.{◌≡◌, ◌<◌, ◌↔◌, ◌⊎◌, ℕ, ℤ, length, IfOk, IfSome};
 ghost use Rattle.fz_sets.specs.Sets.{IsInSet, single};
 ghost use Rattle.fz_strength.specs.Domains.{dom_at, term_set};
 ghost use Rattle.fz_prop.specs.Stores.{IsTermOf};
 ghost use Rattle.fz_bits.specs.Members.{HasMember};
 ghost use Rattle.fz_bits.specs.Windows.{IsBit};
-ghost use Rattle.fz_table.specs.Supports.{IsIn, AreInOrder, HasNumber, AreSized, StandsIn, IsLeftIn};
+ghost use Rattle.fz_table.specs.Supports.{AreInOrder, HasNumber, AreSized, StandsIn, IsLeftIn, AreEnds};
+ghost use Rattle.fz_table.specs.Packed.{ArePacked};
 
+use crate::index::{Index, index_of};
 use crate::near::{join_near, numbers_near};
-use crate::packed::{Packed, packed_of};
+use crate::packed::Packed;
 use crate::row_set::{clear, meet};
 use crate::spans::Spans;
 use crate::supports::Support;
-use crate::walk::{add_numbers, ends_of, first_from, join_to};
+use crate::walk::{add_numbers, first_from, join_to};
 use fz_bits::Window;
 use fz_dom::Dom;
 use fz_prop::Store;
@@ -26,24 +28,22 @@ use std::marker::Model;
 pub struct Column {
     /// From the lowest number up.
     supports: Vec<Support>,
-    /// For each of them where the next number begins.
-    ends: Vec<usize>,
-    /// The ranges of its numbers.
-    spans: Spans,
-    /// The same as words of one width, where these are few.
-    packed: Option<Packed>,
+    /// What these are found by, where they are many.
+    index: Option<Box<Index>>,
 }
 
 impl Model for Column {
-    ghost use Rattle.std.specs.Prelude.{List};
+    ghost use Rattle.std.specs.Prelude.{List, IfSome};
     ghost use Rattle.fz_table.specs.declared.supports.Support.{Support};
-    ghost use Rattle.fz_table.specs.Packed.{IsKept};
+    ghost use Rattle.fz_table.specs.Supports.{AreInOrder};
+    ghost use Rattle.fz_table.specs.Indexes.{IsIndexOf};
 
     ghost Value = { List Support };
 
     ghost view = { λ c. c.supports.items };
 
-    ghost invariant = { λ c. IsKept c.supports.items c.ends.items c.spans c.packed };
+    ghost invariant = { λ c. AreInOrder c.supports.items
+        × IfSome c.index (λ b. IsIndexOf b.value c.supports.items) };
 }
 
 impl Column {
@@ -55,15 +55,8 @@ impl Column {
         requires { AreInOrder supports.items }
         ensures { IfOk result (λ c. c ≡ supports.items) }
     {
-        let ends = ends_of(alloc, &supports)?;
-        let spans = spans_of(alloc, &supports)?;
-        let packed = packed_of(alloc, &supports)?;
-        Ok(Column {
-            supports,
-            ends,
-            spans,
-            packed,
-        })
+        let index = index_of(alloc, &supports)?;
+        Ok(Column { supports, index })
     }
 
     /// Keeps the rows of a set whose number is left of a term. What the other set has is lost.
@@ -77,8 +70,10 @@ impl Column {
         ensures size { length rows.new ≡ length rows.old }
         ensures found { length found.new ≡ length found.old }
     {
-        if self.spans.are_left(store, term) {
-            return;
+        if let Some(index) = &self.index {
+            if index.spans.are_left(store, term) {
+                return;
+            }
         }
         self.find(store, term, found);
         meet(rows, found);
@@ -120,9 +115,9 @@ impl Column {
             ⊎ ((n : ℤ) × HasNumber self.now n i × IsBit window.base window.bits n)) }
         ensures size { length rows.new ≡ length rows.old }
     {
-        match &self.packed {
+        match self.packed() {
             Some(packed) => packed.join_window(window, rows),
-            None => join_near(&self.supports, &self.ends, window, rows),
+            None => join_near(&self.supports, self.ends(), window, rows),
         }
     }
 
@@ -133,9 +128,10 @@ impl Column {
             ↔ (HasMember rows.old i ⊎ IsLeftIn self.now dom.now i) }
         ensures size { length rows.new ≡ length rows.old }
     {
+        let ends = self.ends();
         let mut place = 0;
         for (low, high) in dom.ranges() {
-            let first = first_from(&self.supports, &self.ends, place, low);
+            let first = first_from(&self.supports, ends, place, low);
             place = join_to(&self.supports, first, high, rows);
         }
     }
@@ -147,7 +143,7 @@ impl Column {
             ↔ (HasMember rows.old i ⊎ IsLeftIn self.now (single number) i) }
         ensures size { length rows.new ≡ length rows.old }
     {
-        let first = first_from(&self.supports, &self.ends, 0, number);
+        let first = first_from(&self.supports, self.ends(), 0, number);
         let _ = join_to(&self.supports, first, number, rows);
     }
 
@@ -158,9 +154,9 @@ impl Column {
         ensures numbers { (n : ℤ) → IsBit window.base result.bits n
             ↔ (IsBit window.base window.bits n × StandsIn self.now rows.now n) }
     {
-        match &self.packed {
+        match self.packed() {
             Some(packed) => packed.numbers_within(window, rows),
-            None => numbers_near(&self.supports, &self.ends, window, rows),
+            None => numbers_near(&self.supports, self.ends(), window, rows),
         }
     }
 
@@ -173,25 +169,36 @@ impl Column {
         ensures { IfOk result (λ s. (n : ℤ) → IsInSet s n
             ↔ (IsInSet dom.now n × StandsIn self.now rows.now n)) }
     {
+        if let Some(packed) = self.packed() {
+            return packed.numbers_in(alloc, dom, rows);
+        }
+        let ends = self.ends();
         let mut numbers = Spans::new(alloc);
         let mut place = 0;
         for (low, high) in dom.ranges() {
-            let first = first_from(&self.supports, &self.ends, place, low);
-            place = add_numbers(&self.supports, &self.ends, first, high, rows, &mut numbers)?;
+            let first = first_from(&self.supports, ends, place, low);
+            place = add_numbers(&self.supports, ends, first, high, rows, &mut numbers)?;
         }
         Ok(numbers)
     }
-}
 
-/// The ranges of the numbers of supports.
-fn spans_of(alloc: Global, supports: &[Support]) -> Result<Spans, AllocError>
-    ensures { IfOk result (λ s. (n : ℤ) → IsInSet s n
-        ↔ ((t : Support) × IsIn t supports.now × (t.number ≡ n))) }
-{
-    let mut spans = Spans::new(alloc);
-    for support in supports {
-        spans.add(support.number)?;
+    /// Where the next number begins, as far as that is listed.
+    fn ends(&self) -> &[usize]
+        ensures { AreEnds self.now result.now }
+    {
+        match &self.index {
+            Some(index) => &index.ends,
+            None => &[],
+        }
     }
-    spans.shrink();
-    Ok(spans)
+
+    /// Its numbers with words of rows, where these are few.
+    fn packed(&self) -> Option<&Packed>
+        ensures { IfSome result (λ p. ArePacked self.now p.now) }
+    {
+        match &self.index {
+            Some(index) => index.packed.as_ref(),
+            None => None,
+        }
+    }
 }

@@ -14,8 +14,12 @@ use std::alloc::{AllocError, Global};
 pub enum Layout {
     /// The partners of each number, of two columns whose numbers are near to one another.
     Pairs(Pairs),
-    /// The rows of each number of each column, and whether no variable stands at two places, as far as that was looked at.
-    Columns(Vec<Column>, bool),
+    /// The rows of each number of each column.
+    Columns {
+        columns: Vec<Column>,
+        /// Whether no variable stands at two places, as far as that was looked at.
+        differ: bool,
+    },
 }
 
 /// What a table is looked at by, whose rows are as long as a list of terms.
@@ -29,5 +33,6 @@ pub fn layout_of(alloc: Global, terms: &[Term], table: &[i32]) -> Result<Layout,
         return Ok(Layout::Pairs(pairs));
     }
     let columns = columns_of(alloc, table, terms.len())?;
-    Ok(Layout::Columns(columns, do_differ(terms)))
+    let differ = do_differ(terms);
+    Ok(Layout::Columns { columns, differ })
 }

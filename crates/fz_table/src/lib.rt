@@ -4,6 +4,7 @@
 mod apart;
 mod column;
 mod columns;
+mod index;
 mod keep;
 mod keep_pairs;
 mod layout;

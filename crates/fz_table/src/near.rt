@@ -6,6 +6,7 @@ ghost use Rattle.fz_table.specs.Supports.{AreSized, AreEnds, HasNumber, StandsIn
 
 use crate::row_set::{join, meets};
 use crate::supports::Support;
+use crate::walk::next_of;
 use fz_bits::Window;
 
 /// Puts the rows that have a number of a window into a set.
@@ -23,7 +24,7 @@ pub fn join_near(supports: &[Support], ends: &[usize], window: Window, rows: &mu
             join(rows, support.rows);
             place += 1;
         } else {
-            place = ends[place];
+            place = next_of(supports, ends, place);
         }
     }
 }
@@ -41,10 +42,10 @@ pub fn numbers_near(supports: &[Support], ends: &[usize], window: Window, rows: 
     while place < supports.len() {
         let support = supports[place];
         if !window.has(support.number) {
-            place = ends[place];
+            place = next_of(supports, ends, place);
         } else if meets(rows, support.rows) {
             numbers = numbers.with(support.number);
-            place = ends[place];
+            place = next_of(supports, ends, place);
         } else {
             place += 1;
         }

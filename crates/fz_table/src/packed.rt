@@ -1,14 +1,17 @@
 //! The rows of each number of a column as words of one width, where that takes hardly more room than their chunks.
 ghost use Rattle.std.specs.Prelude.{◌≡◌, ◌≤◌, ◌+◌, ◌↔◌, ◌⊎◌, ℕ, ℤ, [], length, IfOk, OnOk, IfSome, IsTrue};
+ghost use Rattle.fz_sets.specs.Sets.{IsInSet};
 ghost use Rattle.fz_bits.specs.Members.{HasMember};
 ghost use Rattle.fz_bits.specs.Windows.{IsBit};
 ghost use Rattle.fz_table.specs.Packed.{words_of, HasRow, IsWhole, ArePacked};
 ghost use Rattle.fz_table.specs.Supports.{AreInOrder, AreSized};
 
-use crate::row_set::{clear, join_all, meets_any};
+use crate::row_set::{clear, join_all, meeting};
+use crate::spans::Spans;
 use crate::supports::Support;
 use crate::walk::join_to;
 use fz_bits::Window;
+use fz_dom::Dom;
 use std::alloc::{AllocError, Global};
 
 /// A number with the place of the first word of its rows.
@@ -148,15 +151,42 @@ impl Packed {
             ↔ (IsBit window.base window.bits n × (i : ℕ) × HasRow self.now n i × HasMember rows.now i) }
     {
         let mut numbers = Window::none(window.base);
+        let mut near = 0;
         for numbered in &self.numbers {
             if !window.has(numbered.number) {
                 continue;
             }
-            if !meets_any(rows, self.words_of(*numbered)) {
+            let Some(word) = meeting(rows, self.words_of(*numbered), near) else {
                 continue;
-            }
+            };
             numbers = numbers.with(numbered.number);
+            near = word;
         }
         numbers
+    }
+
+    /// The numbers of a domain that some rows have.
+    ///
+    /// # Errors
+    /// `AllocError` where there is no memory.
+    pub fn numbers_in(&self, alloc: Global, dom: &Dom, rows: &[u64]) -> Result<Spans, AllocError>
+        requires whole { IsWhole self.now }
+        requires width { self.now.width ≤ length rows.now }
+        ensures { IfOk result (λ s. (n : ℤ) → IsInSet s n
+            ↔ (IsInSet dom.now n × (i : ℕ) × HasRow self.now n i × HasMember rows.now i)) }
+    {
+        let mut numbers = Spans::new(alloc);
+        let mut near = 0;
+        for numbered in &self.numbers {
+            if !dom.contains(numbered.number) {
+                continue;
+            }
+            let Some(word) = meeting(rows, self.words_of(*numbered), near) else {
+                continue;
+            };
+            numbers.add(numbered.number)?;
+            near = word;
+        }
+        Ok(numbers)
     }
 }

@@ -1,5 +1,5 @@
 //! Sets of rows as words, 64 rows to each.
-ghost use Rattle.std.specs.Prelude.{◌≡◌, ◌<◌, ◌≤◌, ◌↔◌, ◌⊎◌, ℕ, length, IsTrue, false};
+ghost use Rattle.std.specs.Prelude.{◌≡◌, ◌<◌, ◌≤◌, ◌/◌, ◌↔◌, ◌⊎◌, ℕ, length, IsTrue, MatchOption, false};
 ghost use Rattle.fz_bits.specs.Members.{HasMember, IsOneOf, words_for};
 
 use fz_bits::Chunk;
@@ -75,15 +75,27 @@ pub fn join_all(rows: &mut [u64], words: &[u64])
     }
 }
 
-/// Whether a row of words is in a set.
-pub fn meets_any(rows: &[u64], words: &[u64]) -> bool
+/// The place of a word with a row that is in a set. The word at one place is looked at first.
+pub fn meeting(rows: &[u64], words: &[u64], near: usize) -> Option<usize>
     requires { length words.now ≤ length rows.now }
-    ensures { IsTrue result ↔ ((i : ℕ) × HasMember rows.now i × HasMember words.now i) }
+    ensures { MatchOption result ((i : ℕ) → HasMember rows.now i → HasMember words.now i → ⊥)
+        (λ k. (i : ℕ) × HasMember rows.now i × HasMember words.now i × (i / 64 ≡ k)) }
 {
-    for (word, bits) in words.iter().enumerate() {
-        if meets(rows, Chunk { word, bits: *bits }) {
-            return true;
+    if let Some(bits) = words.get(near) {
+        if meets(
+            rows,
+            Chunk {
+                word: near,
+                bits: *bits,
+            },
+        ) {
+            return Some(near);
         }
     }
-    false
+    for (word, bits) in words.iter().enumerate() {
+        if meets(rows, Chunk { word, bits: *bits }) {
+            return Some(word);
+        }
+    }
+    None
 }

@@ -73,15 +73,14 @@ impl Spans {
     fn push(&mut self, number: i32) -> Result<(), AllocError>
         ensures { OnOk result ((n : ℤ) → IsInSet self.new n ↔ (IsInSet self.old n ⊎ (n ≡ number))) }
     {
-        let Some((low, high)) = self.ranges.pop() else {
-            self.ranges.push((number, number))?;
-            return Ok(());
-        };
-        if high < number && number - 1 == high {
-            self.ranges.push((low, number))?;
-            return Ok(());
+        let count = self.ranges.len();
+        if count > 0 {
+            let (low, high) = self.ranges[count - 1];
+            if high < number && number - 1 == high {
+                self.ranges[count - 1] = (low, number);
+                return Ok(());
+            }
         }
-        self.ranges.push((low, high))?;
         self.ranges.push((number, number))?;
         Ok(())
     }

@@ -57,7 +57,7 @@ impl Propagator for Table {
                 let (first, second) = (self.terms[0], self.terms[1]);
                 keep_pairs(store, first, second, &self.numbers, pairs)
             }
-            Layout::Columns(columns, differ) => {
+            Layout::Columns { columns, differ } => {
                 let alloc = *self.terms.allocator();
                 keep_rows(alloc, store, &self.terms, &self.numbers, columns, *differ)
             }

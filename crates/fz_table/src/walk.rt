@@ -1,8 +1,8 @@
 //! Going over the supports of a column, from a place on and up to a number.
-ghost use Rattle.std.specs.Prelude.{◌≡◌, ◌≤◌, ◌↔◌, ◌⊎◌, ℕ, ℤ, length, IfOk};
+ghost use Rattle.std.specs.Prelude.{◌≡◌, ◌<◌, ◌≤◌, ◌↔◌, ◌⊎◌, ℕ, ℤ, length, IfOk};
 ghost use Rattle.fz_sets.specs.Sets.{IsInSet};
 ghost use Rattle.fz_bits.specs.Members.{HasMember};
-ghost use Rattle.fz_table.specs.Supports.{AreInOrder, AreSized, AreEnds, IsFirst, IsEnd, HasOneBetween, StandsBetween};
+ghost use Rattle.fz_table.specs.Supports.{AreInOrder, AreSized, IsNext, AreEnds, IsFirst, IsEnd, HasOneBetween, StandsBetween};
 
 use crate::row_set::{join, meets};
 use crate::spans::Spans;
@@ -27,6 +27,19 @@ pub fn ends_of(alloc: Global, supports: &[Support]) -> Result<Vec<usize>, AllocE
     Ok(ends)
 }
 
+/// Where the next number begins, as far as that is listed, and else the next place.
+pub fn next_of(supports: &[Support], ends: &[usize], place: usize) -> usize
+    requires ends { AreEnds supports.now ends.now }
+    requires place { place < length supports.now }
+    ensures { IsNext supports.now place result }
+{
+    let _ = supports;
+    match ends.get(place) {
+        Some(end) => *end,
+        None => place + 1,
+    }
+}
+
 /// The place of the first support from a place on whose number is at or above a value.
 pub fn first_from(supports: &[Support], ends: &[usize], place: usize, value: i32) -> usize
     requires order { AreInOrder supports.now }
@@ -42,7 +55,7 @@ pub fn first_from(supports: &[Support], ends: &[usize], place: usize, value: i32
         if supports[first].number >= value {
             return first;
         }
-        first = ends[first];
+        first = next_of(supports, ends, first);
     }
     let far = count_below(supports, value);
     if far < first {
@@ -98,7 +111,7 @@ pub fn add_numbers(
         }
         if meets(rows, support.rows) {
             numbers.add(support.number)?;
-            end = ends[end];
+            end = next_of(supports, ends, end);
         } else {
             end += 1;
         }

@@ -32,13 +32,9 @@ loop-place-preserved-then-has c =
 
 pub loop-place-smaller : goal.loop-place-smaller
 loop-place-smaller c =
-    let size = c.requires.ends.size in
     let test = c.loop-place-test.true in
-    let k = c.loop-place.place in
-    let end = get_or c.args.ends.now k 0 in
-    let ahead = c.requires.ends.ahead k end (slice_get-get_or c.args.ends.now k 0 (omega (arith, test, size))) in
-    let further = ahead.0 in
-    let smaller : length c.args.supports.now - end < length c.args.supports.now - k = omega (arith, test, further) in
+    let further = c.next_of-place.ensures.further in
+    let smaller : length c.args.supports.now - c.next_of-place.result < length c.args.supports.now - c.loop-place.place = omega (arith, test, further) in
     smaller
 
 pub loop-place-preserved : goal.loop-place-preserved
@@ -48,13 +44,10 @@ loop-place-preserved c =
     let none : Support = record { number = pos 0; rows = record { word = 0; bits = 0 } } in
     let s = get_or xs k none in
     let test = c.loop-place-test.true in
-    let size = c.requires.ends.size in
     let at = slice_get-get_or xs k none test in
-    let end = get_or c.args.ends.now k 0 in
-    let at_end = slice_get-get_or c.args.ends.now k 0 (omega (arith, test, size)) in
     let fits : SFits w32 s.number = search rules in
     let has = rw (to_z-of_z fits) at c.has.ensures in
-    rows_passed xs c.args.ends.now (λ n. IsBit c.args.window.base c.args.window.bits n) c.args.rows.now c.loop-place.rows k end s c.requires.ends at_end at
+    rows_passed xs (λ n. IsBit c.args.window.base c.args.window.bits n) c.args.rows.now c.loop-place.rows k c.next_of-place.result s c.next_of-place.ensures at
     (λ is. absurd (let yes = has.1 is in let no = c.if-has.false in cc (yes, no))) c.loop-place.invariant
 
 pub returns-clause-rows : goal.returns-clause-rows

@@ -48,24 +48,16 @@ with-numbers-requires-clause-high c =
 
 pub loop-place-smaller-then-not-has : goal.loop-place-smaller-then-not-has
 loop-place-smaller-then-not-has c =
-    let size = c.requires.ends.size in
     let test = c.loop-place-test.true in
-    let k = c.loop-place.place in
-    let end = get_or c.args.ends.now k 0 in
-    let ahead = c.requires.ends.ahead k end (slice_get-get_or c.args.ends.now k 0 (omega (arith, test, size))) in
-    let further = ahead.0 in
-    let smaller : length c.args.supports.now - end < length c.args.supports.now - k = omega (arith, test, further) in
+    let further = c.next_of-place.ensures.further in
+    let smaller : length c.args.supports.now - c.next_of-place.result < length c.args.supports.now - c.loop-place.place = omega (arith, test, further) in
     smaller
 
 pub loop-place-smaller-then-meets : goal.loop-place-smaller-then-meets
 loop-place-smaller-then-meets c =
-    let size = c.requires.ends.size in
     let test = c.loop-place-test.true in
-    let k = c.loop-place.place in
-    let end = get_or c.args.ends.now k 0 in
-    let ahead = c.requires.ends.ahead k end (slice_get-get_or c.args.ends.now k 0 (omega (arith, test, size))) in
-    let further = ahead.0 in
-    let smaller : length c.args.supports.now - end < length c.args.supports.now - k = omega (arith, test, further) in
+    let further = c.next_of-place-then-meets.ensures.further in
+    let smaller : length c.args.supports.now - c.next_of-place-then-meets.result < length c.args.supports.now - c.loop-place.place = omega (arith, test, further) in
     smaller
 
 pub loop-place-preserved-then-not-has : goal.loop-place-preserved-then-not-has
@@ -78,17 +70,15 @@ loop-place-preserved-then-not-has c =
     let none : Support = record { number = pos 0; rows = record { word = 0; bits = 0 } } in
     let s = get_or xs k none in
     let test = c.loop-place-test.true in
-    let size = c.requires.ends.size in
     let at = slice_get-get_or xs k none test in
-    let end = get_or c.args.ends.now k 0 in
-    let at_end = slice_get-get_or c.args.ends.now k 0 (omega (arith, test, size)) in
+    let next = c.next_of-place.ensures in
     let fits : SFits w32 s.number = search rules in
     let has = rw (to_z-of_z fits) at c.has.ensures in
-    let ahead = (c.requires.ends.ahead k end at_end).0 in
+    let further = next.further in
     record {
       base = c.loop-place.invariant.base;
-      numbers = numbers_passed xs rows P Q k end (omega (arith, ahead))
-          (none_outside xs c.args.ends.now rows P k end s c.requires.ends at_end at (λ is. absurd (let yes = has.1 is in let no = c.if-not-has.true in cc (yes, no)))) c.loop-place.invariant.numbers;
+      numbers = numbers_passed xs rows P Q k c.next_of-place.result (omega (arith, further))
+          (none_outside xs rows P k c.next_of-place.result s next at (λ is. absurd (let yes = has.1 is in let no = c.if-not-has.true in cc (yes, no)))) c.loop-place.invariant.numbers;
     }
 
 pub loop-place-preserved-then-meets : goal.loop-place-preserved-then-meets
@@ -102,15 +92,13 @@ loop-place-preserved-then-meets c =
     let none : Support = record { number = pos 0; rows = record { word = 0; bits = 0 } } in
     let s = get_or xs k none in
     let test = c.loop-place-test.true in
-    let size = c.requires.ends.size in
     let at = slice_get-get_or xs k none test in
-    let end = get_or c.args.ends.now k 0 in
-    let at_end = slice_get-get_or c.args.ends.now k 0 (omega (arith, test, size)) in
+    let next = c.next_of-place-then-meets.ensures in
     let fits : SFits w32 s.number = search rules in
     let has = rw (to_z-of_z fits) at c.has.ensures in
     record {
       base = c.with-numbers.ensures.base ∙ c.loop-place.invariant.base;
-      numbers = numbers_more xs c.args.ends.now rows P Q R k end s c.requires.ends at_end at (has.0 c.if-not-has.false) (c.if-meets.ensures.0 refl)
+      numbers = numbers_more xs rows P Q R k c.next_of-place-then-meets.result s next at (has.0 c.if-not-has.false) (c.if-meets.ensures.0 refl)
           (rw (c.loop-place.invariant.base, to_z-of_z fits) at c.with-numbers.ensures.numbers) c.loop-place.invariant.numbers;
     }
 

@@ -25,13 +25,9 @@ meets-requires c =
 
 pub loop-end-smaller-then-meets : goal.loop-end-smaller-then-meets
 loop-end-smaller-then-meets c =
-    let size = c.requires.ends.size in
     let test = c.loop-end-test.true in
-    let k = c.loop-end.end in
-    let end = get_or c.args.ends.now k 0 in
-    let ahead = c.requires.ends.ahead k end (slice_get-get_or c.args.ends.now k 0 (omega (arith, test, size))) in
-    let further = ahead.0 in
-    let smaller : length c.args.supports.now - end < length c.args.supports.now - k = omega (arith, test, further) in
+    let further = c.next_of-end.ensures.further in
+    let smaller : length c.args.supports.now - c.next_of-end.result < length c.args.supports.now - c.loop-end.end = omega (arith, test, further) in
     smaller
 
 pub loop-end-preserved-then-meets : goal.loop-end-preserved-then-meets
@@ -42,18 +38,16 @@ loop-end-preserved-then-meets c =
     let s = get_or xs k none in
     let test = c.loop-end-test.true in
     let at = slice_get-get_or xs k none test in
-    let size = c.requires.ends.size in
-    let end = get_or c.args.ends.now k 0 in
-    let at_end = slice_get-get_or c.args.ends.now k 0 (omega (arith, test, size)) in
-    let ahead = c.requires.ends.ahead k end at_end in
+    let end = c.next_of-end.result in
+    let next = c.next_of-end.ensures in
     let low : s.number ≤ℤ c.args.high = search rules in
     let kept : to_z w32 (of_z w32 s.number) ≡ s.number = search rules in
     let up_to = rw (to_z-of_z c.ranges.high) at c.loop-end.invariant.up_to in
     record {
       up_to = rw (to_z-of_z c.ranges.high)
-          (up_to_more xs c.args.place c.args.high k end s at low ahead.0 ahead.1 (λ j t at_j past under. c.requires.ends.same k end j s t at_end at at_j past under) up_to);
-      added = added_number xs c.args.rows.now c.args.place c.args.numbers.now c.loop-end.numbers c.add.new.self k end s up_to.from ahead.0 at (c.if-meets.ensures.0 refl)
-          (rw kept at c.in_ok-add.ensures) (λ j t at_j past under. c.requires.ends.same k end j s t at_end at at_j past under) c.loop-end.invariant.added;
+          (up_to_more xs c.args.place c.args.high k end s at low next.further next.inside (λ j t at_j past under. next.same j s t at at_j past under) up_to);
+      added = added_number xs c.args.rows.now c.args.place c.args.numbers.now c.loop-end.numbers c.add.new.self k end s up_to.from next.further at (c.if-meets.ensures.0 refl)
+          (rw kept at c.in_ok-add.ensures) (λ j t at_j past under. next.same j s t at at_j past under) c.loop-end.invariant.added;
     }
 
 pub loop-end-preserved : goal.loop-end-preserved

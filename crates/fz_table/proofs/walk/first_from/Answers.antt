@@ -29,11 +29,9 @@ loop-preserved c =
     let s = get_or xs k none in
     let past = c.if-first-supports.false in
     let at = slice_get-get_or xs k none (omega (arith, past)) in
-    let size = c.requires.ends.size in
-    let at_end = slice_get-get_or c.args.ends.now k 0 (omega (arith, past, size)) in
     let low : s.number <ℤ c.args.value = search rules in
     rw (to_z-of_z c.ranges.value)
-    (below_more xs c.args.ends.now c.args.place c.args.value k (get_or c.args.ends.now k 0) s c.requires.ends at_end at low (rw (to_z-of_z c.ranges.value) at c.loop.invariant))
+    (below_more xs c.args.place c.args.value k c.next_of-first.result s c.next_of-first.ensures at low (rw (to_z-of_z c.ranges.value) at c.loop.invariant))
 
 pub returns-then-far-first : goal.returns-then-far-first
 returns-then-far-first c =

@@ -5,7 +5,7 @@ use Rattle.fz_table.proofs.column.Column.join_in.Goals as goal
 
 pub join_to-place-requires-clause-sized : goal.join_to-place-requires-clause-sized
 join_to-place-requires-clause-sized c =
-    let there : c.deref-in-loop-low-2.result.now ≡ c.args.self.now = c.deref-in-loop-low-2.ensures.value ∙ c.self.view_is in
+    let there : c.deref-in-loop-low.result.now ≡ c.args.self.now = c.deref-in-loop-low.ensures.value ∙ c.self.view_is in
     rw (there, c.loop-low.invariant.0.size) c.requires
 
 pub loop-low-preserved : goal.loop-low-preserved
@@ -17,7 +17,7 @@ loop-low-preserved c =
     let kept_low : to_z w32 (of_z w32 c.in-Some.low) ≡ c.in-Some.low = search rules in
     let kept_high : to_z w32 (of_z w32 c.in-Some.high) ≡ c.in-Some.high = search rules in
     let here : c.deref.result.now ≡ column = c.deref.ensures.value ∙ c.self.view_is in
-    let there : c.deref-in-loop-low-2.result.now ≡ column = c.deref-in-loop-low-2.ensures.value ∙ c.self.view_is in
+    let there : c.deref-in-loop-low.result.now ≡ column = c.deref-in-loop-low.ensures.value ∙ c.self.view_is in
     let first = rw (kept_low, here) at c.first_from-first.ensures in
     let end = rw (kept_high, there) at c.join_to-place.ensures.end in
     let joined = rw there at c.join_to-place.ensures.rows in

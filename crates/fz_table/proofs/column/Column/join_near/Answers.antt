@@ -8,19 +8,17 @@ use Rattle.fz_table.proofs.column.Column.join_near.Goals as goal
 
 pub join_window-requires-clause-whole : goal.join_window-requires-clause-whole
 join_window-requires-clause-whole c =
-    let are : ArePacked c.self.inside.supports.items c.in-Some.packed = rw c.in-Some.is at c.self.invariant.packed in
+    let are : ArePacked c.args.self.now c.in-Some.packed.now = c.in-Some.ensures in
     are.whole
 
 pub join_window-requires-clause-width : goal.join_window-requires-clause-width
 join_window-requires-clause-width c =
-    let are : ArePacked c.self.inside.supports.items c.in-Some.packed = rw c.in-Some.is at c.self.invariant.packed in
-    are.width (length c.args.rows.now) (subst (λ (xs : List Support). AreSized xs (length c.args.rows.now)) (sym c.self.view_is) c.requires)
+    let are : ArePacked c.args.self.now c.in-Some.packed.now = c.in-Some.ensures in
+    are.width (length c.args.rows.now) c.requires
 
 pub returns-in-Some-clause-rows : goal.returns-in-Some-clause-rows
 returns-in-Some-clause-rows c =
-    let are : ArePacked c.self.inside.supports.items c.in-Some.packed = rw c.in-Some.is at c.self.invariant.packed in
-    rw (← c.self.view_is) (rows_of_column c.self.inside.supports.items c.in-Some.packed (λ n. IsBit c.args.window.base c.args.window.bits n) c.args.rows.now c.join_window.new.rows are
-    c.join_window.ensures.rows)
+    rows_of_column c.args.self.now c.in-Some.packed.now (λ n. IsBit c.args.window.base c.args.window.bits n) c.args.rows.now c.join_window.new.rows c.in-Some.ensures c.join_window.ensures.rows
 
 pub join_near-requires-clause-sized : goal.join_near-requires-clause-sized
 join_near-requires-clause-sized c =

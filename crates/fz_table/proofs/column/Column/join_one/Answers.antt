@@ -7,7 +7,7 @@ use Rattle.fz_table.proofs.column.Column.join_one.Goals as goal
 
 pub join_to-requires-clause-sized : goal.join_to-requires-clause-sized
 join_to-requires-clause-sized c =
-    subst (λ (xs : List Support). AreSized xs (length c.args.rows.now)) (sym (c.deref-3.ensures.value ∙ c.self.view_is)) c.requires
+    subst (λ (xs : List Support). AreSized xs (length c.args.rows.now)) (sym (c.deref-2.ensures.value ∙ c.self.view_is)) c.requires
 
 pub returns-clause-rows : goal.returns-clause-rows
 returns-clause-rows c =
@@ -16,7 +16,7 @@ returns-clause-rows c =
     let r : ℤ × ℤ = (n, n) in
     let kept : to_z w32 (of_z w32 n) ≡ n = search rules in
     let here : c.deref.result.now ≡ column = c.deref.ensures.value ∙ c.self.view_is in
-    let there : c.deref-3.result.now ≡ column = c.deref-3.ensures.value ∙ c.self.view_is in
+    let there : c.deref-2.result.now ≡ column = c.deref-2.ensures.value ∙ c.self.view_is in
     let first = rw (kept, here) at c.first_from-first.ensures in
     let end = rw (kept, there) at c.join_to.ensures.end in
     let joined = rw there at c.join_to.ensures.rows in

@@ -8,19 +8,18 @@ use Rattle.fz_table.proofs.column.Column.numbers_near.Goals as goal
 
 pub numbers_within-requires-clause-whole : goal.numbers_within-requires-clause-whole
 numbers_within-requires-clause-whole c =
-    let are : ArePacked c.self.inside.supports.items c.in-Some.packed = rw c.in-Some.is at c.self.invariant.packed in
+    let are : ArePacked c.args.self.now c.in-Some.packed.now = c.in-Some.ensures in
     are.whole
 
 pub numbers_within-requires-clause-width : goal.numbers_within-requires-clause-width
 numbers_within-requires-clause-width c =
-    let are : ArePacked c.self.inside.supports.items c.in-Some.packed = rw c.in-Some.is at c.self.invariant.packed in
-    are.width (length c.args.rows.now) (subst (λ (xs : List Support). AreSized xs (length c.args.rows.now)) (sym c.self.view_is) c.requires)
+    let are : ArePacked c.args.self.now c.in-Some.packed.now = c.in-Some.ensures in
+    are.width (length c.args.rows.now) c.requires
 
 pub returns-in-Some-clause-numbers : goal.returns-in-Some-clause-numbers
 returns-in-Some-clause-numbers c =
-    let are : ArePacked c.self.inside.supports.items c.in-Some.packed = rw c.in-Some.is at c.self.invariant.packed in
-    rw (← c.self.view_is) (numbers_of_column c.self.inside.supports.items c.in-Some.packed c.args.rows.now (λ n. IsBit c.args.window.base c.args.window.bits n)
-    (λ n. IsBit c.args.window.base c.numbers_within.result.bits n) are c.numbers_within.ensures.numbers)
+    numbers_of_column c.args.self.now c.in-Some.packed.now c.args.rows.now (λ n. IsBit c.args.window.base c.args.window.bits n) (λ n. IsBit c.args.window.base c.numbers_within.result.bits n)
+    c.in-Some.ensures c.numbers_within.ensures.numbers
 
 pub numbers_near-requires-clause-sized : goal.numbers_near-requires-clause-sized
 numbers_near-requires-clause-sized c =

@@ -29,8 +29,8 @@ words_of-requires c =
     subst (λ (l : List Numbered). slice_get l k ≡ Some x) c.deref-numbered-items.ensures.value (slice_get-get_or xs k none c.loop-numbered-test.true) in
     c.requires.whole k x at
 
-pub meets_any-requires : goal.meets_any-requires
-meets_any-requires c =
+pub meeting-requires : goal.meeting-requires
+meeting-requires c =
     let size = c.words_of.ensures.size in
     let width = c.requires.width in
     omega (arith, size, width)
@@ -77,26 +77,27 @@ loop-numbered-preserved c =
     subst (λ (l : List Numbered). slice_get l k ≡ Some x) c.deref-numbered-items.ensures.value (slice_get-get_or xs k none c.loop-numbered-test.true) in
     let fits : SFits w32 x.number = search rules in
     let has = rw (to_z-of_z fits) at c.has.ensures in
+    let met = rw c.words_of.ensures.words at c.in-Some.ensures in
     record {
       base = c.with-numbers.ensures.base ∙ c.loop-numbered.invariant.base;
       numbers = numbers_more c.args.self.now c.args.rows.now (λ n. IsBit c.args.window.base c.args.window.bits n) (λ n. IsBit c.args.window.base c.loop-numbered.numbers.bits n)
-          (λ n. IsBit c.args.window.base c.with-numbers.result.bits n) k x at (has.0 c.if-not-has.false)
-          ((rw c.words_of.ensures.words at c.meets_any.ensures).0 c.if-not-meets_any.false) (rw (c.loop-numbered.invariant.base, to_z-of_z fits) at c.with-numbers.ensures.numbers) c.loop-numbered.invariant.numbers;
+          (λ n. IsBit c.args.window.base c.with-numbers.result.bits n) k x at (has.0 c.if-not-has.false) (met.0, met.1, met.2)
+          (rw (c.loop-numbered.invariant.base, to_z-of_z fits) at c.with-numbers.ensures.numbers) c.loop-numbered.invariant.numbers;
     }
 
-pub loop-numbered-preserved-then-not-meets_any : goal.loop-numbered-preserved-then-not-meets_any
-loop-numbered-preserved-then-not-meets_any c =
+pub loop-numbered-preserved-in_default : goal.loop-numbered-preserved-in_default
+loop-numbered-preserved-in_default c =
     let xs = c.deref-numbered-items.result.now in
     let k = c.loop-numbered.numbered-index in
     let none : Numbered = record { number = pos 0; first = 0 } in
     let x = get_or xs k none in
     let at : slice_get c.args.self.now.numbers.items k ≡ Some x =
     subst (λ (l : List Numbered). slice_get l k ≡ Some x) c.deref-numbered-items.ensures.value (slice_get-get_or xs k none c.loop-numbered-test.true) in
-    let meets = rw c.words_of.ensures.words at c.meets_any.ensures in
+    let missed = rw c.words_of.ensures.words at c.in_default.ensures in
     record {
       base = c.loop-numbered.invariant.base;
       numbers = numbers_passed c.args.self.now c.args.rows.now (λ n. IsBit c.args.window.base c.args.window.bits n) (λ n. IsBit c.args.window.base c.loop-numbered.numbers.bits n) k x
-          at (λ is some. absurd (let yes = meets.1 some in let no = c.if-not-meets_any.true in cc (yes, no))) c.loop-numbered.invariant.numbers;
+          at (λ is some. missed some.0 some.1 some.2) c.loop-numbered.invariant.numbers;
     }
 
 pub returns-clause-base : goal.returns-clause-base

@@ -1,5 +1,5 @@
 use Rattle.fz_table.proofs.Packing.{AreMissed}
-use Rattle.fz_table.proofs.row_set.meets_any.Given as goal
+use Rattle.fz_table.proofs.row_set.meeting.Given as goal
 
 -- the words so far have none
 abbrev pub invariant-loop-word : goal.invariant-loop-word

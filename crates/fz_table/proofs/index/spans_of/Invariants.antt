@@ -1,5 +1,5 @@
 use Rattle.fz_table.proofs.Finding.{AreSpansBelow}
-use Rattle.fz_table.proofs.column.spans_of.Given as goal
+use Rattle.fz_table.proofs.index.spans_of.Given as goal
 
 -- the numbers of the supports so far
 abbrev pub invariant-loop-support : goal.invariant-loop-support
