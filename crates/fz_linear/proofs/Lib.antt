@@ -1,4 +1,3 @@
-pub mod Spans
 pub mod Slacks
 pub mod Summing
 pub mod Narrowing

@@ -13,7 +13,7 @@ use Rattle.fz_prop.proofs.TermChanges.{narrower_term}
 use Rattle.fz_prop.proofs.Twice.{shrinks_twice, room_after}
 use Rattle.fz_linear.specs.Terms.{AreTermsOf}
 use Rattle.fz_linear.specs.Passes.{IsStep, IsTightened, KeepsNear, IsPassed, KeepsBetween, ArePassed}
-use Rattle.fz_linear.proofs.Spans.{spanned, least_rises}
+use Rattle.fz_shift.proofs.Spans.{spanned, least_rises}
 use Rattle.fz_linear.proofs.Slacks.{IsAt, near_at, near_from, near_negated, term_at, least_sum_rises}
 
 -- ---- one change after another

@@ -9,7 +9,7 @@ use Rattle.fz_prop.specs.declared.answer.Answer.{Answer}
 use Rattle.fz_prop.specs.declared.answer.Answer.TheVariants.{Failed}
 use Rattle.fz_linear.specs.declared.shape.Shape.{Shape}
 use Rattle.fz_linear.specs.declared.shape.Shape.TheVariants.{Two, Three, Other}
-use Rattle.fz_linear.specs.Differences.{IsDifferenceOf, ArePartners}
+use Rattle.fz_shift.specs.Differences.{IsDifferenceOf, ArePartners}
 use Rattle.fz_linear.specs.Shapes.{IsShapeIn, IsPruned}
 use Rattle.fz_linear.specs.Linears.{IsPrunedOf}
 

@@ -13,7 +13,7 @@ use Rattle.fz_linear.specs.declared.side.Side.{Side}
 use Rattle.fz_linear.specs.declared.side.Side.TheVariants.{Above, Below}
 use Rattle.fz_linear.specs.Sides.{seen_from, all_seen_from}
 use Rattle.fz_linear.specs.Terms.{AreTermsOf}
-use Rattle.fz_linear.proofs.Spans.{spanned, product_above, product_below, products_rise, least_rises, greatest_falls, least_negated, greatest_negated}
+use Rattle.fz_shift.proofs.Spans.{spanned, product_above, product_below, products_rise, least_rises, greatest_falls, least_negated, greatest_negated}
 
 pub terms_of : (n m : ℕ) (ts : List Term) → n ≡ m → AreTermsOf n ts → AreTermsOf m ts
 terms_of n m ts same is = subst (λ (k : ℕ). AreTermsOf k ts) same is

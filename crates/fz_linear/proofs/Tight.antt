@@ -17,9 +17,9 @@ use Rattle.fz_strength.proofs.Terms.{is_single}
 use Rattle.fz_linear.specs.declared.side.Side.{Side}
 use Rattle.fz_linear.specs.declared.side.Side.TheVariants.{Above, Below}
 use Rattle.fz_linear.specs.Sides.{seen_from}
-use Rattle.fz_linear.specs.Terms.{IsSpanned}
+use Rattle.fz_shift.specs.Spans.{IsSpanned}
 use Rattle.fz_linear.specs.Passes.{IsStep, IsTightened}
-use Rattle.fz_linear.proofs.Spans.{away_up, away_down}
+use Rattle.fz_shift.proofs.Spans.{away_up, away_down}
 
 pub seen_size : (side : Side) (k : ℤ) → nat_abs (seen_from side k) ≡ nat_abs k
 seen_size Above k = refl

@@ -5,11 +5,11 @@ use Rattle.fz_spec.specs.declared.term.Term.{Term}
 use Rattle.fz_strength.specs.declared.relation.Relation.{Relation}
 use Rattle.fz_strength.specs.declared.relation.Relation.TheVariants.{Equal, NotEqual, AtMost, Below}
 use Rattle.fz_prop.specs.declared.answer.Answer.{Answer}
-use Rattle.fz_linear.specs.declared.difference.Difference.{Difference}
+use Rattle.fz_shift.specs.declared.difference.Difference.{Difference}
 use Rattle.fz_linear.specs.declared.shape.Shape.{Shape}
 use Rattle.fz_linear.specs.declared.shape.Shape.TheVariants.{Two, Three, Other}
 use Rattle.fz_linear.specs.Terms.{AreTermsOf}
-use Rattle.fz_linear.specs.Differences.{IsDifferenceOf}
+use Rattle.fz_shift.specs.Differences.{IsDifferenceOf}
 use Rattle.fz_linear.specs.Shapes.{IsPruned}
 
 -- the two are variables of the store

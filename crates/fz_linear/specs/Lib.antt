@@ -4,6 +4,5 @@ pub mod Passes
 pub mod Sums
 pub mod Gaps
 pub mod Precisions
-pub mod Differences
 pub mod Shapes
 pub mod Linears

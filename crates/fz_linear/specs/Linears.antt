@@ -9,7 +9,7 @@ use Rattle.fz_strength.specs.Sayings.{Saying, Sum}
 use Rattle.fz_prop.specs.declared.answer.Answer.{Answer}
 use Rattle.fz_prop.specs.declared.answer.Answer.TheVariants.{Failed}
 use Rattle.fz_prop.specs.Stores.{FitsTerm}
-use Rattle.fz_linear.specs.Differences.{IsDifferenceOf, ArePartners}
+use Rattle.fz_shift.specs.Differences.{IsDifferenceOf, ArePartners}
 use Rattle.fz_linear.specs.Precisions.{Allows}
 use Rattle.fz_linear.specs.Shapes.{IsShapeIn}
 use Rattle.fz_linear.specs.declared.narrow.Precision.{Precision}

@@ -8,7 +8,7 @@ use Rattle.fz_spec.specs.Truth.{weighted_sum}
 use Rattle.fz_strength.specs.Domains.{term_set, Within, room}
 use Rattle.fz_strength.specs.Sums.{least_product, greatest_product, least_sum, AreNear, negated}
 use Rattle.fz_prop.specs.Stores.{Stored}
-use Rattle.fz_linear.specs.Terms.{IsSpanned}
+use Rattle.fz_shift.specs.Spans.{IsSpanned}
 
 -- what became of a term: its greatest is near its least; or something left; and it never has no number
 abbrev pub IsStep : Change → ℤ → Term → ℤ → Stored → Stored → Type 0

@@ -6,7 +6,7 @@ use Rattle.fz_strength.specs.declared.relation.Relation.TheVariants.{Equal}
 use Rattle.fz_prop.specs.declared.answer.Answer.{Answer}
 use Rattle.fz_prop.specs.declared.answer.Answer.TheVariants.{Failed}
 use Rattle.fz_shift.specs.Planes.{IsPlaneIn}
-use Rattle.fz_linear.specs.Differences.{IsDifferenceIn, IsNoneOfTwo, ArePartners}
+use Rattle.fz_shift.specs.Differences.{IsDifferenceIn, IsNoneOfTwo, ArePartners}
 use Rattle.fz_linear.specs.declared.shape.Shape.{Shape}
 use Rattle.fz_linear.specs.declared.shape.Shape.TheVariants.{Two, Three, Other}
 

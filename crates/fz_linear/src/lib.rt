@@ -4,7 +4,6 @@
 
 mod apart;
 mod bounded;
-mod difference;
 pub mod front;
 pub mod linear;
 pub mod narrow;

@@ -3,7 +3,7 @@ ghost use Rattle.std.specs.Prelude.{◌≡◌, ℕ, ◌*◌, ◌<◌, ◌≤◌,
 ghost use Rattle.fz_dom.specs.Shape.{least, greatest};
 ghost use Rattle.fz_strength.specs.Domains.{term_set};
 ghost use Rattle.fz_prop.specs.Stores.{IsTermOf, IsStore};
-ghost use Rattle.fz_linear.specs.Terms.{IsSpanned};
+ghost use Rattle.fz_shift.specs.Spans.{IsSpanned};
 
 use fz_prop::Store;
 use fz_prop::terms::{greatest_of, least_of};

@@ -17,13 +17,12 @@ ghost use Rattle.fz_linear.specs.Sums.{SumTruth, SumFalse, IsAnswerSum, IsAnswer
 
 use crate::apart::keep_apart;
 use crate::bounded::{keep_above, keep_at_most, keep_equal};
-use crate::difference::{keep_above_by, keep_apart_by};
 use crate::front::relate_rest;
 use crate::narrow::Weighted;
 use crate::shape::Shape;
 use fz_kept::Kept;
 use fz_prop::{Answer, Store};
-use fz_shift::{Plane, keep_plane};
+use fz_shift::{Plane, keep_above_by, keep_apart_by, keep_plane};
 use fz_spec::term::Term;
 use fz_strength::relation::Relation;
 use std::alloc::AllocError;

@@ -1,8 +1,7 @@
 //! What a sum is by its variables: the difference of two, three on a plane, or any other.
 ghost use Rattle.fz_linear.specs.Shapes.{IsShapeIn};
 
-use crate::difference::{Difference, difference_of};
-use fz_shift::{Plane, plane_of};
+use fz_shift::{Difference, Plane, difference_of, plane_of};
 use fz_spec::term::Term;
 
 /// What a sum is that is to be a number, or isn't.

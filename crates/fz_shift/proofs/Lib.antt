@@ -1,3 +1,5 @@
+pub mod Spans
+pub mod Differences
 pub mod Bounded
 pub mod Turning
 pub mod Resting

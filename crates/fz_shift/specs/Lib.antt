@@ -1,2 +1,4 @@
+pub mod Spans
+pub mod Differences
 pub mod Planes
 pub mod Points

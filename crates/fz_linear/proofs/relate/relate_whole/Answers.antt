@@ -6,7 +6,7 @@ use Rattle.fz_strength.specs.declared.relation.Relation.TheVariants.{Equal, NotE
 use Rattle.fz_prop.specs.declared.answer.Answer.{Answer}
 use Rattle.fz_prop.proofs.Answering.{same_answer, same_correct}
 use Rattle.fz_kept.proofs.Lasting.{sum_lasts}
-use Rattle.fz_linear.specs.Differences.{DifferenceTruth, DifferenceLine, IsAnswerDifference, IsDifferenceIn}
+use Rattle.fz_shift.specs.Differences.{DifferenceTruth, DifferenceLine, IsAnswerDifference, IsDifferenceIn}
 use Rattle.fz_linear.specs.Shapes.{IsShapeIn, IsPruned}
 use Rattle.fz_linear.specs.declared.shape.Shape.TheVariants.{Three}
 use Rattle.fz_linear.specs.Sums.{SumTruth, SumLine, IsAnswerSum}

@@ -4,9 +4,9 @@ use Rattle.fz_strength.specs.declared.relation.Relation.TheVariants.{Equal}
 use Rattle.fz_prop.specs.declared.answer.Answer.{Answer}
 use Rattle.fz_prop.specs.declared.answer.Answer.TheVariants.{Failed}
 use Rattle.fz_prop.proofs.Answering.{same_answer}
-use Rattle.fz_linear.specs.Differences.{DifferenceTruth, DifferenceLine, IsAnswerDifference, ArePartners}
-use Rattle.fz_linear.proofs.Differences.{turned_same, turned_partners}
-use Rattle.fz_linear.proofs.difference.keep_above_by.Goals as goal
+use Rattle.fz_shift.specs.Differences.{DifferenceTruth, DifferenceLine, IsAnswerDifference, ArePartners}
+use Rattle.fz_shift.proofs.Differences.{turned_same, turned_partners}
+use Rattle.fz_shift.proofs.difference.keep_above_by.Goals as goal
 
 pub returns-then-first-second-clause-answer : goal.returns-then-first-second-clause-answer
 returns-then-first-second-clause-answer c =

@@ -11,9 +11,9 @@ use Rattle.fz_prop.specs.declared.answer.Answer.{Answer}
 use Rattle.fz_prop.specs.Answers.{IsCorrectOf}
 use Rattle.fz_prop.proofs.Answering.{answer_twice, correct_twice}
 use Rattle.fz_prop.proofs.Twice.{shrinks_twice}
-use Rattle.fz_linear.specs.Differences.{DifferenceTruth, DifferenceLine, IsAnswerDifference}
-use Rattle.fz_linear.proofs.Differences.{partners_after, correct_partners, failed_partners}
-use Rattle.fz_linear.proofs.difference.keep_first.Goals as goal
+use Rattle.fz_shift.specs.Differences.{DifferenceTruth, DifferenceLine, IsAnswerDifference}
+use Rattle.fz_shift.proofs.Differences.{partners_after, correct_partners, failed_partners}
+use Rattle.fz_shift.proofs.difference.keep_first.Goals as goal
 
 partner : (x y c : ℤ) → (x -ℤ y) ≡ c → (x -ℤ c) ≡ y
 partner x y c e = omega (arith, ints, e)

@@ -9,9 +9,9 @@ use Rattle.fz_strength.specs.declared.relation.Relation.TheVariants.{NotEqual}
 use Rattle.fz_prop.specs.Stores.{IsChangeAt}
 use Rattle.fz_prop.specs.Truths.{IsAbout}
 use Rattle.fz_prop.proofs.Settling.{settled_correct, settled_answer}
-use Rattle.fz_linear.specs.Differences.{DifferenceTruth, DifferenceLine}
-use Rattle.fz_linear.proofs.Differences.{apart_about}
-use Rattle.fz_linear.proofs.difference.exclude_below.Goals as goal
+use Rattle.fz_shift.specs.Differences.{DifferenceTruth, DifferenceLine}
+use Rattle.fz_shift.proofs.Differences.{apart_about}
+use Rattle.fz_shift.proofs.difference.exclude_below.Goals as goal
 
 about : (c : goal.After-settled)
     → IsAbout (Var c.args.d.second) (λ u. u ≢ c.partner.result) (DifferenceTruth NotEqual c.args.d.first c.args.d.second c.args.d.above) (DifferenceLine NotEqual c.args.d.first c.args.d.second c.args.d.above) c.args.store.now.doms

@@ -1,8 +1,8 @@
 use Rattle.std.specs.Prelude.{ℤ}
 use Rattle.fz_strength.specs.Domains.{dom_at}
 use Rattle.fz_strength.specs.Events.{IsOnly}
-use Rattle.fz_linear.proofs.Differences.{fixed_partners, partnered_line}
-use Rattle.fz_linear.proofs.difference.partnered.Goals as goal
+use Rattle.fz_shift.proofs.Differences.{fixed_partners, partnered_line}
+use Rattle.fz_shift.proofs.difference.partnered.Goals as goal
 
 pub returns-then-is_fixed-clause-answer : goal.returns-then-is_fixed-clause-answer
 returns-then-is_fixed-clause-answer c =

@@ -10,9 +10,9 @@ use Rattle.fz_strength.specs.Domains.{dom_at, number_at}
 use Rattle.fz_prop.specs.Answers.{IsCorrectOf}
 use Rattle.fz_prop.proofs.Answering.{answer_twice}
 use Rattle.fz_prop.proofs.Filled.{term_ranges}
-use Rattle.fz_linear.specs.Differences.{DifferenceTruth, DifferenceLine}
-use Rattle.fz_linear.proofs.Differences.{partners_after, partners_still, correct_partners, failed_partners, as_many}
-use Rattle.fz_linear.proofs.difference.keep_second.Goals as goal
+use Rattle.fz_shift.specs.Differences.{DifferenceTruth, DifferenceLine}
+use Rattle.fz_shift.proofs.Differences.{partners_after, partners_still, correct_partners, failed_partners, as_many}
+use Rattle.fz_shift.proofs.difference.keep_second.Goals as goal
 
 -- the second has its partner so far below it in the first
 turned : (x y c d : ℤ) → d ≡ neg_ℤ c → (x -ℤ y) ≡ c → (y -ℤ d) ≡ x

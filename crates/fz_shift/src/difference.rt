@@ -8,7 +8,7 @@ ghost use Rattle.fz_strength.specs.Events.{IsOnly, IsFixedIn};
 ghost use Rattle.fz_prop.specs.declared.answer.Answer.TheVariants.{Failed};
 ghost use Rattle.fz_prop.specs.Answers.{IsCorrectOf};
 ghost use Rattle.fz_prop.specs.Stores.{Shrinks, IsStore, IsChangeAt};
-ghost use Rattle.fz_linear.specs.Differences.{IsDifferenceOf, IsNoneOfTwo, IsNoDifference, IsDifferenceIn, DifferenceTruth, IsAnswerDifference, ArePartners};
+ghost use Rattle.fz_shift.specs.Differences.{IsDifferenceOf, IsNoneOfTwo, IsNoDifference, IsDifferenceIn, DifferenceTruth, IsAnswerDifference, ArePartners};
 
 use fz_prop::terms::value_of;
 use fz_prop::{Answer, Change, Store};

@@ -1,7 +1,7 @@
 use Rattle.std.proofs.Common.{◌≡◌, [], ◌∷◌, List, length, get_or, pos, refl, rules, arith}
 use Rattle.fz_spec.specs.declared.term.Term.{Term}
 use Rattle.fz_spec.specs.declared.term.Term.TheVariants.{Num, Var}
-use Rattle.fz_linear.proofs.difference.pair_of.Goals as goal
+use Rattle.fz_shift.proofs.difference.pair_of.Goals as goal
 
 -- a list of two is its first and its second
 two_long : (ts : List Term) → length ts ≡ 2 → ts ≡ get_or ts 0 (Num (pos 0)) ∷ get_or ts 1 (Num (pos 0)) ∷ []

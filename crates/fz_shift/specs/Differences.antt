@@ -10,7 +10,7 @@ use Rattle.fz_strength.specs.declared.relation.Relation.TheVariants.{Equal, NotE
 use Rattle.fz_strength.specs.Domains.{dom_at, number_at, Within}
 use Rattle.fz_strength.specs.Events.{IsFixedIn}
 use Rattle.fz_strength.specs.Relations.{Relates}
-use Rattle.fz_linear.specs.declared.difference.Difference.{Difference}
+use Rattle.fz_shift.specs.declared.difference.Difference.{Difference}
 use Rattle.fz_prop.specs.declared.answer.Answer.{Answer}
 use Rattle.fz_prop.specs.Answers.{IsAnswerOf}
 

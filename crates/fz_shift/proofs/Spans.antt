@@ -15,7 +15,7 @@ use Rattle.fz_strength.specs.Sums.{least_product, greatest_product}
 use Rattle.fz_strength.proofs.SumLaws.{neg_product}
 use Rattle.fz_strength.proofs.Terms.{in_single, is_single}
 use Rattle.fz_prop.specs.Stores.{IsTermOf}
-use Rattle.fz_linear.specs.Terms.{IsSpanned}
+use Rattle.fz_shift.specs.Spans.{IsSpanned}
 
 spanned_single : (n : ℤ) → IsSpanned (single n)
 spanned_single n = record {
