@@ -78,18 +78,31 @@ fn a_failing_sink_ends_a_search_without_an_end(rt: HostRuntime) -> Result<(), Fa
     Ok(())
 }
 
-/// A byte a call: the same text, and where the thirteenth write fails the twelve bytes before it.
+/// Runs three values a byte a call: the same blocks, and where the thirteenth write fails the twelve bytes before it.
+fn expect_bytes<R: Abort + Threads + Wait + Sync>(
+    rt: &R,
+    alloc: Global,
+    words: &[&str],
+) -> Result<(), Fail> {
+    let whole = run(rt, alloc, THREE_VALUES, words)?;
+    let by_bytes = run_by_bytes(rt, alloc, THREE_VALUES, words, &[])?;
+    assert_eq!(rt; by_bytes.status, Status::Done);
+    assert_eq!(rt; by_bytes.flushed, 65);
+    let wanted = blocks_of(alloc, &whole.printed)?;
+    let blocks = blocks_of(alloc, &by_bytes.printed)?;
+    assert_eq!(rt; blocks, wanted);
+    let failing = run_by_bytes(rt, alloc, THREE_VALUES, words, &[13])?;
+    assert_eq!(rt; failing.status, Status::SinkFault);
+    assert_eq!(rt; failing.printed.len(), 12);
+    assert!(rt; failing.printed.ends_with(b";\n-----"));
+    Ok(())
+}
+
 #[test]
 fn a_byte_at_a_time_is_the_same_text(rt: HostRuntime) -> Result<(), Fail> {
-    let alloc = rt.alloc();
-    let whole = run(&rt, alloc, THREE_VALUES, &["-a"])?;
-    let by_bytes = run_by_bytes(&rt, alloc, THREE_VALUES, &["-a"], &[])?;
-    assert_eq!(rt; by_bytes.status, Status::Done);
-    assert_eq!(rt; by_bytes.printed.as_slice(), whole.printed.as_slice());
-    assert_eq!(rt; by_bytes.flushed, 65);
-    let failing = run_by_bytes(&rt, alloc, THREE_VALUES, &["-a"], &[13])?;
-    assert_eq!(rt; failing.status, Status::SinkFault);
-    assert_eq!(rt; failing.printed.as_slice(), b"x = 1;\n-----".as_slice());
+    for words in workers() {
+        expect_bytes(&rt, rt.alloc(), words)?;
+    }
     Ok(())
 }
 
@@ -106,13 +119,15 @@ fn as_many_as_are_asked_for_end_the_search(rt: HostRuntime) -> Result<(), Fail> 
     Ok(())
 }
 
-/// Each call of the source in turn fails, until a run meets no fault.
-#[test]
-fn a_failing_source_prints_nothing(rt: HostRuntime) -> Result<(), Fail> {
-    let alloc = rt.alloc();
+/// Runs three values with each call of the source in turn failing, until a run meets no fault.
+fn expect_nothing<R: Abort + Threads + Wait + Sync>(
+    rt: &R,
+    alloc: Global,
+    words: &[&str],
+) -> Result<(), Fail> {
     let mut failed = 0u64;
     for call in 1..10u64 {
-        let outcome = run_failing(&rt, alloc, THREE_VALUES, &["-a"], &[call], &[])?;
+        let outcome = run_failing(rt, alloc, THREE_VALUES, words, &[call], &[])?;
         if outcome.source_faults == 0 {
             break;
         }
@@ -121,6 +136,14 @@ fn a_failing_source_prints_nothing(rt: HostRuntime) -> Result<(), Fail> {
         failed = call;
     }
     assert!(rt; 1 < failed, "it is selected, and then read");
+    Ok(())
+}
+
+#[test]
+fn a_failing_source_prints_nothing(rt: HostRuntime) -> Result<(), Fail> {
+    for words in workers() {
+        expect_nothing(&rt, rt.alloc(), words)?;
+    }
     Ok(())
 }
 

@@ -64,6 +64,30 @@ fn the_first_variable_over_the_limit_is_refused_at_its_name(rt: HostRuntime) -> 
     expect_refusal(&rt, rt.alloc(), many.as_bytes(), 1, column, 11)
 }
 
+/// So many constraints of 30 bytes each.
+fn truths(alloc: Global, count: usize) -> Result<String, AllocError> {
+    let mut text = String::with_capacity(alloc, 32_000_000)?;
+    for _ in 0..count {
+        text.push_str("constraint bool_eq(true,true);")?;
+    }
+    Ok(text)
+}
+
+#[test]
+fn the_first_constraint_over_the_limit_is_refused(rt: HostRuntime) -> Result<(), Fail> {
+    let alloc = rt.alloc();
+    let mut fine = truths(alloc, 1_000_000)?;
+    let mut added = String::from_str(alloc, &fine)?;
+    fine.push_str("solve satisfy;")?;
+    expect_printed(&rt, alloc, fine.as_bytes(), "----------\n==========\n")?;
+    // Eleven bytes stand before the name of a constraint, and 14 before the value that adds one.
+    let mut many = truths(alloc, 1_000_001)?;
+    many.push_str("solve satisfy;")?;
+    expect_refusal(&rt, alloc, many.as_bytes(), 1, 30_000_012, 11)?;
+    added.push_str("var bool: b = true;solve satisfy;")?;
+    expect_refusal(&rt, alloc, added.as_bytes(), 1, 30_000_015, 11)
+}
+
 /// An array of so many zeros.
 fn zeros(alloc: Global, count: usize) -> Result<String, AllocError> {
     let mut text = format!(in alloc; "array [1..{count}] of int: a = [0")?;
