@@ -1,12 +1,13 @@
 -- What is kept of three variables: the numbers that lie on a plane with what is left of the others.
-use Rattle.std.proofs.Common.{◌≡◌, ◌∙◌, ℕ, ◌+ℤ◌, List, arith, length, pos, refl, subst, sym}
+use Rattle.std.proofs.Common.{◌≡◌, ◌∙◌, ◌⊎◌, ℕ, ◌+ℤ◌, List, arith, inl, inr, length, pos, refl, subst, sym}
 use Rattle.std.specs.Prelude.{◌↔◌, ℤ}
 use Rattle.fz_sets.specs.Sets.{IsInSet}
 use Rattle.fz_bits.specs.Windows.{IsBit}
 use Rattle.fz_bits.specs.Words.{AreOnes}
 use Rattle.fz_dom.proofs.Ranges.{least_member}
 use Rattle.fz_dom.specs.Shape.{least}
-use Rattle.fz_dom.specs.declared.change.Change.TheVariants.{Same, Changed}
+use Rattle.fz_dom.specs.declared.change.Change.{Change}
+use Rattle.fz_dom.specs.declared.change.Change.TheVariants.{Same, Changed, Wiped}
 use Rattle.fz_strength.specs.Domains.{AreDomains, IsNarrower, Within, dom_at, number_at}
 use Rattle.fz_strength.specs.Events.{IsOnly}
 use Rattle.fz_prop.specs.Matching.{AreMatching, IsPairOf}
@@ -18,14 +19,23 @@ use Rattle.fz_shift.specs.Points.{AreOfPoints, IsPoint, IsThird, KeepsAt, KeepsT
 
 -- ---- changes of one variable and of two
 
-pub keeps_same : (v : ℕ) (P : ℤ → Type 0) (s t : Stored) → IsChangeAt Same v P s t → KeepsAt v P s.doms t.doms
+keeps_same : (v : ℕ) (P : ℤ → Type 0) (s t : Stored) → IsChangeAt Same v P s t → KeepsAt v P s.doms t.doms
 keeps_same v P s t h = rw h.0 (record {
   kept = λ x. ((λ is. (is, h.1 x is)), (λ is. is.0));
   others = λ u other. refl;
 })
 
-pub keeps_changed : (v : ℕ) (P : ℤ → Type 0) (s t : Stored) → IsChangeAt Changed v P s t → KeepsAt v P s.doms t.doms
-keeps_changed v P s t h = record { kept = h.kept; others = h.others }
+wiped_same : Wiped ≡ Same → ⊥
+wiped_same e = cc
+
+wiped_changed : Wiped ≡ Changed → ⊥
+wiped_changed e = cc
+
+pub keeps_either : (change : Change) (v : ℕ) (P : ℤ → Type 0) (s t : Stored) → (change ≡ Same) ⊎ (change ≡ Changed) → IsChangeAt change v P s t → KeepsAt v P s.doms t.doms
+keeps_either Same v P s t is h = keeps_same v P s t h
+keeps_either Changed v P s t is h = record { kept = h.kept; others = h.others }
+keeps_either Wiped v P s t (inl e) h = absurd (wiped_same e)
+keeps_either Wiped v P s t (inr e) h = absurd (wiped_changed e)
 
 pub two_kept : (p : Plane) (P Q : ℤ → Type 0) (ds es fs : List (List (ℤ × ℤ))) → AreApart p → KeepsAt p.first Q ds es → KeepsAt p.across P es fs → KeepsTwo p P Q ds fs
 two_kept p P Q ds es fs apart one two = record {

@@ -6,3 +6,4 @@ pub mod Resting
 pub mod Shapes
 pub mod Thirds
 pub mod Kept
+pub mod Leaving

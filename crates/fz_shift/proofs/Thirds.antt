@@ -10,6 +10,7 @@ use Rattle.fz_prop.specs.Matching.{IsPairOf}
 use Rattle.fz_prop.proofs.Grown.{same_or_other}
 use Rattle.fz_shift.specs.declared.plane.Plane.{Plane}
 use Rattle.fz_shift.specs.Planes.{IsOnPlane, number_on}
+use Rattle.fz_shift.specs.Points.{IsMade}
 
 -- of the pairs whose first number isn't one of those to come
 abbrev pub AreThirdsBut : (ℤ → ℤ → Type 0) → (ℤ → Type 0) → (ℤ → Type 0) → (ℤ → Type 0) → (ℤ → ℤ → ℤ) → ℤ → ℕ → Type 0
@@ -80,4 +81,16 @@ pub bits_with : (base : ℤ) (a b both : ℕ) (E : ℤ → Type 0) → AreOnes b
 bits_with base a b both E wanted ones m = (
   (λ is. let two = (ones is.0 is.1).0 is.3 in (subst E (sym is.2) ((wanted is.0 is.1).0 two.1), (is.0, is.1, is.2, two.0))),
   (λ h. let is = h.1 in (is.0, is.1, is.2, (ones is.0 is.1).1 (is.3, (wanted is.0 is.1).1 (subst E is.2 h.0)))),
+)
+
+-- ---- where nothing is asked of the pairs
+
+abbrev pub IsAny : ℤ → ℤ → Type 0
+IsAny n m = Unit {0}
+
+pub made_bits : (p : Plane) (D E : ℤ → Type 0) (base : ℤ) (word : ℕ) → AreOnes word (λ k. (n : ℤ) × (m : ℤ) × IsPairOf IsAny D E n m × ((base +ℤ pos k) ≡ number_on p n m))
+    → AreOnes word (λ k. IsMade p D E (base +ℤ pos k))
+made_bits p D E base word t = λ k small. (
+  (λ bit. let h = (t k small).0 bit in (h.0, h.1, h.2.first, h.2.second, h.3)),
+  (λ h. (t k small).1 (h.0, h.1, record { partners = tt; first = h.2; second = h.3 }, h.4)),
 )

@@ -1,11 +1,12 @@
 -- A plane said the other way round, of the first variable less the second.
-use Rattle.std.proofs.Common.{◌≡◌, ◌*◌, ℕ, List, ap, arith, refl, subst, zero, suc}
-use Rattle.std.specs.Prelude.{ℤ, pos, negsuc, neg_ℤ, ◌*ℤ◌}
+use Rattle.std.proofs.Common.{◌≡◌, ◌*◌, ℕ, List, ap, arith, refl, subst, sym, zero, suc}
+use Rattle.std.specs.Prelude.{ℤ, pos, negsuc, neg_ℤ, ◌*ℤ◌, ◌≤ℤ◌}
 use Rattle.std.proofs.lemmas.Int.{ints}
 use Rattle.fz_sets.specs.Sets.{IsInSet}
 use Rattle.fz_strength.specs.Domains.{dom_at, number_at}
 use Rattle.fz_shift.specs.declared.plane.Plane.{Plane}
-use Rattle.fz_shift.specs.Planes.{AreInside, HasPartners, PlaneTruth, number_on}
+use Rattle.fz_prop.specs.Truths.{IsSame}
+use Rattle.fz_shift.specs.Planes.{AreApart, AreInside, HasPartners, IsSmall, PlaneTruth, number_on}
 
 neg_neg : (n : ℕ) → pos n ≡ neg_ℤ (neg_ℤ (pos n))
 neg_neg zero = refl
@@ -47,3 +48,29 @@ turned_partners p ds h = record {
   first = λ v is. let q = h.second v is in (q.0, q.2, subst (IsInSet (dom_at ds p.first)) (turned_number p q.0 q.1 v q.4) q.3);
   second = λ w is. let q = h.first w is in (q.0, number_on p q.0 w, q.1, q.2, turned_number p q.0 w (number_on p q.0 w) refl);
 }
+
+back_partners : (p : Plane) (ds : List (List (ℤ × ℤ))) → HasPartners (turned_plane p) ds → HasPartners p ds
+back_partners p ds h = record {
+  across = λ u is.
+      let q = h.across u is in
+      let w = number_on (turned_plane p) u q.0 in
+      (w, q.2, subst (IsInSet (dom_at ds p.second)) (turned_back p u w q.0 refl) q.1);
+  first = λ w is. let q = h.second w is in (q.0, q.2, subst (IsInSet (dom_at ds p.second)) (turned_back p q.0 w q.1 q.4) q.3);
+  second = λ v is. let q = h.first v is in let w = number_on (turned_plane p) q.0 v in (q.0, w, q.1, q.2, turned_back p q.0 w v refl);
+}
+
+pub turned_same : (p : Plane) → IsSame (PlaneTruth (turned_plane p)) (PlaneTruth p) (HasPartners (turned_plane p)) (HasPartners p)
+turned_same p = record {
+  truth = λ a. ((λ on. turned_back p (number_at a p.across) (number_at a p.first) (number_at a p.second) on), (λ on. turned_truth p a on));
+  line = λ ds h. back_partners p ds h;
+}
+
+pub turned_small : (p : Plane) → p.number ≤ℤ pos 2147483647 → IsSmall p → IsSmall (turned_plane p)
+turned_small p high small =
+    let l = small.least in
+    let m = small.most in
+    let n = small.number in
+    record { least = omega (arith, ints, m); most = omega (arith, ints, l); number = omega (arith, ints, high) }
+
+pub turned_apart : (p : Plane) → AreApart p → AreApart (turned_plane p)
+turned_apart p apart = record { first = apart.second; second = apart.first; others = λ e. apart.others (sym e) }

@@ -1,6 +1,7 @@
 -- The numbers of three variables that lie on a plane with what is left of the others.
-use Rattle.std.specs.Prelude.{◌≡◌, ◌≢◌, ◌↔◌, ℕ, ℤ, List}
+use Rattle.std.specs.Prelude.{◌≡◌, ◌≢◌, ◌↔◌, ◌<◌, ◌+ℤ◌, pos, ℕ, ℤ, List}
 use Rattle.fz_sets.specs.Sets.{IsInSet}
+use Rattle.fz_bits.specs.Words.{HasBit}
 use Rattle.fz_dom.specs.Changes.{IsKeeping}
 use Rattle.fz_strength.specs.Domains.{dom_at}
 use Rattle.fz_prop.specs.Matching.{IsPairOf}
@@ -14,6 +15,10 @@ IsThird p second D E v = (u : ℤ) × (w : ℤ) × IsPairOf (IsOnPlane p second)
 -- a number that numbers of two properties make
 abbrev pub IsMade : Plane → (ℤ → Type 0) → (ℤ → Type 0) → ℤ → Type 0
 IsMade p D E v = (u : ℤ) × (w : ℤ) × D u × E w × (v ≡ number_on p u w)
+
+-- a number that is one of a word's, or none of the 64 from its base on
+abbrev pub IsSpared : ℤ → ℕ → ℤ → Type 0
+IsSpared base word x = (i : ℕ) → i < 64 → x ≡ base +ℤ pos i → HasBit word i
 
 -- numbers that are left of the three variables and lie on it
 pub record IsPoint (p : Plane) (ds : List (List (ℤ × ℤ))) (u w v : ℤ) : Type 0 where

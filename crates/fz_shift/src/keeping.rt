@@ -55,7 +55,7 @@ pub fn keep_near(
 }
 
 /// Keeps numbers across and of the first variable, and says whether there are some.
-fn keep_two(store: &mut Store, plane: Plane, kept: Matches) -> Result<bool, AllocError>
+pub fn keep_two(store: &mut Store, plane: Plane, kept: Matches) -> Result<bool, AllocError>
     requires inside { AreInside (length store.old.doms) plane }
     requires apart { AreApart plane }
     requires across_room { HasRoom kept.across.base }

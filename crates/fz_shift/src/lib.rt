@@ -1,7 +1,9 @@
 //! Equations of a few variables on whole domains.
 #![tactic(auto)]
 
-pub mod difference;
+mod far;
+mod keeping;
+mod matching;
 pub mod plane;
 mod shape;
 

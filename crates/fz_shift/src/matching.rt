@@ -4,7 +4,7 @@ ghost use Rattle.fz_bits.specs.Windows.{IsBit};
 ghost use Rattle.fz_bits.specs.Words.{AreOnes};
 ghost use Rattle.fz_prop.specs.Matching.{AreMatching, HasRoom};
 ghost use Rattle.fz_shift.specs.Planes.{IsOnPlane, IsSmall, number_on};
-ghost use Rattle.fz_shift.specs.Points.{IsThird};
+ghost use Rattle.fz_shift.specs.Points.{IsMade, IsThird};
 
 use crate::plane::Plane;
 use fz_bits::Window;
@@ -57,6 +57,24 @@ pub fn matches_of(plane: Plane, across: Window, first: Window, second: &Dom, bas
         first: firsts,
         second: seconds,
     }
+}
+
+/// The numbers of the second variable that the numbers of two windows make, as bits, where bit 0 stands for a base.
+pub fn seconds_of(plane: Plane, across: Window, first: Window, base: i64) -> u64
+    requires small { IsSmall plane }
+    requires across_room { HasRoom across.base }
+    ensures { AreOnes result (λ i. IsMade plane (λ u. IsBit across.base across.bits u)
+        (λ w. IsBit first.base first.bits w) (base +ℤ pos i)) }
+{
+    let mut seconds = 0;
+    let mut left = across;
+    'numbers: while left.bits != 0 {
+        let number = left.first();
+        left = left.without(number);
+        let from = number_on(plane, number, first.base);
+        seconds = either(seconds, rebased(first.bits, from, base));
+    }
+    seconds
 }
 
 /// The bits of the same numbers, where bit 0 stood for one base and is to stand for another; those that leave the word are lost.

@@ -8,6 +8,7 @@ ghost use Rattle.fz_prop.specs.Matching.{HasRoom};
 ghost use Rattle.fz_prop.specs.Stores.{Shrinks};
 ghost use Rattle.fz_shift.specs.Planes.{AreApart, AreInside, HasPartners, IsSmall, IsWide, PlaneTruth};
 
+use crate::far::keep_far;
 use crate::keeping::keep_near;
 use fz_bits::Window;
 use fz_prop::terms::window_of;
@@ -63,21 +64,49 @@ pub fn keep_plane(store: &mut Store, plane: Plane) -> Result<Option<Answer>, All
     ensures wide { IfOk result (λ o. IsNone o → (store.new ≡ store.old)
         × (IsWide (dom_at store.old.doms plane.across)
         ⊎ (IsWide (dom_at store.old.doms plane.first)
-        ⊎ IsWide (dom_at store.old.doms plane.second)))) }
+        × IsWide (dom_at store.old.doms plane.second)))) }
 {
     let Some(across) = window_of(store, Term::Var(plane.across)) else {
         return Ok(None);
     };
-    let Some(first) = window_of(store, Term::Var(plane.first)) else {
-        return Ok(None);
-    };
+    if let Some(first) = window_of(store, Term::Var(plane.first)) {
+        return Ok(Some(keep_sides(store, plane, across, first)?));
+    }
     let Some(second) = window_of(store, Term::Var(plane.second)) else {
         return Ok(None);
     };
-    if !keep_near(store, plane, across, first, second)? {
-        return Ok(Some(Answer::Failed));
+    Ok(Some(keep_sides(store, plane.turned(), across, second)?))
+}
+
+/// The same, where windows have what was left of the one across and of the first.
+fn keep_sides(
+    store: &mut Store,
+    plane: Plane,
+    across: Window,
+    first: Window,
+) -> Result<Answer, AllocError>
+    requires inside { AreInside (length store.old.doms) plane }
+    requires small { IsSmall plane }
+    requires apart { AreApart plane }
+    requires across_room { HasRoom across.base }
+    requires first_room { HasRoom first.base }
+    requires across { (u : ℤ) → IsBit across.base across.bits u
+        ↔ IsInSet (dom_at store.old.doms plane.across) u }
+    requires first { (w : ℤ) → IsBit first.base first.bits w
+        ↔ IsInSet (dom_at store.old.doms plane.first) w }
+    ensures shrinks { Shrinks store.old store.new }
+    ensures correct { IsCorrectOf (PlaneTruth plane) store.old.doms store.new.doms }
+    ensures answer { IfOk result (λ r.
+        IsAnswerOf r (PlaneTruth plane) (HasPartners plane) store.old.doms store.new.doms) }
+{
+    let kept = match window_of(store, Term::Var(plane.second)) {
+        Some(second) => keep_near(store, plane, across, first, second)?,
+        None => keep_far(store, plane, across, first)?,
+    };
+    if !kept {
+        return Ok(Answer::Failed);
     }
-    Ok(Some(rested(store, plane)))
+    Ok(rested(store, plane))
 }
 
 /// What is known of three variables each of whose numbers has partners in the other two.
