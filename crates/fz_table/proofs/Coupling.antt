@@ -1,6 +1,6 @@
 -- Keeping the numbers of two terms that have a partner in the other.
-use Rattle.std.proofs.Common.{◌≡◌, ◌≢◌, ◌<◌, ◌≤◌, ◌+◌, ◌*◌, ◌/◌, ℕ, suc, List, [], ◌∷◌, Bool, true, false, refl, sym, subst, ◌∙◌, ap, arith, length, ◌⊎◌, inl, inr}
-use Rattle.std.specs.Prelude.{ℤ, slice_get, slice_range, Some}
+use Rattle.std.proofs.Common.{◌≡◌, ◌≢◌, ◌<◌, ℕ, List, refl, sym, subst, ◌∙◌, ap, arith, length, ◌⊎◌, inl, inr}
+use Rattle.std.specs.Prelude.{ℤ}
 use Rattle.fz_sets.specs.Sets.{IsInSet}
 use Rattle.fz_dom.specs.Shape.{least}
 use Rattle.fz_dom.specs.declared.change.Change.{Change}
@@ -10,10 +10,9 @@ use Rattle.fz_spec.specs.declared.term.Term.{Term}
 use Rattle.fz_spec.specs.declared.term.Term.TheVariants.{Num, Var}
 use Rattle.fz_spec.specs.Constraints.{term_value}
 use Rattle.fz_strength.specs.Domains.{dom_at, term_set, room, AreDomains, Within, IsNarrower}
-use Rattle.fz_strength.specs.Events.{IsOnly, IsFixedIn}
-use Rattle.fz_prop.specs.Outcomes.{rested_by}
+use Rattle.fz_strength.specs.Events.{IsFixedIn}
 use Rattle.fz_prop.specs.Stores.{Stored, Shrinks, IsTermOf, IsTermChange}
-use Rattle.fz_prop.proofs.Filled.{narrower_ranges, still_only}
+use Rattle.fz_prop.proofs.Filled.{narrower_ranges}
 use Rattle.fz_prop.proofs.TermChanges.{term_within, narrower_term, only_in, within_kept, kept_term, none_kept, falls_of, same_store}
 use Rattle.fz_prop.specs.Matching.{IsPairOf, AreMatching}
 use Rattle.fz_table.specs.Partners.{AreMatchedBy}

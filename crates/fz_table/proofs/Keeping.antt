@@ -14,8 +14,8 @@ use Rattle.fz_spec.specs.declared.term.Term.{Term}
 use Rattle.fz_spec.specs.declared.term.Term.TheVariants.{Num, Var}
 use Rattle.fz_spec.specs.Constraints.{term_value}
 use Rattle.fz_strength.specs.Domains.{dom_at, term_set, room, AreDomains, Within, IsNarrower}
-use Rattle.fz_strength.specs.Events.{IsOnly, IsFixedIn, AllFixed, AreSingle}
-use Rattle.fz_strength.specs.Tables.{LieWithin, IsLeftRow, IsSupported, AreSupported}
+use Rattle.fz_strength.specs.Events.{IsFixedIn, AllFixed, AreSingle}
+use Rattle.fz_strength.specs.Tables.{LieWithin, IsLeftRow, AreSupported}
 use Rattle.fz_strength.proofs.Tables.{single_row}
 use Rattle.fz_prop.specs.declared.answer.Answer.TheVariants.{Subsumed}
 use Rattle.fz_prop.specs.Answers.{IsAnswerOf, IsCorrectOf}

@@ -1,11 +1,10 @@
 -- The rows of each number of a column as words, as many for each.
-use Rattle.std.specs.Prelude.{◌≡◌, ◌↔◌, ℕ, ◌≤◌, ◌+◌, ℤ, List, Option, length, slice_get, slice_range, Some, IfSome}
-use Rattle.fz_sets.specs.Sets.{IsInSet}
+use Rattle.std.specs.Prelude.{◌≡◌, ◌↔◌, ℕ, ◌≤◌, ◌+◌, ℤ, List, length, slice_get, slice_range, Some}
 use Rattle.fz_bits.specs.Members.{HasMember}
 use Rattle.fz_table.specs.declared.supports.Support.{Support}
 use Rattle.fz_table.specs.declared.packed.Packed.{Packed}
 use Rattle.fz_table.specs.declared.packed.Numbered.{Numbered}
-use Rattle.fz_table.specs.Supports.{IsIn, AreInOrder, HasNumber, AreSized, AreEnds}
+use Rattle.fz_table.specs.Supports.{HasNumber, AreSized}
 
 -- the words of a number
 abbrev pub words_of : Packed → Numbered → List ℕ

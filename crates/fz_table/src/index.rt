@@ -22,7 +22,7 @@ pub struct Index {
 }
 
 /// So few supports are looked at one after the other.
-const FEW: usize = 8;
+const FEW: usize = 10;
 
 /// What the numbers of supports are found by, if these are more than a few.
 ///

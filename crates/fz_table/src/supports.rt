@@ -7,6 +7,9 @@ ghost use Rattle.fz_table.specs.Supports.{IsIn, AreInOrder, IsRising, HasNumber,
 use fz_bits::Chunk;
 use std::alloc::{AllocError, Global};
 
+/// Room for so many supports is taken at once, at most.
+const AT_ONCE: usize = 16;
+
 /// A number and some rows that have it.
 #[derive(Clone, Copy, Drop)]
 pub struct Support {
@@ -60,7 +63,7 @@ pub fn supports_of(alloc: Global, places: &[(i32, usize)]) -> Result<Vec<Support
     ensures words { IfOk result (λ v. (s : Support) → IsIn s v.items
         → (n : ℤ) × (i : ℕ) × IsPlaced places.now n i × (s.rows.word ≡ i / 64)) }
 {
-    let mut supports = Vec::new(alloc);
+    let mut supports = Vec::with_capacity(alloc, places.len().min(AT_ONCE))?;
     for place in places {
         add(&mut supports, place.0, place.1)?;
     }

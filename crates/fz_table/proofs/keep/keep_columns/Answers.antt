@@ -1,4 +1,4 @@
-use Rattle.std.proofs.Common.{◌≡◌, ℕ, ◌<◌, rules, ◌∙◌, refl, ap, sym, subst, arith, pos, Bool}
+use Rattle.std.proofs.Common.{◌≡◌, ℕ, ◌<◌, rules, ◌∙◌, refl, ap, sym, subst, arith, pos}
 use Rattle.std.specs.Prelude.{slice_get, Some}
 use Rattle.std.proofs.lemmas.Option.{slice_get-get_or}
 use Rattle.fz_spec.specs.declared.term.Term.{Term}
@@ -8,7 +8,7 @@ use Rattle.fz_strength.specs.Events.{IsFixedIn}
 use Rattle.fz_prop.specs.Stores.{Stored}
 use Rattle.fz_table.specs.Supports.{StandsIn}
 use Rattle.fz_table.proofs.LeftRows.{in_column, column_at}
-use Rattle.fz_table.proofs.Keeping.{IsKeeping, keeping_only, keeping_same, keeping_changed, keeping_correct, keeping_fails, keeping_all}
+use Rattle.fz_table.proofs.Keeping.{keeping_only, keeping_same, keeping_changed, keeping_correct, keeping_fails, keeping_all}
 use Rattle.fz_table.proofs.keep.keep_columns.Goals.{in-Changed, in-Same}
 use Rattle.fz_table.proofs.keep.keep_columns.Goals as goal
 

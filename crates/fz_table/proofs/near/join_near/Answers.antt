@@ -1,4 +1,4 @@
-use Rattle.std.proofs.Common.{◌≡◌, ◌<◌, ◌-◌, ℕ, ℤ, sym, subst, pos, rules, get_or, arith, length}
+use Rattle.std.proofs.Common.{◌<◌, ◌-◌, ℕ, sym, subst, pos, rules, get_or, arith, length}
 use Rattle.std.proofs.Math.Facts.{to_z-of_z}
 use Rattle.std.proofs.lemmas.Option.{slice_get-get_or}
 use mir.Val.{SFits}

@@ -1,10 +1,10 @@
-use Rattle.std.proofs.Common.{◌≡◌, ◌<◌, ◌≤◌, ◌+◌, ◌-◌, ◌∙◌, ℤ, refl, sym, subst, pos, rules, get_or, arith, length}
+use Rattle.std.proofs.Common.{◌<◌, ◌+◌, ◌-◌, ◌∙◌, ℤ, refl, pos, rules, get_or, arith, length}
 use Rattle.std.proofs.Math.Facts.{to_z-of_z}
 use Rattle.std.proofs.lemmas.Option.{slice_get-get_or}
 use mir.Val.{SFits}
 use mir.Syntax.{w32}
 use Rattle.fz_bits.specs.Windows.{IsBit}
-use Rattle.fz_bits.proofs.Windows.{within_window, none_in}
+use Rattle.fz_bits.proofs.Windows.{within_window}
 use Rattle.fz_table.specs.declared.supports.Support.{Support}
 use Rattle.fz_table.proofs.Windowed.{numbers_none, numbers_passed, numbers_more, none_outside, none_meets, numbers_all}
 use Rattle.fz_table.proofs.near.numbers_near.Goals as goal

@@ -1,4 +1,4 @@
-use Rattle.std.proofs.Common.{◌≡◌, ◌∙◌, ◌/◌, ◌-◌, ◌^◌, ap, suc, replicate, length, rules}
+use Rattle.std.proofs.Common.{◌∙◌, ◌-◌, ◌^◌, ap, replicate}
 use Rattle.fz_bits.proofs.Members.{all_members}
 use Rattle.fz_table.proofs.row_set.fill.Goals as goal
 

@@ -1,6 +1,3 @@
-use Rattle.std.proofs.Common.{◌≡◌, ◌∙◌, ◌<◌, ℕ, length, get_or, subst}
-use Rattle.std.proofs.lemmas.List.{get_or_default}
-use Rattle.fz_bits.specs.Words.{HasBit, AreOnes}
 use Rattle.fz_bits.proofs.Members.{meets_tells}
 use Rattle.fz_table.proofs.row_set.meets.Goals as goal
 
