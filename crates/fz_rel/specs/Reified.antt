@@ -1,5 +1,5 @@
 -- The line of a reified relation and of a reified set.
-use Rattle.std.specs.Prelude.{◌↔◌, ℤ, List}
+use Rattle.std.specs.Prelude.{◌↔◌, ℤ, pos, ◌-ℤ◌, List, [], ◌∷◌, cond, int_lt}
 use Rattle.fz_sets.specs.Sets.{IsInSet, IsWithinLimits}
 use Rattle.fz_spec.specs.declared.term.Term.{Term}
 use Rattle.fz_strength.specs.declared.relation.Relation.{Relation}
@@ -35,3 +35,7 @@ ReifiedMemberLine x set r ds = LineWith (member_sides x set) r ds
 -- others are the numbers within the limits that aren't in the set
 abbrev pub AreOthers : List (ℤ × ℤ) → List (ℤ × ℤ) → Type 0
 AreOthers set others = (x : ℤ) → IsInSet others x ↔ (IsWithinLimits x × (IsInSet set x → ⊥))
+
+-- the numbers from one to the last before another
+abbrev pub gap : ℤ → ℤ → List (ℤ × ℤ)
+gap from end = cond (int_lt from end) ((from, end -ℤ pos 1) ∷ []) []
