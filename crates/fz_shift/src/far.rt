@@ -43,6 +43,7 @@ pub fn keep_far(
     ensures some { IfOk result (λ b. (a : List ℤ) → PlaneTruth plane a
         → Within store.old.doms a → IsTrue b) }
 {
+    // Any base would do: its bits of the second variable aren't read.
     let found = matches_of(plane, across, first, store.dom(plane.second), 0);
     if !keep_seconds(store, plane, found)? {
         return Ok(false);

@@ -95,3 +95,15 @@ returns-clause-some c =
     let kept = all_kept p ds D E P Q T a c.requires.inside pairs truth within in
     some a ((rw (c.matches_of-found.ensures.across_base, c.matches_of-found.ensures.first_base) at c.in_ok-keep_seconds.ensures.stays) a within kept.2) kept.0 kept.1)
     (rw (c.matches_of-found.ensures.across_base, c.matches_of-found.ensures.first_base) at c.keep_two.ensures.some)
+
+pub keep_two-requires-clause-inside : goal.keep_two-requires-clause-inside
+keep_two-requires-clause-inside c = rw c.keep_seconds.ensures.shrinks.narrower.size c.requires.inside
+
+pub keep_two-requires-clause-across_room : goal.keep_two-requires-clause-across_room
+keep_two-requires-clause-across_room c = rw c.matches_of-found.ensures.across_base c.requires.across_room
+
+pub keep_two-requires-clause-first_room : goal.keep_two-requires-clause-first_room
+keep_two-requires-clause-first_room c = rw c.matches_of-found.ensures.first_base c.requires.first_room
+
+pub keep_seconds-requires-clause-across_room : goal.keep_seconds-requires-clause-across_room
+keep_seconds-requires-clause-across_room c = rw c.matches_of-found.ensures.across_base c.requires.across_room

@@ -119,3 +119,17 @@ returns-clause-some c =
     let kept = all_kept p ds D E P Q T a c.requires.inside pairs truth within in
     some a ((rw (to_z-of_z fits) at c.in_ok-keep_some.ensures.stays) a within kept.2) kept.0 kept.1)
     (rw (c.matches_of-found.ensures.across_base, c.matches_of-found.ensures.first_base) at c.keep_two.ensures.some)
+
+pub keep_two-requires-clause-inside : goal.keep_two-requires-clause-inside
+keep_two-requires-clause-inside c = rw c.keep_some.ensures.shrinks.narrower.size c.requires.inside
+
+pub keep_two-requires-clause-across_room : goal.keep_two-requires-clause-across_room
+keep_two-requires-clause-across_room c = rw c.matches_of-found.ensures.across_base c.requires.across_room
+
+pub keep_two-requires-clause-first_room : goal.keep_two-requires-clause-first_room
+keep_two-requires-clause-first_room c = rw c.matches_of-found.ensures.first_base c.requires.first_room
+
+pub keep_some-requires-clause-room : goal.keep_some-requires-clause-room
+keep_some-requires-clause-room c =
+    let fits : SFits w32 c.args.second.base = search rules in
+    rw (to_z-of_z fits) c.requires.second_room
