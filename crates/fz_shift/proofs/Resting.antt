@@ -1,11 +1,10 @@
 -- A sum rests where all numbers have partners: the one at each end of a term has some that are at least and at most at the ends of theirs.
 use Rattle.std.proofs.Common.{◌≡◌, ◌<◌, List, [], ◌∷◌, arith, length, refl}
-use Rattle.std.specs.Prelude.{ℤ, pos, negsuc, neg_ℤ, ◌*ℤ◌, ◌≤ℤ◌}
+use Rattle.std.specs.Prelude.{ℤ, pos, negsuc, neg_ℤ, ◌*ℤ◌}
 use Rattle.std.proofs.lemmas.Int.{ints}
 use Rattle.fz_sets.specs.Sets.{AreRanges, IsInSet}
 use Rattle.fz_dom.specs.Shape.{least, greatest}
 use Rattle.fz_dom.proofs.Ranges.{least_member, greatest_member}
-use Rattle.fz_num.proofs.Products.{mul_le, mul_ge}
 use Rattle.fz_spec.specs.declared.term.Term.{Term}
 use Rattle.fz_spec.specs.declared.term.Term.TheVariants.{Var}
 use Rattle.fz_strength.specs.declared.relation.Relation.TheVariants.{Equal}
@@ -13,6 +12,7 @@ use Rattle.fz_strength.specs.Domains.{dom_at, AreDomains}
 use Rattle.fz_strength.specs.Sums.{least_product, greatest_product, RestsAtMost, RestsSum}
 use Rattle.fz_shift.specs.declared.plane.Plane.{Plane}
 use Rattle.fz_shift.specs.Planes.{AreInside, HasPartners}
+use Rattle.fz_shift.proofs.Spans.{product_above, spanned}
 use Rattle.fz_shift.proofs.Turning.{turned_inside, turned_partners, turned_plane}
 
 least_reached : (k : ℤ) (d : List (ℤ × ℤ)) → 0 < length d → AreRanges d → (x : ℤ) × IsInSet d x × ((k *ℤ x) ≡ least_product k d)
@@ -22,10 +22,6 @@ least_reached (negsuc n) d some ranges = (greatest d, (greatest_member d some ra
 greatest_reached : (k : ℤ) (d : List (ℤ × ℤ)) → 0 < length d → AreRanges d → (x : ℤ) × IsInSet d x × ((k *ℤ x) ≡ greatest_product k d)
 greatest_reached (pos n) d some ranges = (greatest d, (greatest_member d some ranges).0, refl)
 greatest_reached (negsuc n) d some ranges = (least d, (least_member d some ranges).0, refl)
-
-product_above : (k : ℤ) (d : List (ℤ × ℤ)) (x : ℤ) → 0 < length d → AreRanges d → IsInSet d x → least_product k d ≤ℤ (k *ℤ x)
-product_above (pos n) d x some ranges is = mul_le n (least d) x ((least_member d some ranges).1 x is)
-product_above (negsuc n) d x some ranges is = mul_ge n x (greatest d) ((greatest_member d some ranges).1 x is)
 
 at_most : (p : Plane) (ds : List (List (ℤ × ℤ))) → AreDomains ds → AreInside (length ds) p → HasPartners p ds
     → RestsAtMost ds (p.factor ∷ pos 1 ∷ negsuc 0 ∷ []) (Var p.across ∷ Var p.first ∷ Var p.second ∷ []) p.number
@@ -48,9 +44,10 @@ at_most p ds domains inside h =
     let a_v = high_v.1 _ a.2 in
     let b_w = low_w.1 b.0 b.1 in
     let b_v = high_v.1 _ b.2 in
-    let d_u = product_above k (dom_at ds p.across) d.0 du.1 du.0.0 d.1 in
+    let ends = spanned ds (Var p.across) domains inside.across in
+    let d_u = product_above k (dom_at ds p.across) d.0 ends d.1 in
     let d_v = high_v.1 _ d.2 in
-    let e_u = product_above k (dom_at ds p.across) e.0 du.1 du.0.0 e.2 in
+    let e_u = product_above k (dom_at ds p.across) e.0 ends e.2 in
     let e_w = low_w.1 e.1 e.3 in
     let e_v = e.4 in
     let low_is = low_u.2 in

@@ -1,6 +1,7 @@
 //! Equations of a few variables on whole domains.
 #![tactic(auto)]
 
+pub mod difference;
 mod far;
 mod keeping;
 mod matching;
