@@ -53,6 +53,7 @@ impl Spans {
     ///
     /// # Errors
     /// `AllocError` where there is no memory.
+    #[inline(always)]
     pub fn add(&mut self, number: i32) -> Result<(), AllocError>
         ensures { OnOk result ((n : ℤ) → IsInSet self.new n ↔ (IsInSet self.old n ⊎ (n ≡ number))) }
     {
@@ -70,6 +71,7 @@ impl Spans {
     }
 
     /// Adds a number, to the last range if it is the next one.
+    #[inline(always)]
     fn push(&mut self, number: i32) -> Result<(), AllocError>
         ensures { OnOk result ((n : ℤ) → IsInSet self.new n ↔ (IsInSet self.old n ⊎ (n ≡ number))) }
     {
