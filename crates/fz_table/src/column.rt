@@ -47,15 +47,15 @@ impl Model for Column {
 }
 
 impl Column {
-    /// The column of supports.
+    /// The column of the supports of so many rows.
     ///
     /// # Errors
     /// `AllocError` where there is no memory.
-    pub fn new(alloc: Global, supports: Vec<Support>) -> Result<Column, AllocError>
+    pub fn new(alloc: Global, supports: Vec<Support>, rows: usize) -> Result<Column, AllocError>
         requires { AreInOrder supports.items }
         ensures { IfOk result (λ c. c ≡ supports.items) }
     {
-        let index = index_of(alloc, &supports)?;
+        let index = index_of(alloc, &supports, rows)?;
         Ok(Column { supports, index })
     }
 

@@ -28,7 +28,7 @@ fn column_of(alloc: Global, table: &[i32], width: usize, place: usize) -> Result
 {
     let places = places_in_order(alloc, table, width, place)?;
     let supports = supports_of(alloc, &places)?;
-    Column::new(alloc, supports)
+    Column::new(alloc, supports, places.len())
 }
 
 /// The number of each row at a place, with the row, in the order of the numbers.

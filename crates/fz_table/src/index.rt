@@ -21,18 +21,25 @@ pub struct Index {
     pub packed: Option<Packed>,
 }
 
-/// So few supports are looked at one after the other.
+/// So few supports of a short table are looked at one after the other.
 const FEW: usize = 10;
 
-/// What the numbers of supports are found by, if these are more than a few.
+/// So many rows has a short table, at most.
+const SHORT: usize = 63;
+
+/// What the numbers of the supports of so many rows are found by, if these are more than a few.
 ///
 /// # Errors
 /// `AllocError` where there is no memory.
-pub fn index_of(alloc: Global, supports: &[Support]) -> Result<Option<Box<Index>>, AllocError>
+pub fn index_of(
+    alloc: Global,
+    supports: &[Support],
+    rows: usize,
+) -> Result<Option<Box<Index>>, AllocError>
     requires { AreInOrder supports.now }
     ensures { IfOk result (λ o. IfSome o (λ b. IsIndexOf b.value supports.now)) }
 {
-    if supports.len() <= FEW {
+    if supports.len() <= FEW && rows <= SHORT {
         return Ok(None);
     }
     let ends = ends_of(alloc, supports)?;
