@@ -1,6 +1,6 @@
 -- Where one number is left of each term, all assignments within the domains agree on the truth.
-use Rattle.std.proofs.Common.{◌≡◌, ◌<◌, ℕ, List, [], ◌∷◌, ◌++◌, refl, sym, ◌∙◌, ap, subst, length}
-use Rattle.std.specs.Prelude.{ℤ, map}
+use Rattle.std.proofs.Common.{◌≡◌, ◌<◌, ℕ, List, [], ◌∷◌, ◌++◌, refl, sym, ◌∙◌, subst, length}
+use Rattle.std.specs.Prelude.{ℤ}
 use Rattle.std.specs.List.{AllByRecursion}
 use Rattle.fz_sets.specs.Sets.{IsInSet}
 use Rattle.fz_spec.specs.declared.builtin.Builtin.{Builtin}
@@ -10,7 +10,7 @@ use Rattle.fz_spec.specs.Constraints.{Argument, One, Numbers, Terms, Set, term_v
 use Rattle.fz_strength.specs.Domains.{dom_at, Within, number_at}
 use Rattle.fz_strength.specs.Events.{AllFixed}
 use Rattle.fz_prop.specs.Stores.{IsTermOf}
-use Rattle.fz_strength.specs.Lines.{terms_of, terms_among}
+use Rattle.fz_strength.specs.Lines.{terms_among}
 use Rattle.fz_sets.proofs.Lists.{all_left, all_right}
 use Rattle.fz_strength.proofs.Terms.{is_single}
 

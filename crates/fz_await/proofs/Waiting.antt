@@ -6,7 +6,7 @@ use Rattle.fz_spec.specs.declared.builtin.Builtin.{Builtin}
 use Rattle.fz_spec.specs.Constraints.{Argument, Holds}
 use Rattle.fz_strength.specs.Domains.{Within}
 use Rattle.fz_strength.specs.Events.{AllFixed}
-use Rattle.fz_strength.specs.Lines.{terms_among, RestsOnceFixed}
+use Rattle.fz_strength.specs.Lines.{terms_among}
 use Rattle.fz_strength.specs.Sayings.{Nothing, truth_of, line_of}
 use Rattle.fz_strength.proofs.Terms.{within_before}
 use Rattle.fz_prop.specs.Answers.{IsAnswerOf}

@@ -66,7 +66,7 @@ fn add_terms(terms: &mut Vec<Term>, argument: &Argument) -> Result<(), AllocErro
 {
     match argument {
         Argument::One(term) => terms.push(*term)?,
-        Argument::Terms(more) => terms.extend_from_slice(more)?,
+        Argument::Terms(more) => terms.extend_from_slice(more.as_slice())?,
         Argument::Numbers(_) | Argument::Set(_) => {}
     }
     Ok(())

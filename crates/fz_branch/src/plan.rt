@@ -4,7 +4,7 @@ ghost use Rattle.std.specs.List.{range_with_len};
 ghost use Rattle.fz_branch.specs.Plans.{plan_of, plan_rows, EndsInAll};
 
 use crate::shown::{all_shown, shown_in, shown_parts};
-use fz_model::{Part, SearchPart};
+use fz_model::{Listed, Part, SearchPart};
 use fz_spec::search::{Pick, Value};
 use std::alloc::{AllocError, Global};
 use std::marker::Model;
@@ -40,7 +40,7 @@ impl Plan {
     {
         let mut parts = copies(alloc, model.search())?;
         let variables = all_variables(alloc, model.variables().len() as u32)?;
-        parts.push(SearchPart::new(variables, Pick::InputOrder, Value::IndomainMin))?;
+        parts.push(SearchPart::new(Listed::own(variables), Pick::InputOrder, Value::IndomainMin))?;
         Ok(Plan {
             parts,
             ends_in_all: true,
@@ -58,7 +58,7 @@ impl Plan {
         let shown = shown_in(alloc, model)?;
         let mut parts = shown_parts(alloc, model, &shown)?;
         let all = all_shown(alloc, model, &shown)?;
-        parts.push(SearchPart::new(all, Pick::InputOrder, Value::IndomainMin))?;
+        parts.push(SearchPart::new(Listed::own(all), Pick::InputOrder, Value::IndomainMin))?;
         Ok(Plan {
             parts,
             ends_in_all: false,

@@ -8,7 +8,7 @@ ghost use Rattle.fz_branch.specs.Plans.{only_shown};
 ghost use Rattle.fz_branch.specs.Shown.{AreTheShown};
 
 use fz_bits::BitSet;
-use fz_model::{Part, SearchPart};
+use fz_model::{Listed, Part, SearchPart};
 use fz_spec::term::Term;
 use std::alloc::{AllocError, Global};
 
@@ -69,7 +69,7 @@ pub fn shown_parts(
     let mut cut = Vec::with_capacity(alloc, parts.len() + 1)?;
     for part in parts {
         let variables = only(alloc, part.variables(), shown)?;
-        cut.push(SearchPart::new(variables, part.pick(), part.value()))?;
+        cut.push(SearchPart::new(Listed::own(variables), part.pick(), part.value()))?;
     }
     Ok(cut)
 }

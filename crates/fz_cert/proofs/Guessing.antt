@@ -1,5 +1,5 @@
 -- What a text that begins with a line, or a head, gives back.
-use Rattle.std.proofs.Common.{◌≡◌, ℕ, ◌+◌, ◌<◌, ◌^◌, true, false, List, ◌∷◌, ◌++◌, refl, sym, ap, subst, ◌∙◌, arith, drop, get_or, append_assoc, codes}
+use Rattle.std.proofs.Common.{◌≡◌, ℕ, ◌<◌, ◌^◌, true, false, List, ◌∷◌, ◌++◌, refl, sym, ap, subst, ◌∙◌, arith, drop, get_or, append_assoc, codes}
 use Rattle.std.specs.Prelude.{ℤ, FitsSigned, decimal, Option, Some, None, IfSome, IfNone, is_some}
 use Rattle.std.specs.Fmt.{signed_decimal}
 use Rattle.std.specs.List.{AllByRecursion}

@@ -1,6 +1,6 @@
 -- Lines that refute the boxes of a walk are read to their end.
 use Rattle.std.proofs.Common.{◌≡◌, ℕ, List, [], ◌∷◌, ◌++◌, refl, sym, ap, subst, ◌∙◌, length, drop, append_assoc, codes}
-use Rattle.std.specs.Prelude.{ℤ, Option, Some, None, ◌↔◌, Bool, true, false, IsTrue}
+use Rattle.std.specs.Prelude.{ℤ, Option, Some, None, ◌↔◌, Bool, false, IsTrue}
 use Rattle.std.proofs.lemmas.Bool.{false≢true}
 use Rattle.fz_spec.specs.Instance.{Instance}
 use Rattle.fz_model.specs.Kept.{IsModel}

@@ -61,7 +61,13 @@ fn is_refuted_sum(constraint: &Constraint, area: &Area) -> bool
             Argument::Numbers(factors),
             Argument::Terms(terms),
             Argument::One(bound),
-        ] => { is_sum_out(constraint.name(), area, factors, terms, *bound) }
+        ] => is_sum_out(
+            constraint.name(),
+            area,
+            factors.as_slice(),
+            terms.as_slice(),
+            *bound,
+        ),
         _ => false,
     }
 }

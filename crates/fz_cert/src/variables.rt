@@ -38,7 +38,7 @@ fn push_terms(terms: &mut Vec<Term>, argument: &Argument) -> Result<(), AllocErr
 {
     match argument {
         Argument::One(term) => terms.push(*term)?,
-        Argument::Terms(more) => terms.extend_from_slice(more)?,
+        Argument::Terms(more) => terms.extend_from_slice(more.as_slice())?,
         Argument::Numbers(_) | Argument::Set(_) => {}
     }
     Ok(())

@@ -8,6 +8,7 @@ use Rattle.fz_spec.specs.Constraints.{Argument, list_lengths}
 use Rattle.fz_language.specs.declared.fault.RuleFault.TheVariants.{Unsupported, UnknownConstraint, UnknownName, WrongType, WrongLengths}
 use Rattle.fz_language.specs.Trees.{Expression, ConstraintItem}
 use Rattle.fz_language.specs.Entries.{Environment, resolve}
+use Rattle.fz_language.specs.Annotations.{asks_whole}
 use Rattle.fz_language.specs.Rules.{Fault, wrong_place, wrong_arguments, arguments_in, at_places, unknown_of, signature_faults, row_faults, named_unsupported, named_unknown, is_unsupported, floats_of}
 use Rattle.fz_spec.specs.Signatures.{Row, row_named, signature_of, have_lengths}
 use Rattle.fz_resolve.specs.declared.fault.Fault as found
@@ -100,11 +101,11 @@ faults_are others env c row signature arguments right are =
 
 pub signed_typed : (others : List Fault) (env : Environment) (c : ConstraintItem) (row : Row) (signature : List Asked) (arguments : List Argument) (r : Result meaning.Constraint found.Fault)
     → AreArguments env signature c.arguments (Ok arguments)
-    → MatchResult r (λ m. ((others ++ unknown_names env c) ++ wrong_lengths row c.name.at arguments ≡ []) × (m ≡ record { name = row.builtin; arguments = arguments }))
+    → MatchResult r (λ m. ((others ++ unknown_names env c) ++ wrong_lengths row c.name.at arguments ≡ []) × (m ≡ record { name = row.builtin; arguments = arguments; whole = asks_whole c.annotations }))
     (IsFirstFault ((others ++ unknown_names env c) ++ wrong_lengths row c.name.at arguments))
     → IsSigned others env c row signature r
 signed_typed others env c row signature arguments (Ok m) a h =
-    (sym (faults_are others env c row signature arguments a.0 a.1) ∙ h.0, h.1 ∙ ap (λ (xs : List Argument). record { name = row.builtin; arguments = xs }) a.1)
+    (sym (faults_are others env c row signature arguments a.0 a.1) ∙ h.0, h.1 ∙ ap (λ (xs : List Argument). record { name = row.builtin; arguments = xs; whole = asks_whole c.annotations }) a.1)
 signed_typed others env c row signature arguments (Err f) a h = ap (λ (l : List Fault). slice_get l 0) (sym (faults_are others env c row signature arguments a.0 a.1)) ∙ h
 
 pub signed_wrong : (others : List Fault) (env : Environment) (c : ConstraintItem) (row : Row) (signature : List Asked) (at : ℕ) (f : found.Fault) → AreArguments env signature c.arguments (Err at)
@@ -128,7 +129,7 @@ faults_of_row env c o =
 
 abbrev constraints_of_row : Environment → ConstraintItem → Option Row → List meaning.Constraint
 constraints_of_row env c o = elim o [
-  | Some row ↦ elim (signature_of row (length c.arguments)) [ Some signature ↦ record { name = row.builtin; arguments = arguments_in env signature c.arguments } ∷ [] | None ↦ [] ]
+  | Some row ↦ elim (signature_of row (length c.arguments)) [ Some signature ↦ record { name = row.builtin; arguments = arguments_in env signature c.arguments; whole = asks_whole c.annotations } ∷ [] | None ↦ [] ]
   | None ↦ []
 ]
 
@@ -136,7 +137,7 @@ pub rowed_call : (env : Environment) (c : ConstraintItem) (row : Row) (r : Resul
 rowed_call env c row (Ok m) e h = (
   ap (faults_of_row env c) e ∙ h.0,
   ap (constraints_of_row env c) e
-      ∙ ap (λ (o : Option (List Asked)). elim o [ Some signature ↦ record { name = row.builtin; arguments = arguments_in env signature c.arguments } ∷ [] | None ↦ [] ]) h.1.1
+      ∙ ap (λ (o : Option (List Asked)). elim o [ Some signature ↦ record { name = row.builtin; arguments = arguments_in env signature c.arguments; whole = asks_whole c.annotations } ∷ [] | None ↦ [] ]) h.1.1
       ∙ ap (λ (x : meaning.Constraint). x ∷ []) (sym h.1.2),
 )
 rowed_call env c row (Err f) e h = ap (λ o. slice_get (faults_of_row env c o) 0) e ∙ h

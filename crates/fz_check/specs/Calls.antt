@@ -1,10 +1,11 @@
 -- What the item of a constraint makes.
-use Rattle.std.specs.Prelude.{◌≡◌, ℕ, List, [], ◌∷◌, ◌++◌, Option, Some, Result, MatchResult, slice_get, length, cond}
+use Rattle.std.specs.Prelude.{◌≡◌, ℕ, Bool, List, [], ◌∷◌, ◌++◌, Option, Some, Result, MatchResult, slice_get, length, cond}
 use Rattle.fz_spec.specs.declared.asked.Asked.{Asked}
 use Rattle.fz_spec.specs.Constraints as meaning
 use Rattle.fz_spec.specs.Signatures as signatures
 use Rattle.fz_language.specs.Trees.{ConstraintItem, Expression}
 use Rattle.fz_language.specs.Entries.{Environment}
+use Rattle.fz_language.specs.Annotations.{asks_whole}
 use Rattle.fz_language.specs.Rules.{Fault, call_faults, signature_faults, row_faults, wrong_arguments, arguments_in, at_places}
 use Rattle.fz_language.specs.declared.fault.RuleFault.TheVariants.{WrongLengths}
 use Rattle.fz_language.specs.Models.{call_constraints}
@@ -19,13 +20,13 @@ IsCall env c made = MatchResult made (λ m. (call_faults env c ≡ []) × (call_
 -- the same behind other faults, of a row with this signature
 abbrev pub IsSigned : List Fault → Environment → ConstraintItem → signatures.Row → List Asked → Result meaning.Constraint found.Fault → Type 0
 IsSigned others env c row signature made =
-    MatchResult made (λ m. (others ++ signature_faults env c row (Some signature) ≡ []) × (m ≡ record { name = row.builtin; arguments = arguments_in env signature c.arguments }))
+    MatchResult made (λ m. (others ++ signature_faults env c row (Some signature) ≡ []) × (m ≡ record { name = row.builtin; arguments = arguments_in env signature c.arguments; whole = asks_whole c.annotations }))
     (IsFirstFault (others ++ signature_faults env c row (Some signature)))
 
 -- and of a row
 abbrev pub IsRowed : List Fault → Environment → ConstraintItem → signatures.Row → Result meaning.Constraint found.Fault → Type 0
 IsRowed others env c row made =
-    MatchResult made (λ m. (others ++ row_faults env c (Some row) ≡ []) × ((signature : List Asked) × (signatures.signature_of row (length c.arguments) ≡ Some signature) × (m ≡ record { name = row.builtin; arguments = arguments_in env signature c.arguments })))
+    MatchResult made (λ m. (others ++ row_faults env c (Some row) ≡ []) × ((signature : List Asked) × (signatures.signature_of row (length c.arguments) ≡ Some signature) × (m ≡ record { name = row.builtin; arguments = arguments_in env signature c.arguments; whole = asks_whole c.annotations })))
     (IsFirstFault (others ++ row_faults env c (Some row)))
 
 -- the arguments, or the place of the first of a wrong type
@@ -38,7 +39,7 @@ abbrev pub wrong_lengths : signatures.Row → ℕ → List meaning.Argument → 
 wrong_lengths row at arguments = at_places WrongLengths (cond (signatures.have_lengths row.lengths (meaning.list_lengths arguments)) [] (at ∷ []))
 
 -- the constraint where the lists have the lengths that are asked, or else the fault that comes before, or that of the lengths
-abbrev pub IsTyped : Option found.Fault → signatures.Row → ℕ → List meaning.Argument → Result meaning.Constraint found.Fault → Type 0
-IsTyped early row at arguments made =
+abbrev pub IsTyped : Option found.Fault → signatures.Row → ℕ → List meaning.Argument → Bool → Result meaning.Constraint found.Fault → Type 0
+IsTyped early row at arguments whole made =
     (others : List Fault) → IsFirstOf others early
-    → MatchResult made (λ m. (others ++ wrong_lengths row at arguments ≡ []) × (m ≡ record { name = row.builtin; arguments = arguments })) (IsFirstFault (others ++ wrong_lengths row at arguments))
+    → MatchResult made (λ m. (others ++ wrong_lengths row at arguments ≡ []) × (m ≡ record { name = row.builtin; arguments = arguments; whole = whole })) (IsFirstFault (others ++ wrong_lengths row at arguments))

@@ -4,6 +4,7 @@ ghost use Rattle.std.specs.List.{AllByRecursion, list_all};
 ghost use Rattle.fz_spec.specs.Constraints as meaning;
 ghost use Rattle.fz_spec.specs.Signatures as signatures;
 ghost use Rattle.fz_language.specs.declared.fault.RuleFault.TheVariants as rule;
+ghost use Rattle.fz_language.specs.Annotations.{asks_whole};
 ghost use Rattle.fz_language.specs.Entries.{with_value};
 ghost use Rattle.fz_language.specs.Rules as rules;
 ghost use Rattle.fz_language.specs.Rules.{at_places};
@@ -19,12 +20,13 @@ use crate::faults::{or_else, or_this};
 use crate::rows::{is_unsupported, row_named};
 use fz_language::fault::RuleFault;
 use fz_model::{Argument, Constraint};
+use fz_resolve::annotations::asks_whole;
 use fz_resolve::resolve::resolve;
 use fz_resolve::{Fault, Names, fault_at};
 use fz_room::floats::first_float_of_arguments;
 use fz_spec::asked::{Asked, Lengths};
 use fz_spec::row::{Row, Signatures};
-use fz_syntax::{ConstraintItem, Expression, Name};
+use fz_syntax::{ConstraintItem, Expression};
 use std::alloc::{AllocError, Global};
 
 /// The constraint of an item, or the first rule that it breaks, but for the limits.
@@ -131,7 +133,7 @@ fn signed<'a>(
 {
     // Where all arguments are of the right types, each name is declared.
     match arguments_of(alloc, names, signature, &item.arguments)? {
-        Ok(arguments) => Ok(typed(alloc, row, item.name, arguments, floats)?),
+        Ok(arguments) => Ok(typed(alloc, row, item, arguments, floats)?),
         Err(at) => Ok(Err(wrong(names, item, floats, at))),
     }
 }
@@ -162,23 +164,25 @@ fn wrong<'a>(names: &Names<'a>, item: &ConstraintItem<'a>, floats: Option<Fault>
 fn typed(
     alloc: Global,
     row: &Row,
-    name: Name<'_>,
+    item: &ConstraintItem<'_>,
     arguments: Vec<Argument>,
     early: Option<Fault>,
 ) -> Result<Result<Constraint, Fault>, AllocError>
-    ensures { IfOk result (IsTyped early (row_of row.now) name.entry.at
-        (map argument_of arguments.items)) }
+    ensures { let c = trees.constraint_item_of item.now in
+        IfOk result (IsTyped early (row_of row.now) c.name.at
+        (map argument_of arguments.items) (asks_whole c.annotations)) }
 {
     if let Some(fault) = early {
         return Ok(Err(fault));
     }
     let lengths = lengths_of(alloc, &arguments)?;
     if have_lengths(row.3, &lengths) {
-        return Ok(Ok(Constraint::new(row.1, arguments)));
+        let constraint = Constraint::new(row.1, arguments);
+        return Ok(Ok(constraint.with_whole(asks_whole(&item.annotations))));
     }
     Ok(Err(Fault {
         rule: RuleFault::WrongLengths,
-        at: name.at,
+        at: item.name.at,
     }))
 }
 
@@ -223,8 +227,8 @@ fn push_length(lengths: &mut Vec<usize>, argument: &Argument) -> Result<(), Allo
         ++ meaning.list_lengths (argument_of argument.now ∷ [])) }
 {
     match argument {
-        Argument::Numbers(numbers) => lengths.push(numbers.len())?,
-        Argument::Terms(terms) => lengths.push(terms.len())?,
+        Argument::Numbers(numbers) => lengths.push(numbers.as_slice().len())?,
+        Argument::Terms(terms) => lengths.push(terms.as_slice().len())?,
         Argument::One(_) | Argument::Set(_) => {}
     }
     Ok(())

@@ -124,7 +124,7 @@ fn term_list<'a>(
 fn terms_entry(alloc: Global, kind: Kind, terms: Vec<Term>) -> Result<Entry, AllocError>
     ensures { IfOk result (λ entry. meant entry ≡ entries.Terms kind terms.items) }
 {
-    let list = Box::new(alloc, TermList { kind, terms })?;
+    let list = Box::new(alloc, TermList::new(alloc, kind, terms)?)?;
     Ok(Entry::Terms(list))
 }
 
@@ -149,7 +149,7 @@ fn number_list<'a>(
 fn numbers_entry(alloc: Global, kind: Kind, numbers: Vec<i32>) -> Result<Entry, AllocError>
     ensures { IfOk result (λ entry. meant entry ≡ entries.Numbers kind numbers.items) }
 {
-    let list = Box::new(alloc, NumberList { kind, numbers })?;
+    let list = Box::new(alloc, NumberList::new(alloc, kind, numbers)?)?;
     Ok(Entry::Numbers(list))
 }
 

@@ -190,7 +190,7 @@ pub(crate) fn push_bounds(
 {
     match entry {
         Entry::Terms(list) if is_bound(&item.value_type) => {
-            push_bound_terms(alloc, constraints, &item.value_type, &list.terms)
+            push_bound_terms(alloc, constraints, &item.value_type, list.terms())
         }
         _ => Ok(()),
     }
@@ -244,7 +244,7 @@ pub(crate) fn push_array(
     };
     match entry {
         Entry::Terms(list) => {
-            let output = array(alloc, item.name, list.kind, shape, &list.terms)?;
+            let output = array(alloc, item.name, list.kind(), shape, list.terms())?;
             outputs.push(output)?;
             Ok(())
         }

@@ -20,7 +20,7 @@ use Rattle.fz_language.specs.Trees as trees
 use Rattle.fz_language.specs.Numerals.{set_in, all_of}
 use Rattle.fz_language.specs.Entries.{Environment, Entry, with_entry, term_in, set_of, each_of, number_of}
 use Rattle.fz_language.specs.Entries as entries
-use Rattle.fz_language.specs.Annotations.{OUTPUT_ARRAY, output_var_of, output_array_of, list_of, arguments_of, shape_in, bracketed, range_of, place_of, seventh}
+use Rattle.fz_language.specs.Annotations.{OUTPUT_ARRAY, asks_whole, output_var_of, output_array_of, list_of, arguments_of, shape_in, bracketed, range_of, place_of, seventh}
 use Rattle.fz_language.specs.Rules.{number_asked, kind_of, term_asked, is_bound, bad_variable_type, type_additions, at_places, named_unsupported, floats_of, unknown_of, wrong_arguments, arguments_in, signature_faults, row_faults, call_faults, wrong_place, wrong_element, seventh_ranges, wrong_shape, output_array_places}
 use Rattle.fz_language.specs.Models.{type_set, plain_set, terms_of, parameter_entry, array_entry, declare, Scope, equal_to, value_term, equal_to_value, bound_to, element_constraints, call_constraints, scalar_outputs, array_outputs}
 use Rattle.fz_language.specs.Within.{SetFits, ValueFits, TypeFits, BasicFits, ExpressionFits, NameFits, ArgumentFits, ArgumentsFit, CalledFits, AnnotationFits, ArrayFits}
@@ -148,7 +148,7 @@ elements_fit vs s a sound h few l = go a.variable
 
 constraint_of_row : (vs : List Variable) (env : Environment) (c : ConstraintItem) (row : Row) (signature : List Asked) → Sound vs env → AllByRecursion ExpressionFits c.arguments → AllByRecursion FewIn c.arguments
     → row_of row.builtin ≡ Some row → signature_of row (length c.arguments) ≡ Some signature → signature_faults env c row (Some signature) ≡ []
-    → IsConstraint vs (record { name = row.builtin; arguments = arguments_in env signature c.arguments })
+    → IsConstraint vs (record { name = row.builtin; arguments = arguments_in env signature c.arguments; whole = asks_whole c.annotations })
 constraint_of_row vs env c row signature s h few r k e =
     let unknown = at_places UnknownName (flat_map (unknown_of env) c.arguments) in
     let wrong = at_places WrongType (wrong_arguments env signature c.arguments) in
@@ -170,14 +170,14 @@ pub call_fits : (vs : List Variable) (s : Scope) (c : ConstraintItem) → Sound 
 call_fits vs s c sound h few e = named (row_named c.name.bytes) refl (nil_parts (at_places Unsupported (named_unsupported c.name ++ flat_map floats_of c.arguments)) (row_faults s.entries c (row_named c.name.bytes)) e).1
   where
     called : (row : Row) → row_named c.name.bytes ≡ Some row → (o : Option (List Asked)) → signature_of row (length c.arguments) ≡ o → signature_faults s.entries c row o ≡ []
-        → AllByRecursion (IsConstraint vs) (elim o [ Some signature ↦ record { name = row.builtin; arguments = arguments_in s.entries signature c.arguments } ∷ [] | None ↦ [] ])
+        → AllByRecursion (IsConstraint vs) (elim o [ Some signature ↦ record { name = row.builtin; arguments = arguments_in s.entries signature c.arguments; whole = asks_whole c.annotations } ∷ [] | None ↦ [] ])
     called row r None k f = tt
     called row r (Some signature) k f = (constraint_of_row vs s.entries c row signature sound h few (row_is_of c.name.bytes row r) k f, tt)
 
     named : (o : Option Row) → row_named c.name.bytes ≡ o → row_faults s.entries c o ≡ []
         → AllByRecursion (IsConstraint vs)
         (elim o [
-          | Some row ↦ elim (signature_of row (length c.arguments)) [ Some signature ↦ record { name = row.builtin; arguments = arguments_in s.entries signature c.arguments } ∷ [] | None ↦ [] ]
+          | Some row ↦ elim (signature_of row (length c.arguments)) [ Some signature ↦ record { name = row.builtin; arguments = arguments_in s.entries signature c.arguments; whole = asks_whole c.annotations } ∷ [] | None ↦ [] ]
           | None ↦ []
         ])
     named None r f = tt

@@ -20,7 +20,7 @@ use Rattle.fz_language.specs.Entries.{Environment, nothing_declared, term_in, re
 use Rattle.fz_language.specs.Entries as entries
 use Rattle.fz_language.specs.Rules.{goal_asked, AVariable, Counts, none_yet, all_counted, additions, over, at_places, faults_of, item_faults, kind_of, term_asked, is_bound, arguments_in, type_additions, value_additions, array_element_additions, members_in}
 use Rattle.fz_language.specs.Models.{goal_term, Scope, empty_scope, behind, scope_behind, made, type_set, variables_of, constraints_of, outputs_of, value_term, equal_to_value, call_constraints, terms_of, bound_to}
-use Rattle.fz_language.specs.Annotations.{output_var_of, shape_among}
+use Rattle.fz_language.specs.Annotations.{output_var_of, shape_among, asks_whole}
 use Rattle.fz_language.specs.Reads.{faults_from}
 use Rattle.fz_language.specs.Within.{BasicFits, ItemFits, MethodFits}
 use Rattle.fz_model.specs.Kept.{IsVariable, IsConstraint, IsOutput, IsGoal, IsTermOf, FitsElement, kind_at}
@@ -108,14 +108,14 @@ call_count : (s : Scope) (c : ConstraintItem) → length (call_constraints s c) 
 call_count s c = named (row_named c.name.bytes)
   where
     called : (row : Row) (o : Option (List Asked))
-        → length {A = meaning.Constraint} (elim o [ Some signature ↦ record { name = row.builtin; arguments = arguments_in s.entries signature c.arguments } ∷ [] | None ↦ [] ]) ≤ 1
+        → length {A = meaning.Constraint} (elim o [ Some signature ↦ record { name = row.builtin; arguments = arguments_in s.entries signature c.arguments; whole = asks_whole c.annotations } ∷ [] | None ↦ [] ]) ≤ 1
     called row None = omega arith
     called row (Some signature) = omega arith
 
     named : (o : Option Row)
         → length {A = meaning.Constraint}
         (elim o [
-          | Some row ↦ elim (signature_of row (length c.arguments)) [ Some signature ↦ record { name = row.builtin; arguments = arguments_in s.entries signature c.arguments } ∷ [] | None ↦ [] ]
+          | Some row ↦ elim (signature_of row (length c.arguments)) [ Some signature ↦ record { name = row.builtin; arguments = arguments_in s.entries signature c.arguments; whole = asks_whole c.annotations } ∷ [] | None ↦ [] ]
           | None ↦ []
         ]) ≤ 1
     named None = omega arith

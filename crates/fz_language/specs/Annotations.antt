@@ -1,5 +1,5 @@
--- Annotations that say something: those of output and of search.
-use Rattle.std.specs.Prelude.{ℕ, ℤ, Option, Some, None, List, [], ◌∷◌, map, find, bytes_eq, codes, slice_get, length, ◌&&◌, ◌==◌}
+-- Annotations that say something: those of output and of search, and `domain`.
+use Rattle.std.specs.Prelude.{Bool, true, false, ℕ, ℤ, Option, Some, None, List, [], ◌∷◌, map, find, bytes_eq, codes, slice_get, length, ◌&&◌, ◌==◌}
 use Rattle.fz_language.specs.Trees.{Annotation, Argument, Arguments, Simple, Text, Call, Brackets, Nil, More, Literal, Range, Whole, basic_at}
 use Rattle.fz_language.specs.Numerals.{all_of}
 
@@ -64,3 +64,12 @@ shape_among annotations = elim (output_array_of annotations) [ Some a ↦ shape_
 -- the place of a seventh index range
 abbrev pub seventh : Annotation → List ℕ
 seventh a = elim (slice_get (bracketed (arguments_of a)) 6) [ Some argument ↦ elim (range_of argument) [ Some r ↦ place_of argument ∷ [] | None ↦ [] ] | None ↦ [] ]
+
+-- ---- `domain`
+
+abbrev pub DOMAIN : List ℕ
+DOMAIN = codes "domain"
+
+-- whether whole domains are asked for: by the annotation `domain` without arguments
+abbrev pub asks_whole : List Annotation → Bool
+asks_whole annotations = elim (plain_annotation_of DOMAIN annotations) [ Some a ↦ true | None ↦ false ]

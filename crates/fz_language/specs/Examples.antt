@@ -125,7 +125,7 @@ pub record LinearIsRead : Type 0 where
   pub keeps : program_faults linear ≡ []
   pub model : model_of linear ≡ record {
     variables = record { kind = kinds.Int; set = (pos 1, pos 2) ∷ [] } ∷ [];
-    constraints = record { name = IntLinLe; arguments = meaning.Numbers (pos 2 ∷ []) ∷ meaning.Terms (Var 0 ∷ []) ∷ meaning.One (Num (pos 3)) ∷ [] } ∷ [];
+    constraints = record { name = IntLinLe; arguments = meaning.Numbers (pos 2 ∷ []) ∷ meaning.Terms (Var 0 ∷ []) ∷ meaning.One (Num (pos 3)) ∷ []; whole = false } ∷ [];
     goal = goals.Satisfy;
     outputs = [];
     search = [];
@@ -155,6 +155,6 @@ bound =
 
 pub record BoundIsRead : Type 0 where
   pub keeps : program_faults bound ≡ []
-  pub constraints : (model_of bound).constraints ≡ record { name = IntEq; arguments = meaning.One (Var 1) ∷ meaning.One (Var 0) ∷ [] }
-      ∷ record { name = SetIn; arguments = meaning.One (Var 1) ∷ meaning.Set ((pos 4, pos 5) ∷ []) ∷ [] } ∷ []
+  pub constraints : (model_of bound).constraints ≡ record { name = IntEq; arguments = meaning.One (Var 1) ∷ meaning.One (Var 0) ∷ []; whole = false }
+      ∷ record { name = SetIn; arguments = meaning.One (Var 1) ∷ meaning.Set ((pos 4, pos 5) ∷ []) ∷ []; whole = false } ∷ []
   pub outputs : (model_of bound).outputs ≡ record { name = codes "a"; kind = kinds.Int; array = true; shape = (pos 1, pos 1) ∷ []; terms = Var 1 ∷ [] } ∷ []

@@ -18,7 +18,7 @@ use Rattle.fz_language.specs.Trees.{Plain, AnyBool, AnyInt, AnyFloat, Within, Va
 use Rattle.fz_language.specs.Numerals.{set_in}
 use Rattle.fz_language.specs.Entries.{Environment, Entry, nothing_declared, with_entry, term_in, set_of, each_of, number_of}
 use Rattle.fz_language.specs.Entries as entries
-use Rattle.fz_language.specs.Annotations.{output_var_of, shape_among}
+use Rattle.fz_language.specs.Annotations.{output_var_of, shape_among, asks_whole}
 use Rattle.fz_language.specs.Rules.{kind_of, term_asked, number_asked, goal_asked, arguments_in, is_bound}
 use Rattle.fz_language.specs.Search.{search_of}
 
@@ -88,8 +88,8 @@ variables_of s (Array a) = []
 variables_of s (Constraint c) = []
 
 abbrev pub equal_to : Kind → Term → Term → meaning.Constraint
-equal_to kinds.Bool x y = record { name = BoolEq; arguments = meaning.One x ∷ meaning.One y ∷ [] }
-equal_to kinds.Int x y = record { name = IntEq; arguments = meaning.One x ∷ meaning.One y ∷ [] }
+equal_to kinds.Bool x y = record { name = BoolEq; arguments = meaning.One x ∷ meaning.One y ∷ []; whole = false }
+equal_to kinds.Int x y = record { name = IntEq; arguments = meaning.One x ∷ meaning.One y ∷ []; whole = false }
 
 -- the term that the value of a variable is, if it has one
 abbrev pub value_term : Environment → ValueType → Option Basic → Option Term
@@ -101,14 +101,14 @@ equal_to_value kind number value = elim value [ Some t ↦ equal_to kind (Var nu
 
 -- an element lies in the set of its type
 abbrev pub bound_to : List (ℤ × ℤ) → Term → meaning.Constraint
-bound_to set t = record { name = SetIn; arguments = meaning.One t ∷ meaning.Set set ∷ [] }
+bound_to set t = record { name = SetIn; arguments = meaning.One t ∷ meaning.Set set ∷ []; whole = false }
 
 abbrev pub element_constraints : Scope → ArrayItem → List meaning.Constraint
 element_constraints s a = cond a.variable (cond (is_bound a.value_type) (map (bound_to (type_set a.value_type)) (terms_of s.entries (term_asked a.value_type) a.list)) []) []
 
 abbrev pub call_constraints : Scope → ConstraintItem → List meaning.Constraint
 call_constraints s c = elim (row_named c.name.bytes) [
-  | Some row ↦ elim (signature_of row (length c.arguments)) [ Some signature ↦ record { name = row.builtin; arguments = arguments_in s.entries signature c.arguments } ∷ [] | None ↦ [] ]
+  | Some row ↦ elim (signature_of row (length c.arguments)) [ Some signature ↦ record { name = row.builtin; arguments = arguments_in s.entries signature c.arguments; whole = asks_whole c.annotations } ∷ [] | None ↦ [] ]
   | None ↦ []
 ]
 

@@ -5,6 +5,6 @@ use Rattle.fz_spec.specs.Constraints as meaning
 
 abbrev pub argument_of : Argument → meaning.Argument
 argument_of (One term) = meaning.One term
-argument_of (Numbers numbers) = meaning.Numbers numbers.items
-argument_of (Terms terms) = meaning.Terms terms.items
+argument_of (Numbers numbers) = meaning.Numbers numbers
+argument_of (Terms terms) = meaning.Terms terms
 argument_of (Set set) = meaning.Set set.value

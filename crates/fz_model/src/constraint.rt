@@ -1,7 +1,8 @@
 //! Constraints.
-ghost use Rattle.std.specs.Prelude.{◌≡◌, ◌↔◌, IfOk, IsTrue, map};
+ghost use Rattle.std.specs.Prelude.{◌≡◌, ◌↔◌, IfOk, IsTrue, map, false};
 ghost use Rattle.fz_model.specs.Arguments.{argument_of};
 
+use crate::listed::Listed;
 use crate::part::Part;
 use fz_dom::Dom;
 use fz_spec::builtin::Builtin;
@@ -11,12 +12,12 @@ use std::marker::Model;
 use std::sync::Arc;
 
 /// An argument of a constraint: a term, a list of numbers, a list of terms, or a set. One set may stand in many constraints, so it is
-/// shared.
+/// shared, and so is the list of a named array.
 #[derive(Drop)]
 pub enum Argument {
     One(Term),
-    Numbers(Vec<i32>),
-    Terms(Vec<Term>),
+    Numbers(Listed<i32>),
+    Terms(Listed<Term>),
     Set(Arc<Dom>),
 }
 
@@ -27,14 +28,8 @@ impl Argument {
     {
         match self {
             Argument::One(term) => Ok(Argument::One(*term)),
-            Argument::Numbers(numbers) => {
-                let numbers = Vec::from_slice(*numbers.allocator(), numbers)?;
-                Ok(Argument::Numbers(numbers))
-            }
-            Argument::Terms(terms) => {
-                let terms = Vec::from_slice(*terms.allocator(), terms)?;
-                Ok(Argument::Terms(terms))
-            }
+            Argument::Numbers(numbers) => Ok(Argument::Numbers(numbers.copy()?)),
+            Argument::Terms(terms) => Ok(Argument::Terms(terms.copy()?)),
             Argument::Set(set) => Ok(Argument::Set(set.clone()?)),
         }
     }
@@ -57,10 +52,11 @@ impl Argument {
     }
 }
 
-/// A constraint: its name and its arguments (MiniZinc Handbook, "FlatZinc builtins").
+/// A constraint: its name and its arguments (MiniZinc Handbook, "FlatZinc builtins"), and whether it asks for whole domains.
 #[derive(Drop)]
 pub struct Constraint {
     name: Builtin,
+    whole: bool,
     arguments: Vec<Argument>,
 }
 
@@ -71,15 +67,34 @@ impl Model for Constraint {
 
     ghost Value = { meaning.Constraint };
 
-    ghost view = { λ c. record { name = c.name; arguments = map argument_of c.arguments.items } };
+    ghost view = { λ c. record { name = c.name; arguments = map argument_of c.arguments.items; whole = c.whole } };
 }
 
 impl Constraint {
     /// A constraint of this name and these arguments, whether the name asks for them or not. It takes no memory.
     pub fn new(name: Builtin, arguments: Vec<Argument>) -> Constraint
-        ensures { result ≡ record { name = name; arguments = map argument_of arguments.items } }
+        ensures { result ≡ record {
+          name = name;
+          arguments = map argument_of arguments.items;
+          whole = false;
+        } }
     {
-        Constraint { name, arguments }
+        Constraint {
+            name,
+            whole: false,
+            arguments,
+        }
+    }
+
+    /// The same constraint, which asks for whole domains or doesn't (`:: domain`).
+    pub fn with_whole(self, whole: bool) -> Constraint
+        ensures { result ≡ record self { whole = whole } }
+    {
+        Constraint {
+            name: self.name,
+            whole,
+            arguments: self.arguments,
+        }
     }
 
     /// Its name.
@@ -87,6 +102,13 @@ impl Constraint {
         ensures { result ≡ self.now.name }
     {
         self.name
+    }
+
+    /// Whether it asks for whole domains.
+    pub fn is_whole(&self) -> bool
+        ensures { result ≡ self.now.whole }
+    {
+        self.whole
     }
 
     /// Its arguments, in order.
@@ -102,12 +124,15 @@ impl Part for Constraint {
         let arguments = copy_arguments(*self.arguments.allocator(), &self.arguments)?;
         Ok(Constraint {
             name: self.name,
+            whole: self.whole,
             arguments,
         })
     }
 
     fn same(&self, other: &Constraint) -> bool {
-        same_name(self.name, other.name) && same_arguments(&self.arguments, &other.arguments)
+        same_name(self.name, other.name)
+            && self.whole == other.whole
+            && same_arguments(&self.arguments, &other.arguments)
     }
 }
 

@@ -6,6 +6,7 @@
 
 pub mod assignment;
 pub mod constraint;
+pub mod listed;
 pub mod model;
 pub mod output;
 pub mod part;
@@ -18,6 +19,7 @@ pub use constraint::{Argument, Constraint};
 pub use fz_spec::goal::Goal;
 pub use fz_spec::kind::Kind;
 pub use fz_spec::term::Term;
+pub use listed::Listed;
 pub use model::Model;
 pub use output::Output;
 pub use part::Part;

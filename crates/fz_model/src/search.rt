@@ -1,6 +1,7 @@
 //! Parts of the search.
 ghost use Rattle.std.specs.Prelude.{◌≡◌, ◌↔◌, IfOk, IsTrue};
 
+use crate::listed::Listed;
 use crate::part::Part;
 use fz_spec::search::{Pick, Value};
 use std::alloc::AllocError;
@@ -9,7 +10,7 @@ use std::marker::Model;
 /// A part of the search: the numbers of its variables, which of them is picked, and how its values are parted.
 #[derive(Drop)]
 pub struct SearchPart {
-    variables: Vec<u32>,
+    variables: Listed<u32>,
     pick: Pick,
     value: Value,
 }
@@ -19,13 +20,13 @@ impl Model for SearchPart {
 
     ghost Value = { instance.SearchPart };
 
-    ghost view = { λ p. record { variables = p.variables.items; pick = p.pick; value = p.value } };
+    ghost view = { λ p. record { variables = p.variables; pick = p.pick; value = p.value } };
 }
 
 impl SearchPart {
     /// A part over these variables. It takes no memory.
-    pub fn new(variables: Vec<u32>, pick: Pick, value: Value) -> SearchPart
-        ensures { result ≡ record { variables = variables.items; pick = pick; value = value } }
+    pub fn new(variables: Listed<u32>, pick: Pick, value: Value) -> SearchPart
+        ensures { result ≡ record { variables = variables; pick = pick; value = value } }
     {
         SearchPart {
             variables,
@@ -38,7 +39,7 @@ impl SearchPart {
     pub fn variables(&self) -> &[u32]
         ensures { result.now ≡ self.now.variables }
     {
-        &self.variables
+        self.variables.as_slice()
     }
 
     /// Which variable is picked.
@@ -58,9 +59,8 @@ impl SearchPart {
 
 impl Part for SearchPart {
     fn copy(&self) -> Result<SearchPart, AllocError> {
-        let variables = Vec::from_slice(*self.variables.allocator(), &self.variables)?;
         Ok(SearchPart {
-            variables,
+            variables: self.variables.copy()?,
             pick: self.pick,
             value: self.value,
         })

@@ -1,6 +1,6 @@
 //! The truth of constraints, and which assignments satisfy.
 use crate::reading::{assignment_of, model_of};
-use fz_model::{Argument, Assignment, Constraint, Model, Term};
+use fz_model::{Argument, Assignment, Constraint, Listed, Model, Term};
 use fz_spec::builtin::Builtin;
 use fz_truth::{holds, is_true};
 use std::alloc::Global;
@@ -265,11 +265,12 @@ fn argument(rt: &impl Abort, alloc: Global, shown: &Shown) -> Argument {
     match shown {
         Shown::One(number) => Argument::One(Term::Num(*number)),
         Shown::Numbers(numbers) => {
-            Argument::Numbers(Vec::from_slice(alloc, numbers).ok().expect(rt, "memory"))
+            let numbers = Vec::from_slice(alloc, numbers).ok().expect(rt, "memory");
+            Argument::Numbers(Listed::own(numbers))
         }
         Shown::Terms(numbers) => {
             let terms = numbers.iter().map(|number| Term::Num(*number));
-            Argument::Terms(terms.collect(alloc).ok().expect(rt, "memory"))
+            Argument::Terms(Listed::own(terms.collect(alloc).ok().expect(rt, "memory")))
         }
     }
 }

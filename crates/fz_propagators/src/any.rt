@@ -107,15 +107,15 @@ impl AnyPropagator {
                 Ok(AnyPropagator::Parity(parity))
             }
             Saying::Select(numbers, index, value) => {
-                let element = Element::new(alloc, *index, numbers, *value)?;
+                let element = Element::new(alloc, *index, numbers.as_slice(), *value)?;
                 Ok(AnyPropagator::Element(element))
             }
             Saying::SelectTerm(terms, index, value) => {
-                let element = VariableElement::new(alloc, *index, terms, *value)?;
+                let element = VariableElement::new(alloc, *index, terms.as_slice(), *value)?;
                 Ok(AnyPropagator::VariableElement(element))
             }
             Saying::Row(terms, numbers) => {
-                let table = Table::new(alloc, terms, numbers)?;
+                let table = Table::new(alloc, terms, numbers.as_slice())?;
                 Ok(AnyPropagator::Table(table))
             }
             Saying::Differ(terms) => {

@@ -14,8 +14,8 @@ abbrev pub meant : Entry → entries.Entry
 meant (entry.Variable kind number) = entries.Variable kind number
 meant (entry.Value kind value) = entries.Value kind value
 meant (entry.Set set) = entries.Set set.value
-meant (entry.Numbers list) = entries.Numbers list.value.kind list.value.numbers.items
-meant (entry.Terms list) = entries.Terms list.value.kind list.value.terms.items
+meant (entry.Numbers list) = entries.Numbers list.value.kind list.value.items
+meant (entry.Terms list) = entries.Terms list.value.kind list.value.items
 meant entry.Sets = entries.Sets
 
 -- the number that eight bytes make, and its last eight after it if there are more

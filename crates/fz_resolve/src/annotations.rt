@@ -17,6 +17,8 @@ pub const OUTPUT_VAR: &[u8] = b"output_var";
 
 pub const OUTPUT_ARRAY: &[u8] = b"output_array";
 
+pub const DOMAIN: &[u8] = b"domain";
+
 /// The first annotation of a name; a later one of the same name says nothing.
 pub fn annotation_of<'i, 'a>(
     name: &[u8],
@@ -87,6 +89,13 @@ pub fn output_var_at(annotations: &[Annotation<'_>]) -> Option<u32>
         Some(annotation) => Some(annotation.name.at),
         None => None,
     }
+}
+
+/// Whether the annotation `domain` stands among annotations, without arguments.
+pub fn asks_whole(annotations: &[Annotation<'_>]) -> bool
+    ensures { result ≡ said.asks_whole (trees.annotations_of annotations.now) }
+{
+    plain_annotation_of(DOMAIN, annotations).is_some()
 }
 
 /// Where the annotation `output_array` stands among annotations.

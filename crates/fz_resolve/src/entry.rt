@@ -4,25 +4,12 @@ ghost use Rattle.fz_language.specs.Entries as entries;
 ghost use Rattle.fz_language.specs.Entries.{entry_term};
 ghost use Rattle.fz_resolve.specs.Meant.{meant};
 
+use crate::arrays::{NumberList, TermList};
 use fz_dom::Dom;
 use fz_model::Term;
 use fz_spec::asked::Element;
 use fz_spec::kind::Kind;
 use std::sync::Arc;
-
-/// An array of numbers.
-#[derive(Drop)]
-pub struct NumberList {
-    pub kind: Kind,
-    pub numbers: Vec<i32>,
-}
-
-/// An array of variables and numbers.
-#[derive(Drop)]
-pub struct TermList {
-    pub kind: Kind,
-    pub terms: Vec<Term>,
-}
 
 /// A variable by its number, a value, a set, an array of numbers, of variables and numbers, or of sets. Most entries are variables:
 /// what is larger stands in a box, or is shared.

@@ -3,12 +3,14 @@
 #![tactic(auto)]
 
 pub mod annotations;
+pub mod arrays;
 pub mod entry;
 pub mod fault;
 pub mod names;
 pub mod resolve;
 pub mod rules;
 
-pub use entry::{Entry, NumberList, TermList};
+pub use arrays::{NumberList, TermList};
+pub use entry::Entry;
 pub use fault::{Fault, fault_at};
 pub use names::Names;

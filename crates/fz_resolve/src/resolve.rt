@@ -1,5 +1,5 @@
 //! From expressions to arguments of constraints.
-ghost use Rattle.std.specs.Prelude.{◌≡◌, ℤ, IfOk, None, cond, map, option_map, slice_get, false};
+ghost use Rattle.std.specs.Prelude.{◌≡◌, ℤ, IfOk, None, map, option_map, slice_get, false};
 ghost use Rattle.std.specs.Arc.{arc_value};
 ghost use Rattle.std.specs.List.{AllByRecursion};
 ghost use Rattle.fz_language.specs.Entries as entries;
@@ -7,7 +7,6 @@ ghost use Rattle.fz_language.specs.Entries.{Environment, term_in, each_of, with_
 ghost use Rattle.fz_language.specs.Numerals.{set_in, ranges_of, all_of, value_of};
 ghost use Rattle.fz_language.specs.Within.{NumberFits, SetFits, BasicFits, ExpressionFits};
 ghost use Rattle.fz_model.specs.Arguments.{argument_of};
-ghost use Rattle.fz_spec.specs.Constraints as meaning;
 ghost use Rattle.fz_syntax.specs.Trees as trees;
 ghost use Rattle.fz_syntax.specs.Trees.{integer_basic_of, basic_of, elements_of, expression_of};
 ghost use Rattle.fz_resolve.specs.Meant.{environment_of, meant};
@@ -16,7 +15,7 @@ ghost use Rattle.fz_language.specs.SetLaws.{points_of};
 use crate::entry::{Entry, of_kind};
 use crate::names::Names;
 use fz_dom::Dom;
-use fz_model::{Argument, Kind, Term};
+use fz_model::{Argument, Kind, Listed, Term};
 use fz_spec::asked::{Asked, Element};
 use fz_syntax::{Basic, Elements, Expression, Integer, Name, Number, SetLiteral};
 use std::alloc::{AllocError, Global};
@@ -294,50 +293,20 @@ pub fn set<'a>(
     }
 }
 
-/// Numbers as terms.
-fn number_terms(alloc: Global, numbers: &[i32]) -> Result<Vec<Term>, AllocError>
-    ensures { IfOk result (λ terms. terms.items ≡ map Term.Num numbers.now) }
-{
-    let mut terms = Vec::with_capacity(alloc, numbers.len())?;
-    for number in numbers {
-        terms.push(Term::Num(*number))?;
-    }
-    Ok(terms)
-}
-
-/// The argument that a list of numbers is: a list of terms where variables serve too.
-fn number_list(alloc: Global, may_vary: bool, numbers: &[i32]) -> Result<Argument, AllocError>
-    ensures { IfOk result (λ argument. argument_of argument
-        ≡ cond may_vary (meaning.Terms (map Term.Num numbers.now)) (meaning.Numbers numbers.now)) }
-{
-    if may_vary {
-        Ok(Argument::Terms(number_terms(alloc, numbers)?))
-    } else {
-        Ok(Argument::Numbers(Vec::from_slice(alloc, numbers)?))
-    }
-}
-
 /// The list that an entry is, if it is what is asked.
-fn entry_list(alloc: Global, asked: Element, entry: &Entry) -> Result<Option<Argument>, AllocError>
+fn entry_list(asked: Element, entry: &Entry) -> Result<Option<Argument>, AllocError>
     ensures { IfOk result (λ found. option_map argument_of found
         ≡ entries.entry_list asked (meant entry.now)) }
 {
     match entry {
-        Entry::Numbers(list) if list.kind == asked.kind => Ok(Some(number_list(
-            alloc,
-            asked.may_vary,
-            &list.numbers,
-        )?)),
-        Entry::Terms(list) if list.kind == asked.kind && asked.may_vary => {
-            Ok(Some(Argument::Terms(Vec::from_slice(alloc, &list.terms)?)))
-        }
+        Entry::Numbers(list) => list.list(asked),
+        Entry::Terms(list) => list.list(asked),
         _ => Ok(None),
     }
 }
 
 /// The list that a declared array is, if it is what is asked.
 fn named_list<'a>(
-    alloc: Global,
     names: &Names<'a>,
     asked: Element,
     name: Name<'a>,
@@ -347,7 +316,7 @@ fn named_list<'a>(
         (entries.entry_list asked) (trees.name_of name.entry)) }
 {
     match names.entry(name) {
-        Some(entry) => entry_list(alloc, asked, entry),
+        Some(entry) => entry_list(asked, entry),
         None => Ok(None),
     }
 }
@@ -364,10 +333,10 @@ fn integer_list(
 {
     if asked.may_vary {
         let terms = terms_of_integers(alloc, asked, integers)?;
-        return Ok(terms.map(|terms| Argument::Terms(terms)));
+        return Ok(terms.map(|terms| Argument::Terms(Listed::own(terms))));
     }
     let numbers = numbers_of_integers(alloc, asked.kind, integers)?;
-    Ok(numbers.map(|numbers| Argument::Numbers(numbers)))
+    Ok(numbers.map(|numbers| Argument::Numbers(Listed::own(numbers))))
 }
 
 /// The argument that a list of expressions is.
@@ -383,10 +352,10 @@ fn basic_list<'a>(
 {
     if asked.may_vary {
         let terms = terms_of_basics(alloc, names, asked, basics)?;
-        return Ok(terms.map(|terms| Argument::Terms(terms)));
+        return Ok(terms.map(|terms| Argument::Terms(Listed::own(terms))));
     }
     let numbers = numbers_of_basics(alloc, names, asked.kind, basics)?;
-    Ok(numbers.map(|numbers| Argument::Numbers(numbers)))
+    Ok(numbers.map(|numbers| Argument::Numbers(Listed::own(numbers))))
 }
 
 /// The argument that an expression is where this is asked, or the place where it is of a wrong type: its first token, but in a
@@ -410,7 +379,7 @@ pub fn resolve<'a>(
                 bytes: *bytes,
                 at: *at,
             };
-            named_list(alloc, names, element, name)?
+            named_list(names, element, name)?
         }
         (Asked::List(element), Expression::Integers { integers, .. }) => {
             return integer_list(alloc, element, integers);

@@ -9,7 +9,7 @@ use Rattle.fz_spec.specs.Instance.{Variable}
 use Rattle.fz_model.specs.Kept as kept
 use Rattle.fz_model.specs.Kept.{IsVariable, IsConstraint}
 use Rattle.fz_strength.specs.declared.relation.Relation.TheVariants.{Below}
-use Rattle.fz_strength.specs.Sayings.{Saying, Sum, SumIf, said_terms, saying_of, truths_of}
+use Rattle.fz_strength.specs.Sayings.{Saying, Sum, SumIf, SumByNumbers, said_terms, saying_of, truths_of}
 use Rattle.fz_prop.specs.Stores.{IsTermOf, FitsTerm, declared_sets}
 use Rattle.fz_strength.specs.Promises.{Suits}
 
@@ -21,6 +21,7 @@ IsKnown vs t = FitsTerm t × IsTermOf (length vs) t
 abbrev pub FitsSum : Saying → Type 0
 FitsSum (Sum relation ks ts c) = (relation ≢ Below) × (length ks ≡ length ts) × (length ts ≤ suc ELEMENT_LIMIT)
 FitsSum (SumIf relation ks ts c r) = (relation ≢ Below) × (length ks ≡ length ts) × (length ts ≤ ELEMENT_LIMIT)
+FitsSum (SumByNumbers ks ts c) = length ks ≡ length ts
 FitsSum s = Unit {0}
 
 -- its terms are those of the model, those that it takes for 0 or 1 are Booleans, and a sum is one that propagators take

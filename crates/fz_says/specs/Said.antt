@@ -34,6 +34,7 @@ said_by (code.SelectTerm xs k c) = said.SelectTerm xs.now k c
 said_by (code.Row xs table) = said.Row xs.now table.now
 said_by (code.Differ xs) = said.Differ xs.now
 said_by (code.DifferByBounds xs) = said.DifferByBounds xs.now
+said_by (code.SumByNumbers ks ts c) = said.SumByNumbers (left_factors ks.now c) (left_terms ts.now c) (right_number c)
 said_by (code.Share ss dd us b) = said.Share ss.now dd.now us.now b
 said_by (code.Nothing c) = said.Nothing c.now.name c.now.arguments
 

@@ -5,6 +5,7 @@ ghost use Rattle.fz_strength.specs.Sayings as said;
 ghost use Rattle.fz_says.specs.Said.{operands_of, said_by};
 
 use fz_dom::Dom;
+use fz_model::Listed;
 use fz_model::constraint::{Argument, Constraint};
 use fz_spec::builtin::Builtin;
 use fz_spec::term::Term;
@@ -59,15 +60,17 @@ pub enum Saying<'m> {
     /// An odd number of terms are 1.
     Odd(&'m [Term]),
     /// The number at an index is the last term.
-    Select(&'m [i32], Term, Term),
+    Select(&'m Listed<i32>, Term, Term),
     /// The term at an index is the last one.
-    SelectTerm(&'m [Term], Term, Term),
+    SelectTerm(&'m Listed<Term>, Term, Term),
     /// The terms are a row of a table.
-    Row(&'m [Term], &'m [i32]),
+    Row(&'m [Term], &'m Listed<i32>),
     /// No two terms are equal.
     Differ(&'m [Term]),
     /// The same, said to the propagator that looks at the bounds of all.
     DifferByBounds(&'m [Term]),
+    /// A sum is a term: the same, said to the propagator that looks at all numbers of two or three terms.
+    SumByNumbers(&'m [i32], &'m [Term], Term),
     /// Tasks, by their starts, durations and usages, never use more than a bound.
     Share(&'m [Term], &'m [Term], &'m [Term], Term),
     /// It is true: this is told of a constraint that says none of the others.
@@ -194,7 +197,7 @@ fn sum<'m>(relation: Relation, constraint: &'m Constraint) -> Saying<'m>
             Argument::Numbers(factors),
             Argument::Terms(terms),
             Argument::One(last),
-        ] => Saying::Sum(relation, factors, terms, *last),
+        ] => Saying::Sum(relation, factors.as_slice(), terms.as_slice(), *last),
         _ => Saying::Nothing(constraint),
     }
 }
@@ -209,7 +212,7 @@ fn sum_if<'m>(relation: Relation, constraint: &'m Constraint) -> Saying<'m>
             Argument::Terms(terms),
             Argument::One(Term::Num(number)),
             Argument::One(r),
-        ] => Saying::SumIf(relation, factors, terms, *number, *r),
+        ] => Saying::SumIf(relation, factors.as_slice(), terms.as_slice(), *number, *r),
         _ => Saying::Nothing(constraint),
     }
 }
@@ -221,8 +224,8 @@ fn signs<'m>(constraint: &'m Constraint) -> Saying<'m>
 {
     match constraint.arguments() {
         [Argument::Terms(positives), Argument::Terms(negatives)] => Saying::Clause(
-            positives,
-            negatives,
+            positives.as_slice(),
+            negatives.as_slice(),
             Term::Num(1),
         ),
         _ => Saying::Nothing(constraint),
@@ -239,7 +242,7 @@ fn signs_if<'m>(constraint: &'m Constraint) -> Saying<'m>
             Argument::Terms(positives),
             Argument::Terms(negatives),
             Argument::One(r),
-        ] => Saying::Clause(positives, negatives, *r),
+        ] => Saying::Clause(positives.as_slice(), negatives.as_slice(), *r),
         _ => Saying::Nothing(constraint),
     }
 }
@@ -249,7 +252,10 @@ fn any_of<'m>(constraint: &'m Constraint) -> Saying<'m>
     ensures { said_by result ≡ said.any_of constraint.now.name constraint.now.arguments }
 {
     match constraint.arguments() {
-        [Argument::Terms(terms), Argument::One(r)] => Saying::AnyOf(Operands::Listed(terms), *r),
+        [Argument::Terms(terms), Argument::One(r)] => Saying::AnyOf(
+            Operands::Listed(terms.as_slice()),
+            *r,
+        ),
         _ => Saying::Nothing(constraint),
     }
 }
@@ -272,7 +278,10 @@ fn all_of<'m>(constraint: &'m Constraint) -> Saying<'m>
     ensures { said_by result ≡ said.all_of constraint.now.name constraint.now.arguments }
 {
     match constraint.arguments() {
-        [Argument::Terms(terms), Argument::One(r)] => Saying::AllOf(Operands::Listed(terms), *r),
+        [Argument::Terms(terms), Argument::One(r)] => Saying::AllOf(
+            Operands::Listed(terms.as_slice()),
+            *r,
+        ),
         _ => Saying::Nothing(constraint),
     }
 }
@@ -321,7 +330,7 @@ fn list_operands<'m>(operation: Operation, constraint: &'m Constraint) -> Saying
     match constraint.arguments() {
         [Argument::One(z), Argument::Terms(xs)] => Saying::Equals(
             operation,
-            Operands::Listed(xs),
+            Operands::Listed(xs.as_slice()),
             *z,
         ),
         _ => Saying::Nothing(constraint),
@@ -334,7 +343,7 @@ fn odd<'m>(constraint: &'m Constraint) -> Saying<'m>
     ensures { said_by result ≡ said.odd constraint.now.arguments }
 {
     match constraint.arguments() {
-        [Argument::Terms(terms)] => Saying::Odd(terms),
+        [Argument::Terms(terms)] => Saying::Odd(terms.as_slice()),
         _ => Saying::Nothing(constraint),
     }
 }
@@ -364,7 +373,7 @@ fn row<'m>(constraint: &'m Constraint) -> Saying<'m>
     ensures { said_by result ≡ said.row constraint.now.name constraint.now.arguments }
 {
     match constraint.arguments() {
-        [Argument::Terms(xs), Argument::Numbers(table)] => Saying::Row(xs, table),
+        [Argument::Terms(xs), Argument::Numbers(table)] => Saying::Row(xs.as_slice(), table),
         _ => Saying::Nothing(constraint),
     }
 }
@@ -374,7 +383,7 @@ fn all_different<'m>(constraint: &'m Constraint) -> Saying<'m>
     ensures { said_by result ≡ said.all_different constraint.now.name constraint.now.arguments }
 {
     match constraint.arguments() {
-        [Argument::Terms(xs)] => Saying::Differ(xs),
+        [Argument::Terms(xs)] => Saying::Differ(xs.as_slice()),
         _ => Saying::Nothing(constraint),
     }
 }
@@ -390,7 +399,12 @@ fn share<'m>(constraint: &'m Constraint) -> Saying<'m>
             Argument::Terms(durations),
             Argument::Terms(usages),
             Argument::One(bound),
-        ] => Saying::Share(starts, durations, usages, *bound),
+        ] => Saying::Share(
+            starts.as_slice(),
+            durations.as_slice(),
+            usages.as_slice(),
+            *bound,
+        ),
         _ => Saying::Nothing(constraint),
     }
 }

@@ -71,7 +71,7 @@ fn add_said(waits: &mut Vec<Wait>, saying: &Saying) -> Result<(), AllocError>
         Saying::SelectTerm(terms, index, value) => {
             add(waits, Event::Any, *index)?;
             add(waits, Event::Any, *value)?;
-            add_all(waits, Event::Any, terms)
+            add_all(waits, Event::Any, terms.as_slice())
         }
         Saying::Row(terms, _) => add_all(waits, Event::Any, terms),
         Saying::Share(starts, durations, usages, bound) => {
@@ -80,6 +80,7 @@ fn add_said(waits: &mut Vec<Wait>, saying: &Saying) -> Result<(), AllocError>
             add_all(waits, Event::Bound, usages)?;
             add(waits, Event::Bound, *bound)
         }
+        Saying::SumByNumbers(_, terms, last) => add_left(waits, Event::Any, terms, *last),
         Saying::Nothing(constraint) => add_arguments(waits, constraint.arguments()),
         Saying::Sum(relation, factors, terms, last) => {
             let event = sum_event(*relation, factors, *last);
@@ -214,7 +215,7 @@ fn add_arguments(waits: &mut Vec<Wait>, arguments: &[Argument]) -> Result<(), Al
     for argument in arguments {
         match argument {
             Argument::One(term) => add(waits, Event::Fixed, *term)?,
-            Argument::Terms(terms) => add_all(waits, Event::Fixed, terms)?,
+            Argument::Terms(terms) => add_all(waits, Event::Fixed, terms.as_slice())?,
             Argument::Numbers(_) | Argument::Set(_) => {}
         }
     }

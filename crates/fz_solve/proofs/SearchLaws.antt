@@ -1,16 +1,14 @@
 -- Search annotations, one by one.
-use Rattle.std.proofs.Common.{◌≡◌, ◌≢◌, ℕ, ◌+◌, ◌<◌, ◌≤◌, Bool, true, false, ◌||◌, cond, Option, Some, None, option_map, List, [], ◌∷◌, ◌++◌, map, take, drop, length, get_or, refl, sym, ap, ap₂, ◌∙◌, append_assoc, append-nil}
+use Rattle.std.proofs.Common.{◌≡◌, ◌≢◌, ℕ, ◌+◌, ◌<◌, ◌≤◌, Bool, true, false, ◌||◌, cond, Option, Some, None, option_map, List, [], ◌∷◌, ◌++◌, map, drop, length, get_or, refl, sym, ap, ap₂, ◌∙◌, append_assoc, append-nil}
 use Rattle.std.specs.Prelude.{find, is_some, not, bytes_eq, codes, flat_map}
 use Rattle.std.proofs.lemmas.Cmp.{nat_list_eq_equiv}
-use Rattle.std.proofs.lemmas.List.{take_more, drop_more, drop_all}
+use Rattle.std.proofs.lemmas.List.{drop_more, drop_all}
 use Rattle.std.proofs.lemmas.Grind.{flat_map-append}
 use Rattle.std.proofs.lemmas.Slice.Eq.{bytes_eq-Decides}
-use Rattle.fz_spec.specs.declared.term.Term.{Term}
-use Rattle.fz_spec.specs.declared.term.Term.TheVariants.{Num, Var}
 use Rattle.fz_spec.specs.Instance.{SearchPart}
 use Rattle.fz_language.specs.Trees.{Name, Argument, Arguments, Simple, Text, Call, Brackets, More, Annotation}
 use Rattle.fz_language.specs.Entries.{Environment}
-use Rattle.fz_language.specs.Search.{variables_of_terms, part_in, parts_in, parts_of_list, parts_of_all, is_basic_search, as_argument, firsts, search_of}
+use Rattle.fz_language.specs.Search.{part_in, parts_in, parts_of_list, parts_of_all, is_basic_search, as_argument, firsts, search_of}
 use Rattle.fz_language.specs.Annotations.{list_of}
 use Rattle.fz_language.specs.Search as searches
 use Rattle.fz_syntax.specs.Trees.{joined}
@@ -18,14 +16,6 @@ use Rattle.fz_solve.specs.Searches.{and_word, is_new, parts_of_new}
 use Rattle.fz_solve.specs.declared.search.Words.{Words}
 
 -- ---- variables
-
-terms_both : (xs ys : List Term) → variables_of_terms (xs ++ ys) ≡ variables_of_terms xs ++ variables_of_terms ys
-terms_both [] ys = refl
-terms_both (Num n ∷ xs) ys = terms_both xs ys
-terms_both (Var v ∷ xs) ys = ap (λ l. v ∷ l) (terms_both xs ys)
-
-pub terms_more : (xs : List Term) (i : ℕ) (d : Term) → i < length xs → variables_of_terms (take (i + 1) xs) ≡ variables_of_terms (take i xs) ++ variables_of_terms (get_or xs i d ∷ [])
-terms_more xs i d l = ap variables_of_terms (take_more xs i d l) ∙ terms_both (take i xs) (get_or xs i d ∷ [])
 
 -- the variables so far before those of the members that are left
 

@@ -7,7 +7,7 @@ ghost use Rattle.fz_syntax.specs.Trees as trees;
 ghost use Rattle.fz_resolve.specs.Meant.{environment_of};
 ghost use Rattle.fz_solve.specs.Searches.{parts_of_call, option_list, word_of, part_of_words, and_word, is_new, parts_of_new};
 
-use fz_model::{SearchPart, Term};
+use fz_model::{Listed, SearchPart};
 use fz_resolve::{Entry, Names};
 use fz_spec::search::{Pick, Value};
 use fz_syntax::{Annotation, Argument, Basic, Name, Nested, first_at, first_of, only_of};
@@ -290,8 +290,8 @@ fn variables_in<'a>(
     alloc: Global,
     names: &Names<'a>,
     argument: Nested<'_, 'a>,
-) -> Result<Option<Vec<u32>>, AllocError>
-    ensures { IfOk result (λ found. option_map (λ variables. variables.items) found
+) -> Result<Option<Listed<u32>>, AllocError>
+    ensures { IfOk result (λ found. found
         ≡ searches.variables_in (environment_of names.now) (trees.nested_of argument.entry)) }
 {
     match argument {
@@ -300,33 +300,11 @@ fn variables_in<'a>(
             bytes: *bytes,
             at: *at,
         }) {
-            Some(Entry::Terms(list)) => Ok(Some(variables_of(alloc, &list.terms)?)),
+            Some(Entry::Terms(list)) => Ok(Some(list.variables()?)),
             _ => Ok(None),
         },
         _ => Ok(None),
     }
-}
-
-/// The variables among terms.
-fn variables_of(alloc: Global, terms: &[Term]) -> Result<Vec<u32>, AllocError>
-    ensures { IfOk result (λ variables. variables.items ≡ searches.variables_of_terms terms.now) }
-{
-    let mut variables = Vec::new(alloc);
-    for term in terms {
-        push_term(&mut variables, *term)?;
-    }
-    Ok(variables)
-}
-
-/// Adds a variable; a number is passed over.
-fn push_term(variables: &mut Vec<u32>, term: Term) -> Result<(), AllocError>
-    ensures { OnOk result (variables.new.items ≡ variables.old.items
-        ++ searches.variables_of_terms (term ∷ [])) }
-{
-    if let Term::Var(variable) = term {
-        variables.push(variable)?;
-    }
-    Ok(())
 }
 
 /// The variables among the arguments of an annotation, or nothing where one of them is neither a variable nor a number.
@@ -334,8 +312,8 @@ fn members<'a>(
     alloc: Global,
     names: &Names<'a>,
     arguments: &[Argument<'a>],
-) -> Result<Option<Vec<u32>>, AllocError>
-    ensures { IfOk result (λ found. option_map (λ variables. variables.items) found
+) -> Result<Option<Listed<u32>>, AllocError>
+    ensures { IfOk result (λ found. found
         ≡ option_map searches.joined (all_of (map (searches.member (environment_of names.now))
         (trees.trees_of arguments.now)))) }
 {
@@ -348,7 +326,7 @@ fn members<'a>(
         }
         place = next;
     }
-    Ok(Some(variables))
+    Ok(Some(Listed::own(variables)))
 }
 
 /// Adds a variable that there is.

@@ -1,5 +1,5 @@
 -- Constraints, and when an assignment makes one true (MiniZinc Handbook, "FlatZinc builtins").
-use Rattle.std.specs.Prelude.{◌≡◌, ℕ, ℤ, pos, List, [], ◌∷◌, length, map, slice_get, unwrap_or}
+use Rattle.std.specs.Prelude.{◌≡◌, Bool, ℕ, ℤ, pos, List, [], ◌∷◌, length, map, slice_get, unwrap_or}
 use Rattle.fz_spec.specs.declared.builtin.Builtin.{Builtin}
 use Rattle.fz_spec.specs.declared.term.Term.{Term}
 use Rattle.fz_spec.specs.declared.term.Term.TheVariants.{Num, Var}
@@ -12,9 +12,11 @@ pub data Argument : Type 0 where
   Terms : (terms : List Term) → Argument
   Set : (set : List (ℤ × ℤ)) → Argument
 
+-- A constraint; it may be marked `:: domain`, which asks for whole domains and says nothing of its truth.
 pub record Constraint : Type 0 where
   pub name : Builtin
   pub arguments : List Argument
+  pub whole : Bool
 
 -- the lengths of the lists among arguments
 abbrev pub list_lengths : List Argument → List ℕ

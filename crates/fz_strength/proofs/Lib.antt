@@ -3,6 +3,7 @@ pub mod Cumulatives
 pub mod Differences
 pub mod SumLaws
 pub mod ReifiedSumLaws
+pub mod Equations
 pub mod Elements
 pub mod Tables
 pub mod VariableElements

@@ -20,6 +20,7 @@ use Rattle.fz_strength.specs.Cumulatives.{RestsCumulative, open_tasks, terms_of_
 use Rattle.fz_strength.specs.Relations.{Relates, RestsAs, event_of, reified_event}
 use Rattle.fz_strength.specs.Differences.{AreApart, AreApartOnceFixed}
 use Rattle.fz_strength.specs.Sums.{left_factors, left_terms, right_number, RestsSum, sum_event_of}
+use Rattle.fz_strength.specs.Equations.{sets_of, RestsByNumbers}
 use Rattle.fz_strength.specs.Elements.{AreMatched}
 use Rattle.fz_strength.specs.Tables.{AreSupported}
 use Rattle.fz_strength.specs.VariableElements.{IsVariableElementLine, variable_element_waits}
@@ -42,6 +43,7 @@ pub data Saying : Type 0 where
   Row : (terms : List Term) (table : List ℤ) → Saying
   Differ : (terms : List Term) → Saying
   DifferByBounds : (terms : List Term) → Saying
+  SumByNumbers : (factors : List ℤ) (terms : List Term) (number : ℤ) → Saying
   Share : (starts durations usages : List Term) (bound : Term) → Saying
   Nothing : (name : Builtin) (arguments : List Argument) → Saying
 
@@ -217,6 +219,7 @@ truth_of (SelectTerm xs k c) a = IsElement (term_value a k) (term_values a xs) (
 truth_of (Row xs table) a = IsRowOf (term_values a xs) table
 truth_of (Differ xs) a = AreDifferent (term_values a xs)
 truth_of (DifferByBounds xs) a = AreDifferent (term_values a xs)
+truth_of (SumByNumbers ks ts c) a = weighted_sum ks (term_values a ts) ≡ c
 truth_of (Share ss dd us b) a = IsCumulative (tasks_of (term_values a ss) (term_values a dd) (term_values a us)) (term_value a b)
 truth_of (Nothing name arguments) a = Holds name arguments a
 
@@ -240,6 +243,7 @@ line_of (SelectTerm xs k c) ds = IsVariableElementLine xs k c ds
 line_of (Row xs table) ds = AreSupported xs table ds
 line_of (Differ xs) ds = AreApart xs ds
 line_of (DifferByBounds xs) ds = AreApartOnceFixed xs ds
+line_of (SumByNumbers ks ts c) ds = RestsByNumbers (sets_of ds ts) ks ts c
 line_of (Share ss dd us b) ds = RestsCumulative (open_tasks ds ss dd us) (least (term_set ds b)) (greatest (term_set ds b))
 line_of (Nothing name arguments) ds = RestsOnceFixed name arguments ds
 
@@ -259,6 +263,7 @@ waits_of (SelectTerm xs k c) = variable_element_waits xs k c
 waits_of (Row xs table) = waits_for Any xs
 waits_of (Differ xs) = waits_for Fixed xs
 waits_of (DifferByBounds xs) = waits_for Bound xs
+waits_of (SumByNumbers ks ts c) = waits_for Any ts
 waits_of (Share ss dd us b) = waits_for Bound (terms_of_tasks ss dd us b)
 waits_of (Nothing name arguments) = waits_for Fixed (terms_among arguments)
 
@@ -278,6 +283,7 @@ said_terms (SelectTerm xs k c) = k ∷ c ∷ xs
 said_terms (Row xs table) = xs
 said_terms (Differ xs) = xs
 said_terms (DifferByBounds xs) = xs
+said_terms (SumByNumbers ks ts c) = ts
 said_terms (Share ss dd us b) = terms_of_tasks ss dd us b
 said_terms (Nothing name arguments) = terms_among arguments
 

@@ -27,8 +27,18 @@ pub fn is_true(constraint: &Constraint, values: &[i32]) -> bool
     let name = constraint.name();
     match constraint.arguments() {
         [Argument::One(first), rest @ ..] => is_true_of_term(name, *first, rest, values),
-        [Argument::Numbers(first), rest @ ..] => is_true_of_numbers(name, first, rest, values),
-        [Argument::Terms(first), rest @ ..] => is_true_of_terms(name, first, rest, values),
+        [Argument::Numbers(first), rest @ ..] => is_true_of_numbers(
+            name,
+            first.as_slice(),
+            rest,
+            values,
+        ),
+        [Argument::Terms(first), rest @ ..] => is_true_of_terms(
+            name,
+            first.as_slice(),
+            rest,
+            values,
+        ),
         _ => false,
     }
 }
@@ -45,10 +55,10 @@ fn is_true_of_term(name: Builtin, first: Term, rest: &[Argument], values: &[i32]
             is_true_of_term_and_set(name, first, set, tail, values)
         }
         [Argument::Terms(terms), tail @ ..] => {
-            is_true_of_term_and_terms(name, first, terms, tail, values)
+            is_true_of_term_and_terms(name, first, terms.as_slice(), tail, values)
         }
         [Argument::Numbers(numbers), tail @ ..] => {
-            is_true_of_term_and_numbers(name, first, numbers, tail, values)
+            is_true_of_term_and_numbers(name, first, numbers.as_slice(), tail, values)
         }
         _ => false,
     }
@@ -175,7 +185,7 @@ fn is_true_of_numbers(name: Builtin, first: &[i32], rest: &[Argument], values: &
 {
     match rest {
         [Argument::Terms(terms), tail @ ..] => {
-            is_true_of_numbers_and_terms(name, first, terms, tail, values)
+            is_true_of_numbers_and_terms(name, first, terms.as_slice(), tail, values)
         }
         _ => false,
     }
@@ -233,10 +243,10 @@ fn is_true_of_terms(name: Builtin, first: &[Term], rest: &[Argument], values: &[
         [] => is_true_of_list(name, first, values),
         [Argument::One(r), tail @ ..] => is_true_of_list_and_term(name, first, *r, tail, values),
         [Argument::Numbers(table), tail @ ..] => {
-            is_true_of_list_and_numbers(name, first, table, tail, values)
+            is_true_of_list_and_numbers(name, first, table.as_slice(), tail, values)
         }
         [Argument::Terms(second), tail @ ..] => {
-            is_true_of_two_lists(name, first, second, tail, values)
+            is_true_of_two_lists(name, first, second.as_slice(), tail, values)
         }
         _ => false,
     }
@@ -295,7 +305,7 @@ fn is_true_of_two_lists(
             is_true_of_reified_clause(name, first, second, value_of(*r, values), values)
         }
         [Argument::Terms(third), tail @ ..] => {
-            is_true_of_three_lists(name, first, second, third, tail, values)
+            is_true_of_three_lists(name, first, second, third.as_slice(), tail, values)
         }
         _ => false,
     }

@@ -16,8 +16,8 @@ loop-part-preserved c =
     = all_read (IsSearchPart c.args.model.now.variables) c.search-parts.result.now c.loop-part.part-index c.part-item.result c.loop-part-test.true c.part-item.is of_model in
     let within : AllByRecursion (λ v. v < length c.args.model.now.variables) c.variables.result.now
     = subst (AllByRecursion (λ v. v < length c.args.model.now.variables)) (sym c.variables.ensures) of_part.1 in
-    let cut : c.in_ok-variables.variables.items ≡ filter (is_shown c.args.model.now) c.part-item.result.variables
-    = c.in_ok-variables.ensures c.args.model.now c.requires within ∙ ap (filter (is_shown c.args.model.now)) c.variables.ensures in
+    let cut : c.own.result ≡ filter (is_shown c.args.model.now) c.part-item.result.variables
+    = c.own.ensures ∙ c.in_ok-variables.ensures c.args.model.now c.requires within ∙ ap (filter (is_shown c.args.model.now)) c.variables.ensures in
     let made : c.new.result ≡ only_shown c.args.model.now c.part-item.result
     = c.new.ensures ∙ (λ i. record { variables = cut i; pick = c.pick.ensures i; value = c.value.ensures i }) in
     let done : List SearchPart = map (only_shown c.args.model.now) (take c.loop-part.part-index c.search-parts.result.now) in

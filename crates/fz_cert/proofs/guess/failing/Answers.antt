@@ -1,6 +1,5 @@
 use Rattle.std.specs.Prelude.{decimal}
 use Rattle.fz_cert.proofs.Wording.{decimal_word}
-use Rattle.fz_cert.specs.declared.step.Step.TheVariants as steps
 use Rattle.fz_cert.proofs.Guessing.{failing_of}
 use Rattle.fz_cert.proofs.guess.failing.Goals as goal
 

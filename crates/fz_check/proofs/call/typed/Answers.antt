@@ -1,19 +1,25 @@
-use Rattle.std.proofs.Common.{◌∙◌, ap, sym, map, option_map, List}
+use Rattle.std.proofs.Common.{◌∙◌, Bool, ap, ap₂, sym, map, option_map, List}
+use Rattle.fz_spec.specs.Constraints as meaning
+use Rattle.fz_spec.specs.Constraints.{list_lengths}
+use Rattle.fz_spec.specs.Signatures.{have_lengths}
+use Rattle.fz_language.specs.Annotations.{asks_whole}
+use Rattle.fz_syntax.specs.Trees as trees
+use Rattle.fz_syntax.specs.declared.annotation.Annotation.{Annotation}
 use Rattle.fz_model.specs.Arguments.{argument_of}
 use Rattle.fz_model.specs.declared.constraint.Argument.{Argument}
 use Rattle.fz_resolve.specs.Meant.{fault_of}
 use Rattle.fz_check.specs.Rows.{row_of}
 use Rattle.fz_check.proofs.CallLaws.{right_typed, wrong_typed}
 use Rattle.fz_check.proofs.call.typed.Goals as goal
-use Rattle.fz_spec.specs.Constraints.{list_lengths}
-use Rattle.fz_spec.specs.Signatures.{have_lengths}
 
 pub returns-then-have_lengths : goal.returns-then-have_lengths
 returns-then-have_lengths c =
     let lengths = ap (have_lengths c.args.row.now.3) (c.deref-2.ensures.value ∙ c.in_ok-lengths.ensures ∙ ap (λ (l : List Argument). list_lengths (map argument_of l)) c.deref.ensures.value) in
-    λ others e. (right_typed others (row_of c.args.row.now) c.args.name.at (map argument_of c.args.arguments.items) (sym e ∙ ap (option_map fault_of) c.in_default.is) (sym lengths ∙ sym c.have_lengths.ensures ∙ c.if-have_lengths.true), c.new.ensures)
+    let whole = c.asks_whole.ensures ∙ ap (λ (l : List Annotation). asks_whole (trees.annotations_of l)) c.deref-then-have_lengths.ensures.value in
+    let made = c.with_whole.ensures ∙ ap₂ (λ (m : meaning.Constraint) (w : Bool). record m { whole = w }) c.new-constraint.ensures whole in
+    λ others e. (right_typed others (row_of c.args.row.now) c.args.item.now.name.at (map argument_of c.args.arguments.items) (sym e ∙ ap (option_map fault_of) c.in_default.is) (sym lengths ∙ sym c.have_lengths.ensures ∙ c.if-have_lengths.true), made)
 
 pub returns : goal.returns
 returns c =
     let lengths = ap (have_lengths c.args.row.now.3) (c.deref-2.ensures.value ∙ c.in_ok-lengths.ensures ∙ ap (λ (l : List Argument). list_lengths (map argument_of l)) c.deref.ensures.value) in
-    λ others e. wrong_typed others (row_of c.args.row.now) c.args.name.at (map argument_of c.args.arguments.items) (sym e ∙ ap (option_map fault_of) c.in_default.is) (sym lengths ∙ sym c.have_lengths.ensures ∙ c.if-have_lengths.false)
+    λ others e. wrong_typed others (row_of c.args.row.now) c.args.item.now.name.at (map argument_of c.args.arguments.items) (sym e ∙ ap (option_map fault_of) c.in_default.is) (sym lengths ∙ sym c.have_lengths.ensures ∙ c.if-have_lengths.false)

@@ -1,6 +1,6 @@
 use Rattle.std.proofs.Common.{◌≡◌, take}
 use Rattle.fz_language.specs.Search.{variables_of_terms}
-use Rattle.fz_solve.proofs.search.variables_of.Given as goal
+use Rattle.fz_resolve.proofs.arrays.variables_of.Given as goal
 
 -- those of the terms so far
 abbrev pub invariant-loop-term : goal.invariant-loop-term

@@ -3,8 +3,8 @@ use Rattle.std.specs.Prelude.{pos}
 use Rattle.fz_spec.specs.declared.term.Term.TheVariants.{Num}
 use Rattle.std.proofs.lemmas.List.{take_all}
 use Rattle.fz_language.specs.Search.{variables_of_terms}
-use Rattle.fz_solve.proofs.SearchLaws.{terms_more}
-use Rattle.fz_solve.proofs.search.variables_of.Goals as goal
+use Rattle.fz_resolve.proofs.VariableLaws.{terms_more}
+use Rattle.fz_resolve.proofs.arrays.variables_of.Goals as goal
 
 pub loop-term-preserved : goal.loop-term-preserved
 loop-term-preserved c =

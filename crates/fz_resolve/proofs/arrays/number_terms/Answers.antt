@@ -5,7 +5,7 @@ use mir.Val.{SFits}
 use mir.Syntax.{w32}
 use Rattle.fz_spec.specs.declared.term.Term.{Term}
 use Rattle.fz_spec.specs.declared.term.Term.TheVariants.{Num}
-use Rattle.fz_resolve.proofs.resolve.number_terms.Goals as goal
+use Rattle.fz_resolve.proofs.arrays.number_terms.Goals as goal
 
 pub loop-number-preserved : goal.loop-number-preserved
 loop-number-preserved c =

@@ -1,0 +1,27 @@
+-- Laws of equations on whole domains.
+use Rattle.std.proofs.Common.{◌≡◌, List, [], ◌∷◌, refl, map}
+use Rattle.std.specs.Prelude.{ℤ}
+use Rattle.std.specs.List.{AllByRecursion}
+use Rattle.fz_sets.specs.Sets.{single}
+use Rattle.fz_spec.specs.declared.term.Term.{Term}
+use Rattle.fz_spec.specs.Constraints.{term_value, term_values}
+use Rattle.fz_spec.specs.Truth.{weighted_sum}
+use Rattle.fz_strength.specs.declared.event.Event.TheVariants.{Any}
+use Rattle.fz_strength.specs.Domains.{term_set}
+use Rattle.fz_strength.specs.Events.{AreSingle}
+use Rattle.fz_strength.specs.Equations.{sets_of, RestsByNumbers}
+use Rattle.fz_strength.proofs.Terms.{AreQuietAt}
+
+same_sets : (ts : List Term) (ds es : List (List (ℤ × ℤ))) → AreQuietAt Any ds es ts → sets_of ds ts ≡ sets_of es ts
+same_sets [] ds es quiet = refl
+same_sets (t ∷ ts) ds es quiet = rw (quiet.0, same_sets ts ds es quiet.1) refl
+
+pub numbers_kept : (ks : List ℤ) (ts : List Term) (c : ℤ) (ds es : List (List (ℤ × ℤ))) → AreQuietAt Any ds es ts → RestsByNumbers (sets_of ds ts) ks ts c → RestsByNumbers (sets_of es ts) ks ts c
+numbers_kept ks ts c ds es quiet h = rw (← same_sets ts ds es quiet) h
+
+single_sets : (ts : List Term) (ds : List (List (ℤ × ℤ))) (a : List ℤ) → AreSingle ds a ts → sets_of ds ts ≡ map single (term_values a ts)
+single_sets [] ds a h = refl
+single_sets (t ∷ ts) ds a h = rw (h.0, single_sets ts ds a h.1) refl
+
+pub numbers_true : (ks : List ℤ) (ts : List Term) (c : ℤ) (ds : List (List (ℤ × ℤ))) (a : List ℤ) → AreSingle ds a ts → RestsByNumbers (sets_of ds ts) ks ts c → weighted_sum ks (term_values a ts) ≡ c
+numbers_true ks ts c ds a single h = h.fixed a (single_sets ts ds a single)
