@@ -1,0 +1,118 @@
+//! Equations of three terms, and how many pairs of numbers are looked at.
+ghost use Rattle.std.specs.Prelude.{◌≡◌, ◌↔◌, ◌≤◌, ◌*◌, length, IsTrue};
+ghost use Rattle.std.specs.List.{AllByRecursion};
+ghost use Rattle.fz_sets.specs.Sets.{set_size};
+ghost use Rattle.fz_strength.specs.declared.equation.TheConstants.{FEW_PAIRS};
+ghost use Rattle.fz_strength.specs.Domains.{term_set};
+ghost use Rattle.fz_prop.specs.Stores.{IsTermOf};
+ghost use Rattle.fz_partners.specs.Equations.{IsTurned, terms_of};
+
+use fz_prop::Store;
+use fz_spec::term::Term;
+use fz_strength::equation::FEW_PAIRS;
+
+/// A term with its factor.
+#[derive(Clone, Copy)]
+pub struct Product {
+    pub factor: i32,
+    pub term: Term,
+}
+
+/// Three terms with factors, whose sum is to be a number.
+#[derive(Clone, Copy)]
+pub struct Equation {
+    pub first: Product,
+    pub second: Product,
+    pub third: Product,
+    pub number: i32,
+}
+
+/// The same equation, the term last that has most numbers.
+pub fn widest_last(store: &Store, equation: Equation) -> Equation
+    requires { AllByRecursion (IsTermOf (length store.now.doms)) (terms_of equation) }
+    ensures turned { IsTurned equation result }
+    ensures first { set_size (term_set store.now.doms result.first.term)
+        ≤ set_size (term_set store.now.doms result.third.term) }
+    ensures second { set_size (term_set store.now.doms result.second.term)
+        ≤ set_size (term_set store.now.doms result.third.term) }
+{
+    let first = size_of(store, equation.first.term);
+    let second = size_of(store, equation.second.term);
+    let third = size_of(store, equation.third.term);
+    if first <= third && second <= third {
+        equation
+    } else if second <= first {
+        first_last(equation)
+    } else {
+        second_last(equation)
+    }
+}
+
+/// The same equation, the first term last.
+fn first_last(equation: Equation) -> Equation
+    ensures { result ≡ record {
+      first = equation.third;
+      second = equation.second;
+      third = equation.first;
+      number = equation.number;
+    } }
+{
+    Equation {
+        first: equation.third,
+        second: equation.second,
+        third: equation.first,
+        number: equation.number,
+    }
+}
+
+/// The same equation, the second term last.
+fn second_last(equation: Equation) -> Equation
+    ensures { result ≡ record {
+      first = equation.first;
+      second = equation.third;
+      third = equation.second;
+      number = equation.number;
+    } }
+{
+    Equation {
+        first: equation.first,
+        second: equation.third,
+        third: equation.second,
+        number: equation.number,
+    }
+}
+
+/// Whether the first two terms have few pairs of numbers.
+pub fn are_few(store: &Store, equation: Equation) -> bool
+    requires { AllByRecursion (IsTermOf (length store.now.doms)) (terms_of equation) }
+    ensures { IsTrue result ↔ ((set_size (term_set store.now.doms equation.first.term)
+        * set_size (term_set store.now.doms equation.second.term)) ≤ FEW_PAIRS) }
+{
+    let first = size_of(store, equation.first.term);
+    let second = size_of(store, equation.second.term);
+    is_small(first, second)
+}
+
+/// Whether a product of numbers above 0 is small.
+fn is_small(first: u64, second: u64) -> bool
+    requires first { 1 ≤ first }
+    requires second { 1 ≤ second }
+    ensures { IsTrue result ↔ ((first * second) ≤ FEW_PAIRS) }
+{
+    first <= FEW_PAIRS && second <= FEW_PAIRS && first * second <= FEW_PAIRS
+}
+
+/// How many numbers are left of a term.
+fn size_of(store: &Store, term: Term) -> u64
+    requires { IsTermOf (length store.now.doms) term }
+    ensures size { result ≡ set_size (term_set store.now.doms term) }
+    ensures some { 1 ≤ result }
+{
+    match term {
+        Term::Var(variable) => {
+            let _ = store.doms();
+            store.dom(variable).size()
+        }
+        Term::Num(_) => 1,
+    }
+}

@@ -1,0 +1,9 @@
+//! The propagator of an equation of two or three terms that looks at all of their numbers.
+#![tactic(auto)]
+
+mod equation;
+mod keep;
+pub mod partnered_sum;
+mod solutions;
+
+pub use partnered_sum::PartneredSum;
