@@ -10,6 +10,7 @@ said_of (forms.Membership membership) = membership
 said_of (forms.ReifiedMembership membership) = membership
 said_of (forms.Linear linear) = linear
 said_of (forms.ReifiedLinear linear) = linear
+said_of (forms.PartneredSum sum) = sum
 said_of (forms.Clause clause) = clause
 said_of (forms.Arithmetic arithmetic) = arithmetic
 said_of (forms.Parity parity) = parity

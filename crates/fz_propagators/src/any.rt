@@ -21,6 +21,7 @@ use fz_hall::HallIntervals;
 use fz_kept::Kept;
 use fz_linear::Linear;
 use fz_linreif::ReifiedLinear;
+use fz_partners::PartneredSum;
 use fz_prop::{Answer, Propagator, Store};
 use fz_rel::{Comparison, Membership, ReifiedComparison, ReifiedMembership};
 use fz_says::Saying;
@@ -38,6 +39,7 @@ pub enum AnyPropagator {
     ReifiedMembership(ReifiedMembership),
     Linear(Linear),
     ReifiedLinear(ReifiedLinear),
+    PartneredSum(PartneredSum),
     Clause(Clause),
     Arithmetic(Arithmetic),
     Parity(Parity),
@@ -84,6 +86,10 @@ impl AnyPropagator {
             Saying::SumIf(relation, factors, terms, number, r) => {
                 let linear = ReifiedLinear::new(alloc, *relation, factors, terms, *number, *r)?;
                 Ok(AnyPropagator::ReifiedLinear(linear))
+            }
+            Saying::SumByNumbers(factors, terms, last) => {
+                let sum = PartneredSum::new(alloc, factors, terms, *last);
+                Ok(AnyPropagator::PartneredSum(sum))
             }
             Saying::Clause(positives, negatives, r) => {
                 let clause = Clause::some_sign(alloc, positives, negatives, *r)?;
@@ -185,6 +191,7 @@ impl Propagator for AnyPropagator {
             AnyPropagator::ReifiedMembership(membership) => membership.propagate(store),
             AnyPropagator::Linear(linear) => linear.propagate(store),
             AnyPropagator::ReifiedLinear(linear) => linear.propagate(store),
+            AnyPropagator::PartneredSum(sum) => sum.propagate(store),
             AnyPropagator::Clause(clause) => clause.propagate(store),
             AnyPropagator::Arithmetic(arithmetic) => arithmetic.propagate(store),
             AnyPropagator::Parity(parity) => parity.propagate(store),
