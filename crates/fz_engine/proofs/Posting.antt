@@ -1,29 +1,30 @@
 -- Propagators of what the constraints of a model say.
-use Rattle.std.proofs.Common.{◌≡◌, ◌⊎◌, inl, inr, ℕ, zero, suc, ◌+◌, ◌<◌, List, [], ◌∷◌, ◌++◌, ◌∙◌, refl, sym, ap, subst, arith, length, map, take, get_or, length-append, take_all}
+use Rattle.std.proofs.Common.{◌≡◌, inl, inr, ℕ, zero, suc, ◌+◌, ◌<◌, List, [], ◌∷◌, ◌++◌, ◌∙◌, refl, sym, ap, subst, arith, length, take, get_or, length-append, take_all}
 use Rattle.std.proofs.lemmas.List.{length-map, length-take-le}
 use Rattle.std.proofs.lemmas.Option.{slice_get_read}
 use Rattle.std.specs.Prelude.{ℤ, Some, slice_get, ◌≤◌, ◌^◌}
 use Rattle.std.specs.List.{AllByRecursion}
-use Rattle.fz_sets.proofs.Lists.{all_at, all_left, all_right, all_both}
+use Rattle.fz_sets.proofs.Lists.{all_at, all_left, all_right, all_both, some_is}
 use Rattle.fz_spec.specs.declared.term.Term.{Term}
-use Rattle.fz_spec.specs.declared.term.Term.TheVariants.{Num, Var}
 use Rattle.fz_spec.specs.Constraints.{Constraint, IsTrueOf}
 use Rattle.fz_spec.specs.Instance.{Instance, Variable}
+use Rattle.fz_spec.specs.declared.kind.Kind.TheVariants as kinds
+use Rattle.fz_model.specs.Kept as kept
 use Rattle.fz_model.specs.Kept.{IsConstraint, IsModel}
-use Rattle.fz_strength.specs.declared.event.Event.TheVariants.{Bound, Fixed}
-use Rattle.fz_strength.specs.Events.{AreBelow, waits_for}
-use Rattle.fz_strength.specs.Sayings.{Saying, Differ, DifferByBounds, saying_of, said_terms, truth_of, waits_of}
+use Rattle.fz_strength.specs.declared.relation.Relation.TheVariants.{Equal}
+use Rattle.fz_strength.specs.Events.{AreBelow}
+use Rattle.fz_strength.specs.Sayings.{Saying, Differ, DifferByBounds, Sum, SumByNumbers, saying_of, said_terms, truth_of, truths_of, waits_of}
 use Rattle.fz_strength.proofs.Says.{says}
 use Rattle.fz_prop.specs.Stores.{IsTermOf, FitsTerm, declared_sets}
 use Rattle.fz_prop.proofs.Waits.{below}
-use Rattle.fz_says.specs.Fits.{IsKnown, IsFit}
+use Rattle.fz_says.specs.Fits.{FitsSum, IsKnown, IsFit}
 use Rattle.fz_says.proofs.Fitting.{said_fits}
 use Rattle.fz_says.proofs.Suiting.{fit_suits}
 use Rattle.fz_spec.specs.declared.limits.TheConstants.{CONSTRAINT_LIMIT}
 use Rattle.fz_propagators.specs.declared.any.AnyPropagator.{AnyPropagator}
 use Rattle.fz_propagators.specs.Forms.{said_of}
 use Rattle.fz_agenda.specs.Wakes.{Waking}
-use Rattle.fz_engine.specs.Networks.{AreSaid, AreSaidOf, AreOf, IsListing, IsNetwork, IsSaidMore, sayings_of}
+use Rattle.fz_engine.specs.Networks.{AreSaid, AreSaidOf, AreOf, IsListing, IsNetwork, IsSaidMore, sayings_of, stronger_of}
 use Rattle.fz_engine.proofs.Listing.{at_end}
 
 -- ---- what is said
@@ -59,11 +60,32 @@ one_said cs c sayings said = record {
       all_both (λ (s : Saying). truth_of s a) sayings (saying_of c ∷ []) (said.follow a (all_left (IsTrueOf a) cs (c ∷ []) all)) ((says c a).0 (all_right (IsTrueOf a) cs (c ∷ []) all).0, tt);
 }
 
-bounds_fit : (vs : List Variable) (xs : List Term) (saying : Saying) → saying ≡ Differ xs → IsFit vs saying → IsFit vs (DifferByBounds xs)
-bounds_fit vs xs saying is fit = let differ : IsFit vs (Differ xs) = subst (IsFit vs) is fit in record { terms = differ.terms; truths = tt; sum = tt }
+-- ---- what is said once more
 
-bounds_true : (c : Constraint) (xs : List Term) (a : List ℤ) → saying_of c ≡ Differ xs → IsTrueOf a c → truth_of (DifferByBounds xs) a
-bounds_true c xs a is holds = subst (λ (s : Saying). truth_of s a) is ((says c a).0 holds)
+same_terms : (s t : Saying) → stronger_of s ≡ Some t → said_terms t ≡ said_terms s
+same_terms (Differ xs) t is = ap said_terms (sym (some_is (DifferByBounds xs) t is))
+same_terms (Sum Equal ks ts c) t is = ap said_terms (sym (some_is (SumByNumbers ks ts c) t is))
+same_terms s t is = absurd (cc (is))
+
+no_truths : (s t : Saying) → stronger_of s ≡ Some t → [] ≡ truths_of t
+no_truths (Differ xs) t is = ap truths_of (some_is (DifferByBounds xs) t is)
+no_truths (Sum Equal ks ts c) t is = ap truths_of (some_is (SumByNumbers ks ts c) t is)
+no_truths s t is = absurd (cc (is))
+
+more_true : (s t : Saying) (a : List ℤ) → stronger_of s ≡ Some t → truth_of s a → truth_of t a
+more_true (Differ xs) t a is h = subst (λ (u : Saying). truth_of u a) (some_is (DifferByBounds xs) t is) h
+more_true (Sum Equal ks ts c) t a is h = subst (λ (u : Saying). truth_of u a) (some_is (SumByNumbers ks ts c) t is) h
+more_true s t a is h = absurd (cc (is))
+
+pub more_fit : (vs : List Variable) (s t : Saying) → stronger_of s ≡ Some t → FitsSum t → IsFit vs s → IsFit vs t
+more_fit vs s t is sum fit = record {
+  terms = subst (AllByRecursion (IsKnown vs)) (sym (same_terms s t is)) fit.terms;
+  truths = subst (AllByRecursion (kept.IsTermOf vs kinds.Bool)) (no_truths s t is) tt;
+  sum = sum;
+}
+
+holds_more : (c : Constraint) (t : Saying) (a : List ℤ) → stronger_of (saying_of c) ≡ Some t → IsTrueOf a c → truth_of t a
+holds_more c t a is holds = more_true (saying_of c) t a is ((says c a).0 holds)
 
 pub said_none : (vs : List Variable) → AreSaidOf vs [] []
 said_none vs = record {
@@ -85,16 +107,15 @@ said_more_of vs cs c sayings after so_far fit (inl same) =
       few = omega (arith, size, size_of_cs, few);
     })
 said_more_of vs cs c sayings after so_far fit (inr more) =
-    let xs = more.0 in
-    let is = more.1 in
+    let t = more.0 in
     let front = sayings ++ saying_of c ∷ [] in
     let size = length-append sayings (saying_of c ∷ []) in
-    let size_of_front = length-append front (DifferByBounds xs ∷ []) in
+    let size_of_front = length-append front (t ∷ []) in
     let size_of_cs = length-append cs (c ∷ []) in
     let few = so_far.few in
-    subst (λ (l : List Saying). AreSaidOf vs (cs ++ c ∷ []) l) (sym more.2) (record {
-      said = more_said (cs ++ c ∷ []) front (DifferByBounds xs) (one_said cs c sayings so_far.said) (λ a all. bounds_true c xs a is (all_right (IsTrueOf a) cs (c ∷ []) all).0);
-      fit = all_both (IsFit vs) front (DifferByBounds xs ∷ []) (all_both (IsFit vs) sayings (saying_of c ∷ []) so_far.fit (fit, tt)) (bounds_fit vs xs (saying_of c) is fit, tt);
+    subst (λ (l : List Saying). AreSaidOf vs (cs ++ c ∷ []) l) (sym more.3) (record {
+      said = more_said (cs ++ c ∷ []) front t (one_said cs c sayings so_far.said) (λ a all. holds_more c t a more.1 (all_right (IsTrueOf a) cs (c ∷ []) all).0);
+      fit = all_both (IsFit vs) front (t ∷ []) (all_both (IsFit vs) sayings (saying_of c ∷ []) so_far.fit (fit, tt)) (more_fit vs (saying_of c) t more.1 more.2 fit, tt);
       few = omega (arith, size, size_of_front, size_of_cs, few);
     })
 
@@ -119,12 +140,6 @@ limits_of vs saying fit = known_fits vs (said_terms saying) fit.terms
 
 pub waits_below : (vs : List Variable) (saying : Saying) → IsFit vs saying → AreBelow (waits_of saying) (length vs)
 waits_below vs saying fit = below (length vs) saying (known_terms vs (said_terms saying) fit.terms)
-
--- the bounds of the same terms
-pub bounds_below : (xs : List Term) (n : ℕ) → AreBelow (waits_for Fixed xs) n → AreBelow (waits_for Bound xs) n
-bounds_below [] n all = tt
-bounds_below (Num m ∷ xs) n all = bounds_below xs n all
-bounds_below (Var v ∷ xs) n all = (all.0, bounds_below xs n all.1)
 
 pub declared_length : (vs : List Variable) → length (declared_sets vs) ≡ length vs
 declared_length vs = length-map vs (λ (v : Variable). v.set)

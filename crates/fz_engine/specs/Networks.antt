@@ -1,17 +1,17 @@
 -- What the spaces of a model share.
-use Rattle.std.specs.Prelude.{◌≡◌, ◌⊎◌, ◌≤◌, ◌+◌, ◌^◌, ℕ, ℤ, List, ◌++◌, ◌∷◌, [], length, map, replicate, slice_get, Some}
+use Rattle.std.specs.Prelude.{◌≡◌, ◌⊎◌, ◌≤◌, ◌+◌, ◌^◌, ℕ, ℤ, List, ◌++◌, ◌∷◌, [], length, map, replicate, slice_get, Option, Some, None}
 use Rattle.std.specs.List.{AllByRecursion}
 use Rattle.fz_spec.specs.Constraints.{Constraint, IsTrueOf}
 use Rattle.fz_spec.specs.Instance.{Instance, Variable}
-use Rattle.fz_spec.specs.declared.term.Term.{Term}
 use Rattle.fz_strength.specs.declared.cost.Cost.{Cost}
 use Rattle.fz_strength.specs.Costs.{cost_of}
 use Rattle.fz_strength.specs.Promises.{Suits}
-use Rattle.fz_strength.specs.Sayings.{Saying, Differ, DifferByBounds, said_terms, saying_of, truth_of}
+use Rattle.fz_strength.specs.declared.relation.Relation.TheVariants.{Equal}
+use Rattle.fz_strength.specs.Sayings.{Saying, Differ, DifferByBounds, Sum, SumByNumbers, said_terms, saying_of, truth_of}
 use Rattle.fz_prop.specs.Stores.{IsTermOf, declared_sets}
 use Rattle.fz_agenda.specs.Queues.{Lineup, queue_at, class_of, cost_at}
 use Rattle.fz_agenda.specs.Wakes.{Waking, IsIndexOf, HaveSize}
-use Rattle.fz_says.specs.Fits.{IsFit}
+use Rattle.fz_says.specs.Fits.{FitsSum, IsFit}
 use Rattle.fz_propagators.specs.declared.any.AnyPropagator.{AnyPropagator}
 use Rattle.fz_propagators.specs.Forms.{said_of}
 
@@ -29,9 +29,16 @@ pub record AreSaid (cs : List Constraint) (sayings : List Saying) : Type 0 where
   pub each : (i : ℕ) (c : Constraint) → slice_get cs i ≡ Some c → (j : ℕ) × (slice_get sayings j ≡ Some (saying_of c))
   pub follow : (a : List ℤ) → AllByRecursion (IsTrueOf a) cs → AllByRecursion (λ (saying : Saying). truth_of saying a) sayings
 
--- what was said, and if that is that terms differ, the same of their bounds
+-- what is said once more, to a propagator that looks at more: that terms differ, by their bounds, and that a sum is a number, by the
+-- numbers of its terms
+abbrev pub stronger_of : Saying → Option Saying
+stronger_of (Differ xs) = Some (DifferByBounds xs)
+stronger_of (Sum Equal ks ts c) = Some (SumByNumbers ks ts c)
+stronger_of saying = None
+
+-- what was said, and maybe what is said once more
 abbrev pub IsSaidMore : Saying → List Saying → List Saying → Type 0
-IsSaidMore saying before after = (after ≡ before) ⊎ ((xs : List Term) × (saying ≡ Differ xs) × (after ≡ before ++ DifferByBounds xs ∷ []))
+IsSaidMore saying before after = (after ≡ before) ⊎ ((more : Saying) × (stronger_of saying ≡ Some more) × FitsSum more × (after ≡ before ++ more ∷ []))
 
 -- What constraints of these variables say fits the model, and is at most twice as much.
 pub record AreSaidOf (vs : List Variable) (cs : List Constraint) (sayings : List Saying) : Type 0 where

@@ -3,5 +3,6 @@
 
 pub mod engine;
 pub mod network;
+mod stronger;
 
 pub use network::Network;

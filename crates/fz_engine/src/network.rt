@@ -14,8 +14,9 @@ ghost use Rattle.fz_says.specs.Said.{said_by, waits_in};
 ghost use Rattle.fz_propagators.specs.Forms.{said_of};
 ghost use Rattle.fz_agenda.specs.Agendas.{IsSettled};
 ghost use Rattle.fz_agenda.specs.Wakes.{IsListedAt, HaveSize, Extends};
-ghost use Rattle.fz_engine.specs.Networks.{AreSaidOf, IsFull, IsListing, IsNetwork, IsSaidMore, sayings_of};
+ghost use Rattle.fz_engine.specs.Networks.{AreSaidOf, IsFull, IsListing, IsNetwork, sayings_of};
 
+use crate::stronger::stronger_of;
 use fz_agenda::{Agenda, Wakes};
 use fz_kept::Kept;
 use fz_prop::Cost;
@@ -170,7 +171,9 @@ fn post_all(alloc: Global, model: &fz_model::Model) -> Result<Posted, AllocError
     for constraint in constraints {
         let saying = Saying::of(constraint);
         post(alloc, &mut posted, &saying)?;
-        post_bounds(alloc, &mut posted, &saying)?;
+        if let Some(more) = stronger_of(&saying, constraint.is_whole(), model.variables()) {
+            post(alloc, &mut posted, &more)?;
+        }
     }
     Ok(posted)
 }
@@ -195,27 +198,6 @@ fn post(alloc: Global, posted: &mut Posted, saying: &Saying) -> Result<(), Alloc
     let propagator = AnyPropagator::of(alloc, saying)?;
     posted.propagators.push(propagator)?;
     Ok(())
-}
-
-/// Adds a propagator of the bounds of terms, where these are said to be all different.
-fn post_bounds(alloc: Global, posted: &mut Posted, saying: &Saying) -> Result<(), AllocError>
-    requires fits { AllByRecursion FitsTerm (said_terms (said_by saying.now)) }
-    requires inside { AreBelow (waits_of (said_by saying.now)) (length posted.old.wakes.any) }
-    requires few { length posted.old.propagators.items < 2 ^ 32 }
-    requires listing { IsListing (sayings_of posted.old.propagators.items) posted.old.wakes
-        (length posted.old.wakes.any) }
-    ensures said { OnOk result (IsSaidMore (said_by saying.now)
-        (sayings_of posted.old.propagators.items) (sayings_of posted.new.propagators.items)) }
-    ensures listing { OnOk result (IsListing (sayings_of posted.new.propagators.items)
-        posted.new.wakes (length posted.old.wakes.any)) }
-{
-    match saying {
-        Saying::Differ(terms) => {
-            post(alloc, posted, &Saying::DifferByBounds(terms))?;
-            Ok(())
-        }
-        _ => Ok(()),
-    }
 }
 
 /// Lists a propagator at each change that it waits for.

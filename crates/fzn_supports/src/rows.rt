@@ -31,7 +31,7 @@ const ZERO: Numbers = Numbers::Zero;
 
 const FAR: Numbers = Numbers::Far;
 
-static GROUPS: [Group; 30] = [
+static GROUPS: [Group; 33] = [
     Group {
         numbers: [SIGNED, SIGNED, ZERO],
         rest: Rest::Exact,
@@ -350,6 +350,30 @@ static GROUPS: [Group; 30] = [
         numbers: [FAR, FAR, SIGNED],
         rest: Rest::Sound,
         constraints: &["int_plus(x, y, z)", "int_mod(x, y, z)"],
+    },
+    Group {
+        numbers: [COUNTING, COUNTING, ZERO],
+        rest: Rest::Exact,
+        constraints: &[
+            "int_lin_eq([2, 3], [x, y], 6) :: domain",
+            "int_lin_eq([1, 1, -1], [x, x, y], 0) :: domain",
+            "int_lin_eq([2, 3, 1], [x, y, 5], 11) :: domain",
+            "int_lin_eq([1, -1], [x, x], 0) :: domain",
+        ],
+    },
+    Group {
+        numbers: [SIGNED, SIGNED, SIGNED],
+        rest: Rest::Exact,
+        constraints: &[
+            "int_lin_eq([2, 3, -1], [x, y, z], 1) :: domain",
+            "int_lin_eq([1, 1, 1], [x, y, z], 0) :: domain",
+            "int_lin_eq([2, 1, -1], [x, y, z], 0) :: domain",
+        ],
+    },
+    Group {
+        numbers: [FAR, FAR, FAR],
+        rest: Rest::Exact,
+        constraints: &["int_lin_eq([2147483646, -2147483646, 1], [x, y, z], -1) :: domain"],
     },
 ];
 

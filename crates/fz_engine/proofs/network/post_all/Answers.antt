@@ -1,10 +1,11 @@
-use Rattle.std.proofs.Common.{ap, subst, arith, rules, List, length}
+use Rattle.std.proofs.Common.{◌≡◌, inl, inr, List, [], ◌∷◌, ◌++◌, ap, subst, arith, rules, length}
 use Rattle.fz_spec.specs.Constraints.{Constraint}
-use Rattle.fz_strength.specs.Sayings.{Saying, saying_of}
-use Rattle.fz_says.specs.Fits.{IsFit}
-use Rattle.fz_engine.specs.Networks.{sayings_of, AreSaidOf}
+use Rattle.fz_strength.specs.Sayings.{saying_of}
+use Rattle.fz_says.specs.Said.{said_by}
+use Rattle.fz_engine.specs.Networks.{AreSaidOf, IsListing, IsSaidMore, sayings_of}
 use Rattle.fz_engine.proofs.Listing.{listing_self}
-use Rattle.fz_engine.proofs.Posting.{said_none, fits_of, limits_of, waits_below, said_next, said_all, few_so_far, few_behind}
+use Rattle.fz_engine.proofs.Posting.{said_none, fits_of, limits_of, waits_below, more_fit, said_next, said_all, few_so_far, few_behind}
+use Rattle.fz_engine.proofs.network.post_all.Goals.{in-Some+in_ok-post-2, in_default}
 use Rattle.fz_engine.proofs.network.post_all.Goals as goal
 
 pub post-requires-clause-fits : goal.post-requires-clause-fits
@@ -41,31 +42,39 @@ pub post-requires-clause-listing : goal.post-requires-clause-listing
 post-requires-clause-listing c =
     listing_self (sayings_of c.loop-constraint.posted.propagators.items) c.loop-constraint.posted.wakes (length c.args.model.now.variables) c.loop-constraint.invariant.listing
 
-pub post_bounds-requires-clause-fits : goal.post_bounds-requires-clause-fits
-post_bounds-requires-clause-fits c =
+pub stronger_of-requires : goal.stronger_of-requires
+stronger_of-requires c =
     let m = c.args.model.now in
     let item = c.constraint-item.result in
     let fit = fits_of m c.constraints-constraints.result.now c.loop-constraint.constraint-index item c.constraints-constraints.ensures.kept c.constraints-constraints.ensures.constraints c.loop-constraint-test.true c.constraint-item.is in
-    rw c.of-saying.ensures (limits_of m.variables (saying_of item) fit)
+    rw c.of-saying.ensures fit.sum
 
-pub post_bounds-requires-clause-inside : goal.post_bounds-requires-clause-inside
-post_bounds-requires-clause-inside c =
+pub post-requires-in-Some-clause-fits : goal.post-requires-in-Some-clause-fits
+post-requires-in-Some-clause-fits c =
     let m = c.args.model.now in
     let item = c.constraint-item.result in
     let fit = fits_of m c.constraints-constraints.result.now c.loop-constraint.constraint-index item c.constraints-constraints.ensures.kept c.constraints-constraints.ensures.constraints c.loop-constraint-test.true c.constraint-item.is in
-    rw (c.of-saying.ensures, c.in_ok-post.ensures.listing.size.any, c.loop-constraint.invariant.listing.size.any) (waits_below m.variables (saying_of item) fit)
+    let more = said_by c.in-Some.more in
+    let fit_more = more_fit m.variables (saying_of item) more (rw c.of-saying.ensures at c.in-Some.ensures.stronger) c.in-Some.ensures.sum fit in
+    limits_of m.variables more fit_more
 
-pub post_bounds-requires-clause-few : goal.post_bounds-requires-clause-few
-post_bounds-requires-clause-few c =
+pub post-requires-in-Some-clause-inside : goal.post-requires-in-Some-clause-inside
+post-requires-in-Some-clause-inside c =
+    let m = c.args.model.now in
+    let item = c.constraint-item.result in
+    let fit = fits_of m c.constraints-constraints.result.now c.loop-constraint.constraint-index item c.constraints-constraints.ensures.kept c.constraints-constraints.ensures.constraints c.loop-constraint-test.true c.constraint-item.is in
+    let more = said_by c.in-Some.more in
+    let fit_more = more_fit m.variables (saying_of item) more (rw c.of-saying.ensures at c.in-Some.ensures.stronger) c.in-Some.ensures.sum fit in
+    rw (c.in_ok-post.ensures.listing.size.any, c.loop-constraint.invariant.listing.size.any) (waits_below m.variables more fit_more)
+
+pub post-requires-in-Some-clause-few : goal.post-requires-in-Some-clause-few
+post-requires-in-Some-clause-few c =
     let cs = c.constraints-constraints.result.now in
     let some = ap (λ (l : List Constraint). length l) c.constraints-constraints.ensures.constraints in
     let limit = c.constraints-constraints.ensures.kept.few_constraints in
     let room =
     few_so_far c.args.model.now.variables c.loop-constraint.posted.propagators.items cs c.loop-constraint.constraint-index c.loop-constraint.invariant.said c.loop-constraint.auto.constraint-index-end (omega (arith, some, limit)) in
     few_behind c.loop-constraint.posted.propagators.items c.post.new.posted.propagators.items _ room c.in_ok-post.ensures.said
-
-pub post_bounds-requires-clause-listing : goal.post_bounds-requires-clause-listing
-post_bounds-requires-clause-listing c = listing_self (sayings_of c.post.new.posted.propagators.items) c.post.new.posted.wakes _ c.in_ok-post.ensures.listing
 
 pub loop-constraint-init : goal.loop-constraint-init
 loop-constraint-init c = record { said = rw c.in_ok-with_capacity.ensures.items (said_none c.args.model.now.variables); listing = search rules }
@@ -75,11 +84,22 @@ loop-constraint-preserved c =
     let m = c.args.model.now in
     let cs = c.constraints-constraints.result.now in
     let item = c.constraint-item.result in
+    let says = saying_of item in
     let fit = fits_of m cs c.loop-constraint.constraint-index item c.constraints-constraints.ensures.kept c.constraints-constraints.ensures.constraints c.loop-constraint-test.true c.constraint-item.is in
-    let more = rw (c.in_ok-post.ensures.said, c.of-saying.ensures) at c.in_ok-post_bounds.ensures.said in
+    let before = sayings_of c.loop-constraint.posted.propagators.items in
+    let after = c.match-stronger_of.posted in
+    let so_far : sayings_of c.post.new.posted.propagators.items ≡ before ++ says ∷ [] = rw c.of-saying.ensures at c.in_ok-post.ensures.said in
+    let more : IsSaidMore says (before ++ says ∷ []) (sayings_of after.propagators.items) = elim c.match-stronger_of.branch [
+      | in-Some+in_ok-post-2 w ↦ inr (said_by w.in-Some.more, rw c.of-saying.ensures at w.in-Some.ensures.stronger, w.in-Some.ensures.sum, rw (w.posted-is, ← so_far) w.in_ok-post-2.ensures.said)
+      | in_default w ↦ inl (rw w.posted-is so_far)
+    ] in
+    let listing : IsListing (sayings_of after.propagators.items) after.wakes (length m.variables) = elim c.match-stronger_of.branch [
+      | in-Some+in_ok-post-2 w ↦ rw (w.posted-is, ← c.loop-constraint.invariant.listing.size.any, ← c.in_ok-post.ensures.listing.size.any) w.in_ok-post-2.ensures.listing
+      | in_default w ↦ rw (w.posted-is, ← c.loop-constraint.invariant.listing.size.any) c.in_ok-post.ensures.listing
+    ] in
     record {
-      said = said_next m.variables cs c.loop-constraint.constraint-index item (sayings_of c.loop-constraint.posted.propagators.items) (sayings_of c.post_bounds.new.posted.propagators.items) c.loop-constraint-test.true c.constraint-item.is c.loop-constraint.invariant.said fit more;
-      listing = rw (← c.loop-constraint.invariant.listing.size.any, ← c.in_ok-post.ensures.listing.size.any) c.in_ok-post_bounds.ensures.listing;
+      said = said_next m.variables cs c.loop-constraint.constraint-index item before (sayings_of after.propagators.items) c.loop-constraint-test.true c.constraint-item.is c.loop-constraint.invariant.said fit more;
+      listing = listing;
     }
 
 pub returns-clause-said : goal.returns-clause-said
