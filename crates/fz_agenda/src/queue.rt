@@ -125,7 +125,9 @@ impl Queue {
         ensures { OnOk result (self.new ≡ other.now) }
     {
         self.clear();
-        self.places.extend_from_slice(&other.places[other.head..])?;
+        if other.head < other.places.len() {
+            self.places.extend_from_slice(&other.places[other.head..])?;
+        }
         Ok(())
     }
 
