@@ -8,11 +8,11 @@ ghost use Rattle.fz_tree.specs.Frontier as frontier;
 ghost use Rattle.fz_tree.specs.Frontier.{AreEdges, next_edges};
 ghost use Rattle.fz_search_space.specs.Spaces.{Covers};
 ghost use Rattle.fz_trail.specs.Nodes.{IsAt, AreDecidedAlike, decisions_of};
-ghost use Rattle.fz_trail.specs.Places.{IsNear, AreLeftDownTo, IsOneMore, IsUsedUp, HasUsedCopy, with_room, without_seconds, IsWayLong, IsOneBetween, IsDueBetween, AreBehind, half_down, nearest_node, last_of, IsDue, commits_for, depths_of, deepest_to, AreBelow, IsLastAbove};
+ghost use Rattle.fz_trail.specs.Places.{IsNear, AreLeftDownTo, IsOneMore, IsUsedUp, HasUsedCopy, IsClose, with_room, without_seconds, IsWayLong, IsOneBetween, IsDueBetween, AreBehind, half_down, nearest_node, last_of, IsDue, commits_for, depths_of, deepest_to, AreBelow, IsLastAbove};
 ghost use Rattle.fz_trail.specs.Trails.{IsTrail, IsKept, AreKept};
 ghost use Rattle.fz_trail.specs.declared.kept.TheConstants.{COPIES_MOST, COPIES_GONE};
 
-use crate::kept::{COPIES_GONE, COPIES_MOST, Kept};
+use crate::kept::{CLOSE, COPIES_GONE, COPIES_MOST, Kept};
 use crate::steps::Steps;
 use fz_region::Edges;
 use fz_search_space::SearchSpace;
@@ -31,8 +31,8 @@ pub struct Trail<S> {
     pub adaptive: u32,
     /// Copies above this node may have been thinned out.
     pub sparse: usize,
-    /// The path came back to the node that is looked at, which was made anew.
-    pub came_back: bool,
+    /// The node that the path came back to last.
+    pub back: Option<usize>,
 }
 
 impl<S: SearchSpace> Trail<S> {
@@ -54,7 +54,7 @@ impl<S: SearchSpace> Trail<S> {
             distance,
             adaptive,
             sparse: 0,
-            came_back: false,
+            back: None,
         }
     }
 
@@ -64,6 +64,7 @@ impl<S: SearchSpace> Trail<S> {
             × (self.new.adaptive ≡ self.old.adaptive) }
         ensures begun { (self.new.copies.items ≡ []) × (self.new.current ≡ None)
             × (self.new.sparse ≡ edges) }
+        ensures back { self.new.back ≡ None }
         ensures trail { (m : Instance) (known : Option (List ℤ))
             (es fs : List frontier.Edge) → IsTrail S.spaced m known es self.old
             → edges ≡ length fs → IsTrail S.spaced m known fs self.new }
@@ -71,6 +72,7 @@ impl<S: SearchSpace> Trail<S> {
         self.copies.clear();
         self.current = None;
         self.sparse = edges;
+        self.back = None;
     }
 
     /// Room for one copy.
@@ -90,6 +92,7 @@ impl<S: SearchSpace> Trail<S> {
             × (self.new.adaptive ≡ self.old.adaptive) }
         ensures copies { self.new.copies.items ≡ kept ∷ [] }
         ensures begun { (self.new.current ≡ None) × (self.new.sparse ≡ edges) }
+        ensures back { self.new.back ≡ Some edges }
         ensures trail { (m : Instance) (known : Option (List ℤ))
             (es fs : List frontier.Edge) → IsTrail S.spaced m known es self.old
             → edges ≡ length fs → IsKept S.spaced m known fs kept
@@ -100,6 +103,7 @@ impl<S: SearchSpace> Trail<S> {
         self.copies = copies;
         self.current = None;
         self.sparse = edges;
+        self.back = Some(edges);
     }
 
     /// A copy of the nearest copy that stands at a node or above it. None where none does.
@@ -162,6 +166,7 @@ impl<S: SearchSpace> Trail<S> {
             → IsTrail S.spaced m known es self.old → AllByRecursion
             (λ (k : Kept S). k.depth ≤ length edges.now - 1) self.new.copies.items }
         ensures current { self.new.current ≡ None }
+        ensures back { self.new.back ≡ Some (length edges.now) }
         ensures trail { (m : Instance) (known : Option (List ℤ)) (es : List frontier.Edge)
             → edges.now ≡ next_edges es
             → IsTrail S.spaced m known es self.old → IsTrail S.spaced m known edges.now self.new }
@@ -169,6 +174,7 @@ impl<S: SearchSpace> Trail<S> {
         drop_current(&mut self.current, &mut self.spare);
         let depth = count_above(edges);
         drop_below(&mut self.copies, &mut self.spare, depth);
+        self.back = Some(edges.len());
     }
 
     /// The path is back at a node with so many edges above it, and no copy below it stands any more. Nothing is known of how near
@@ -200,7 +206,7 @@ impl<S: SearchSpace> Trail<S> {
         ensures distances { (self.new.distance ≡ self.old.distance)
             × (self.new.adaptive ≡ self.old.adaptive) }
         ensures sparse { self.new.sparse ≡ self.old.sparse }
-        ensures back { IsTrue self.new.came_back ↔ (self.old.current ≡ None) }
+        ensures back { self.new.back ≡ self.old.back }
         ensures copies { AreBehind
             self.old.adaptive edges.now self.old.copies.items self.new.copies.items }
         ensures due { OnOk result (self.old.current ≡ None → IsDueBetween self.old.adaptive
@@ -218,7 +224,6 @@ impl<S: SearchSpace> Trail<S> {
         ensures exact { OnOk result (steps.new ≡ steps.old + commits_for
             (is_some self.old.current) (nearest_node self.old.copies.items) (length edges.now)) }
     {
-        self.came_back = self.current.is_none();
         if let Some(space) = self.current.take() {
             return came_down(space, edges, steps);
         }
@@ -233,7 +238,7 @@ impl<S: SearchSpace> Trail<S> {
         ensures distances { (self.new.distance ≡ self.old.distance)
             × (self.new.adaptive ≡ self.old.adaptive) }
         ensures sparse { self.new.sparse ≡ self.old.sparse }
-        ensures back { self.new.came_back ≡ self.old.came_back }
+        ensures back { self.new.back ≡ self.old.back }
         ensures current { self.new.current ≡ self.old.current }
         ensures copies { AreBehind
             self.old.adaptive edges.now self.old.copies.items self.new.copies.items }
@@ -269,7 +274,7 @@ impl<S: SearchSpace> Trail<S> {
         ensures distances { (self.new.distance ≡ self.old.distance)
             × (self.new.adaptive ≡ self.old.adaptive) }
         ensures sparse { self.new.sparse ≡ self.old.sparse }
-        ensures back { self.new.came_back ≡ self.old.came_back }
+        ensures back { self.new.back ≡ self.old.back }
         ensures current { self.new.current ≡ self.old.current }
         ensures copies { AreBehind
             self.old.adaptive edges.now self.old.copies.items self.new.copies.items }
@@ -304,7 +309,7 @@ impl<S: SearchSpace> Trail<S> {
         ensures distances { (self.new.distance ≡ self.old.distance)
             × (self.new.adaptive ≡ self.old.adaptive) }
         ensures sparse { self.new.sparse ≡ self.old.sparse }
-        ensures back { self.new.came_back ≡ self.old.came_back }
+        ensures back { self.new.back ≡ self.old.back }
         ensures current { self.new.current ≡ self.old.current }
         ensures copies { (self.new.copies.items ≡ self.old.copies.items)
             ⊎ IsOneBetween self.old.adaptive kept.depth (length edges.now)
@@ -354,7 +359,7 @@ impl<S: SearchSpace> Trail<S> {
         ensures distances { (self.new.distance ≡ self.old.distance)
             × (self.new.adaptive ≡ self.old.adaptive) }
         ensures sparse { self.new.sparse ≡ self.old.sparse }
-        ensures back { self.new.came_back ≡ self.old.came_back }
+        ensures back { self.new.back ≡ self.old.back }
         ensures current { self.new.current ≡ self.old.current }
         ensures copies { (self.new.copies.items ≡ self.old.copies.items)
             ⊎ IsOneBetween self.old.adaptive kept.depth (length edges.now)
@@ -389,7 +394,7 @@ impl<S: SearchSpace> Trail<S> {
         ensures none { OnErr result (self.new.copies.items ≡ self.old.copies.items) }
         ensures rest { (self.new.root ≡ self.old.root) × (self.new.current ≡ self.old.current)
             × (self.new.sparse ≡ self.old.sparse) }
-        ensures back { self.new.came_back ≡ self.old.came_back }
+        ensures back { self.new.back ≡ self.old.back }
     {
         let space = copied(&mut self.spare, space)?;
         self.copies.push(Kept { depth, space })?;
@@ -401,7 +406,7 @@ impl<S: SearchSpace> Trail<S> {
         ensures distances { (self.new.distance ≡ self.old.distance)
             × (self.new.adaptive ≡ self.old.adaptive) }
         ensures sparse { self.new.sparse ≡ self.old.sparse }
-        ensures back { self.new.came_back ≡ self.old.came_back }
+        ensures back { self.new.back ≡ self.old.back }
         ensures current { self.new.current ≡ self.old.current }
         ensures copies { (self.new.copies.items ≡ self.old.copies.items)
             ⊎ IsUsedUp edges.now self.old.copies.items self.new.copies.items }
@@ -424,7 +429,7 @@ impl<S: SearchSpace> Trail<S> {
         ensures distances { (self.new.distance ≡ self.old.distance)
             × (self.new.adaptive ≡ self.old.adaptive) }
         ensures sparse { self.new.sparse ≡ self.old.sparse }
-        ensures back { self.new.came_back ≡ self.old.came_back }
+        ensures back { self.new.back ≡ self.old.back }
         ensures current { self.new.current ≡ self.old.current }
         ensures copies { (self.new.copies.items ≡ self.old.copies.items)
             ⊎ IsUsedUp edges.now self.old.copies.items self.new.copies.items }
@@ -449,7 +454,7 @@ impl<S: SearchSpace> Trail<S> {
         ensures distances { (self.new.distance ≡ self.old.distance)
             × (self.new.adaptive ≡ self.old.adaptive) }
         ensures sparse { self.new.sparse ≡ self.old.sparse }
-        ensures back { self.new.came_back ≡ self.old.came_back }
+        ensures back { self.new.back ≡ self.old.back }
         ensures current { self.new.current ≡ self.old.current }
         ensures copies { self.new.copies.items ≡ self.old.copies.items }
         ensures nearest { IfOk result (λ k. k.depth ≡ nearest_node self.old.copies.items) }
@@ -476,7 +481,7 @@ impl<S: SearchSpace> Trail<S> {
     }
 
     /// Keeps a copy of the space at the node below so many edges, where one is due: where none is within the commit distance above
-    /// it, and where the path came back to it and none stands there.
+    /// it, and where the path came back to it or close above it and none stands there.
     ///
     /// # Errors
     /// `AllocError` where there is no memory.
@@ -488,11 +493,11 @@ impl<S: SearchSpace> Trail<S> {
         ensures copies { (self.new.copies.items ≡ with_room self.old.copies.items)
             ⊎ IsOneMore S.spaced depth space.now
             (with_room self.old.copies.items) self.new.copies.items }
-        ensures due { OnOk result (IsDue self.old.came_back self.old.distance
+        ensures due { OnOk result (IsDue self.old.back self.old.distance
             (with_room self.old.copies.items) depth
             → IsOneMore S.spaced depth space.now
             (with_room self.old.copies.items) self.new.copies.items) }
-        ensures undue { (IsDue self.old.came_back self.old.distance
+        ensures undue { (IsDue self.old.back self.old.distance
             (with_room self.old.copies.items) depth → ⊥)
             → self.new.copies.items ≡ with_room self.old.copies.items }
         ensures near { OnOk result ((m : Instance) (known : Option (List ℤ))
@@ -519,7 +524,7 @@ impl<S: SearchSpace> Trail<S> {
         ensures sparse { length self.old.copies.items < COPIES_MOST
             → self.new.sparse ≡ self.old.sparse }
         ensures copies { self.new.copies.items ≡ with_room self.old.copies.items }
-        ensures back { self.new.came_back ≡ self.old.came_back }
+        ensures back { self.new.back ≡ self.old.back }
         ensures room { length self.old.copies.items ≤ COPIES_MOST
             → length self.new.copies.items < COPIES_MOST }
         ensures trail { (m : Instance) (known : Option (List ℤ)) (es : List frontier.Edge)
@@ -535,7 +540,7 @@ impl<S: SearchSpace> Trail<S> {
     /// Whether a copy is due at the node below so many edges.
     fn is_due(&self, depth: usize) -> bool
         ensures due { IsTrue result
-            ↔ IsDue self.now.came_back self.now.distance self.now.copies.items depth }
+            ↔ IsDue self.now.back self.now.distance self.now.copies.items depth }
         ensures near { result ≡ false → 1 ≤ self.now.distance
             → IsSomeAnd (last_of self.now.copies.items)
             (λ kept. depth < kept.depth + self.now.distance) }
@@ -543,9 +548,19 @@ impl<S: SearchSpace> Trail<S> {
         match self.copies.last() {
             Some(kept) => {
                 kept.depth < depth
-                    && (self.came_back || depth - kept.depth >= self.distance as usize)
+                    && (self.is_close(depth) || depth - kept.depth >= self.distance as usize)
             }
             None => true,
+        }
+    }
+
+    /// Whether the path came back to the node below so many edges, or to one close above it.
+    fn is_close(&self, depth: usize) -> bool
+        ensures { IsTrue result ↔ IsClose self.now.back depth }
+    {
+        match self.back {
+            Some(node) => node <= depth && depth - node < CLOSE,
+            None => false,
         }
     }
 

@@ -1,4 +1,4 @@
-use Rattle.std.proofs.Common.{◌≡◌, ◌<◌, ◌+◌, length, subst, sym, arith, rules}
+use Rattle.std.proofs.Common.{◌≡◌, ◌<◌, ◌+◌, length, subst, sym, rules}
 use Rattle.std.specs.Vec.{vec_len}
 use Rattle.fz_trail.proofs.Places.{thinned_more, thinned_room}
 use Rattle.fz_trail.proofs.trail.thin.Goals as goal

@@ -17,4 +17,4 @@ pub returns-clause-trail : goal.returns-clause-trail
 returns-clause-trail g c = λ m known es size is t.
     let u = c.make_room.ensures.trail m known es t in
     trail_more g.S.SearchSpace.spaced m known es c.make_room.new.self c.put.new.self c.args.depth c.args.space.now c.put.ensures.rest c.put.ensures.distances c.in_ok-put.ensures.copies size is
-    (due_above c.make_room.new.self.came_back c.make_room.new.self.distance c.args.depth c.make_room.new.self.copies.items (c.is_due.ensures.due.0 c.if-not-is_due.false)) (c.make_room.ensures.room t.few) u
+    (due_above c.make_room.new.self.back c.make_room.new.self.distance c.args.depth c.make_room.new.self.copies.items (c.is_due.ensures.due.0 c.if-not-is_due.false)) (c.make_room.ensures.room t.few) u
