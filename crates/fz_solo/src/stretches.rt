@@ -5,6 +5,7 @@ ghost use Rattle.fz_path.specs.Paths.{PathLaw, bare};
 ghost use Rattle.fz_solo.specs.Walks.{weight_held};
 ghost use Rattle.fz_solo.specs.Stretches.{AlwaysKept, Pauses};
 
+use crate::pace::Pace;
 use fz_io::outside::Sink;
 use fz_path::{Path, Step, is_report_due, pays_report};
 use fz_search_space::SearchSpace;
@@ -51,6 +52,7 @@ pub fn stretch<S: SearchSpace, K: Sink>(
     ensures path { path.new.model ≡ path.old.model }
     ensures path_mode { path.new.mode ≡ path.old.mode }
 {
+    let mut pace = Pace::new();
     'steps: loop {
         let step = path.step()?;
         if step == Step::Closed {
@@ -59,7 +61,7 @@ pub fn stretch<S: SearchSpace, K: Sink>(
         if is_reached(path, halt, step) {
             return Ok(Pause::Found);
         }
-        if is_time(halt, sink) {
+        if is_time(halt, sink, &mut pace) {
             return Ok(pause_in(path, halt, waited));
         }
     }
@@ -102,11 +104,11 @@ fn pause_in<S: SearchSpace>(path: &Path<S>, halt: Halt, waited: u64) -> Pause
 }
 
 /// Whether the stretch is to end since the sink is to hand on.
-fn is_time<K: Sink>(halt: Halt, sink: &K) -> bool
+fn is_time<K: Sink>(halt: Halt, sink: &K, pace: &mut Pace) -> bool
     ensures { IsTrue result → halt ≢ Halt.Never }
 {
     match halt {
-        Halt::Each | Halt::Batch(_) => sink.is_due(),
+        Halt::Each | Halt::Batch(_) => pace.is_turn() && sink.is_due(),
         Halt::Never => false,
     }
 }
