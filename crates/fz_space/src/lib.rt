@@ -4,6 +4,7 @@
 
 mod bound;
 mod commit;
+mod contents;
 mod rest;
 mod root;
 pub mod space;

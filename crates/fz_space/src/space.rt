@@ -7,51 +7,28 @@ ghost use Rattle.fz_tree.specs.declared.decision.Decision.{Decision};
 ghost use Rattle.fz_search_space.specs.Spaces.{Spaced, AllBetter, Covers, IsNarrower, IsStatus};
 ghost use Rattle.fz_space.specs.Alive.{HaveLines};
 
-use crate::bound::keep_better;
-use crate::commit::take;
-use crate::rest::rest;
-use crate::root::{Parts, parts_of};
-use fz_agenda::Agenda;
+use crate::contents::Contents;
 use fz_dom::Dom;
-use fz_engine::Network;
-use fz_kept::Kept;
 use fz_model::Assignment;
 use fz_prop::Store;
 use fz_region::Choice;
-use fz_search_space::Status;
+use fz_search_space::{SearchSpace, Status};
 use std::alloc::{AllocError, AllocFailed, Global};
 use std::marker::Model;
 use std::sync::Arc;
 
-/// The domains that a model's constraints leave below some decisions. What never changes is shared with all copies.
+/// The domains that a model's constraints leave below some decisions. It is moved often, so what it has stands in a box.
 #[derive(Drop)]
 pub struct Space {
-    network: Arc<Network>,
-    store: Store,
-    agenda: Agenda,
-    /// What propagators keep between runs.
-    kept: Vec<Kept>,
-    failed: bool,
-    /// Of so many variables at the front one number is left.
-    front: usize,
+    contents: Box<Contents>,
 }
 
 impl Model for Space {
-    ghost use Rattle.std.specs.Prelude.{◌≡◌, false};
-    ghost use Rattle.std.specs.Arc.{arc_value};
-    ghost use Rattle.fz_kept.specs.Told.{AreTold};
-    ghost use Rattle.fz_engine.specs.Runs.{IsAlive};
     ghost use Rattle.fz_search_space.specs.Spaces.{Spaced};
-    ghost use Rattle.fz_space.specs.Alive.{spaced, FrontFixed};
 
     ghost Value = { Spaced };
 
-    ghost view = { λ s. spaced (arc_value s.network).model s.store s.failed };
-
-    ghost invariant = { λ s. s.failed ≡ false
-        → IsAlive (arc_value s.network) s.agenda.states s.store
-        × FrontFixed s.front s.store.doms
-        × AreTold (arc_value s.network).sayings s.kept.items s.store.doms };
+    ghost view = { λ s. s.contents.value };
 }
 
 impl Space {
@@ -59,11 +36,11 @@ impl Space {
     pub fn store(&self) -> &Store
         ensures { result.now.doms ≡ self.now.doms }
     {
-        &self.store
+        self.contents.store()
     }
 }
 
-impl fz_search_space::SearchSpace for Space {
+impl SearchSpace for Space {
     ghost accepts = { λ m. Unit {0} };
 
     ghost spaced = { λ s. s };
@@ -72,7 +49,7 @@ impl fz_search_space::SearchSpace for Space {
         alloc: Global,
         model: Arc<fz_model::Model>,
     ) -> Result<Space, AllocFailed<Arc<fz_model::Model>>> {
-        match space_of(alloc, &model) {
+        match root_of(alloc, &model) {
             Ok(space) => Ok(space),
             Err(_) => Err(AllocFailed { value: model }),
         }
@@ -94,11 +71,7 @@ impl fz_search_space::SearchSpace for Space {
             → length self.old.model.variables ≤ d.variable → self.new.failed ≡ true) }
         ensures err { OnErr result (self.new ≡ self.old) }
     {
-        take(
-            &mut self.store,
-            &mut self.failed,
-            choice.decision(alternative),
-        )
+        self.contents.commit(choice, alternative)
     }
 
     /// What has failed stays so.
@@ -115,7 +88,7 @@ impl fz_search_space::SearchSpace for Space {
         ensures stays { self.old.failed ≡ true → self.new.failed ≡ true }
         ensures err { OnErr result (self.new ≡ self.old) }
     {
-        keep_better(&self.network, &mut self.store, &mut self.failed, known)
+        self.contents.tell_bound(known)
     }
 
     /// At a branch the line of each constraint holds. What has failed stays so.
@@ -132,118 +105,38 @@ impl fz_search_space::SearchSpace for Space {
         ensures narrower { OnOk result (IsNarrower self.new self.old) }
         ensures stays { self.old.failed ≡ true → self.new.failed ≡ true }
     {
-        rest(
-            &self.network,
-            &mut self.store,
-            &mut self.kept,
-            &mut self.agenda,
-            &mut self.failed,
-            &mut self.front,
-        )
+        self.contents.status()
     }
 
     fn model(&self) -> &fz_model::Model {
-        self.network.model()
+        self.contents.model()
     }
 
     fn doms(&self) -> &[Dom] {
-        self.store.doms()
+        self.contents.doms()
     }
 
     fn closed(&self) -> usize {
-        self.front
+        self.contents.closed()
     }
 
     fn copy(&self) -> Result<Space, AllocError> {
-        let network = self.network.clone()?;
-        let store = self.store.copy()?;
-        let agenda = self.agenda.copy()?;
-        let kept = Vec::from_slice(*self.kept.allocator(), &self.kept)?;
-        Ok(Space {
-            network,
-            store,
-            agenda,
-            kept,
-            failed: self.failed,
-            front: self.front,
-        })
+        let contents = self.contents.copy()?;
+        let contents = Box::new(*Box::allocator(&self.contents), contents)?;
+        Ok(Space { contents })
     }
 
     fn copy_from(&mut self, other: &Space) -> Result<(), AllocError> {
-        self.failed = true;
-        self.network = other.network.clone()?;
-        write_store(&mut self.store, &other.store)?;
-        write_agenda(&mut self.agenda, &other.agenda)?;
-        write_kept(&mut self.kept, &other.kept)?;
-        self.front = other.front;
-        self.failed = other.failed;
-        Ok(())
+        self.contents.copy_from(&other.contents)
     }
 }
 
 /// The space of a model's root.
-fn space_of(alloc: Global, model: &Arc<fz_model::Model>) -> Result<Space, AllocError>
+fn root_of(alloc: Global, model: &Arc<fz_model::Model>) -> Result<Space, AllocError>
     ensures model { IfOk result (λ s. s.model ≡ arc_value model.now) }
     ensures covers { IfOk result (λ s. Covers None [] s) }
 {
-    let network = network_of(alloc, model.clone()?)?;
-    let Parts {
-        store,
-        agenda,
-        kept,
-        failed,
-    } = parts_of(alloc, &network)?;
-    Ok(Space {
-        network,
-        store,
-        agenda,
-        kept,
-        failed,
-        front: 0,
-    })
-}
-
-/// The network of a model, to be shared.
-fn network_of(alloc: Global, model: Arc<fz_model::Model>) -> Result<Arc<Network>, AllocError>
-    ensures { IfOk result (λ p. (arc_value p).model ≡ arc_value model) }
-{
-    let network = Network::new(alloc, model)?;
-    match Arc::new(alloc, network) {
-        Ok(network) => Ok(network),
-        Err(_) => Err(AllocError),
-    }
-}
-
-/// Writes a store over another, in its room where both have as many variables.
-fn write_store(store: &mut Store, other: &Store) -> Result<(), AllocError>
-    ensures { OnOk result (store.new ≡ other.now) }
-{
-    if store.doms().len() == other.doms().len() {
-        return store.copy_from(other);
-    }
-    *store = other.copy()?;
-    Ok(())
-}
-
-/// Writes an agenda over another, in its room where both have as many propagators.
-fn write_agenda(agenda: &mut Agenda, other: &Agenda) -> Result<(), AllocError>
-    ensures { OnOk result (agenda.new ≡ other.now) }
-{
-    if agenda.len() == other.len() {
-        return agenda.copy_from(other);
-    }
-    *agenda = other.copy()?;
-    Ok(())
-}
-
-/// Writes what propagators keep over what others keep, in its room where both are as many.
-fn write_kept(kept: &mut Vec<Kept>, other: &Vec<Kept>) -> Result<(), AllocError>
-    ensures { OnOk result (kept.new.items ≡ other.now.items) }
-{
-    if kept.len() == other.len() {
-        kept.copy_from_slice(other);
-        return Ok(());
-    }
-    *kept = Vec::from_slice(*other.allocator(), other)?;
-    Ok(())
+    let contents = Contents::root(alloc, model.clone()?)?;
+    let contents = Box::new(alloc, contents)?;
+    Ok(Space { contents })
 }

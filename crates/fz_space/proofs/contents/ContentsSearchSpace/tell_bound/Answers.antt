@@ -3,7 +3,7 @@ use Rattle.std.specs.Arc.{arc_value}
 use Rattle.fz_engine.specs.Networks.{Networked}
 use Rattle.fz_engine.specs.Runs.{IsAlive}
 use Rattle.fz_space.proofs.Fronts.{was_alive}
-use Rattle.fz_space.proofs.space.SpaceSearchSpace.tell_bound.Goals as goal
+use Rattle.fz_space.proofs.contents.ContentsSearchSpace.tell_bound.Goals as goal
 
 pub invariant_of-self : goal.invariant_of-self
 invariant_of-self c = λ alive. (

@@ -5,7 +5,7 @@ use Rattle.fz_tree.specs.declared.decision.Decision.{Decision}
 use Rattle.fz_search_space.specs.Spaces.{Spaced, Covers}
 use Rattle.fz_space.specs.Alive.{spaced}
 use Rattle.fz_space.proofs.Fronts.{at_some, lacking_now, was_alive}
-use Rattle.fz_space.proofs.space.SpaceSearchSpace.commit.Goals as goal
+use Rattle.fz_space.proofs.contents.ContentsSearchSpace.commit.Goals as goal
 
 pub invariant_of-self : goal.invariant_of-self
 invariant_of-self c = λ alive. (

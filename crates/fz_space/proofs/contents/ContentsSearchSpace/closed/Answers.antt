@@ -2,7 +2,7 @@ use Rattle.std.proofs.Common.{◌≡◌, subst, false}
 use Rattle.fz_branch.specs.Picks.{AreClosed}
 use Rattle.fz_search_space.specs.Spaces.{Spaced}
 use Rattle.fz_space.proofs.Fronts.{front_closed}
-use Rattle.fz_space.proofs.space.SpaceSearchSpace.closed.Goals as goal
+use Rattle.fz_space.proofs.contents.ContentsSearchSpace.closed.Goals as goal
 
 pub returns : goal.returns
 returns c =
