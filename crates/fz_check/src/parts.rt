@@ -15,7 +15,7 @@ ghost use Rattle.fz_language.specs.Annotations.{shape_among};
 ghost use Rattle.fz_check.specs.Parts.{scope};
 
 use fz_dom::Dom;
-use fz_model::{Argument, Constraint, Kind, Output, Term, Text, Variable};
+use fz_model::{Argument, Constraint, Kind, Listed, Output, Term, Text, Variable};
 use fz_resolve::annotations::output_var_at;
 use fz_resolve::resolve::{literal, term};
 use fz_resolve::{Entry, Names};
@@ -162,7 +162,7 @@ fn scalar(alloc: Global, name: Name<'_>, kind: Kind, number: u32) -> Result<Outp
 {
     let name = text(alloc, name.bytes)?;
     let terms = Vec::from_array(alloc, [Term::Var(number)])?;
-    Ok(Output::new(name, kind, false, Vec::new(alloc), terms))
+    Ok(Output::new(name, kind, false, Vec::new(alloc), Listed::own(terms)))
 }
 
 /// The text of a name, which is ASCII.
@@ -244,7 +244,7 @@ pub(crate) fn push_array(
     };
     match entry {
         Entry::Terms(list) => {
-            let output = array(alloc, item.name, list.kind(), shape, list.terms())?;
+            let output = array(alloc, item.name, list.kind(), shape, list.shared()?)?;
             outputs.push(output)?;
             Ok(())
         }
@@ -258,7 +258,7 @@ fn array(
     name: Name<'_>,
     kind: Kind,
     shape: Vec<(i32, i32)>,
-    terms: &[Term],
+    terms: Listed<Term>,
 ) -> Result<Output, AllocError>
     ensures { IfOk result (λ o. o
         ≡ record {
@@ -266,10 +266,9 @@ fn array(
           kind = kind;
           array = true;
           shape = shape.items;
-          terms = terms.now;
+          terms = terms;
         }) }
 {
     let name = text(alloc, name.bytes)?;
-    let terms = Vec::from_slice(alloc, terms)?;
     Ok(Output::new(name, kind, true, shape, terms))
 }

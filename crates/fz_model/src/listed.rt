@@ -6,7 +6,8 @@ use std::alloc::AllocError;
 use std::marker::Model;
 use std::sync::Arc;
 
-/// The list of a constraint or of a part of the search: one of its own, or that of a named array, which all share that name it.
+/// The list of a constraint, of a part of the search or of an output item: one of its own, or that of a named array, which all share
+/// that name it.
 #[derive(Drop)]
 pub struct Listed<T> {
     owner: Owner<T>,

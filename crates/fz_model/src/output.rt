@@ -1,6 +1,7 @@
 //! Output items.
 ghost use Rattle.std.specs.Prelude.{◌≡◌, ◌↔◌, IfOk, IsTrue, ◌∷◌, [], true, false};
 
+use crate::listed::Listed;
 use crate::part::Part;
 use crate::text::Text;
 use fz_spec::kind::Kind;
@@ -16,7 +17,7 @@ pub struct Output {
     kind: Kind,
     array: bool,
     shape: Vec<(i32, i32)>,
-    terms: Vec<Term>,
+    terms: Listed<Term>,
 }
 
 impl Model for Output {
@@ -29,7 +30,7 @@ impl Model for Output {
       kind = o.kind;
       array = o.array;
       shape = o.shape.items;
-      terms = o.terms.items;
+      terms = o.terms;
     } };
 }
 
@@ -40,14 +41,14 @@ impl Output {
         kind: Kind,
         array: bool,
         shape: Vec<(i32, i32)>,
-        terms: Vec<Term>,
+        terms: Listed<Term>,
     ) -> Output
         ensures { result ≡ record {
           name = name;
           kind = kind;
           array = array;
           shape = shape.items;
-          terms = terms.items;
+          terms = terms;
         } }
     {
         Output {
@@ -91,7 +92,7 @@ impl Output {
     pub fn terms(&self) -> &[Term]
         ensures { result.now ≡ self.now.terms }
     {
-        &self.terms
+        self.terms.as_slice()
     }
 }
 
@@ -99,13 +100,12 @@ impl Part for Output {
     fn copy(&self) -> Result<Output, AllocError> {
         let name = self.name.copy()?;
         let shape = Vec::from_slice(*self.shape.allocator(), &self.shape)?;
-        let terms = Vec::from_slice(*self.terms.allocator(), &self.terms)?;
         Ok(Output {
             name,
             kind: self.kind,
             array: self.array,
             shape,
-            terms,
+            terms: self.terms.copy()?,
         })
     }
 
@@ -114,7 +114,7 @@ impl Part for Output {
             && self.kind == other.kind
             && self.array == other.array
             && same_shape(&self.shape, &other.shape)
-            && same_terms(&self.terms, &other.terms)
+            && same_terms(self.terms.as_slice(), other.terms.as_slice())
     }
 }
 

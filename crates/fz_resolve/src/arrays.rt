@@ -120,6 +120,16 @@ impl TermList {
         &self.terms
     }
 
+    /// Its elements, as a list that is shared.
+    ///
+    /// # Errors
+    /// `AllocError` where the list is shared too often.
+    pub fn shared(&self) -> Result<Listed<Term>, AllocError>
+        ensures { IfOk result (λ l. l ≡ self.now.items) }
+    {
+        Ok(Listed::shared(self.terms.clone()?))
+    }
+
     /// The list that it is, if it is what is asked.
     ///
     /// # Errors
@@ -131,7 +141,7 @@ impl TermList {
         if self.kind != asked.kind || !asked.may_vary {
             return Ok(None);
         }
-        Ok(Some(Argument::Terms(Listed::shared(self.terms.clone()?))))
+        Ok(Some(Argument::Terms(self.shared()?)))
     }
 
     /// The variables among its elements.
