@@ -11,6 +11,8 @@ pub enum Numbers {
     Signed,
     /// 0 to 3.
     Counting,
+    /// 0 to 6.
+    Seven,
     /// 0 and 1, of a Boolean.
     Boolean,
     /// 0 alone.
@@ -33,7 +35,9 @@ impl Numbers {
     {
         match self {
             Numbers::Signed => i32::from(place) - 2,
-            Numbers::Counting | Numbers::Boolean | Numbers::Zero => i32::from(place),
+            Numbers::Counting | Numbers::Seven | Numbers::Boolean | Numbers::Zero => {
+                i32::from(place)
+            }
             Numbers::Far => match place {
                 0 => -2_147_483_646,
                 1 => -1,
@@ -47,6 +51,7 @@ impl Numbers {
     fn sets(self) -> u8 {
         match self {
             Numbers::Signed | Numbers::Counting | Numbers::Far => 16,
+            Numbers::Seven => 128,
             Numbers::Boolean => 4,
             Numbers::Zero => 2,
         }
@@ -64,7 +69,7 @@ impl Numbers {
     /// The declaration of a variable of a set, which has the number at a place where it has that bit.
     fn declaration(self, alloc: Global, name: &str, set: u8) -> Result<Declared, AllocError> {
         let mut numbers = Vec::new(alloc);
-        for place in 0..4 {
+        for place in 0..7 {
             if (set >> place) & 1 == 1 {
                 numbers.push(self.at(place))?;
             }

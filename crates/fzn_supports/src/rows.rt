@@ -25,13 +25,15 @@ const SIGNED: Numbers = Numbers::Signed;
 
 const COUNTING: Numbers = Numbers::Counting;
 
+const SEVEN: Numbers = Numbers::Seven;
+
 const BOOLEAN: Numbers = Numbers::Boolean;
 
 const ZERO: Numbers = Numbers::Zero;
 
 const FAR: Numbers = Numbers::Far;
 
-static GROUPS: [Group; 33] = [
+static GROUPS: [Group; 34] = [
     Group {
         numbers: [SIGNED, SIGNED, ZERO],
         rest: Rest::Exact,
@@ -374,6 +376,11 @@ static GROUPS: [Group; 33] = [
         numbers: [FAR, FAR, FAR],
         rest: Rest::Exact,
         constraints: &["int_lin_eq([2147483646, -2147483646, 1], [x, y, z], -1) :: domain"],
+    },
+    Group {
+        numbers: [SEVEN, SEVEN, ZERO],
+        rest: Rest::Exact,
+        constraints: &["int_lin_eq([2, 3], [x, y], 12) :: domain"],
     },
 ];
 
