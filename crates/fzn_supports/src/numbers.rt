@@ -47,6 +47,14 @@ impl Numbers {
         }
     }
 
+    /// How many places have the numbers, and maybe others behind them.
+    pub fn places(self) -> u8 {
+        match self {
+            Numbers::Seven => 7,
+            _ => 4,
+        }
+    }
+
     /// How many sets of these numbers there are.
     fn sets(self) -> u8 {
         match self {

@@ -113,9 +113,13 @@ impl Count {
 fn assignments(alloc: Global, numbers: [Numbers; 3]) -> Result<Vec<Assignment>, AllocError> {
     let [x, y, z] = numbers;
     let mut all = Vec::new(alloc);
-    for places in 0..64 {
-        let values = [x.at(places / 16), y.at(places / 4 % 4), z.at(places % 4)];
-        all.push(Assignment::new(alloc, &values)?)?;
+    for i in 0..x.places() {
+        for j in 0..y.places() {
+            for k in 0..z.places() {
+                let values = [x.at(i), y.at(j), z.at(k)];
+                all.push(Assignment::new(alloc, &values)?)?;
+            }
+        }
     }
     Ok(all)
 }
