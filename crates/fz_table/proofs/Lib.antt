@@ -1,3 +1,4 @@
+pub mod ByPlaces
 pub mod Different
 pub mod Growing
 pub mod Slices

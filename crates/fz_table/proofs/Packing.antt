@@ -1,11 +1,12 @@
 -- The words of each number of a column.
 use Rattle.std.proofs.Common.{◌≡◌, ℕ, ◌+◌, ◌-◌, ◌/◌, ◌%◌, ◌<◌, ◌≤◌, List, [], ◌∷◌, ◌++◌, ◌⊎◌, inl, inr, refl, sym, ap, subst, ◌∙◌, arith, length, take, drop, get_or}
-use Rattle.std.specs.Prelude.{ℤ, slice_get, slice_range, Some, ◌↔◌}
+use Rattle.std.specs.Prelude.{ℤ, pos, ◌≤ℤ◌, ◌<ℤ◌, ◌+ℤ◌, slice_get, slice_range, Some, ◌↔◌}
 use Rattle.std.proofs.lemmas.Bool.{cases_eq, cases_lt}
 use Rattle.std.proofs.lemmas.Bool.Decides.{leb_tells}
 use Rattle.std.proofs.lemmas.Int.{ints}
 use Rattle.std.proofs.lemmas.List.{length-append, length-drop, drop-append-le, take-append-le, drop_at, take_all, get_or_past}
 use Rattle.std.proofs.lemmas.Option.{slice_get_within}
+use Rattle.fz_sets.proofs.Numbers.{same_or_not}
 use Rattle.fz_bits.specs.Words.{HasBit}
 use Rattle.fz_bits.specs.Members.{HasMember, IsOneOf}
 use Rattle.fz_bits.proofs.Members.{none_in}
@@ -384,3 +385,28 @@ whole_none packed none k x at = let below = slice_get_within packed.numbers.item
 -- the end of a number lies behind its place
 pub end_further : (column : List Support) (place end : ℕ) (x : Support) → slice_get column place ≡ Some x → IsEnd column place x.number end → place < end
 end_further column place end x at to = elim (cases_lt place end) [ inl before ↦ before | inr past ↦ let above = to.beyond place x past at in absurd (omega (arith, ints, above)) ]
+
+-- ---- numbers that follow one another
+
+-- rows of a set have each number from a low one that is below the next
+pub record AreMet (packed : Packed) (rows : List ℕ) (low high next : ℤ) : Type 0 where
+  pub order : next ≤ℤ high
+  pub met : (n : ℤ) → low ≤ℤ n → n <ℤ next → (i : ℕ) × HasRow packed n i × HasMember rows i
+
+pub met_none : (packed : Packed) (rows : List ℕ) (low high : ℤ) → low ≤ℤ high → AreMet packed rows low high low
+met_none packed rows low high order = record { order = order; met = λ n above below. absurd (omega (arith, ints, above, below)) }
+
+pub met_to : (packed : Packed) (rows : List ℕ) (low high next : ℤ) (place : ℕ) (x : Numbered) → slice_get packed.numbers.items place ≡ Some x → x.number ≡ next
+    → ((i : ℕ) × HasMember rows i × HasMember (words_of packed x) i) → AreMet packed rows low high next
+    → (n : ℤ) → low ≤ℤ n → n ≤ℤ next → (i : ℕ) × HasRow packed n i × HasMember rows i
+met_to packed rows low high next place x at is some h n above below = elim (same_or_not n next) [
+  | inl e ↦ (some.0, (place, x, at, is ∙ sym e, some.2), some.1)
+  | inr ne ↦ h.met n above (omega (arith, ints, below, ne))
+]
+
+pub met_next : (packed : Packed) (rows : List ℕ) (low high next : ℤ) (place : ℕ) (x : Numbered) → slice_get packed.numbers.items place ≡ Some x → x.number ≡ next
+    → ((i : ℕ) × HasMember rows i × HasMember (words_of packed x) i) → next <ℤ high → AreMet packed rows low high next → AreMet packed rows low high (next +ℤ pos 1)
+met_next packed rows low high next place x at is some under h = record {
+  order = omega (arith, ints, under);
+  met = λ n above below. met_to packed rows low high next place x at is some h n above (omega (arith, ints, below));
+}

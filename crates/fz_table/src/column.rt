@@ -1,13 +1,16 @@
 //! Columns of a table: the rows whose number is left, and the numbers of some rows.
-ghost use Rattle.std.specs.Prelude.{◌≡◌, ◌<◌, ◌↔◌, ◌⊎◌, ℕ, ℤ, length, IfOk, IfSome};
+ghost use Rattle.std.specs.Prelude.{◌≡◌, ◌<◌, ◌≤ℤ◌, ◌↔◌, ◌⊎◌, ℕ, ℤ, length, IfOk, IfSome, IsTrue};
 ghost use Rattle.fz_sets.specs.Sets.{IsInSet, single};
 ghost use Rattle.fz_strength.specs.Domains.{dom_at, term_set};
+ghost use Rattle.fz_prop.specs.Matching.{HasRoom};
 ghost use Rattle.fz_prop.specs.Stores.{IsTermOf};
 ghost use Rattle.fz_bits.specs.Members.{HasMember};
 ghost use Rattle.fz_bits.specs.Windows.{IsBit};
 ghost use Rattle.fz_table.specs.Supports.{AreInOrder, HasNumber, AreSized, StandsIn, IsLeftIn, AreEnds};
+ghost use Rattle.fz_table.specs.Dense.{IsDenseOf};
 ghost use Rattle.fz_table.specs.Packed.{ArePacked};
 
+use crate::dense::{Dense, dense_of, places_of};
 use crate::index::{Index, index_of};
 use crate::near::{join_near, numbers_near};
 use crate::packed::Packed;
@@ -28,7 +31,9 @@ use std::marker::Model;
 pub struct Column {
     /// From the lowest number up.
     supports: Vec<Support>,
-    /// What these are found by, where they are many.
+    /// The same rows by the places of their numbers, where these are near to one another.
+    dense: Option<Box<Dense>>,
+    /// What else supports are found by, where they are many.
     index: Option<Box<Index>>,
 }
 
@@ -36,6 +41,7 @@ impl Model for Column {
     ghost use Rattle.std.specs.Prelude.{List, IfSome};
     ghost use Rattle.fz_table.specs.declared.supports.Support.{Support};
     ghost use Rattle.fz_table.specs.Supports.{AreInOrder};
+    ghost use Rattle.fz_table.specs.Dense.{IsDenseOf};
     ghost use Rattle.fz_table.specs.Indexes.{IsIndexOf};
 
     ghost Value = { List Support };
@@ -43,6 +49,7 @@ impl Model for Column {
     ghost view = { λ c. c.supports.items };
 
     ghost invariant = { λ c. AreInOrder c.supports.items
+        × IfSome c.dense (λ b. IsDenseOf b.value c.supports.items)
         × IfSome c.index (λ b. IsIndexOf b.value c.supports.items) };
 }
 
@@ -55,8 +62,16 @@ impl Column {
         requires { AreInOrder supports.items }
         ensures { IfOk result (λ c. c ≡ supports.items) }
     {
-        let index = index_of(alloc, &supports, rows)?;
-        Ok(Column { supports, index })
+        let dense = dense_of(alloc, &supports, rows)?;
+        let index = match dense {
+            Some(_) => None,
+            None => index_of(alloc, &supports, rows)?,
+        };
+        Ok(Column {
+            supports,
+            dense,
+            index,
+        })
     }
 
     /// Keeps the rows of a set whose number is left of a term. What the other set has is lost.
@@ -70,6 +85,10 @@ impl Column {
         ensures size { length rows.new ≡ length rows.old }
         ensures found { length found.new ≡ length found.old }
     {
+        if let Some(dense) = self.dense() {
+            dense.grid.keep(places_of(store, term, dense.base), rows);
+            return;
+        }
         if let Some(index) = &self.index {
             if index.spans.are_left(store, term) {
                 return;
@@ -147,8 +166,26 @@ impl Column {
         let _ = join_to(&self.supports, first, number, rows);
     }
 
+    /// The numbers that are left of a variable and that some rows have, where they are near to one another.
+    pub fn numbers_left(&self, store: &Store, variable: u32, rows: &[u64]) -> Option<Window>
+        requires variable { variable < length store.now.doms }
+        requires sized { AreSized self.now (length rows.now) }
+        ensures room { IfSome result (λ w. HasRoom w.base) }
+        ensures numbers { IfSome result (λ w. (n : ℤ) → IsBit w.base w.bits n
+            ↔ (IsInSet (dom_at store.now.doms variable) n × StandsIn self.now rows.now n)) }
+    {
+        let term = Term::Var(variable);
+        if let Some(dense) = self.dense() {
+            let base = dense.base;
+            let bits = dense.grid.numbers_of(places_of(store, term, base), rows);
+            return Some(Window { base, bits });
+        }
+        let window = window_of(store, term)?;
+        Some(self.numbers_near(window, rows))
+    }
+
     /// The numbers of a window that some rows have.
-    pub fn numbers_near(&self, window: Window, rows: &[u64]) -> Window
+    fn numbers_near(&self, window: Window, rows: &[u64]) -> Window
         requires { AreSized self.now (length rows.now) }
         ensures base { result.base ≡ window.base }
         ensures numbers { (n : ℤ) → IsBit window.base result.bits n
@@ -157,6 +194,18 @@ impl Column {
         match self.packed() {
             Some(packed) => packed.numbers_within(window, rows),
             None => numbers_near(&self.supports, self.ends(), window, rows),
+        }
+    }
+
+    /// Whether some rows have each number from a low to a high; it may say no where they do.
+    pub fn has_all(&self, low: i32, high: i32, rows: &[u64]) -> bool
+        requires sized { AreSized self.now (length rows.now) }
+        requires order { low ≤ℤ high }
+        ensures { IsTrue result → (n : ℤ) → low ≤ℤ n → n ≤ℤ high → StandsIn self.now rows.now n }
+    {
+        match self.packed() {
+            Some(packed) => packed.has_all(low, high, rows),
+            None => false,
         }
     }
 
@@ -189,6 +238,16 @@ impl Column {
         match &self.index {
             Some(index) => &index.ends,
             None => &[],
+        }
+    }
+
+    /// Its rows by the places of its numbers, where these are near to one another.
+    fn dense(&self) -> Option<&Dense>
+        ensures { IfSome result (λ d. IsDenseOf d.now self.now) }
+    {
+        match &self.dense {
+            Some(dense) => Some(dense),
+            None => None,
         }
     }
 

@@ -12,7 +12,7 @@ use crate::column::Column;
 use crate::row_set::is_empty;
 use crate::rows::find_left;
 use fz_dom::Dom;
-use fz_prop::terms::{are_fixed, window_of};
+use fz_prop::terms::are_fixed;
 use fz_prop::{Answer, Change, Store};
 use fz_spec::term::Term;
 use std::alloc::{AllocError, Global};
@@ -150,9 +150,12 @@ fn keep_column(
     ensures change { IfOk result
         (λ r. IsChangeAt r variable (StandsIn column.now rows.now) store.old store.new) }
 {
-    if let Some(window) = window_of(store, Term::Var(variable)) {
-        let numbers = column.numbers_near(window, rows);
+    if let Some(numbers) = column.numbers_left(store, variable, rows) {
         return store.keep_window(variable, numbers);
+    }
+    let dom = store.dom(variable);
+    if column.has_all(dom.min(), dom.max(), rows) {
+        return Ok(Change::Same);
     }
     let numbers = column.numbers_in(alloc, store.dom(variable), rows)?;
     if numbers.are(store.dom(variable)) {

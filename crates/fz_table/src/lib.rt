@@ -4,6 +4,7 @@
 mod apart;
 mod column;
 mod columns;
+mod dense;
 mod index;
 mod keep;
 mod keep_pairs;

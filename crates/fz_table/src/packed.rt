@@ -1,5 +1,5 @@
 //! The rows of each number of a column as words of one width, where that takes hardly more room than their chunks.
-ghost use Rattle.std.specs.Prelude.{◌≡◌, ◌≤◌, ◌+◌, ◌↔◌, ◌⊎◌, ℕ, ℤ, [], length, IfOk, OnOk, IfSome, IsTrue};
+ghost use Rattle.std.specs.Prelude.{◌≡◌, ◌≤◌, ◌≤ℤ◌, ◌+◌, ◌↔◌, ◌⊎◌, ℕ, ℤ, [], length, IfOk, OnOk, IfSome, IsTrue};
 ghost use Rattle.fz_sets.specs.Sets.{IsInSet};
 ghost use Rattle.fz_bits.specs.Members.{HasMember};
 ghost use Rattle.fz_bits.specs.Windows.{IsBit};
@@ -163,6 +163,35 @@ impl Packed {
             near = word;
         }
         numbers
+    }
+
+    /// Whether some rows have each number from a low to a high; it may say no where they do.
+    pub fn has_all(&self, low: i32, high: i32, rows: &[u64]) -> bool
+        requires whole { IsWhole self.now }
+        requires width { self.now.width ≤ length rows.now }
+        requires order { low ≤ℤ high }
+        ensures { IsTrue result → (n : ℤ) → low ≤ℤ n → n ≤ℤ high
+            → (i : ℕ) × HasRow self.now n i × HasMember rows.now i }
+    {
+        let mut next = low;
+        let mut near = 0;
+        for numbered in &self.numbers {
+            if numbered.number < next {
+                continue;
+            }
+            if numbered.number != next {
+                return false;
+            }
+            let Some(word) = meeting(rows, self.words_of(*numbered), near) else {
+                return false;
+            };
+            if next >= high {
+                return true;
+            }
+            next += 1;
+            near = word;
+        }
+        false
     }
 
     /// The numbers of a domain that some rows have.

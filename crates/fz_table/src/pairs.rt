@@ -17,9 +17,9 @@ pub struct Pairs {
 }
 
 /// The first number, and that of bit 0, are between these.
-const LOWEST_BASE: i32 = -2147483646;
+pub const LOWEST_BASE: i32 = -2147483646;
 
-const HIGHEST_BASE: i32 = 2147483583;
+pub const HIGHEST_BASE: i32 = 2147483583;
 
 /// A row may take so many words, at most.
 const WORDS_A_ROW: usize = 4;

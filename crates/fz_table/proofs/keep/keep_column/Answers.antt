@@ -35,9 +35,9 @@ returns-in-Some-clause-change c =
     let s = c.args.store.now in
     let t = c.keep_window.new.self in
     let stands = StandsIn c.args.column.now c.args.rows.now in
-    let kept : ℤ → Type 0 = λ x. IsBit c.in-Some.window.base c.numbers_near-numbers.result.bits x in
+    let numbers = c.in-Some.numbers in
+    let kept : ℤ → Type 0 = λ x. IsBit numbers.base numbers.bits x in
     let same : (x : ℤ) → IsInSet (dom_at s.doms v) x → kept x ↔ stands x = λ x is.
-    let here = (c.in-Some.ensures.numbers x).1 is in
-    ((λ h. ((c.numbers_near-numbers.ensures.numbers x).0 h).1), (λ h. (c.numbers_near-numbers.ensures.numbers x).1 (here, h))) in
+    ((λ h. ((c.in-Some.ensures.numbers x).0 h).1), (λ h. (c.in-Some.ensures.numbers x).1 (is, h))) in
     IfOk-weaker c.keep_window.result (λ (r : Change). IsChangeAt r v kept s t) (λ (r : Change). IsChangeAt r v stands s t)
-    (λ r h. change_by r v kept stands s t same h) (rw c.numbers_near-numbers.ensures.base at c.keep_window.ensures.change)
+    (λ r h. change_by r v kept stands s t same h) c.keep_window.ensures.change

@@ -1,0 +1,6 @@
+use Rattle.fz_grid.proofs.Grids.{AreKeptBelow}
+use Rattle.fz_grid.proofs.grid.Grid.keep.Given as goal
+
+-- the rows of the lines so far have one of the numbers
+abbrev pub invariant-loop-word : goal.invariant-loop-word
+invariant-loop-word l = AreKeptBelow l.self l.numbers l.initial.rows l.rows l.word

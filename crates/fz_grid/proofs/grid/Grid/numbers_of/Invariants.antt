@@ -1,0 +1,6 @@
+use Rattle.fz_grid.proofs.Grids.{AreFoundBelow}
+use Rattle.fz_grid.proofs.grid.Grid.numbers_of.Given as goal
+
+-- the numbers that the rows of the lines so far have
+abbrev pub invariant-loop-word : goal.invariant-loop-word
+invariant-loop-word l = AreFoundBelow l.self l.numbers l.rows l.word l.found
