@@ -25,7 +25,7 @@ pub struct Dense {
 }
 
 /// A table of so few rows has none.
-const FEW: usize = 7;
+const FEW: usize = 9;
 
 /// A support may take so many words, or a row one.
 const WORDS_A_SUPPORT: usize = 4;
