@@ -1,9 +1,10 @@
 //! The propagator of a number of a list by its index.
-ghost use Rattle.std.specs.Prelude.{◌≡◌, IfOk};
+ghost use Rattle.std.specs.Prelude.{◌≡◌};
 ghost use Rattle.fz_strength.specs.Sayings.{Select};
 ghost use Rattle.fz_prop.specs.Stores.{FitsTerm};
 
 use crate::select::keep_element;
+use fz_model::Listed;
 use fz_prop::{Answer, Propagator, Store};
 use fz_spec::term::Term;
 use std::alloc::{AllocError, Global};
@@ -12,8 +13,9 @@ use std::marker::Model;
 /// A value that is to stand in a list of numbers at an index, counted from 1.
 #[derive(Drop)]
 pub struct Element {
+    alloc: Global,
     index: Term,
-    numbers: Vec<i32>,
+    numbers: Listed<i32>,
     value: Term,
 }
 
@@ -23,32 +25,24 @@ impl Model for Element {
 
     ghost Value = { Saying };
 
-    ghost view = { λ p. Select p.numbers.items p.index p.value };
+    ghost view = { λ p. Select p.numbers p.index p.value };
 
     ghost invariant = { λ p. FitsTerm p.index × FitsTerm p.value };
 }
 
 impl Element {
-    /// The propagator of an index, a list of numbers and a value.
-    ///
-    /// # Errors
-    /// `AllocError` where there is no memory.
-    pub fn new(
-        alloc: Global,
-        index: Term,
-        numbers: &[i32],
-        value: Term,
-    ) -> Result<Element, AllocError>
+    /// The propagator of an index, a list of numbers and a value. It takes no memory.
+    pub fn new(alloc: Global, index: Term, numbers: Listed<i32>, value: Term) -> Element
         requires fits_index { FitsTerm index }
         requires fits_value { FitsTerm value }
-        ensures { IfOk result (λ p. p ≡ Select numbers.now index value) }
+        ensures { result ≡ Select numbers index value }
     {
-        let numbers = Vec::from_slice(alloc, numbers)?;
-        Ok(Element {
+        Element {
+            alloc,
             index,
             numbers,
             value,
-        })
+        }
     }
 }
 
@@ -56,7 +50,7 @@ impl Propagator for Element {
     ghost saying = { λ p. p };
 
     fn propagate(&self, store: &mut Store) -> Result<Answer, AllocError> {
-        let alloc = *self.numbers.allocator();
-        keep_element(alloc, store, self.index, &self.numbers, self.value)
+        let numbers = self.numbers.as_slice();
+        keep_element(self.alloc, store, self.index, numbers, self.value)
     }
 }

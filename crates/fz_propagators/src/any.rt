@@ -113,11 +113,11 @@ impl AnyPropagator {
                 Ok(AnyPropagator::Parity(parity))
             }
             Saying::Select(numbers, index, value) => {
-                let element = Element::new(alloc, *index, numbers.as_slice(), *value)?;
+                let element = Element::new(alloc, *index, numbers.copy()?, *value);
                 Ok(AnyPropagator::Element(element))
             }
             Saying::SelectTerm(terms, index, value) => {
-                let element = VariableElement::new(alloc, *index, terms.as_slice(), *value)?;
+                let element = VariableElement::new(alloc, *index, terms.copy()?, *value);
                 Ok(AnyPropagator::VariableElement(element))
             }
             Saying::Row(terms, numbers) => {

@@ -1,10 +1,11 @@
 //! The propagator of a term of a list by its index.
-ghost use Rattle.std.specs.Prelude.{◌≡◌, IfOk};
+ghost use Rattle.std.specs.Prelude.{◌≡◌};
 ghost use Rattle.std.specs.List.{AllByRecursion};
 ghost use Rattle.fz_strength.specs.Sayings.{SelectTerm};
 ghost use Rattle.fz_prop.specs.Stores.{FitsTerm};
 
 use crate::select::keep_variable_element;
+use fz_model::Listed;
 use fz_prop::{Answer, Propagator, Store};
 use fz_spec::term::Term;
 use std::alloc::{AllocError, Global};
@@ -13,8 +14,9 @@ use std::marker::Model;
 /// A value that is to be the term of a list at an index, counted from 1.
 #[derive(Drop)]
 pub struct VariableElement {
+    alloc: Global,
     index: Term,
-    terms: Vec<Term>,
+    terms: Listed<Term>,
     value: Term,
 }
 
@@ -25,34 +27,26 @@ impl Model for VariableElement {
 
     ghost Value = { Saying };
 
-    ghost view = { λ p. SelectTerm p.terms.items p.index p.value };
+    ghost view = { λ p. SelectTerm p.terms p.index p.value };
 
-    ghost invariant = { λ p. FitsTerm p.index × AllByRecursion FitsTerm p.terms.items
+    ghost invariant = { λ p. FitsTerm p.index × AllByRecursion FitsTerm p.terms
         × FitsTerm p.value };
 }
 
 impl VariableElement {
-    /// The propagator of an index, a list of terms and a value.
-    ///
-    /// # Errors
-    /// `AllocError` where there is no memory.
-    pub fn new(
-        alloc: Global,
-        index: Term,
-        terms: &[Term],
-        value: Term,
-    ) -> Result<VariableElement, AllocError>
+    /// The propagator of an index, a list of terms and a value. It takes no memory.
+    pub fn new(alloc: Global, index: Term, terms: Listed<Term>, value: Term) -> VariableElement
         requires fits_index { FitsTerm index }
-        requires fits_terms { AllByRecursion FitsTerm terms.now }
+        requires fits_terms { AllByRecursion FitsTerm terms }
         requires fits_value { FitsTerm value }
-        ensures { IfOk result (λ p. p ≡ SelectTerm terms.now index value) }
+        ensures { result ≡ SelectTerm terms index value }
     {
-        let terms = Vec::from_slice(alloc, terms)?;
-        Ok(VariableElement {
+        VariableElement {
+            alloc,
             index,
             terms,
             value,
-        })
+        }
     }
 }
 
@@ -60,7 +54,7 @@ impl Propagator for VariableElement {
     ghost saying = { λ p. p };
 
     fn propagate(&self, store: &mut Store) -> Result<Answer, AllocError> {
-        let alloc = *self.terms.allocator();
-        keep_variable_element(alloc, store, self.index, &self.terms, self.value)
+        let terms = self.terms.as_slice();
+        keep_variable_element(self.alloc, store, self.index, terms, self.value)
     }
 }

@@ -5,6 +5,6 @@ use Rattle.fz_element.proofs.element.ElementPropagator.propagate.Goals as goal
 pub returns : goal.returns
 returns c =
     let p = c.self.inside in
-    let says = Select p.numbers.items p.index p.value in
-    let narrows : Narrows (truth_of says) (line_of says) c.keep_element.result c.args.store.now c.keep_element.new.store = rw c.deref.ensures.value at c.keep_element.ensures in
+    let says = Select p.numbers p.index p.value in
+    let narrows : Narrows (truth_of says) (line_of says) c.keep_element.result c.args.store.now c.keep_element.new.store = rw c.as_slice-numbers.ensures at c.keep_element.ensures in
     rw (← c.self.view_is) narrows

@@ -5,8 +5,8 @@ use Rattle.fz_varelement.proofs.variable_element.VariableElementPropagator.propa
 pub returns : goal.returns
 returns c =
     let p = c.self.inside in
-    let says = SelectTerm p.terms.items p.index p.value in
-    let kept = rw c.deref.ensures.value at c.keep_variable_element.ensures in
+    let says = SelectTerm p.terms p.index p.value in
+    let kept = rw c.as_slice-terms.ensures at c.keep_variable_element.ensures in
     let narrows : Narrows (truth_of says) (line_of says) c.keep_variable_element.result c.args.store.now c.keep_variable_element.new.store =
     record { shrinks = kept.shrinks; correct = kept.correct; answer = kept.answer } in
     rw (← c.self.view_is) narrows
