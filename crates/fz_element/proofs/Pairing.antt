@@ -1,8 +1,10 @@
 -- The indices whose number is left, index by index.
-use Rattle.std.proofs.Common.{◌≡◌, ℕ, List, [], ◌∷◌, ◌++◌, sym, subst, arith, length, inl, inr}
-use Rattle.std.specs.Prelude.{ℤ, pos, ◌≤ℤ◌, ◌<ℤ◌, ◌+ℤ◌, ◌↔◌, slice_get, Some}
+use Rattle.std.proofs.Common.{◌≡◌, ℕ, ◌<◌, List, [], ◌∷◌, ◌++◌, sym, subst, arith, length, inl, inr}
+use Rattle.std.specs.Prelude.{ℤ, pos, ◌≤ℤ◌, ◌<ℤ◌, ◌+ℤ◌, ◌-ℤ◌, ◌↔◌, slice_get, Some, nat_abs}
 use Rattle.std.proofs.lemmas.Int.{ints}
 use Rattle.std.proofs.lemmas.Option.{slice_get_within}
+use Rattle.fz_bits.specs.Words.{AreOnes}
+use Rattle.fz_bits.specs.Windows.{IsBit}
 use Rattle.fz_sets.specs.Sets.{IsInSet, IsWithinLimits, AreOneSet, AreWithinLimits}
 use Rattle.fz_spec.specs.Truth.{IsElement}
 use Rattle.fz_prop.proofs.Grown.{same_or_other, in_more, in_before, in_last, limits_more}
@@ -100,3 +102,15 @@ pairs_all xs D E indices numbers s t j all h is_s is_t = record {
     (λ p. (is_t n).1 ((h.numbers_are n).1 (p.0, p.1, all p.0 n p.1))),
   );
 }
+
+-- ---- windows of what is left
+
+-- the ones of a word that stand for numbers from a base on
+pub seen_from : (P : ℤ → Type 0) (base : ℤ) (bits : ℕ) → AreOnes bits (λ j. P (base +ℤ pos j)) → (x : ℤ) → base ≤ℤ x → x ≤ℤ (base +ℤ pos 63) → IsBit base bits x ↔ P x
+seen_from P base bits ones x low high =
+    let i = nat_abs (x -ℤ base) in
+    let at : x ≡ base +ℤ pos i = omega (arith, ints) in
+    let below : i < 64 = omega (arith, ints) in (
+      λ bit. subst P (sym bit.2) ((ones bit.0 bit.1).0 bit.3),
+      λ has. (i, below, at, (ones i below).1 (subst P at has)),
+    )

@@ -1,6 +1,8 @@
 -- An index into a list of numbers: when an assignment makes it true, its line, and what its propagator makes.
 use Rattle.std.specs.Prelude.{◌≡◌, ◌↔◌, ◌⊎◌, ℤ, pos, ◌+ℤ◌, ◌≤ℤ◌, List}
+use Rattle.std.specs.List.{AllByRecursion}
 use Rattle.fz_sets.specs.Sets.{IsInSet, LEAST, GREATEST}
+use Rattle.fz_bits.specs.declared.window.Window.{Window}
 use Rattle.fz_bits.specs.Windows.{IsBit}
 use Rattle.fz_spec.specs.declared.term.Term.{Term}
 use Rattle.fz_spec.specs.Constraints.{term_value}
@@ -46,3 +48,12 @@ HasRoom base = (LEAST ≤ℤ base) × ((base +ℤ pos 63) ≤ℤ GREATEST)
 abbrev pub AreWithin : Numbers → Type 0
 AreWithin (Near w) = HasRoom w.base
 AreWithin (Far d) = Unit {0}
+
+-- ---- windows of what is left
+
+-- of the 64 numbers from its base on a window has those that have a property
+abbrev pub IsSeen : (ℤ → Type 0) → Window → Type 0
+IsSeen P w = (x : ℤ) → w.base ≤ℤ x → x ≤ℤ (w.base +ℤ pos 63) → IsBit w.base w.bits x ↔ P x
+
+abbrev pub AreSeen : (ℤ → Type 0) → List Window → Type 0
+AreSeen P ws = AllByRecursion (IsSeen P) ws

@@ -25,7 +25,7 @@ loop-place-preserved c =
     let test = rw (to_z-of_z fits_end) at c.loop-place-test.true in
     let below : j <ℤ c.index_end-end.result = grind (arith, ints, test) in
     let next : to_z w32 (of_z w32 (j +ℤ pos 1)) ≡ j +ℤ pos 1 = to_z-of_z (fits_above c.index_end-end.result j below fits_j fits_end) in
-    elim c.match-paired.branch [
+    elim c.match-number.branch [
       | in-Some+in_ok-push+in_ok-push-2 w ↦
           let pair = w.in-Some.ensures in
           let fits_n : SFits w32 w.in-Some.number = search rules in
