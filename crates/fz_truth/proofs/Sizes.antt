@@ -1,7 +1,6 @@
 -- How far a sum is from 0 at most.
 use Rattle.std.proofs.Common.{◌≡◌, ℕ, ℤ, ◌+◌, ◌*◌, ◌≤◌, ◌+ℤ◌, arith}
 use Rattle.std.specs.Int.RustNames.{unsigned_abs}
-use Rattle.std.proofs.lemmas.Int.{ints}
 use Rattle.fz_sets.proofs.Numbers.{abs_of_sum}
 
 -- a sum of one number more, where each is within a bound
