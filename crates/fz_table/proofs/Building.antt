@@ -9,9 +9,9 @@ use Rattle.std.proofs.lemmas.Int.{ints, by_lt_z}
 use Rattle.std.proofs.lemmas.List.{length_push}
 use Rattle.std.proofs.lemmas.List.Sorted.{Contains-permutation, IsPermutation-sym}
 use Rattle.std.proofs.lemmas.Option.{slice_get_within, slice_get-get_or, get_or_from_slice_get}
-use Rattle.fz_table.specs.declared.supports.Support.{Support}
-use Rattle.fz_table.specs.Supports.{IsIn, IsRising, IsPlaced, HasNumber, IsNumberAt, IsColumnOf, AreColumnsOf}
-use Rattle.fz_table.proofs.Slices.{get_last, get_before, get_more, get_append_left}
+use Rattle.fz_column.specs.declared.supports.Support.{Support}
+use Rattle.fz_column.specs.Supports.{IsIn, IsRising, IsPlaced, HasNumber, IsNumberAt, IsColumnOf, AreColumnsOf}
+use Rattle.fz_column.proofs.Slices.{get_last, get_before, get_more, get_append_left}
 
 -- ---- the numbers at a place
 

@@ -24,12 +24,12 @@ use Rattle.fz_prop.proofs.Filled.{still_only}
 use Rattle.fz_prop.proofs.Steps.{same_shrinks}
 use Rattle.fz_prop.proofs.TermChanges.{term_within, narrower_term, only_in, within_kept, none_kept}
 use Rattle.fz_prop.proofs.Twice.{shrinks_twice, room_after}
-use Rattle.fz_table.specs.Spans.{IsFilled}
+use Rattle.fz_column.specs.Spans.{IsFilled}
 use Rattle.fz_bits.specs.Members.{HasMember}
 use Rattle.fz_table.specs.Rows.{IsRowAt, AreLeft, Stands, AreApart}
-use Rattle.fz_table.proofs.Growing.{limits_by_numbers}
+use Rattle.fz_column.proofs.Growing.{limits_by_numbers}
 use Rattle.fz_table.proofs.LeftRows.{value_stands}
-use Rattle.fz_table.proofs.Slices.{part_get}
+use Rattle.fz_column.proofs.Slices.{part_get}
 
 -- a list has a number at each place before its end
 number_at_place : (ns : List ℤ) (j n : ℕ) → length ns ≡ n → j < n → (m : ℤ) × (slice_get ns j ≡ Some m)

@@ -15,11 +15,11 @@ use Rattle.fz_strength.specs.Events.{IsFixedIn}
 use Rattle.fz_strength.specs.Tables.{LieWithin, IsLeftRow, IsSupported}
 use Rattle.fz_prop.specs.Stores.{IsTermOf}
 use Rattle.fz_prop.proofs.TermChanges.{term_within}
-use Rattle.fz_table.specs.declared.supports.Support.{Support}
+use Rattle.fz_column.specs.declared.supports.Support.{Support}
 use Rattle.fz_bits.specs.Members.{HasMember, words_for}
-use Rattle.fz_table.specs.Supports.{HasNumber, AreSized, IsColumnOf, AreColumnsOf, IsNumberAt, IsLeftIn, StandsIn}
+use Rattle.fz_column.specs.Supports.{HasNumber, AreSized, IsColumnOf, AreColumnsOf, IsNumberAt, IsLeftIn, StandsIn}
 use Rattle.fz_table.specs.Rows.{IsRowAt, IsLeftAt, AreLeft, Stands}
-use Rattle.fz_table.proofs.Slices.{part_get, part_inside, part_length}
+use Rattle.fz_column.proofs.Slices.{part_get, part_inside, part_length}
 use Rattle.fz_table.proofs.Building.{number_inside}
 
 -- ---- a row of the table

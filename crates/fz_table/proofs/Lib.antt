@@ -1,13 +1,5 @@
-pub mod ByPlaces
 pub mod Different
-pub mod Growing
-pub mod Slices
-pub mod Filling
 pub mod Building
-pub mod Walking
-pub mod Finding
-pub mod Windowed
-pub mod Packing
 pub mod LeftRows
 pub mod Keeping
 pub mod Coupling

@@ -21,7 +21,7 @@ use Rattle.fz_table.specs.Lefts.{AreLeftOf}
 use Rattle.fz_prop.specs.Matching.{IsPairOf, AreMatching}
 use Rattle.fz_table.specs.Partners.{IsRowOfTwo, ArePartners, ArePairsOf, AreMatchedBy}
 use Rattle.fz_table.specs.Rows.{IsRowAt}
-use Rattle.fz_table.proofs.Slices.{part_get, part_inside, part_length}
+use Rattle.fz_column.proofs.Slices.{part_get, part_inside, part_length}
 use Rattle.fz_table.proofs.Coupling.{MatchLeft, always, for_good, some_number}
 
 -- a list of two

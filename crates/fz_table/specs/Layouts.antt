@@ -5,7 +5,7 @@ use Rattle.fz_table.specs.declared.layout.Layout.{Layout}
 use Rattle.fz_table.specs.declared.layout.Layout.TheVariants as layout
 use Rattle.fz_table.specs.Partners.{ArePairsOf}
 use Rattle.fz_table.specs.Rows.{AreApart}
-use Rattle.fz_table.specs.Supports.{AreColumnsOf}
+use Rattle.fz_column.specs.Supports.{AreColumnsOf}
 
 abbrev pub IsLayoutOf : Layout → List Term → List ℤ → Type 0
 IsLayoutOf (layout.Pairs pairs) terms table = ArePairsOf table pairs × (length terms ≡ 2)

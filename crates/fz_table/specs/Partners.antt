@@ -6,7 +6,7 @@ use Rattle.fz_spec.specs.declared.term.Term.{Term}
 use Rattle.fz_strength.specs.Domains.{term_set}
 use Rattle.fz_prop.specs.Matching.{HasRoom}
 use Rattle.fz_table.specs.declared.pairs.Pairs.{Pairs}
-use Rattle.fz_table.specs.Supports.{IsNumberAt}
+use Rattle.fz_column.specs.Supports.{IsNumberAt}
 
 -- two numbers are a row of a table of two columns
 abbrev pub IsRowOfTwo : List ℤ → ℤ → ℤ → Type 0

@@ -1,9 +1,9 @@
 //! The columns of a table.
 ghost use Rattle.std.specs.Prelude.{◌<◌, ◌/◌, ◌↔◌, ℕ, ℤ, IfOk};
-ghost use Rattle.fz_table.specs.Supports.{IsRising, IsPlaced, IsNumberAt, IsColumnOf, AreColumnsOf};
+ghost use Rattle.fz_column.specs.Supports.{IsRising, IsPlaced, IsNumberAt, IsColumnOf, AreColumnsOf};
 
-use crate::column::Column;
-use crate::supports::supports_of;
+use fz_column::Column;
+use fz_column::supports::supports_of;
 use std::alloc::{AllocError, Global};
 
 /// The columns of a table whose rows have a width.

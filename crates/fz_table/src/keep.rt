@@ -5,12 +5,12 @@ ghost use Rattle.fz_strength.specs.Tables.{AreSupported};
 ghost use Rattle.fz_prop.specs.Answers.{IsAnswerOf, IsCorrectOf};
 ghost use Rattle.fz_prop.specs.Stores.{Shrinks, IsTermOf, IsChangeAt};
 ghost use Rattle.fz_bits.specs.Members.{HasMember, words_for};
-ghost use Rattle.fz_table.specs.Supports.{AreSized, StandsIn, AreColumnsOf};
+ghost use Rattle.fz_column.specs.Supports.{AreSized, StandsIn, AreColumnsOf};
 ghost use Rattle.fz_table.specs.Rows.{IsRowAt, AreLeft, AreApart};
 
-use crate::column::Column;
-use crate::row_set::is_empty;
 use crate::rows::find_left;
+use fz_column::Column;
+use fz_column::row_set::is_empty;
 use fz_dom::Dom;
 use fz_prop::terms::are_fixed;
 use fz_prop::{Answer, Change, Store};

@@ -2,22 +2,13 @@
 #![tactic(auto)]
 
 mod apart;
-mod column;
 mod columns;
-mod dense;
-mod index;
 mod keep;
 mod keep_pairs;
 mod layout;
 mod matching;
-mod near;
-mod packed;
 mod pairs;
-mod row_set;
 mod rows;
-mod spans;
-mod supports;
 pub mod table;
-mod walk;
 
 pub use table::Table;

@@ -4,9 +4,10 @@ ghost use Rattle.fz_bits.specs.Windows.{IsBit};
 ghost use Rattle.fz_prop.specs.Matching.{AreMatching};
 ghost use Rattle.fz_table.specs.Partners.{ArePartners};
 
-use crate::pairs::{Pairs, place_of};
+use crate::pairs::Pairs;
 use fz_bits::Window;
 use fz_bits::word::{common, either};
+use fz_column::places::place_of;
 
 /// Numbers at the first place, and numbers at the second.
 #[derive(Clone, Copy)]

@@ -1,8 +1,9 @@
 //! The rows of a table of two columns as words of partners.
-ghost use Rattle.std.specs.Prelude.{◌≡◌, ◌↔◌, ◌⊎◌, ◌<◌, ℕ, ℤ, pos, ◌+ℤ◌, IfOk, IfSome, IsTrue, MatchOption};
+ghost use Rattle.std.specs.Prelude.{◌≡◌, ◌↔◌, ◌⊎◌, ◌<◌, ℤ, IfOk, IfSome, IsTrue};
 ghost use Rattle.fz_table.specs.Partners.{ArePartners, ArePairsOf};
 
 use fz_bits::word::with_bit;
+use fz_column::places::{HIGHEST_BASE, LOWEST_BASE, place_of};
 use std::alloc::{AllocError, Global};
 
 /// For each of at most 64 numbers that follow one another a word of its partners: the numbers at the second place of the rows that
@@ -15,11 +16,6 @@ pub struct Pairs {
     pub base: i32,
     pub words: Vec<u64>,
 }
-
-/// The first number, and that of bit 0, are between these.
-pub const LOWEST_BASE: i32 = -2147483646;
-
-pub const HIGHEST_BASE: i32 = 2147483583;
 
 /// A row may take so many words, at most.
 const WORDS_A_ROW: usize = 4;
@@ -99,16 +95,4 @@ fn add(pairs: &mut Pairs, first: i32, second: i32) -> bool
     }
     pairs.words[place] = with_bit(pairs.words[place], bit);
     true
-}
-
-/// The place of a number among the 64 from a base on, if it is one of them.
-pub fn place_of(number: i32, base: i32) -> Option<u32>
-    ensures { MatchOption result ((k : ℕ) → k < 64 → number ≡ base +ℤ pos k → ⊥)
-        (λ k. (k < 64) × (number ≡ base +ℤ pos k)) }
-{
-    if number < base {
-        return None;
-    }
-    let place = number.abs_diff(base);
-    if place < 64 { Some(place) } else { None }
 }

@@ -4,11 +4,11 @@ ghost use Rattle.std.specs.List.{AllByRecursion};
 ghost use Rattle.fz_strength.specs.Events.{IsFixedIn};
 ghost use Rattle.fz_prop.specs.Stores.{IsTermOf};
 ghost use Rattle.fz_bits.specs.Members.{words_for};
-ghost use Rattle.fz_table.specs.Supports.{AreColumnsOf};
+ghost use Rattle.fz_column.specs.Supports.{AreColumnsOf};
 ghost use Rattle.fz_table.specs.Rows.{AreLeft};
 
-use crate::column::Column;
-use crate::row_set::fill;
+use fz_column::Column;
+use fz_column::row_set::fill;
 use fz_prop::Store;
 use fz_prop::terms::value_of;
 use fz_spec::term::Term;

@@ -1,7 +1,7 @@
 use Rattle.std.proofs.Common.{◌≡◌, List}
 use Rattle.std.proofs.lemmas.Result.{IfOk-weaker}
-use Rattle.fz_table.specs.declared.supports.Support.{Support}
-use Rattle.fz_table.specs.Supports.{IsColumnOf}
+use Rattle.fz_column.specs.declared.supports.Support.{Support}
+use Rattle.fz_column.specs.Supports.{IsColumnOf}
 use Rattle.fz_table.proofs.Building.{column_is}
 use Rattle.fz_table.proofs.columns.column_of.Goals as goal
 

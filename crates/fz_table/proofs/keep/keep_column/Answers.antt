@@ -5,7 +5,7 @@ use Rattle.fz_sets.specs.Sets.{IsInSet, AreOneSet}
 use Rattle.fz_dom.specs.declared.change.Change.{Change}
 use Rattle.fz_strength.specs.Domains.{dom_at}
 use Rattle.fz_prop.specs.Stores.{IsChangeAt}
-use Rattle.fz_table.specs.Supports.{StandsIn}
+use Rattle.fz_column.specs.Supports.{StandsIn}
 use Rattle.fz_table.proofs.Keeping.{change_by, numbers_limits, numbers_same}
 use Rattle.fz_table.proofs.keep.keep_column.Goals as goal
 

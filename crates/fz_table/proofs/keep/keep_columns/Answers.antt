@@ -6,7 +6,7 @@ use Rattle.fz_spec.specs.declared.term.Term.TheVariants.{Num, Var}
 use Rattle.std.proofs.Common.{length}
 use Rattle.fz_strength.specs.Events.{IsFixedIn}
 use Rattle.fz_prop.specs.Stores.{Stored}
-use Rattle.fz_table.specs.Supports.{StandsIn}
+use Rattle.fz_column.specs.Supports.{StandsIn}
 use Rattle.fz_table.proofs.LeftRows.{in_column, column_at}
 use Rattle.fz_table.proofs.Keeping.{keeping_only, keeping_same, keeping_changed, keeping_correct, keeping_fails, keeping_all}
 use Rattle.fz_table.proofs.keep.keep_columns.Goals.{in-Changed, in-Same}

@@ -1,0 +1,5 @@
+pub mod Dense
+pub mod Indexes
+pub mod Packed
+pub mod Spans
+pub mod Supports

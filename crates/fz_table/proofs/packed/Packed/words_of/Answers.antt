@@ -1,5 +1,0 @@
-use Rattle.fz_table.proofs.Slices.{part_length}
-use Rattle.fz_table.proofs.packed.Packed.words_of.Goals as goal
-
-pub returns-clause-size : goal.returns-clause-size
-returns-clause-size c = rw c.deref.ensures.value (part_length c.args.self.now.words.items c.args.numbered.first c.args.self.now.width c.requires)

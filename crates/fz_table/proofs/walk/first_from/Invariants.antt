@@ -1,6 +1,0 @@
-use Rattle.fz_table.proofs.Walking.{AreBelow}
-use Rattle.fz_table.proofs.walk.first_from.Given as goal
-
--- the numbers that were passed are below the value
-abbrev pub invariant-loop : goal.invariant-loop
-invariant-loop l = AreBelow l.supports l.place l.value l.first
