@@ -1,15 +1,20 @@
 -- What agrees with domains agrees with narrower ones, so nobody has to be told of a change.
 use Rattle.std.proofs.Common.{◌≡◌, ℕ, zero, suc, ◌<◌, ◌⊎◌, List, [], ◌∷◌, length, arith, refl, sym, ap, ◌∙◌, subst, inl, inr}
-use Rattle.std.specs.Prelude.{ℤ, ◌-ℤ◌, ◌*ℤ◌, replicate, slice_set, slice_get, slice_index_or, Some}
+use Rattle.std.specs.Prelude.{◌+◌, ◌-◌, ◌%◌, ℤ, pos, ◌-ℤ◌, ◌*ℤ◌, take, drop, count_by, replicate, slice_set, slice_get, slice_index_or, Some}
 use Rattle.fz_sets.proofs.Lists.{some_is}
 use Rattle.fz_spec.specs.declared.term.Term.{Term}
+use Rattle.fz_spec.specs.Constraints.{term_values}
+use Rattle.fz_spec.specs.Truth.{is_one}
 use Rattle.fz_strength.specs.declared.literal.Literal.{Literal}
 use Rattle.fz_strength.specs.Domains.{AreDomains, IsNarrower}
 use Rattle.fz_strength.specs.Clauses.{IsUntrueIn}
-use Rattle.fz_strength.specs.Sayings.{Saying, Sum, SumIf, Says}
+use Rattle.fz_strength.specs.declared.operation.Operation.{Operation}
+use Rattle.fz_strength.specs.declared.operation.Operation.TheVariants.{Min, Max}
+use Rattle.fz_strength.specs.Sayings.{Saying, Sum, SumIf, Says, Equals, Odd, Differ}
 use Rattle.fz_strength.proofs.Clauses.{only_still}
+use Rattle.fz_strength.proofs.Terms.{term_narrower, within_before}
 use Rattle.fz_kept.specs.declared.kept.Kept.{Kept}
-use Rattle.fz_kept.specs.Told.{nothing, owned, IsToldSum, AreEndsUntrue, IsTold, AreTold}
+use Rattle.fz_kept.specs.Told.{nothing, owned, IsToldSum, AreEndsDone, AreEndsUntrue, IsAlone, IsBeaten, AreEndsOdd, IsTold, AreTold}
 
 pub sum_lasts : (ks : List ℤ) (ts : List Term) (front : ℕ) (n : ℤ) (ds es : List (List (ℤ × ℤ))) → AreDomains es → IsNarrower ds es → IsToldSum ks ts front n ds → IsToldSum ks ts front n es
 sum_lasts ks ts zero n ds es domains narrower told = told
@@ -21,33 +26,64 @@ sum_lasts (k ∷ ks) (t ∷ ts) (suc front) n ds es domains narrower told =
 untrue_lasts : (l : Literal) (ds es : List (List (ℤ × ℤ))) → AreDomains es → IsNarrower ds es → IsUntrueIn ds l → IsUntrueIn es l
 untrue_lasts l ds es domains narrower untrue = (untrue.0, only_still l.term untrue.0 ds es domains narrower untrue.1, untrue.2)
 
-pub ends_last : (ls : List Literal) (front back : ℕ) (ds es : List (List (ℤ × ℤ))) → AreDomains es → IsNarrower ds es → AreEndsUntrue ls front back ds → AreEndsUntrue ls front back es
-ends_last ls front back ds es domains narrower told = record {
-  before = λ j l below at. untrue_lasts l ds es domains narrower (told.before j l below at);
-  behind = λ j l behind at. untrue_lasts l ds es domains narrower (told.behind j l behind at);
+-- what is done stays done
+pub ends_last : {T : Type 0} → (P Q : ℕ → T → Type 0) → (items : List T) → (front back : ℕ) → ((i : ℕ) (item : T) → P i item → Q i item) → AreEndsDone P items front back → AreEndsDone Q items front back
+ends_last P Q items front back stays told = record {
+  before = λ i item below at. stays i item (told.before i item below at);
+  behind = λ i item behind at. stays i item (told.behind i item behind at);
 }
+
+pub alone_lasts : (ts : List Term) (ds es : List (List (ℤ × ℤ))) → IsNarrower ds es → (i : ℕ) (t : Term) → IsAlone ts ds i t → IsAlone ts es i t
+alone_lasts ts ds es narrower i t alone = λ j u other at n here there. alone j u other at n (term_narrower t ds es narrower n here) (term_narrower u ds es narrower n there)
+
+pub beaten_lasts : (operation : Operation) (z t : Term) (ds es : List (List (ℤ × ℤ))) → IsNarrower ds es → IsBeaten operation ds z t → IsBeaten operation es z t
+beaten_lasts Min z t ds es narrower beaten = λ m n here there. beaten m n (term_narrower z ds es narrower m here) (term_narrower t ds es narrower n there)
+beaten_lasts Max z t ds es narrower beaten = λ m n here there. beaten m n (term_narrower z ds es narrower m here) (term_narrower t ds es narrower n there)
+beaten_lasts operation z t ds es narrower beaten = beaten
+
+pub odd_lasts : (ts : List Term) (front back : ℕ) (number : ℤ) (ds es : List (List (ℤ × ℤ))) → IsNarrower ds es → AreEndsOdd ts front back number ds → AreEndsOdd ts front back number es
+odd_lasts ts front back number ds es narrower told = record { inside = told.inside; odd = λ a within. told.odd a (within_before ds es a narrower within) }
 
 pub told_lasts : (s : Saying) (kept : Kept) (ds es : List (List (ℤ × ℤ))) → AreDomains es → IsNarrower ds es → IsTold s kept ds → IsTold s kept es
 told_lasts (Sum relation ks ts c) kept ds es domains narrower told = sum_lasts ks ts kept.front kept.number ds es domains narrower told
 told_lasts (SumIf relation ks ts c r) kept ds es domains narrower told = sum_lasts ks ts kept.front kept.number ds es domains narrower told
-told_lasts (Says all clause) kept ds es domains narrower told = ends_last clause.literals kept.front kept.back ds es domains narrower told
+told_lasts (Says all clause) kept ds es domains narrower told =
+    ends_last (λ i l. IsUntrueIn ds l) (λ i l. IsUntrueIn es l) clause.literals kept.front kept.back (λ i l. untrue_lasts l ds es domains narrower) told
+told_lasts (Equals e) kept ds es domains narrower told =
+    ends_last (λ i t. IsBeaten e.operation ds e.result t) (λ i t. IsBeaten e.operation es e.result t) e.operands kept.front kept.back (λ i t. beaten_lasts e.operation e.result t ds es narrower) told
+told_lasts (Odd ts) kept ds es domains narrower told = odd_lasts ts kept.front kept.back kept.number ds es narrower told
+told_lasts (Differ ts) kept ds es domains narrower told = ends_last (IsAlone ts ds) (IsAlone ts es) ts kept.front kept.back (alone_lasts ts ds es narrower) told
 told_lasts s kept ds es domains narrower told = tt
 
-within_of : (ls : List Literal) (j : ℕ) (l : Literal) → slice_get ls j ≡ Some l → j < length ls
-within_of [] j l at = absurd (cc (at))
-within_of (k ∷ ks) zero l at = omega arith
-within_of (k ∷ ks) (suc j) l at = let inside = within_of ks j l at in omega (arith, inside)
+within_of : {T : Type 0} → (items : List T) → (i : ℕ) (item : T) → slice_get items i ≡ Some item → i < length items
+within_of [] i item at = absurd (cc (at))
+within_of (x ∷ xs) zero item at = omega arith
+within_of (x ∷ xs) (suc i) item at = let inside = within_of xs i item at in omega (arith, inside)
 
-no_ends : (ls : List Literal) (ds : List (List (ℤ × ℤ))) → AreEndsUntrue ls 0 0 ds
-no_ends ls ds = record {
-  before = λ j l below at. absurd (omega (arith, below));
-  behind = λ j l behind at. let inside = within_of ls j l at in absurd (omega (arith, behind, inside));
+no_ends : {T : Type 0} → (P : ℕ → T → Type 0) → (items : List T) → AreEndsDone P items 0 0
+no_ends P items = record {
+  before = λ i item below at. absurd (omega (arith, below));
+  behind = λ i item behind at. let inside = within_of items i item at in absurd (omega (arith, behind, inside));
+}
+
+-- of no terms none is 1
+drop_all : (ts : List Term) → drop (length ts - 0) ts ≡ []
+drop_all [] = refl
+drop_all (t ∷ ts) = drop_all ts
+
+none_odd : (ts : List Term) (ds : List (List (ℤ × ℤ))) → AreEndsOdd ts 0 0 (pos 0) ds
+none_odd ts ds = record {
+  inside = omega arith;
+  odd = λ a within. ap (λ (us : List Term). pos ((0 + count_by is_one (term_values a us)) % 2)) (drop_all ts);
 }
 
 pub nothing_told : (s : Saying) (ds : List (List (ℤ × ℤ))) → IsTold s nothing ds
 nothing_told (Sum relation ks ts c) ds = refl
 nothing_told (SumIf relation ks ts c r) ds = refl
-nothing_told (Says all clause) ds = no_ends clause.literals ds
+nothing_told (Says all clause) ds = no_ends (λ i l. IsUntrueIn ds l) clause.literals
+nothing_told (Equals e) ds = no_ends (λ i t. IsBeaten e.operation ds e.result t) e.operands
+nothing_told (Odd ts) ds = none_odd ts ds
+nothing_told (Differ ts) ds = no_ends (IsAlone ts ds) ts
 nothing_told s ds = tt
 
 -- ---- cells
@@ -60,6 +96,9 @@ told_owned : (s : Saying) (i : ℕ) (kept : Kept) (ds : List (List (ℤ × ℤ))
 told_owned (Sum relation ks ts c) i kept ds told = told
 told_owned (SumIf relation ks ts c r) i kept ds told = told
 told_owned (Says all clause) i kept ds told = told
+told_owned (Equals e) i kept ds told = told
+told_owned (Odd ts) i kept ds told = told
+told_owned (Differ ts) i kept ds told = told
 told_owned s i kept ds told = tt
 
 -- what a propagator finds in a cell, or nothing

@@ -1,11 +1,16 @@
 -- What propagators keep between runs, and what of it agrees with domains.
-use Rattle.std.specs.Prelude.{◌≡◌, ℕ, zero, suc, ◌<◌, ◌≤◌, ◌+◌, ℤ, pos, ◌-ℤ◌, ◌*ℤ◌, List, [], ◌∷◌, length, slice_get, slice_index_or, Some}
+use Rattle.std.specs.Prelude.{◌≡◌, ◌≢◌, ℕ, zero, suc, ◌<◌, ◌≤◌, ◌+◌, ◌-◌, ◌%◌, ℤ, pos, ◌-ℤ◌, ◌*ℤ◌, ◌<ℤ◌, List, [], ◌∷◌, length, take, drop, count_by, slice_get, slice_index_or, Some}
+use Rattle.fz_sets.specs.Sets.{IsInSet}
 use Rattle.fz_spec.specs.declared.term.Term.{Term}
+use Rattle.fz_spec.specs.Constraints.{term_values}
+use Rattle.fz_spec.specs.Truth.{is_one}
 use Rattle.fz_strength.specs.declared.literal.Literal.{Literal}
-use Rattle.fz_strength.specs.Domains.{term_set}
+use Rattle.fz_strength.specs.declared.operation.Operation.{Operation}
+use Rattle.fz_strength.specs.declared.operation.Operation.TheVariants.{Min, Max}
+use Rattle.fz_strength.specs.Domains.{term_set, Within}
 use Rattle.fz_strength.specs.Events.{IsOnly}
 use Rattle.fz_strength.specs.Clauses.{IsUntrueIn}
-use Rattle.fz_strength.specs.Sayings.{Saying, Sum, SumIf, Says}
+use Rattle.fz_strength.specs.Sayings.{Saying, Sum, SumIf, Says, Equals, Odd, Differ}
 use Rattle.fz_kept.specs.declared.kept.Kept.{Kept}
 
 abbrev pub nothing : Kept
@@ -22,23 +27,40 @@ IsToldSum [] ts (suc front) n ds = ⊥
 IsToldSum (k ∷ ks) [] (suc front) n ds = ⊥
 IsToldSum (k ∷ ks) (t ∷ ts) (suc front) n ds = (x : ℤ) × IsOnly (term_set ds t) x × IsToldSum ks ts front (n -ℤ (k *ℤ x)) ds
 
--- Of so many literals at the front none may still get true; and of so many at the back.
-abbrev pub AreUntrueBelow : List (List (ℤ × ℤ)) → List Literal → ℕ → Type 0
-AreUntrueBelow ds ls n = (j : ℕ) (l : Literal) → j < n → slice_get ls j ≡ Some l → IsUntrueIn ds l
+-- So many items at the front of a list are done, and so many at its back.
+pub record AreEndsDone {T : Type 0} (IsDone : ℕ → T → Type 0) (items : List T) (front back : ℕ) : Type 0 where
+  pub before : (i : ℕ) (item : T) → i < front → slice_get items i ≡ Some item → IsDone i item
+  pub behind : (i : ℕ) (item : T) → length items ≤ i + back → slice_get items i ≡ Some item → IsDone i item
 
-abbrev pub AreUntrueBehind : List (List (ℤ × ℤ)) → List Literal → ℕ → Type 0
-AreUntrueBehind ds ls n = (j : ℕ) (l : Literal) → length ls ≤ j + n → slice_get ls j ≡ Some l → IsUntrueIn ds l
+-- Literals at both ends, none of which may still get true.
+abbrev pub AreEndsUntrue : List Literal → ℕ → ℕ → List (List (ℤ × ℤ)) → Type 0
+AreEndsUntrue ls front back ds = AreEndsDone (λ i l. IsUntrueIn ds l) ls front back
 
-pub record AreEndsUntrue (ls : List Literal) (front back : ℕ) (ds : List (List (ℤ × ℤ))) : Type 0 where
-  pub before : AreUntrueBelow ds ls front
-  pub behind : AreUntrueBehind ds ls back
+-- No other of the terms has a number that the one at this place has.
+abbrev pub IsAlone : List Term → List (List (ℤ × ℤ)) → ℕ → Term → Type 0
+IsAlone ts ds i t = (j : ℕ) (u : Term) → j ≢ i → slice_get ts j ≡ Some u → (n : ℤ) → IsInSet (term_set ds t) n → IsInSet (term_set ds u) n → ⊥
+
+-- Each number of a term is greater than each of the least of some, or less than each of the greatest: so it isn't that one.
+abbrev pub IsBeaten : Operation → List (List (ℤ × ℤ)) → Term → Term → Type 0
+IsBeaten Min ds z t = (m n : ℤ) → IsInSet (term_set ds z) m → IsInSet (term_set ds t) n → m <ℤ n
+IsBeaten Max ds z t = (m n : ℤ) → IsInSet (term_set ds z) m → IsInSet (term_set ds t) n → n <ℤ m
+IsBeaten operation ds z t = ⊥
+
+-- How many of so many terms at the front and at the back are 1 is odd where the number is 1, else even, whatever else is still chosen.
+pub record AreEndsOdd (ts : List Term) (front back : ℕ) (number : ℤ) (ds : List (List (ℤ × ℤ))) : Type 0 where
+  pub inside : front + back ≤ length ts
+  pub odd : (a : List ℤ) → Within ds a → pos ((count_by is_one (term_values a (take front ts)) + count_by is_one (term_values a (drop (length ts - back) ts))) % 2) ≡ number
 
 -- What is kept for what is said agrees with domains: for a sum the fixed terms at its front and their sum; for a clause the literals at
--- both ends of which none may still get true; for all else whatever is kept.
+-- both ends of which none may still get true; for different terms those at both ends whose numbers no other has; for the least or the
+-- greatest those at both ends that aren't it; for a parity that of the terms at both ends; for all else whatever is kept.
 abbrev pub IsTold : Saying → Kept → List (List (ℤ × ℤ)) → Type 0
 IsTold (Sum relation ks ts c) kept ds = IsToldSum ks ts kept.front kept.number ds
 IsTold (SumIf relation ks ts c r) kept ds = IsToldSum ks ts kept.front kept.number ds
 IsTold (Says all clause) kept ds = AreEndsUntrue clause.literals kept.front kept.back ds
+IsTold (Equals e) kept ds = AreEndsDone (λ i t. IsBeaten e.operation ds e.result t) e.operands kept.front kept.back
+IsTold (Odd ts) kept ds = AreEndsOdd ts kept.front kept.back kept.number ds
+IsTold (Differ ts) kept ds = AreEndsDone (IsAlone ts ds) ts kept.front kept.back
 IsTold says kept ds = Unit {0}
 
 -- What each cell keeps agrees, for what its owner says; a cell that isn't there keeps nothing.
@@ -50,4 +72,7 @@ abbrev pub IsLong : Saying → Type 0
 IsLong (Sum relation ks ts c) = 4 < length ts
 IsLong (SumIf relation ks ts c r) = 4 < length ts
 IsLong (Says all clause) = 8 < length clause.literals
+IsLong (Equals e) = 4 < length e.operands
+IsLong (Odd ts) = 4 < length ts
+IsLong (Differ ts) = 4 < length ts
 IsLong says = ⊥
