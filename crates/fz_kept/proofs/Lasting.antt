@@ -27,11 +27,14 @@ untrue_lasts : (l : Literal) (ds es : List (List (ℤ × ℤ))) → AreDomains e
 untrue_lasts l ds es domains narrower untrue = (untrue.0, only_still l.term untrue.0 ds es domains narrower untrue.1, untrue.2)
 
 -- what is done stays done
-pub ends_last : {T : Type 0} → (P Q : ℕ → T → Type 0) → (items : List T) → (front back : ℕ) → ((i : ℕ) (item : T) → P i item → Q i item) → AreEndsDone P items front back → AreEndsDone Q items front back
-ends_last P Q items front back stays told = record {
+pub done_lasts : {T : Type 0} → (P Q : ℕ → T → Type 0) → (items : List T) → (front back : ℕ) → ((i : ℕ) (item : T) → P i item → Q i item) → AreEndsDone P items front back → AreEndsDone Q items front back
+done_lasts P Q items front back stays told = record {
   before = λ i item below at. stays i item (told.before i item below at);
   behind = λ i item behind at. stays i item (told.behind i item behind at);
 }
+
+pub ends_last : (ls : List Literal) (front back : ℕ) (ds es : List (List (ℤ × ℤ))) → AreDomains es → IsNarrower ds es → AreEndsUntrue ls front back ds → AreEndsUntrue ls front back es
+ends_last ls front back ds es domains narrower told = done_lasts (λ i l. IsUntrueIn ds l) (λ i l. IsUntrueIn es l) ls front back (λ i l. untrue_lasts l ds es domains narrower) told
 
 pub alone_lasts : (ts : List Term) (ds es : List (List (ℤ × ℤ))) → IsNarrower ds es → (i : ℕ) (t : Term) → IsAlone ts ds i t → IsAlone ts es i t
 alone_lasts ts ds es narrower i t alone = λ j u other at n here there. alone j u other at n (term_narrower t ds es narrower n here) (term_narrower u ds es narrower n there)
@@ -47,12 +50,11 @@ odd_lasts ts front back number ds es narrower told = record { inside = told.insi
 pub told_lasts : (s : Saying) (kept : Kept) (ds es : List (List (ℤ × ℤ))) → AreDomains es → IsNarrower ds es → IsTold s kept ds → IsTold s kept es
 told_lasts (Sum relation ks ts c) kept ds es domains narrower told = sum_lasts ks ts kept.front kept.number ds es domains narrower told
 told_lasts (SumIf relation ks ts c r) kept ds es domains narrower told = sum_lasts ks ts kept.front kept.number ds es domains narrower told
-told_lasts (Says all clause) kept ds es domains narrower told =
-    ends_last (λ i l. IsUntrueIn ds l) (λ i l. IsUntrueIn es l) clause.literals kept.front kept.back (λ i l. untrue_lasts l ds es domains narrower) told
+told_lasts (Says all clause) kept ds es domains narrower told = ends_last clause.literals kept.front kept.back ds es domains narrower told
 told_lasts (Equals e) kept ds es domains narrower told =
-    ends_last (λ i t. IsBeaten e.operation ds e.result t) (λ i t. IsBeaten e.operation es e.result t) e.operands kept.front kept.back (λ i t. beaten_lasts e.operation e.result t ds es narrower) told
+    done_lasts (λ i t. IsBeaten e.operation ds e.result t) (λ i t. IsBeaten e.operation es e.result t) e.operands kept.front kept.back (λ i t. beaten_lasts e.operation e.result t ds es narrower) told
 told_lasts (Odd ts) kept ds es domains narrower told = odd_lasts ts kept.front kept.back kept.number ds es narrower told
-told_lasts (Differ ts) kept ds es domains narrower told = ends_last (IsAlone ts ds) (IsAlone ts es) ts kept.front kept.back (alone_lasts ts ds es narrower) told
+told_lasts (Differ ts) kept ds es domains narrower told = done_lasts (IsAlone ts ds) (IsAlone ts es) ts kept.front kept.back (alone_lasts ts ds es narrower) told
 told_lasts s kept ds es domains narrower told = tt
 
 within_of : {T : Type 0} → (items : List T) → (i : ℕ) (item : T) → slice_get items i ≡ Some item → i < length items

@@ -27,14 +27,26 @@ IsToldSum [] ts (suc front) n ds = ⊥
 IsToldSum (k ∷ ks) [] (suc front) n ds = ⊥
 IsToldSum (k ∷ ks) (t ∷ ts) (suc front) n ds = (x : ℤ) × IsOnly (term_set ds t) x × IsToldSum ks ts front (n -ℤ (k *ℤ x)) ds
 
--- So many items at the front of a list are done, and so many at its back.
-pub record AreEndsDone {T : Type 0} (IsDone : ℕ → T → Type 0) (items : List T) (front back : ℕ) : Type 0 where
-  pub before : (i : ℕ) (item : T) → i < front → slice_get items i ≡ Some item → IsDone i item
-  pub behind : (i : ℕ) (item : T) → length items ≤ i + back → slice_get items i ≡ Some item → IsDone i item
+-- So many items at the front of a list are done; and so many at its back.
+abbrev pub AreDoneBelow : {T : Type 0} → (ℕ → T → Type 0) → List T → ℕ → Type 0
+AreDoneBelow {T} IsDone items n = (i : ℕ) (item : T) → i < n → slice_get items i ≡ Some item → IsDone i item
 
--- Literals at both ends, none of which may still get true.
+abbrev pub AreDoneBehind : {T : Type 0} → (ℕ → T → Type 0) → List T → ℕ → Type 0
+AreDoneBehind {T} IsDone items n = (i : ℕ) (item : T) → length items ≤ i + n → slice_get items i ≡ Some item → IsDone i item
+
+pub record AreEndsDone {T : Type 0} (IsDone : ℕ → T → Type 0) (items : List T) (front back : ℕ) : Type 0 where
+  pub before : AreDoneBelow IsDone items front
+  pub behind : AreDoneBehind IsDone items back
+
+-- Of so many literals at the front none may still get true; and of so many at the back.
+abbrev pub AreUntrueBelow : List (List (ℤ × ℤ)) → List Literal → ℕ → Type 0
+AreUntrueBelow ds ls n = AreDoneBelow (λ j l. IsUntrueIn ds l) ls n
+
+abbrev pub AreUntrueBehind : List (List (ℤ × ℤ)) → List Literal → ℕ → Type 0
+AreUntrueBehind ds ls n = AreDoneBehind (λ j l. IsUntrueIn ds l) ls n
+
 abbrev pub AreEndsUntrue : List Literal → ℕ → ℕ → List (List (ℤ × ℤ)) → Type 0
-AreEndsUntrue ls front back ds = AreEndsDone (λ i l. IsUntrueIn ds l) ls front back
+AreEndsUntrue ls front back ds = AreEndsDone (λ j l. IsUntrueIn ds l) ls front back
 
 -- No other of the terms has a number that the one at this place has.
 abbrev pub IsAlone : List Term → List (List (ℤ × ℤ)) → ℕ → Term → Type 0
