@@ -1,6 +1,6 @@
 -- What agrees with domains agrees with narrower ones, so nobody has to be told of a change.
-use Rattle.std.proofs.Common.{◌≡◌, ℕ, zero, suc, ◌<◌, ◌⊎◌, List, [], ◌∷◌, length, arith, refl, sym, ap, ◌∙◌, subst, inl, inr}
-use Rattle.std.specs.Prelude.{◌+◌, ◌-◌, ◌%◌, ℤ, pos, ◌-ℤ◌, ◌*ℤ◌, take, drop, count_by, replicate, slice_set, slice_get, slice_index_or, Some}
+use Rattle.std.proofs.Common.{◌≡◌, ℕ, zero, suc, ◌<◌, ◌≤◌, ◌⊎◌, List, [], ◌∷◌, length, arith, refl, sym, ap, ◌∙◌, subst, inl, inr}
+use Rattle.std.specs.Prelude.{◌+◌, ◌-◌, ◌%◌, ℤ, pos, ◌-ℤ◌, ◌*ℤ◌, drop, count_by, replicate, slice_set, slice_get, slice_index_or, Some}
 use Rattle.fz_sets.proofs.Lists.{some_is}
 use Rattle.fz_spec.specs.declared.term.Term.{Term}
 use Rattle.fz_spec.specs.Constraints.{term_values}
@@ -69,9 +69,14 @@ no_ends P items = record {
 }
 
 -- of no terms none is 1
+drop_past : (n : ℕ) (ts : List Term) → length ts ≤ n → drop n ts ≡ []
+drop_past zero [] past = refl
+drop_past (suc n) [] past = refl
+drop_past zero (t ∷ ts) past = absurd (omega (arith, past))
+drop_past (suc n) (t ∷ ts) past = drop_past n ts (omega (arith, past))
+
 drop_all : (ts : List Term) → drop (length ts - 0) ts ≡ []
-drop_all [] = refl
-drop_all (t ∷ ts) = drop_all ts
+drop_all ts = drop_past (length ts - 0) ts (omega arith)
 
 none_odd : (ts : List Term) (ds : List (List (ℤ × ℤ))) → AreEndsOdd ts 0 0 (pos 0) ds
 none_odd ts ds = record {
