@@ -153,6 +153,9 @@ impl AnyPropagator {
             AnyPropagator::Linear(linear) => linear.keeps(),
             AnyPropagator::ReifiedLinear(linear) => linear.keeps(),
             AnyPropagator::Clause(clause) => clause.keeps(),
+            AnyPropagator::Arithmetic(arithmetic) => arithmetic.keeps(),
+            AnyPropagator::Parity(parity) => parity.keeps(),
+            AnyPropagator::AllDifferent(different) => different.keeps(),
             _ => false,
         }
     }
@@ -175,6 +178,9 @@ impl AnyPropagator {
             AnyPropagator::Linear(linear) => linear.run(store, kept),
             AnyPropagator::ReifiedLinear(linear) => linear.run(store, kept),
             AnyPropagator::Clause(clause) => clause.run(store, kept),
+            AnyPropagator::Arithmetic(arithmetic) => arithmetic.run(store, kept),
+            AnyPropagator::Parity(parity) => parity.run(store, kept),
+            AnyPropagator::AllDifferent(different) => different.run(store, kept),
             _ => self.propagate(store),
         }
     }
