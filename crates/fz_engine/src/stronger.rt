@@ -28,7 +28,7 @@ pub fn stronger_of<'m>(
         Saying::Differ(terms) => Some(Saying::DifferByBounds(terms)),
         Saying::Sum(Relation::Equal, factors, terms, last) => {
             if whole
-                && is_short(factors, terms, *last)
+                && is_short(terms, *last)
                 && !is_kept_whole(factors, terms, *last, variables)
             {
                 Some(Saying::SumByNumbers(factors, terms, *last))
@@ -40,30 +40,15 @@ pub fn stronger_of<'m>(
     }
 }
 
-/// Whether a sum has two or three terms, a variable that it is being one of them, and no factor 0.
-fn is_short(factors: &[i32], terms: &[Term], last: Term) -> bool
-    ensures short { IsTrue result → (length (left_terms terms.now last) ≡ 2)
+/// Whether a sum has two or three terms, a variable that it is being one of them.
+fn is_short(terms: &[Term], last: Term) -> bool
+    ensures { IsTrue result → (length (left_terms terms.now last) ≡ 2)
         ⊎ (length (left_terms terms.now last) ≡ 3) }
-    ensures counts { IsTrue result
-        → AllByRecursion (λ (k : ℤ). k ≢ pos 0) (left_factors factors.now last) }
 {
-    let short = match last {
+    match last {
         Term::Num(_) => terms.len() == 2 || terms.len() == 3,
         Term::Var(_) => terms.len() == 1 || terms.len() == 2,
-    };
-    short && do_count(factors)
-}
-
-/// Whether no factor is 0.
-fn do_count(factors: &[i32]) -> bool
-    ensures { IsTrue result → AllByRecursion (λ (k : ℤ). k ≢ pos 0) factors.now }
-{
-    for factor in factors {
-        if *factor == 0 {
-            return false;
-        }
     }
-    true
 }
 
 /// Whether the propagator of an equation keeps whole domains anyway. This is a hint: where it is wrong, more or less is kept.

@@ -50,7 +50,7 @@ kept_value a b v u here others (Var w) x same is = elim (cases_eq w v) [
   | inr ne ↦ others w ne ∙ is
 ]
 
-with_term : (ds : List (List (ℤ × ℤ))) (a : List ℤ) (t : Term) (u : ℤ) → IsInSet (term_set ds t) u → Gives a t u
+pub with_term : (ds : List (List (ℤ × ℤ))) (a : List ℤ) (t : Term) (u : ℤ) → IsInSet (term_set ds t) u → Gives a t u
 with_term ds a (Num n) u left = record { numbers = a; own = sym (only_in ((n, n) ∷ []) n u refl left); others = λ s x same is. is }
 with_term ds a (Var v) u left =
     let p = with_number a v u in

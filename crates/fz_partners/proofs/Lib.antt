@@ -4,3 +4,4 @@ pub mod Turning
 pub mod Rows
 pub mod Parts
 pub mod Thirds
+pub mod Lessening

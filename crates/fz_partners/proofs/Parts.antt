@@ -1,16 +1,12 @@
 -- The parts of a sum, by the places of its lists.
-use Rattle.std.proofs.Common.{◌≡◌, ℕ, List, [], ◌∷◌, refl, sym, ap, arith, length, pos, negsuc}
-use Rattle.std.specs.Prelude.{ℤ, ◌≢◌, slice_get, Some}
-use Rattle.std.specs.List.{AllByRecursion}
-use Rattle.fz_sets.proofs.Lists.{some_is, all_at}
+use Rattle.std.proofs.Common.{◌≡◌, List, [], ◌∷◌, refl, sym, ap, arith, length, negsuc}
+use Rattle.std.specs.Prelude.{ℤ, slice_get, Some}
+use Rattle.fz_sets.proofs.Lists.{some_is}
 use Rattle.fz_spec.specs.declared.term.Term.{Term}
 use Rattle.fz_strength.specs.Sayings.{SumByNumbers}
 use Rattle.fz_partners.specs.declared.equation.Product.{Product}
 use Rattle.fz_partners.specs.Equations.{parts_saying}
 use Rattle.fz_partners.specs.declared.partnered_sum.Parts.TheVariants.{Two, Three}
-
-pub at_place : (ks : List ℤ) (i : ℕ) (k : ℤ) → AllByRecursion (λ (l : ℤ). l ≢ pos 0) ks → slice_get ks i ≡ Some k → k ≢ pos 0
-at_place ks i k all at = all_at (λ (l : ℤ). l ≢ pos 0) ks i k all at
 
 one_long : {X : Type 0} (xs : List X) (x : X) → length xs ≡ 1 → slice_get xs 0 ≡ Some x → x ∷ [] ≡ xs
 one_long [] x size at = absurd (cc (size))

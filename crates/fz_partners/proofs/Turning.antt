@@ -54,7 +54,7 @@ first_partners e ds all (suc zero) d t x at_d at_t member = first_back e ds t x 
 first_partners e ds all (suc (suc zero)) d t x at_d at_t member = first_back e ds t x (all 0 d t x at_d at_t member)
 first_partners e ds all (suc (suc (suc i))) d t x at_d at_t member = absurd (cc (at_t))
 
-first_same : (e : Equation) → IsSame (EquationTruth (first_last e)) (EquationTruth e) (EquationLine (first_last e)) (EquationLine e)
+pub first_same : (e : Equation) → IsSame (EquationTruth (first_last e)) (EquationTruth e) (EquationLine (first_last e)) (EquationLine e)
 first_same e = record {
   truth = λ a. (
     turned_sum (e.third.factor *ℤ term_value a e.third.term) (e.second.factor *ℤ term_value a e.second.term) (e.first.factor *ℤ term_value a e.first.term) e.number,
@@ -80,7 +80,7 @@ second_partners e ds all (suc zero) d t x at_d at_t member = second_back e ds t 
 second_partners e ds all (suc (suc zero)) d t x at_d at_t member = second_back e ds t x (all 1 d t x at_d at_t member)
 second_partners e ds all (suc (suc (suc i))) d t x at_d at_t member = absurd (cc (at_t))
 
-second_same : (e : Equation) → IsSame (EquationTruth (second_last e)) (EquationTruth e) (EquationLine (second_last e)) (EquationLine e)
+pub second_same : (e : Equation) → IsSame (EquationTruth (second_last e)) (EquationTruth e) (EquationLine (second_last e)) (EquationLine e)
 second_same e = record {
   truth = λ a. (
     swapped_sum (e.first.factor *ℤ term_value a e.first.term) (e.third.factor *ℤ term_value a e.third.term) (e.second.factor *ℤ term_value a e.second.term) e.number,

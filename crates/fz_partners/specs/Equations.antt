@@ -63,16 +63,27 @@ second_last e = record { first = e.first; second = e.third; third = e.second; nu
 abbrev pub IsTurned : Equation → Equation → Type 0
 IsTurned e f = (f ≡ e) ⊎ ((f ≡ first_last e) ⊎ (f ≡ second_last e))
 
+-- the term 0
+abbrev pub nothing : Product
+nothing = record { factor = pos 1; term = Num (pos 0) }
+
 -- two terms, and a third that is 0
 abbrev pub with_nothing : Product → Product → ℤ → Equation
-with_nothing p q c = record { first = record { factor = pos 1; term = Num (pos 0) }; second = p; third = q; number = c }
+with_nothing p q c = record { first = nothing; second = p; third = q; number = c }
+
+-- the same, but that the last term may be 0 where its factor is
+abbrev pub IsLessened : Equation → Equation → Type 0
+IsLessened e f = (f ≡ e) ⊎ ((e.third.factor ≡ pos 0) × (f ≡ record { first = e.first; second = e.second; third = nothing; number = e.number }))
+
+-- the same, but that each may be 0 where its factor is, and stand in another place
+pub record IsCounting (e f : Equation) : Type 0 where
+  pub less : Equation
+  pub fewer : Equation
+  pub third : IsLessened e less
+  pub first : IsLessened (first_last less) fewer
+  pub second : IsLessened (second_last fewer) f
 
 -- what the parts of a sum say that is to be a number
 abbrev pub parts_saying : Parts → ℤ → Saying
 parts_saying (Two p q) c = SumByNumbers (p.factor ∷ q.factor ∷ []) (p.term ∷ q.term ∷ []) c
 parts_saying (Three p q r) c = SumByNumbers (p.factor ∷ q.factor ∷ r.factor ∷ []) (p.term ∷ q.term ∷ r.term ∷ []) c
-
--- none of their factors is 0
-abbrev pub DoCount : Parts → Type 0
-DoCount (Two p q) = (p.factor ≢ pos 0) × (q.factor ≢ pos 0)
-DoCount (Three p q r) = (p.factor ≢ pos 0) × (q.factor ≢ pos 0) × (r.factor ≢ pos 0)

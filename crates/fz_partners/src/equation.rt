@@ -1,11 +1,11 @@
 //! Equations of three terms, and how many pairs of numbers are looked at.
-ghost use Rattle.std.specs.Prelude.{◌≡◌, ◌↔◌, ◌≤◌, ◌*◌, length, IsTrue};
+ghost use Rattle.std.specs.Prelude.{◌≡◌, ◌≢◌, ◌↔◌, ◌≤◌, ◌*◌, length, pos, IsTrue};
 ghost use Rattle.std.specs.List.{AllByRecursion};
 ghost use Rattle.fz_sets.specs.Sets.{set_size};
 ghost use Rattle.fz_strength.specs.declared.equation.TheConstants.{FEW_PAIRS};
 ghost use Rattle.fz_strength.specs.Domains.{term_set};
 ghost use Rattle.fz_prop.specs.Stores.{IsTermOf};
-ghost use Rattle.fz_partners.specs.Equations.{IsTurned, terms_of};
+ghost use Rattle.fz_partners.specs.Equations.{AllCount, IsCounting, IsLessened, IsTurned, first_last, nothing, second_last, terms_of};
 
 use fz_prop::Store;
 use fz_spec::term::Term;
@@ -18,6 +18,18 @@ pub struct Product {
     pub term: Term,
 }
 
+impl Product {
+    /// The term 0.
+    pub fn nothing() -> Product
+        ensures { result ≡ nothing }
+    {
+        Product {
+            factor: 1,
+            term: Term::Num(0),
+        }
+    }
+}
+
 /// Three terms with factors, whose sum is to be a number.
 #[derive(Clone, Copy)]
 pub struct Equation {
@@ -25,6 +37,32 @@ pub struct Equation {
     pub second: Product,
     pub third: Product,
     pub number: i32,
+}
+
+/// The same equation, each term with the factor 0 in another place, and 0 instead.
+pub fn counting(equation: Equation) -> Equation
+    ensures counts { AllCount result }
+    ensures counting { IsCounting equation result }
+{
+    let third = last_counting(equation);
+    let first = last_counting(first_last(third));
+    last_counting(second_last(first))
+}
+
+/// The same equation, the last term 0 where its factor is.
+fn last_counting(equation: Equation) -> Equation
+    ensures first { result.first ≡ equation.first }
+    ensures second { result.second ≡ equation.second }
+    ensures counts { result.third.factor ≢ pos 0 }
+    ensures lessened { IsLessened equation result }
+{
+    if equation.third.factor != 0 {
+        return equation;
+    }
+    Equation {
+        third: Product::nothing(),
+        ..equation
+    }
 }
 
 /// The same equation, the term last that has most numbers.
@@ -50,12 +88,7 @@ pub fn widest_last(store: &Store, equation: Equation) -> Equation
 
 /// The same equation, the first term last.
 fn first_last(equation: Equation) -> Equation
-    ensures { result ≡ record {
-      first = equation.third;
-      second = equation.second;
-      third = equation.first;
-      number = equation.number;
-    } }
+    ensures { result ≡ first_last equation }
 {
     Equation {
         first: equation.third,
@@ -67,12 +100,7 @@ fn first_last(equation: Equation) -> Equation
 
 /// The same equation, the second term last.
 fn second_last(equation: Equation) -> Equation
-    ensures { result ≡ record {
-      first = equation.first;
-      second = equation.third;
-      third = equation.second;
-      number = equation.number;
-    } }
+    ensures { result ≡ second_last equation }
 {
     Equation {
         first: equation.first,

@@ -7,7 +7,7 @@ ghost use Rattle.fz_prop.specs.Answers.{Narrows};
 ghost use Rattle.fz_prop.specs.Stores.{IsTermOf};
 ghost use Rattle.fz_partners.specs.Equations.{AllCount, EquationLine, EquationTruth, terms_of};
 
-use crate::equation::{Equation, are_few, widest_last};
+use crate::equation::{Equation, are_few, counting, widest_last};
 use crate::solutions::solutions;
 use fz_prop::{Answer, Propagator, Store};
 use fz_table::Table;
@@ -20,13 +20,15 @@ pub fn keep_partners(
     store: &mut Store,
     equation: Equation,
 ) -> Result<Answer, AllocError>
-    requires inside { AllByRecursion (IsTermOf (length store.old.doms)) (terms_of equation) }
-    requires counts { AllCount equation }
+    requires { AllByRecursion (IsTermOf (length store.old.doms)) (terms_of equation) }
     ensures { Narrows (EquationTruth equation) (EquationLine equation) result
         store.old store.new }
 {
-    let turned = widest_last(store, equation);
-    keep_turned(alloc, store, turned)
+    let counting = counting(equation);
+    let turned = widest_last(store, counting);
+    let answer = keep_turned(alloc, store, turned);
+    let _ = store.doms();
+    answer
 }
 
 /// The same, where no term has more numbers than the last.

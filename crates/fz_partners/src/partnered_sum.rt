@@ -1,9 +1,8 @@
 //! The propagator of an equation of two or three terms, by their numbers.
-ghost use Rattle.std.specs.Prelude.{◌≡◌, ◌≢◌, ◌⊎◌, ◌<◌, ◌∷◌, Some, pos, negsuc, ℤ, length, slice_get};
-ghost use Rattle.std.specs.List.{AllByRecursion};
+ghost use Rattle.std.specs.Prelude.{◌≡◌, ◌⊎◌, ◌<◌, ◌∷◌, Some, negsuc, ℤ, length, slice_get};
 ghost use Rattle.fz_strength.specs.Sayings.{SumByNumbers};
 ghost use Rattle.fz_strength.specs.Sums.{left_factors, left_terms, right_number};
-ghost use Rattle.fz_partners.specs.Equations.{DoCount, parts_saying, with_nothing};
+ghost use Rattle.fz_partners.specs.Equations.{parts_saying, with_nothing};
 
 use crate::equation::{Equation, Product};
 use crate::keep::keep_partners;
@@ -29,13 +28,11 @@ pub struct PartneredSum {
 
 impl Model for PartneredSum {
     ghost use Rattle.fz_strength.specs.Sayings.{Saying};
-    ghost use Rattle.fz_partners.specs.Equations.{DoCount, parts_saying};
+    ghost use Rattle.fz_partners.specs.Equations.{parts_saying};
 
     ghost Value = { Saying };
 
     ghost view = { λ p. parts_saying p.parts p.number };
-
-    ghost invariant = { λ p. DoCount p.parts };
 }
 
 impl Propagator for PartneredSum {
@@ -62,7 +59,6 @@ impl PartneredSum {
             ≡ length (left_terms terms.now last) }
         requires short { (length (left_terms terms.now last) ≡ 2)
             ⊎ (length (left_terms terms.now last) ≡ 3) }
-        requires counts { AllByRecursion (λ (k : ℤ). k ≢ pos 0) (left_factors factors.now last) }
         ensures { result ≡ SumByNumbers (left_factors factors.now last)
             (left_terms terms.now last) (right_number last) }
     {
@@ -82,12 +78,8 @@ impl PartneredSum {
 fn of_two(first: Product, second: Product, number: i32) -> Equation
     ensures { result ≡ with_nothing first second number }
 {
-    let nothing = Product {
-        factor: 1,
-        term: Term::Num(0),
-    };
     Equation {
-        first: nothing,
+        first: Product::nothing(),
         second: first,
         third: second,
         number,
@@ -98,9 +90,7 @@ fn of_two(first: Product, second: Product, number: i32) -> Equation
 fn parts_of(factors: &[i32], terms: &[Term]) -> Parts
     requires same { length factors.now ≡ length terms.now }
     requires short { (length terms.now ≡ 2) ⊎ (length terms.now ≡ 3) }
-    requires counts { AllByRecursion (λ (k : ℤ). k ≢ pos 0) factors.now }
-    ensures said { (c : ℤ) → parts_saying result c ≡ SumByNumbers factors.now terms.now c }
-    ensures counts { DoCount result }
+    ensures { (c : ℤ) → parts_saying result c ≡ SumByNumbers factors.now terms.now c }
 {
     let first = product_at(factors, terms, 0);
     let second = product_at(factors, terms, 1);
@@ -115,10 +105,8 @@ fn parts_of(factors: &[i32], terms: &[Term]) -> Parts
 fn parts_behind(variable: Term, factors: &[i32], terms: &[Term]) -> Parts
     requires same { length factors.now ≡ length terms.now }
     requires short { (length terms.now ≡ 1) ⊎ (length terms.now ≡ 2) }
-    requires counts { AllByRecursion (λ (k : ℤ). k ≢ pos 0) factors.now }
-    ensures said { (c : ℤ) → parts_saying result c
+    ensures { (c : ℤ) → parts_saying result c
         ≡ SumByNumbers (negsuc 0 ∷ factors.now) (variable ∷ terms.now) c }
-    ensures counts { DoCount result }
 {
     let front = Product {
         factor: -1,

@@ -1,5 +1,5 @@
 -- What a model keeps of what its constraints say.
-use Rattle.std.specs.Prelude.{◌≡◌, ◌≢◌, ◌⊎◌, ◌≤◌, suc, ℤ, pos, List, length}
+use Rattle.std.specs.Prelude.{◌≡◌, ◌≢◌, ◌⊎◌, ◌≤◌, suc, List, length}
 use Rattle.std.specs.List.{AllByRecursion}
 use Rattle.fz_spec.specs.declared.kind.Kind.TheVariants as kinds
 use Rattle.fz_spec.specs.declared.term.Term.{Term}
@@ -17,11 +17,11 @@ use Rattle.fz_strength.specs.Promises.{Suits}
 abbrev pub IsKnown : List Variable → Term → Type 0
 IsKnown vs t = FitsTerm t × IsTermOf (length vs) t
 
--- of a sum: no strict relation, and as many factors as terms, not too many; by numbers two or three, and no factor 0
+-- of a sum: no strict relation, and as many factors as terms, not too many; by numbers two or three
 abbrev pub FitsSum : Saying → Type 0
 FitsSum (Sum relation ks ts c) = (relation ≢ Below) × (length ks ≡ length ts) × (length ts ≤ suc ELEMENT_LIMIT)
 FitsSum (SumIf relation ks ts c r) = (relation ≢ Below) × (length ks ≡ length ts) × (length ts ≤ ELEMENT_LIMIT)
-FitsSum (SumByNumbers ks ts c) = (length ks ≡ length ts) × ((length ts ≡ 2) ⊎ (length ts ≡ 3)) × AllByRecursion (λ (k : ℤ). k ≢ pos 0) ks
+FitsSum (SumByNumbers ks ts c) = (length ks ≡ length ts) × ((length ts ≡ 2) ⊎ (length ts ≡ 3))
 FitsSum s = Unit {0}
 
 -- its terms are those of the model, those that it takes for 0 or 1 are Booleans, and a sum is one that propagators take
