@@ -253,7 +253,7 @@ unlike : (n : ℤ) (ys : List Term) (a : List ℤ) → ((j : ℕ) (y : Term) →
 unlike n [] a other = tt
 unlike n (y ∷ ys) a other = (other 0 y refl, unlike n ys a (λ j z at. other (suc j) z at))
 
-different_pairs : (xs : List Term) (a : List ℤ) → ((i j : ℕ) (x y : Term) → i ≢ j → slice_get xs i ≡ Some x → slice_get xs j ≡ Some y → term_value a x ≢ term_value a y)
+pub different_pairs : (xs : List Term) (a : List ℤ) → ((i j : ℕ) (x y : Term) → i ≢ j → slice_get xs i ≡ Some x → slice_get xs j ≡ Some y → term_value a x ≢ term_value a y)
     → AreDifferent (term_values a xs)
 different_pairs [] a other = tt
 different_pairs (x ∷ xs) a other = (

@@ -4,3 +4,4 @@ pub mod Resting
 pub mod Spanning
 pub mod Freeing
 pub mod Filling
+pub mod Between

@@ -4,6 +4,7 @@
 pub mod all_different;
 mod close;
 pub mod differ;
+mod ends;
 mod far;
 mod span;
 

@@ -1,9 +1,8 @@
-use Rattle.fz_strength.specs.Sayings.{Differ, truth_of, line_of}
-use Rattle.fz_prop.specs.Answers.{Narrows}
+use Rattle.std.proofs.Common.{sym, subst}
+use Rattle.fz_kept.specs.declared.kept.Kept.{Kept}
+use Rattle.fz_kept.specs.Told.{IsTold}
+use Rattle.fz_kept.proofs.Lasting.{nothing_told}
 use Rattle.fz_alldiff.proofs.all_different.AllDifferentPropagator.propagate.Goals as goal
 
-pub returns : goal.returns
-returns c =
-    let says = Differ c.self.inside.terms.items in
-    let narrows : Narrows (truth_of says) (line_of says) c.keep_different.result c.args.store.now c.keep_different.new.store = rw c.deref.ensures.value at c.keep_different.ensures in
-    rw (← c.self.view_is) narrows
+pub run-requires-clause-told : goal.run-requires-clause-told
+run-requires-clause-told c = subst (λ (k : Kept). IsTold c.args.self.now k c.args.store.now.doms) (sym c.none-kept.ensures) (nothing_told c.args.self.now c.args.store.now.doms)

@@ -1,0 +1,89 @@
+//! Terms at both ends of which none has a number in common with any other.
+ghost use Rattle.std.specs.Prelude.{◌↔◌, ◌<◌, ◌≤◌, length, IsTrue};
+ghost use Rattle.std.specs.List.{AllByRecursion};
+ghost use Rattle.fz_strength.specs.Differences.{AreApart};
+ghost use Rattle.fz_kept.specs.Told.{AreEndsDone, IsAlone};
+ghost use Rattle.fz_prop.specs.Stores.{IsTermOf};
+ghost use Rattle.fz_alldiff.specs.Ends.{AreAloneBelow, AreAloneBehind, IsBetween};
+
+use fz_kept::Kept;
+use fz_prop::Store;
+use fz_prop::terms::value_of;
+use fz_spec::term::Term;
+
+/// Whether there are so many terms that it serves to keep which ones at both ends have no number in common with another.
+pub fn is_long(terms: &[Term]) -> bool
+    ensures { IsTrue result ↔ (4 < length terms.now) }
+{
+    terms.len() > 4
+}
+
+/// The terms behind so many and before so many.
+pub fn terms_between(terms: &[Term], front: u32, back: u32) -> &[Term]
+    ensures { IsBetween terms.now front back result.now }
+{
+    let count = terms.len();
+    let front = front as usize;
+    let back = back as usize;
+    if front >= count || back >= count - front {
+        return &terms[..0];
+    }
+    &terms[front..count - back]
+}
+
+/// Moves both ends, as far as the terms beside them are fixed.
+pub fn move_ends(store: &Store, terms: &[Term], kept: &mut Kept)
+    requires terms { AllByRecursion (IsTermOf (length store.now.doms)) terms.now }
+    requires apart { AreApart terms.now store.now.doms }
+    requires told { AreEndsDone (IsAlone terms.now store.now.doms) terms.now kept.old.front kept.old.back }
+    ensures told { AreEndsDone (IsAlone terms.now store.now.doms) terms.now kept.new.front kept.new.back }
+{
+    let front = front_from(store, terms, kept.front);
+    let back = back_from(store, terms, kept.back);
+    kept.front = front;
+    kept.back = back;
+}
+
+/// How many terms there are, as far as 32 bits count them.
+fn count_of(terms: &[Term]) -> u32
+    ensures { result ≤ length terms.now }
+{
+    match u32::try_from(terms.len()) {
+        Ok(count) => count,
+        Err(_) => 0,
+    }
+}
+
+/// How many terms at the front have no number in common with another, where so many haven't and the others may be fixed.
+fn front_from(store: &Store, terms: &[Term], front: u32) -> u32
+    requires terms { AllByRecursion (IsTermOf (length store.now.doms)) terms.now }
+    requires apart { AreApart terms.now store.now.doms }
+    requires told { AreAloneBelow terms.now store.now.doms front }
+    ensures { AreAloneBelow terms.now store.now.doms result }
+{
+    let count = count_of(terms);
+    for place in front..count {
+        match value_of(store, terms[place as usize]) {
+            Some(_) => {}
+            None => return place,
+        }
+    }
+    front.max(count)
+}
+
+/// How many terms at the back have no number in common with another, where so many haven't and the others may be fixed.
+fn back_from(store: &Store, terms: &[Term], back: u32) -> u32
+    requires terms { AllByRecursion (IsTermOf (length store.now.doms)) terms.now }
+    requires apart { AreApart terms.now store.now.doms }
+    requires told { AreAloneBehind terms.now store.now.doms back }
+    ensures { AreAloneBehind terms.now store.now.doms result }
+{
+    let count = count_of(terms);
+    for passed in back..count {
+        match value_of(store, terms[terms.len() - 1 - passed as usize]) {
+            Some(_) => {}
+            None => return passed,
+        }
+    }
+    back.max(count)
+}
