@@ -5,3 +5,4 @@ pub mod Clausal
 pub mod Sayings
 pub mod Odd
 pub mod Parities
+pub mod Ends

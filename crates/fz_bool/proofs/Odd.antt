@@ -34,7 +34,7 @@ at_place (t ∷ ts) (suc i) inside = at_place ts i (omega (arith, inside))
 
 -- ---- odd numbers of ones
 
-flips : (b c d : Bool) → flip b (flip c d) ≡ flip c (flip b d)
+pub flips : (b c d : Bool) → flip b (flip c d) ≡ flip c (flip b d)
 flips false c d = refl
 flips true false d = refl
 flips true true d = refl
@@ -45,7 +45,7 @@ odd_suc a (u ∷ us) zero t at = ap (λ (v : Term). flip (is_one (term_value a v
 odd_suc a (u ∷ us) (suc n) t at =
     ap (flip (is_one (term_value a u))) (odd_suc a us n t at) ∙ flips (is_one (term_value a u)) (is_one (term_value a t)) (is_odd (term_values a (take n us)))
 
-odd_more : (a : List ℤ) (ts : List Term) (n : ℕ) (t : Term) → slice_get ts n ≡ Some t → is_odd (term_values a (take (n + 1) ts)) ≡ flip (is_one (term_value a t)) (is_odd (term_values a (take n ts)))
+pub odd_more : (a : List ℤ) (ts : List Term) (n : ℕ) (t : Term) → slice_get ts n ≡ Some t → is_odd (term_values a (take (n + 1) ts)) ≡ flip (is_one (term_value a t)) (is_odd (term_values a (take n ts)))
 odd_more a ts n t at = rw add-one (odd_suc a ts n t at)
 
 -- ---- the first so many
@@ -77,10 +77,10 @@ open_more None ds ts n h = tt
 open_more (Some t) ds ts n h = record { place = h.place; inside = omega (arith, h.inside); at = h.at; unfixed = h.unfixed }
 
 -- the bit of a term that is fixed
-bit_true : (ds : List (List (ℤ × ℤ))) (t : Term) (a : List ℤ) → IsTermOf (length ds) t → IsTrueIn ds (positive t) → Within ds a → is_one (term_value a t) ≡ true
+pub bit_true : (ds : List (List (ℤ × ℤ))) (t : Term) (a : List ℤ) → IsTermOf (length ds) t → IsTrueIn ds (positive t) → Within ds a → is_one (term_value a t) ≡ true
 bit_true ds t a is holds within = (Decides-int_eq (term_value a t) (pos 1)).1 (makes_true ds (positive t) a is within holds)
 
-bit_false : (ds : List (List (ℤ × ℤ))) (t : Term) (a : List ℤ) → IsTermOf (length ds) t → IsUntrueIn ds (positive t) → Within ds a → is_one (term_value a t) ≡ false
+pub bit_false : (ds : List (List (ℤ × ℤ))) (t : Term) (a : List ℤ) → IsTermOf (length ds) t → IsUntrueIn ds (positive t) → Within ds a → is_one (term_value a t) ≡ false
 bit_false ds t a is untrue within = elim (is_one (term_value a t)) as (λ b. is_one (term_value a t) ≡ b → b ≡ false) [
   | true ↦ λ e. absurd (not_made_true ds (positive t) a is within untrue ((Decides-int_eq (term_value a t) (pos 1)).0 e))
   | false ↦ λ e. refl

@@ -19,7 +19,7 @@ use Rattle.fz_bool.specs.Parity.{flip, is_odd, OddTruth, OddLine, AreBooleansOf}
 pub booleans_of : (ts : List Term) (ds : List (List (ℤ × ℤ))) → AllByRecursion (IsTermOf (length ds)) ts → Suits (Odd ts) ds → AreBooleansOf ds ts
 booleans_of ts ds terms suits = all_with (IsTermOf (length ds)) (IsTruth ds) (λ (t : Term). IsTermOf (length ds) t × IsTruth ds t) ts (λ t term truth. (term, truth)) terms suits
 
-abbrev bit : Bool → ℕ
+abbrev pub bit : Bool → ℕ
 bit b = cond b 1 0
 
 one_more : (b odd : Bool) (n : ℕ) → n % 2 ≡ bit odd → (bit b + n) % 2 ≡ bit (flip b odd)
@@ -27,11 +27,11 @@ one_more false odd n e = omega (arith, e)
 one_more true false n e = omega (arith, e)
 one_more true true n e = omega (arith, e)
 
-odd_count : (xs : List ℤ) → count_by is_one xs % 2 ≡ bit (is_odd xs)
+pub odd_count : (xs : List ℤ) → count_by is_one xs % 2 ≡ bit (is_odd xs)
 odd_count [] = refl
 odd_count (x ∷ xs) = ap (λ (n : ℕ). n % 2) (sum_by-cons (λ y. bit (is_one y)) x xs) ∙ one_more (is_one x) (is_odd xs) (count_by is_one xs) (odd_count xs)
 
-by_bit : (b : Bool) → bit b ≡ 1 → b ≡ true
+pub by_bit : (b : Bool) → bit b ≡ 1 → b ≡ true
 by_bit true e = refl
 by_bit false e = absurd (cc (e))
 

@@ -1,6 +1,7 @@
 -- Parities: whether an odd number of terms are 1, when an assignment makes one true, its line, and what is seen of its terms.
 use Rattle.std.specs.Prelude.{◌≡◌, ◌≢◌, ℕ, ℤ, Bool, true, false, not, List, [], ◌∷◌, length, Some, pos, if◌then◌else◌}
 use Rattle.std.specs.List.{AllByRecursion, slice_get}
+use Rattle.std.specs.Ordering.{int_eq}
 use Rattle.fz_spec.specs.declared.term.Term.{Term}
 use Rattle.fz_spec.specs.Constraints.{term_value, term_values}
 use Rattle.fz_spec.specs.Truth.{is_one}
@@ -21,6 +22,10 @@ flip true odd = not odd
 abbrev pub is_odd : List ℤ → Bool
 is_odd [] = false
 is_odd (x ∷ xs) = flip (is_one x) (is_odd xs)
+
+-- 1 in place of 0, and 0 in place of 1
+abbrev pub turned : ℤ → ℤ
+turned n = if int_eq n (pos 1) then pos 0 else pos 1
 
 abbrev pub OddTruth : List Term → Bool → List ℤ → Type 0
 OddTruth ts odd a = is_odd (term_values a ts) ≡ odd

@@ -71,11 +71,11 @@ pub fn left_between(store: &Store, literals: &[Literal], kept: &mut Kept) -> Lef
     left_at(store, literals, front as usize, back as usize)
 }
 
-/// How many literals there are, as far as 32 bits count them.
-fn count_of(literals: &[Literal]) -> u32
-    ensures { result ≤ length literals.now }
+/// How many literals or terms there are, as far as 32 bits count them.
+pub fn count_of<T>(items: &[T]) -> u32
+    ensures { result ≤ length items.now }
 {
-    match u32::try_from(literals.len()) {
+    match u32::try_from(items.len()) {
         Ok(count) => count,
         Err(_) => 0,
     }

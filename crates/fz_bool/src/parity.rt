@@ -1,13 +1,17 @@
 //! Parities.
-ghost use Rattle.std.specs.Prelude.{◌≡◌, length, true, IfOk, OnErr};
+ghost use Rattle.std.specs.Prelude.{◌≡◌, ◌↔◌, ◌<◌, pos, length, true, IfOk, IsTrue, OnErr};
 ghost use Rattle.std.specs.List.{AllByRecursion};
 ghost use Rattle.fz_strength.specs.Clauses.{positive};
-ghost use Rattle.fz_strength.specs.Sayings.{Odd};
-ghost use Rattle.fz_prop.specs.Answers.{IsAnswerOf, IsCorrectOf};
+ghost use Rattle.fz_strength.specs.Domains.{AreDomains};
+ghost use Rattle.fz_strength.specs.Promises.{Suits};
+ghost use Rattle.fz_strength.specs.Sayings.{Odd, line_of, said_terms, truth_of};
+ghost use Rattle.fz_kept.specs.Told.{AreEndsOdd, IsLong, IsTold};
+ghost use Rattle.fz_prop.specs.Answers.{IsAnswerOf, IsCorrectOf, Narrows};
 ghost use Rattle.fz_prop.specs.Stores.{Shrinks, IsTermOf, IsTermChange};
-ghost use Rattle.fz_bool.specs.Parity.{OddTruth, OddLine, AreBooleansOf, IsSeen, missing_number};
+ghost use Rattle.fz_bool.specs.Parity.{OddTruth, OddLine, AreBooleansOf, IsSeen, missing_number, turned};
 
-use crate::literals::{State, state_of};
+use crate::literals::{State, count_of, state_of};
+use fz_kept::Kept;
 use fz_prop::terms::keep_only;
 use fz_prop::{Answer, Change, Propagator, Store};
 use fz_spec::term::Term;
@@ -50,14 +54,18 @@ impl Parity {
 }
 
 /// Narrows a store so that an odd number of terms are 1: the last open term takes what is missing.
-fn keep_odd(store: &mut Store, terms: &[Term]) -> Result<Answer, AllocError>
-    requires { AreBooleansOf store.old.doms terms.now }
+fn keep_odd(store: &mut Store, terms: &[Term], kept: &mut Kept) -> Result<Answer, AllocError>
+    requires booleans { AreBooleansOf store.old.doms terms.now }
+    requires told { AreEndsOdd terms.now kept.old.front kept.old.back kept.old.number
+        store.old.doms }
+    ensures told { AreEndsOdd terms.now kept.new.front kept.new.back kept.new.number
+        store.new.doms }
     ensures shrinks { Shrinks store.old store.new }
     ensures correct { IsCorrectOf (OddTruth terms.now true) store.old.doms store.new.doms }
     ensures answer { IfOk result (λ a. IsAnswerOf a (OddTruth terms.now true)
         (OddLine terms.now true) store.old.doms store.new.doms) }
 {
-    match seen_of(store, terms) {
+    match seen_between(store, terms, kept) {
         Seen::All(true) => Ok(Answer::Subsumed),
         Seen::All(false) => Ok(Answer::Failed),
         Seen::Last(term, odd) => {
@@ -84,6 +92,105 @@ fn missing_number(odd: bool) -> i32
     ensures { result ≡ missing_number odd true }
 {
     if odd { 0 } else { 1 }
+}
+
+/// Whether there are so many terms that it serves to keep which of them are fixed.
+fn is_long(terms: &[Term]) -> bool
+    ensures { IsTrue result ↔ (4 < length terms.now) }
+{
+    terms.len() > 4
+}
+
+/// What is left of terms, where so many at each end are fixed; more of these are found first.
+fn seen_between(store: &Store, terms: &[Term], kept: &mut Kept) -> Seen
+    requires terms { AllByRecursion (IsTermOf (length store.now.doms)) terms.now }
+    requires told { AreEndsOdd terms.now kept.old.front kept.old.back kept.old.number
+        store.now.doms }
+    ensures seen { IsSeen result store.now.doms terms.now }
+    ensures told { AreEndsOdd terms.now kept.new.front kept.new.back kept.new.number
+        store.now.doms }
+{
+    if !is_long(terms) {
+        return seen_of(store, terms);
+    }
+    pass_front(store, terms, kept);
+    pass_back(store, terms, kept);
+    seen_at(store, terms, *kept)
+}
+
+/// Passes the terms at the front that are fixed.
+fn pass_front(store: &Store, terms: &[Term], kept: &mut Kept)
+    requires terms { AllByRecursion (IsTermOf (length store.now.doms)) terms.now }
+    requires told { AreEndsOdd terms.now kept.old.front kept.old.back kept.old.number
+        store.now.doms }
+    ensures { AreEndsOdd terms.now kept.new.front kept.new.back kept.new.number store.now.doms }
+{
+    for place in kept.front..count_of(terms).saturating_sub(kept.back) {
+        match state_of(store, positive(terms[place as usize])) {
+            State::True => kept.number = turned(kept.number),
+            State::False => {}
+            State::Open => return,
+        }
+        kept.front = place + 1;
+    }
+}
+
+/// Passes the terms at the back that are fixed.
+fn pass_back(store: &Store, terms: &[Term], kept: &mut Kept)
+    requires terms { AllByRecursion (IsTermOf (length store.now.doms)) terms.now }
+    requires told { AreEndsOdd terms.now kept.old.front kept.old.back kept.old.number
+        store.now.doms }
+    ensures { AreEndsOdd terms.now kept.new.front kept.new.back kept.new.number store.now.doms }
+{
+    for passed in kept.back..count_of(terms).saturating_sub(kept.front) {
+        match state_of(store, positive(terms[terms.len() - 1 - passed as usize])) {
+            State::True => kept.number = turned(kept.number),
+            State::False => {}
+            State::Open => return,
+        }
+        kept.back = passed + 1;
+    }
+}
+
+fn is_one(number: i64) -> bool
+    ensures { IsTrue result ↔ (number ≡ pos 1) }
+{
+    number == 1
+}
+
+/// 1 in place of 0, and 0 in place of 1.
+fn turned(number: i64) -> i64
+    ensures { result ≡ turned number }
+{
+    if number == 1 { 0 } else { 1 }
+}
+
+/// What is left of terms, where so many at each end are fixed.
+fn seen_at(store: &Store, terms: &[Term], ends: Kept) -> Seen
+    requires terms { AllByRecursion (IsTermOf (length store.now.doms)) terms.now }
+    requires told { AreEndsOdd terms.now ends.front ends.back ends.number store.now.doms }
+    ensures { IsSeen result store.now.doms terms.now }
+{
+    let (front, back) = (ends.front as usize, ends.back as usize);
+    let between = terms.len() - front - back;
+    let odd = is_one(ends.number);
+    if between == 0 {
+        return Seen::All(odd);
+    }
+    let last = terms.len() - 1 - back;
+    match (
+        state_of(store, positive(terms[front])),
+        state_of(store, positive(terms[last])),
+    ) {
+        (State::Open, State::Open) => {
+            if between == 1 {
+                Seen::Last(terms[front], odd)
+            } else {
+                Seen::More
+            }
+        }
+        _ => seen_of(store, terms),
+    }
 }
 
 /// What is left of terms, as far as the second open one.
@@ -116,10 +223,36 @@ fn positive(term: Term) -> Literal
     }
 }
 
+impl Parity {
+    /// Whether it has so many terms that it serves to keep something.
+    pub fn keeps(&self) -> bool
+        ensures { IsTrue result ↔ IsLong self.now }
+    {
+        is_long(&self.terms)
+    }
+
+    /// Narrows a store, as `propagate` does. How many terms at the front and at the back are fixed is kept, and whether an odd number of
+    /// these are 1.
+    ///
+    /// # Errors
+    /// `AllocError` where there is no memory for a domain; the store is then narrower, and no assignment is lost.
+    pub fn run(&self, store: &mut Store, kept: &mut Kept) -> Result<Answer, AllocError>
+        requires terms { AllByRecursion (IsTermOf (length store.old.doms)) (said_terms self.now) }
+        requires suits { Suits self.now store.old.doms }
+        requires told { IsTold self.now kept.old store.old.doms }
+        ensures told { AreDomains store.new.doms → IsTold self.now kept.new store.new.doms }
+        ensures narrows { Narrows (truth_of self.now) (line_of self.now) result
+            store.old store.new }
+    {
+        keep_odd(store, &self.terms, kept)
+    }
+}
+
 impl Propagator for Parity {
     ghost saying = { λ p. p };
 
     fn propagate(&self, store: &mut Store) -> Result<Answer, AllocError> {
-        keep_odd(store, &self.terms)
+        let mut kept = Kept::none();
+        self.run(store, &mut kept)
     }
 }
