@@ -8,3 +8,4 @@ pub mod Divisions
 pub mod Helping
 pub mod Parted
 pub mod Sides
+pub mod Beaten

@@ -1,9 +1,16 @@
 //! Equations of terms.
-ghost use Rattle.std.specs.Prelude.{◌≡◌};
+ghost use Rattle.std.specs.Prelude.{◌≡◌, ◌↔◌, length, IsTrue};
+ghost use Rattle.std.specs.List.{AllByRecursion};
+ghost use Rattle.fz_strength.specs.Domains.{AreDomains};
 ghost use Rattle.fz_strength.specs.Operations.{equation};
-ghost use Rattle.fz_strength.specs.Sayings.{Equals};
+ghost use Rattle.fz_strength.specs.Promises.{Suits};
+ghost use Rattle.fz_strength.specs.Sayings.{Equals, line_of, said_terms, truth_of};
+ghost use Rattle.fz_kept.specs.Told.{IsLong, IsTold};
+ghost use Rattle.fz_prop.specs.Answers.{Narrows};
+ghost use Rattle.fz_prop.specs.Stores.{IsTermOf};
 
-use crate::narrow::keep_equation;
+use crate::extremes::{is_long, keep_between_ends};
+use fz_kept::Kept;
 use fz_prop::{Answer, Propagator, Store};
 use fz_spec::term::Term;
 use fz_strength::operation::Operation;
@@ -40,10 +47,36 @@ impl Arithmetic {
     }
 }
 
+impl Arithmetic {
+    /// Whether it has so many operands that it serves to keep something.
+    pub fn keeps(&self) -> bool
+        ensures { IsTrue result ↔ IsLong self.now }
+    {
+        is_long(&self.operands)
+    }
+
+    /// Narrows a store, as `propagate` does. Of how many operands at the front and at the back none is the least, or the greatest, is
+    /// kept.
+    ///
+    /// # Errors
+    /// `AllocError` where there is no memory for a domain; the store is then narrower, and no assignment is lost.
+    pub fn run(&self, store: &mut Store, kept: &mut Kept) -> Result<Answer, AllocError>
+        requires terms { AllByRecursion (IsTermOf (length store.old.doms)) (said_terms self.now) }
+        requires suits { Suits self.now store.old.doms }
+        requires told { IsTold self.now kept.old store.old.doms }
+        ensures told { AreDomains store.new.doms → IsTold self.now kept.new store.new.doms }
+        ensures narrows { Narrows (truth_of self.now) (line_of self.now) result
+            store.old store.new }
+    {
+        keep_between_ends(store, self.operation, &self.operands, self.value, kept)
+    }
+}
+
 impl Propagator for Arithmetic {
     ghost saying = { λ p. p };
 
     fn propagate(&self, store: &mut Store) -> Result<Answer, AllocError> {
-        keep_equation(store, self.operation, &self.operands, self.value)
+        let mut kept = Kept::none();
+        self.run(store, &mut kept)
     }
 }

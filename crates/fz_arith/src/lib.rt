@@ -6,6 +6,7 @@
 pub mod arithmetic;
 mod bounds;
 mod ends;
+mod extremes;
 mod factors;
 mod narrow;
 mod ranges;
