@@ -1,6 +1,6 @@
 //! What spaces leave of small domains, beside all assignments: for each constraint, and each choice of domains of a few numbers for
 //! its variables, the space of the model of these domains and that constraint comes to rest, and is compared with the assignments
-//! that satisfy the model. With a word, such as `nodes`, it counts the nodes of the search tree of a model on standard input.
+//! that satisfy the model. With a word, such as `nodes`, it counts the nodes of the search tree of a model on standard input, and with two, such as `nodes first`, up to the first solution.
 #![tactic(auto)]
 
 mod judge;
@@ -9,7 +9,7 @@ mod numbers;
 mod rows;
 mod table;
 
-use nodes::print_nodes;
+use nodes::{Until, print_nodes};
 use rows::groups;
 use std::alloc::AllocError;
 use std::env;
@@ -17,8 +17,10 @@ use std::process::ExitCode;
 use table::Table;
 
 fn main(rt: HostRuntime) -> ExitCode {
-    if has_word(&rt) {
-        return print_nodes(&rt);
+    match word_count(&rt) {
+        0 => {}
+        1 => return print_nodes(&rt, Until::End),
+        _ => return print_nodes(&rt, Until::First),
     }
     match all(&rt) {
         Ok(()) => ExitCode::SUCCESS,
@@ -26,11 +28,11 @@ fn main(rt: HostRuntime) -> ExitCode {
     }
 }
 
-/// Whether an argument is given.
-fn has_word(rt: &HostRuntime) -> bool {
+/// How many arguments are given.
+fn word_count(rt: &HostRuntime) -> usize {
     match env::args(rt) {
-        Ok(arguments) => arguments.count() > 1,
-        Err(_) => false,
+        Ok(arguments) => arguments.count().saturating_sub(1),
+        Err(_) => 0,
     }
 }
 
