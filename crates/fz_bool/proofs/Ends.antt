@@ -1,5 +1,5 @@
 -- Parities of the terms at both ends of a list, and what is left between these.
-use Rattle.std.proofs.Common.{rules, ◌≡◌, ℕ, zero, suc, ◌≤◌, ◌+◌, ◌-◌, ◌%◌, List, [], ◌∷◌, ◌∙◌, refl, sym, ap, arith, length, take, drop}
+use Rattle.std.proofs.Common.{rules, ◌≡◌, ℕ, zero, suc, ◌≤◌, ◌+◌, ◌-◌, ◌%◌, List, [], ◌∷◌, ◌∙◌, refl, sym, ap, subst, arith, length, take, drop}
 use Rattle.std.specs.Prelude.{ℤ, pos, Bool, true, false, Some, ◌↔◌, IsTrue, count_by, slice_get, if◌then◌else◌}
 use Rattle.std.specs.Ordering.{int_eq}
 use Rattle.std.proofs.lemmas.Int.{ints}
@@ -14,7 +14,7 @@ use Rattle.fz_strength.specs.Events.{IsFixedIn}
 use Rattle.fz_strength.specs.Clauses.{positive, IsTrueIn, IsUntrueIn}
 use Rattle.fz_kept.specs.Told.{AreEndsOdd}
 use Rattle.fz_prop.specs.Stores.{IsTermOf}
-use Rattle.fz_bool.specs.Parity.{flip, is_odd, turned, OddTruth, IsLastTerm}
+use Rattle.fz_bool.specs.Parity.{flip, is_odd, turned, OddTruth, IsOpenAt, IsLastTerm}
 use Rattle.fz_bool.proofs.Odd.{flips, odd_more, bit_true, bit_false}
 use Rattle.fz_bool.proofs.Parities.{bit, by_bit, odd_count}
 
@@ -114,6 +114,9 @@ back_false ts front back place number t ds at is here inside untrue told = back_
 
 pub turned_fits : (n : ℤ) → SFits w64 (turned n)
 turned_fits n = elim (int_eq n (pos 1)) as (λ b. SFits w64 (if b then pos 0 else pos 1)) [ true ↦ search rules | false ↦ search rules ]
+
+pub open_at : (ds : List (List (ℤ × ℤ))) (ts : List Term) (i : ℕ) (t : Term) → slice_get ts i ≡ Some t → (IsFixedIn ds t → ⊥) → IsOpenAt ds ts i
+open_at ds ts i t at unfixed = λ u here fixed. unfixed (subst (IsFixedIn ds) (some_is u t (sym here ∙ at)) fixed)
 
 -- ---- the ends meet, or one term is between them
 

@@ -49,6 +49,10 @@ abbrev pub missing_number : Bool → Bool → ℤ
 missing_number false odd = if odd then pos 1 else pos 0
 missing_number true odd = if odd then pos 0 else pos 1
 
+-- the one at a place is open, if there is one
+abbrev pub IsOpenAt : List (List (ℤ × ℤ)) → List Term → ℕ → Type 0
+IsOpenAt ds ts i = (t : Term) → slice_get ts i ≡ Some t → IsFixedIn ds t → ⊥
+
 -- at two places there are open terms
 pub record AreTwoOpen (ds : List (List (ℤ × ℤ))) (ts : List Term) : Type 0 where
   pub first : ℕ

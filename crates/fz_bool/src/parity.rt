@@ -1,5 +1,5 @@
 //! Parities.
-ghost use Rattle.std.specs.Prelude.{◌≡◌, ◌↔◌, ◌<◌, pos, length, true, IfOk, IsTrue, OnErr};
+ghost use Rattle.std.specs.Prelude.{◌≡◌, ◌↔◌, ◌<◌, ◌-◌, pos, length, true, IfOk, IsTrue, OnErr};
 ghost use Rattle.std.specs.List.{AllByRecursion};
 ghost use Rattle.fz_strength.specs.Clauses.{positive};
 ghost use Rattle.fz_strength.specs.Domains.{AreDomains};
@@ -8,7 +8,7 @@ ghost use Rattle.fz_strength.specs.Sayings.{Odd, line_of, said_terms, truth_of};
 ghost use Rattle.fz_kept.specs.Told.{AreEndsOdd, IsLong, IsTold};
 ghost use Rattle.fz_prop.specs.Answers.{IsAnswerOf, IsCorrectOf, Narrows};
 ghost use Rattle.fz_prop.specs.Stores.{Shrinks, IsTermOf, IsTermChange};
-ghost use Rattle.fz_bool.specs.Parity.{OddTruth, OddLine, AreBooleansOf, IsSeen, missing_number, turned};
+ghost use Rattle.fz_bool.specs.Parity.{OddTruth, OddLine, AreBooleansOf, IsOpenAt, IsSeen, missing_number, turned};
 
 use crate::literals::{State, count_of, state_of};
 use fz_kept::Kept;
@@ -113,43 +113,51 @@ fn seen_between(store: &Store, terms: &[Term], kept: &mut Kept) -> Seen
     if !is_long(terms) {
         return seen_of(store, terms);
     }
-    pass_front(store, terms, kept);
-    pass_back(store, terms, kept);
-    seen_at(store, terms, *kept)
+    let first = pass_front(store, terms, kept);
+    let last = pass_back(store, terms, kept);
+    seen_at(store, terms, *kept, first, last)
 }
 
-/// Passes the terms at the front that are fixed.
-fn pass_front(store: &Store, terms: &[Term], kept: &mut Kept)
+/// Passes the terms at the front that are fixed; whether an open one comes next.
+fn pass_front(store: &Store, terms: &[Term], kept: &mut Kept) -> bool
     requires terms { AllByRecursion (IsTermOf (length store.now.doms)) terms.now }
     requires told { AreEndsOdd terms.now kept.old.front kept.old.back kept.old.number
         store.now.doms }
-    ensures { AreEndsOdd terms.now kept.new.front kept.new.back kept.new.number store.now.doms }
+    ensures told { AreEndsOdd terms.now kept.new.front kept.new.back kept.new.number
+        store.now.doms }
+    ensures stop { IsTrue result → IsOpenAt store.now.doms terms.now kept.new.front }
 {
     for place in kept.front..count_of(terms).saturating_sub(kept.back) {
         match state_of(store, positive(terms[place as usize])) {
             State::True => kept.number = turned(kept.number),
             State::False => {}
-            State::Open => return,
+            State::Open => return true,
         }
         kept.front = place + 1;
     }
+    false
 }
 
-/// Passes the terms at the back that are fixed.
-fn pass_back(store: &Store, terms: &[Term], kept: &mut Kept)
+/// Passes the terms at the back that are fixed; whether an open one comes before them.
+fn pass_back(store: &Store, terms: &[Term], kept: &mut Kept) -> bool
     requires terms { AllByRecursion (IsTermOf (length store.now.doms)) terms.now }
     requires told { AreEndsOdd terms.now kept.old.front kept.old.back kept.old.number
         store.now.doms }
-    ensures { AreEndsOdd terms.now kept.new.front kept.new.back kept.new.number store.now.doms }
+    ensures told { AreEndsOdd terms.now kept.new.front kept.new.back kept.new.number
+        store.now.doms }
+    ensures front { kept.new.front ≡ kept.old.front }
+    ensures stop { IsTrue result → IsOpenAt store.now.doms terms.now
+        (length terms.now - 1 - kept.new.back) }
 {
     for passed in kept.back..count_of(terms).saturating_sub(kept.front) {
         match state_of(store, positive(terms[terms.len() - 1 - passed as usize])) {
             State::True => kept.number = turned(kept.number),
             State::False => {}
-            State::Open => return,
+            State::Open => return true,
         }
         kept.back = passed + 1;
     }
+    false
 }
 
 fn is_one(number: i64) -> bool
@@ -165,10 +173,13 @@ fn turned(number: i64) -> i64
     if number == 1 { 0 } else { 1 }
 }
 
-/// What is left of terms, where so many at each end are fixed.
-fn seen_at(store: &Store, terms: &[Term], ends: Kept) -> Seen
+/// What is left of terms, where so many at each end are fixed, and the ones between which these stand are open or not known to be.
+fn seen_at(store: &Store, terms: &[Term], ends: Kept, first: bool, last: bool) -> Seen
     requires terms { AllByRecursion (IsTermOf (length store.now.doms)) terms.now }
     requires told { AreEndsOdd terms.now ends.front ends.back ends.number store.now.doms }
+    requires first { IsTrue first → IsOpenAt store.now.doms terms.now ends.front }
+    requires last { IsTrue last → IsOpenAt store.now.doms terms.now
+        (length terms.now - 1 - ends.back) }
     ensures { IsSeen result store.now.doms terms.now }
 {
     let (front, back) = (ends.front as usize, ends.back as usize);
@@ -177,20 +188,13 @@ fn seen_at(store: &Store, terms: &[Term], ends: Kept) -> Seen
     if between == 0 {
         return Seen::All(odd);
     }
-    let last = terms.len() - 1 - back;
-    match (
-        state_of(store, positive(terms[front])),
-        state_of(store, positive(terms[last])),
-    ) {
-        (State::Open, State::Open) => {
-            if between == 1 {
-                Seen::Last(terms[front], odd)
-            } else {
-                Seen::More
-            }
-        }
-        _ => seen_of(store, terms),
+    if !first || !last {
+        return seen_of(store, terms);
     }
+    if between == 1 {
+        return Seen::Last(terms[front], odd);
+    }
+    Seen::More
 }
 
 /// What is left of terms, as far as the second open one.

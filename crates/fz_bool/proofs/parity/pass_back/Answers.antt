@@ -6,8 +6,9 @@ use Rattle.fz_spec.specs.declared.term.Term.TheVariants.{Num}
 use Rattle.fz_strength.specs.Clauses.{IsTrueIn, IsUntrueIn}
 use Rattle.fz_kept.specs.Told.{AreEndsOdd}
 use Rattle.fz_prop.specs.Stores.{IsTermOf}
+use Rattle.fz_bool.specs.Looks.{IsOpen}
 use Rattle.fz_bool.proofs.Odd.{at_place}
-use Rattle.fz_bool.proofs.Ends.{back_true, back_false, turned_fits}
+use Rattle.fz_bool.proofs.Ends.{back_true, back_false, turned_fits, open_at}
 use Rattle.fz_bool.proofs.parity.pass_back.Goals.{in-True, in-False}
 use Rattle.fz_bool.proofs.parity.pass_back.Goals as goal
 
@@ -34,3 +35,11 @@ loop-passed-preserved c =
           rw (w.kept-is)
           (record { told = back_false ts kept.front n place kept.number t ds at is here inside (subst (IsUntrueIn ds) c.positive.ensures w.in-False.ensures) told; here = refl; other = so_far.other; fits = fits })
     ]
+
+pub returns-in-Open-clause-stop : goal.returns-in-Open-clause-stop
+returns-in-Open-clause-stop c = λ stops.
+    let ts = c.args.terms.now in
+    let place = (length c.args.terms.now - 1 - c.loop-passed.passed) in
+    rw c.loop-passed.invariant.here
+    (open_at c.args.store.now.doms ts place (get_or ts place (Num (pos 0))) (at_place ts place (omega (arith, c.loop-passed-test.true, c.saturating_sub-passed-end.ensures, c.count_of.ensures)))
+    (subst (IsOpen c.args.store.now.doms) c.positive.ensures c.in-Open.ensures))

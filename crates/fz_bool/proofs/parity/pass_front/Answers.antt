@@ -6,8 +6,9 @@ use Rattle.fz_spec.specs.declared.term.Term.TheVariants.{Num}
 use Rattle.fz_strength.specs.Clauses.{IsTrueIn, IsUntrueIn}
 use Rattle.fz_kept.specs.Told.{AreEndsOdd}
 use Rattle.fz_prop.specs.Stores.{IsTermOf}
+use Rattle.fz_bool.specs.Looks.{IsOpen}
 use Rattle.fz_bool.proofs.Odd.{at_place}
-use Rattle.fz_bool.proofs.Ends.{front_true, front_false, turned_fits}
+use Rattle.fz_bool.proofs.Ends.{front_true, front_false, turned_fits, open_at}
 use Rattle.fz_bool.proofs.parity.pass_front.Goals.{in-True, in-False}
 use Rattle.fz_bool.proofs.parity.pass_front.Goals as goal
 
@@ -32,3 +33,11 @@ loop-place-preserved c =
           rw (w.kept-is)
           (record { told = front_false ts i kept.back kept.number t ds at is inside (subst (IsUntrueIn ds) c.positive.ensures w.in-False.ensures) told; here = refl; other = so_far.other; fits = fits })
     ]
+
+pub returns-in-Open-clause-stop : goal.returns-in-Open-clause-stop
+returns-in-Open-clause-stop c = λ stops.
+    let ts = c.args.terms.now in
+    let place = c.loop-place.place in
+    rw c.loop-place.invariant.here
+    (open_at c.args.store.now.doms ts place (get_or ts place (Num (pos 0))) (at_place ts place (omega (arith, c.loop-place-test.true, c.saturating_sub-place-end.ensures, c.count_of.ensures)))
+    (subst (IsOpen c.args.store.now.doms) c.positive.ensures c.in-Open.ensures))
