@@ -1,12 +1,12 @@
 //! Terms at both ends of which none has a number in common with any other.
-ghost use Rattle.std.specs.Prelude.{◌↔◌, ◌<◌, ◌≤◌, length, IsTrue};
+ghost use Rattle.std.specs.Prelude.{◌↔◌, ◌<◌, length, IsTrue};
 ghost use Rattle.std.specs.List.{AllByRecursion};
 ghost use Rattle.fz_strength.specs.Differences.{AreApart};
 ghost use Rattle.fz_kept.specs.Told.{AreEndsDone, IsAlone};
 ghost use Rattle.fz_prop.specs.Stores.{IsTermOf};
 ghost use Rattle.fz_alldiff.specs.Ends.{AreAloneBelow, AreAloneBehind, IsBetween};
 
-use fz_kept::Kept;
+use fz_kept::{Kept, count_of};
 use fz_prop::Store;
 use fz_prop::terms::value_of;
 use fz_spec::term::Term;
@@ -42,16 +42,6 @@ pub fn move_ends(store: &Store, terms: &[Term], kept: &mut Kept)
     let back = back_from(store, terms, kept.back);
     kept.front = front;
     kept.back = back;
-}
-
-/// How many terms there are, as far as 32 bits count them.
-fn count_of(terms: &[Term]) -> u32
-    ensures { result ≤ length terms.now }
-{
-    match u32::try_from(terms.len()) {
-        Ok(count) => count,
-        Err(_) => 0,
-    }
 }
 
 /// How many terms at the front have no number in common with another, where so many haven't and the others may be fixed.

@@ -8,7 +8,7 @@ ghost use Rattle.fz_prop.specs.Stores.{IsTermOf, Shrinks};
 ghost use Rattle.fz_arith.specs.Extremes.{AreEndsBeaten, IsExtreme};
 
 use crate::narrow::keep_equation;
-use fz_kept::Kept;
+use fz_kept::{Kept, count_of};
 use fz_prop::terms::{greatest_of, least_of};
 use fz_prop::{Answer, Store};
 use fz_spec::term::Term;
@@ -119,16 +119,6 @@ fn is_beaten(store: &Store, operation: Operation, operand: Term, value: Term) ->
         Operation::Min => greatest_of(store, value) < least_of(store, operand),
         Operation::Max => greatest_of(store, operand) < least_of(store, value),
         _ => false,
-    }
-}
-
-/// How many operands there are, as far as 32 bits count them.
-fn count_of(operands: &[Term]) -> u32
-    ensures { result ≤ length operands.now }
-{
-    match u32::try_from(operands.len()) {
-        Ok(count) => count,
-        Err(_) => 0,
     }
 }
 

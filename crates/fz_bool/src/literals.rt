@@ -1,5 +1,5 @@
 //! What is left of literals, and making them false.
-ghost use Rattle.std.specs.Prelude.{◌≡◌, ◌↔◌, ◌<◌, ◌≤◌, length, IfOk, IsTrue, OnErr};
+ghost use Rattle.std.specs.Prelude.{◌≡◌, ◌↔◌, ◌<◌, length, IfOk, IsTrue, OnErr};
 ghost use Rattle.fz_strength.specs.Clauses.{true_number, false_number};
 ghost use Rattle.fz_prop.specs.Answers.{IsAnswerOf, IsCorrectOf};
 ghost use Rattle.fz_prop.specs.Stores.{Shrinks, IsStore, IsTermOf, IsTermChange};
@@ -7,7 +7,7 @@ ghost use Rattle.fz_kept.specs.Told.{AreUntrueBelow, AreUntrueBehind, AreEndsUnt
 ghost use Rattle.fz_bool.specs.Looks.{AreTermsOf, IsStateOf, IsLeft, IsTruthAmong};
 ghost use Rattle.fz_bool.specs.Clausal.{AreMadeFalse, AreFalseIn};
 
-use fz_kept::Kept;
+use fz_kept::{Kept, count_of};
 use fz_prop::terms::{keep_only, value_of};
 use fz_prop::{Answer, Change, Store};
 use fz_strength::literal::Literal;
@@ -69,16 +69,6 @@ pub fn left_between(store: &Store, literals: &[Literal], kept: &mut Kept) -> Lef
     kept.front = front;
     kept.back = back;
     left_at(store, literals, front as usize, back as usize)
-}
-
-/// How many literals or terms there are, as far as 32 bits count them.
-pub fn count_of<T>(items: &[T]) -> u32
-    ensures { result ≤ length items.now }
-{
-    match u32::try_from(items.len()) {
-        Ok(count) => count,
-        Err(_) => 0,
-    }
 }
 
 /// Of how many literals at the front none may still get true, where it is none of so many.

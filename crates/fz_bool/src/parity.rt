@@ -10,8 +10,8 @@ ghost use Rattle.fz_prop.specs.Answers.{IsAnswerOf, IsCorrectOf, Narrows};
 ghost use Rattle.fz_prop.specs.Stores.{Shrinks, IsTermOf, IsTermChange};
 ghost use Rattle.fz_bool.specs.Parity.{OddTruth, OddLine, AreBooleansOf, IsOpenAt, IsSeen, missing_number, turned};
 
-use crate::literals::{State, count_of, state_of};
-use fz_kept::Kept;
+use crate::literals::{State, state_of};
+use fz_kept::{Kept, count_of};
 use fz_prop::terms::keep_only;
 use fz_prop::{Answer, Change, Propagator, Store};
 use fz_spec::term::Term;
