@@ -3,58 +3,66 @@ use crate::numbers::Declared;
 use crate::rows::Rest;
 use fz_dom::Dom;
 use fz_model::{Assignment, Model};
-use fz_reader::model_of;
 use fz_search_space::{SearchSpace, Status};
 use fz_space::Space;
 use fz_truth::holds;
 use std::alloc::{AllocError, Global};
-use std::sync::Arc;
 
-/// What a space says of a model at rest, and how that compares with the assignments that satisfy it.
+/// What is to be left of a store: the assignments that satisfy its model, and of its numbers what a rest says.
+#[derive(Drop)]
+pub struct Due<'a> {
+    declared: [&'a Declared; 3],
+    solutions: Vec<&'a Assignment>,
+    rest: Rest,
+}
+
+/// What a space at rest says, and whether that is what is due.
 #[derive(Clone, Copy)]
 pub struct Judgement {
     pub status: Status,
-    pub solutions: usize,
     pub agrees: bool,
 }
 
-/// The space of the model of a text at rest, beside those of some assignments that satisfy it; `None` where the text is refused.
-pub fn judge(
-    alloc: Global,
-    text: &str,
-    declared: [&Declared; 3],
-    assignments: &[Assignment],
-    rest: Rest,
-) -> Result<Option<Judgement>, AllocError> {
-    let model = match model_of(alloc, text.as_bytes())? {
-        Ok(model) => shared(alloc, model)?,
-        Err(_) => return Ok(None),
-    };
-    let solutions = solutions(alloc, &model, assignments)?;
-    let mut space = <Space as SearchSpace>::root(alloc, model)?;
-    let status = space.status()?;
-    let doms = space.store().doms();
-    let agrees = match status {
-        Status::Failed => solutions.is_empty(),
-        Status::Solved => solutions.len() == 1 && are_fixed(doms) && are_left(doms, &solutions),
-        Status::Branch => {
-            !are_fixed(doms)
-                && are_left(doms, &solutions)
-                && are_due(doms, declared, &solutions, rest)
-        }
-    };
-    Ok(Some(Judgement {
-        status,
-        solutions: solutions.len(),
-        agrees,
-    }))
-}
+impl<'a> Due<'a> {
+    /// What is due of the model of a store, where these are all assignments that may satisfy it.
+    pub fn new(
+        alloc: Global,
+        model: &Model,
+        declared: [&'a Declared; 3],
+        assignments: &'a [Assignment],
+        rest: Rest,
+    ) -> Result<Due<'a>, AllocError> {
+        Ok(Due {
+            declared,
+            solutions: solutions(alloc, model, assignments)?,
+            rest,
+        })
+    }
 
-/// A model that may be shared.
-fn shared(alloc: Global, model: Model) -> Result<Arc<Model>, AllocError> {
-    match Arc::new(alloc, model) {
-        Ok(model) => Ok(model),
-        Err(_) => Err(AllocError),
+    /// How many assignments satisfy.
+    pub fn solutions(&self) -> usize {
+        self.solutions.len()
+    }
+
+    /// What a space of the store says at rest.
+    pub fn judge(&self, space: &mut Space) -> Result<Judgement, AllocError> {
+        let status = space.status()?;
+        let agrees = self.agrees(status, space.store().doms());
+        Ok(Judgement { status, agrees })
+    }
+
+    /// Whether a status and what is left are what is due.
+    fn agrees(&self, status: Status, doms: &[Dom]) -> bool {
+        let solutions = &self.solutions;
+        match status {
+            Status::Failed => solutions.is_empty(),
+            Status::Solved => solutions.len() == 1 && are_fixed(doms) && are_left(doms, solutions),
+            Status::Branch => {
+                !are_fixed(doms)
+                    && are_left(doms, solutions)
+                    && are_due(doms, self.declared, solutions, self.rest)
+            }
+        }
     }
 }
 

@@ -1,6 +1,8 @@
 //! What spaces leave of small domains, beside all assignments: for each constraint, and each choice of domains of a few numbers for
-//! its variables, the space of the model of these domains and that constraint comes to rest, and is compared with the assignments
-//! that satisfy the model. With a word, such as `nodes`, it counts the nodes of the search tree of a model on standard input, and with two, such as `nodes first`, up to the first solution.
+//! its variables, a space of these domains and that constraint comes to rest, and is compared with the assignments that satisfy. Each
+//! is looked at twice: once its domains are declared, and once they are what is left of wider ones that came to rest before, so that
+//! what propagators keep between runs is used. With a word, such as `nodes`, it counts the nodes of the search tree of a model on
+//! standard input, and with two, such as `nodes first`, up to the first solution.
 #![tactic(auto)]
 
 mod judge;
@@ -8,13 +10,14 @@ mod nodes;
 mod numbers;
 mod rows;
 mod table;
+mod widest;
 
 use nodes::{Until, print_nodes};
 use rows::groups;
 use std::alloc::AllocError;
 use std::env;
 use std::process::ExitCode;
-use table::Table;
+use table::{Row, Table};
 
 fn main(rt: HostRuntime) -> ExitCode {
     match word_count(&rt) {
@@ -40,7 +43,8 @@ fn all(rt: &HostRuntime) -> Result<(), AllocError> {
     for group in groups() {
         let table = Table::new(rt.alloc(), group.numbers)?;
         for constraint in group.constraints {
-            table.compare(rt, constraint, group.rest)?;
+            let rest = group.rest;
+            table.compare(rt, Row { constraint, rest })?;
         }
     }
     Ok(())
