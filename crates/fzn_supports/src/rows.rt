@@ -402,6 +402,8 @@ static GROUPS: [Group; 34] = [
             "int_lin_eq([1, 1, -1], [x, x, y], 0) :: domain",
             "int_lin_eq([2, 3, 1], [x, y, 5], 11) :: domain",
             "int_lin_eq([1, -1], [x, x], 0) :: domain",
+            "int_lin_eq([0, 1], [x, y], 2) :: domain",
+            "int_lin_eq([0, 2, -1], [x, x, y], 0) :: domain",
         ],
     },
     Group {
@@ -411,6 +413,7 @@ static GROUPS: [Group; 34] = [
             "int_lin_eq([2, 3, -1], [x, y, z], 1) :: domain",
             "int_lin_eq([1, 1, 1], [x, y, z], 0) :: domain",
             "int_lin_eq([2, 1, -1], [x, y, z], 0) :: domain",
+            "int_lin_eq([2, 0, 3], [x, y, z], 1) :: domain",
         ],
     },
     Group {
