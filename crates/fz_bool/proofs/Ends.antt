@@ -1,10 +1,7 @@
 -- Parities of the terms at both ends of a list, and what is left between these.
-use Rattle.std.proofs.Common.{rules, ◌≡◌, ℕ, zero, suc, ◌≤◌, ◌+◌, ◌-◌, ◌%◌, List, [], ◌∷◌, ◌∙◌, refl, sym, ap, subst, arith, length, take, drop}
-use Rattle.std.specs.Prelude.{ℤ, pos, Bool, true, false, Some, ◌↔◌, IsTrue, count_by, slice_get, if◌then◌else◌}
-use Rattle.std.specs.Ordering.{int_eq}
+use Rattle.std.proofs.Common.{◌≡◌, ℕ, zero, suc, ◌≤◌, ◌+◌, ◌-◌, ◌%◌, List, [], ◌∷◌, ◌∙◌, refl, sym, ap, subst, arith, length, take, drop}
+use Rattle.std.specs.Prelude.{ℤ, pos, Bool, true, false, Some, ◌↔◌, IsTrue, count_by, slice_get}
 use Rattle.std.proofs.lemmas.Int.{ints}
-use mir.Val.{SFits}
-use mir.Syntax.{w64}
 use Rattle.fz_sets.proofs.Lists.{some_is}
 use Rattle.fz_spec.specs.declared.term.Term.{Term}
 use Rattle.fz_spec.specs.Constraints.{term_value, term_values}
@@ -111,9 +108,6 @@ back_true ts front back place number t ds at is here inside holds told = back_mo
 pub back_false : (ts : List Term) (front back place : ℕ) (number : ℤ) (t : Term) (ds : List (List (ℤ × ℤ))) → slice_get ts place ≡ Some t → IsTermOf (length ds) t → place + 1 + back ≡ length ts
     → front + back + 1 ≤ length ts → IsUntrueIn ds (positive t) → AreEndsOdd ts front back number ds → AreEndsOdd ts front (back + 1) number ds
 back_false ts front back place number t ds at is here inside untrue told = back_more false ts front back place number t ds at here inside (λ a within. bit_false ds t a is untrue within) told
-
-pub turned_fits : (n : ℤ) → SFits w64 (turned n)
-turned_fits n = elim (int_eq n (pos 1)) as (λ b. SFits w64 (if b then pos 0 else pos 1)) [ true ↦ search rules | false ↦ search rules ]
 
 pub open_at : (ds : List (List (ℤ × ℤ))) (ts : List Term) (i : ℕ) (t : Term) → slice_get ts i ≡ Some t → (IsFixedIn ds t → ⊥) → IsOpenAt ds ts i
 open_at ds ts i t at unfixed = λ u here fixed. unfixed (subst (IsFixedIn ds) (some_is u t (sym here ∙ at)) fixed)

@@ -9,6 +9,7 @@ use Rattle.fz_strength.specs.Domains.{Within}
 use Rattle.fz_strength.specs.Events.{IsFixedIn}
 use Rattle.fz_strength.specs.Lines.{AreOthersFixed}
 use Rattle.fz_strength.specs.Promises.{IsTruth}
+use Rattle.fz_kept.specs.declared.kept.Kept.{Kept}
 use Rattle.fz_prop.specs.Stores.{IsTermOf}
 use Rattle.fz_bool.specs.declared.parity.Seen.{Seen}
 use Rattle.fz_bool.specs.declared.parity.Seen.TheVariants.{All, Last, More}
@@ -26,6 +27,9 @@ is_odd (x ∷ xs) = flip (is_one x) (is_odd xs)
 -- 1 in place of 0, and 0 in place of 1
 abbrev pub turned : ℤ → ℤ
 turned n = if int_eq n (pos 1) then pos 0 else pos 1
+
+abbrev pub turned_ends : Kept → Kept
+turned_ends ends = record { owner = ends.owner; number = turned ends.number; front = ends.front; back = ends.back }
 
 abbrev pub OddTruth : List Term → Bool → List ℤ → Type 0
 OddTruth ts odd a = is_odd (term_values a ts) ≡ odd

@@ -8,7 +8,7 @@ ghost use Rattle.fz_strength.specs.Sayings.{Odd, line_of, said_terms, truth_of};
 ghost use Rattle.fz_kept.specs.Told.{AreEndsOdd, IsLong, IsTold};
 ghost use Rattle.fz_prop.specs.Answers.{IsAnswerOf, IsCorrectOf, Narrows};
 ghost use Rattle.fz_prop.specs.Stores.{Shrinks, IsTermOf, IsTermChange};
-ghost use Rattle.fz_bool.specs.Parity.{OddTruth, OddLine, AreBooleansOf, IsOpenAt, IsSeen, missing_number, turned};
+ghost use Rattle.fz_bool.specs.Parity.{OddTruth, OddLine, AreBooleansOf, IsOpenAt, IsSeen, missing_number, turned_ends};
 
 use crate::literals::{State, state_of};
 use fz_kept::{Kept, count_of};
@@ -127,14 +127,19 @@ fn pass_front(store: &Store, terms: &[Term], kept: &mut Kept) -> bool
         store.now.doms }
     ensures stop { IsTrue result → IsOpenAt store.now.doms terms.now kept.new.front }
 {
-    for place in kept.front..count_of(terms).saturating_sub(kept.back) {
+    let mut ends = *kept;
+    for place in ends.front..count_of(terms).saturating_sub(ends.back) {
         match state_of(store, positive(terms[place as usize])) {
-            State::True => kept.number = turned(kept.number),
+            State::True => ends = turned(ends),
             State::False => {}
-            State::Open => return true,
+            State::Open => {
+                *kept = ends;
+                return true;
+            }
         }
-        kept.front = place + 1;
+        ends.front = place + 1;
     }
+    *kept = ends;
     false
 }
 
@@ -149,14 +154,19 @@ fn pass_back(store: &Store, terms: &[Term], kept: &mut Kept) -> bool
     ensures stop { IsTrue result → IsOpenAt store.now.doms terms.now
         (length terms.now - 1 - kept.new.back) }
 {
-    for passed in kept.back..count_of(terms).saturating_sub(kept.front) {
+    let mut ends = *kept;
+    for passed in ends.back..count_of(terms).saturating_sub(ends.front) {
         match state_of(store, positive(terms[terms.len() - 1 - passed as usize])) {
-            State::True => kept.number = turned(kept.number),
+            State::True => ends = turned(ends),
             State::False => {}
-            State::Open => return true,
+            State::Open => {
+                *kept = ends;
+                return true;
+            }
         }
-        kept.back = passed + 1;
+        ends.back = passed + 1;
     }
+    *kept = ends;
     false
 }
 
@@ -166,11 +176,14 @@ fn is_one(number: i64) -> bool
     number == 1
 }
 
-/// 1 in place of 0, and 0 in place of 1.
-fn turned(number: i64) -> i64
-    ensures { result ≡ turned number }
+/// The same ends, with 1 in place of 0, and 0 in place of 1.
+fn turned(ends: Kept) -> Kept
+    ensures { result ≡ turned_ends ends }
 {
-    if number == 1 { 0 } else { 1 }
+    Kept {
+        number: if is_one(ends.number) { 0 } else { 1 },
+        ..ends
+    }
 }
 
 /// What is left of terms, where so many at each end are fixed, and the ones between which these stand are open or not known to be.

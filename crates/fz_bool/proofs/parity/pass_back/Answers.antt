@@ -1,6 +1,5 @@
 use Rattle.std.proofs.Common.{◌≡◌, ◌+◌, ◌-◌, ◌≤◌, length, get_or, arith, refl, subst}
 use Rattle.std.specs.Prelude.{pos}
-use Rattle.std.proofs.Math.Facts.{to_z-of_z}
 use Rattle.fz_sets.proofs.Lists.{all_at}
 use Rattle.fz_spec.specs.declared.term.Term.TheVariants.{Num}
 use Rattle.fz_strength.specs.Clauses.{IsTrueIn, IsUntrueIn}
@@ -8,7 +7,7 @@ use Rattle.fz_kept.specs.Told.{AreEndsOdd}
 use Rattle.fz_prop.specs.Stores.{IsTermOf}
 use Rattle.fz_bool.specs.Looks.{IsOpen}
 use Rattle.fz_bool.proofs.Odd.{at_place}
-use Rattle.fz_bool.proofs.Ends.{back_true, back_false, turned_fits, open_at}
+use Rattle.fz_bool.proofs.Ends.{back_true, back_false, open_at}
 use Rattle.fz_bool.proofs.parity.pass_back.Goals.{in-True, in-False}
 use Rattle.fz_bool.proofs.parity.pass_back.Goals as goal
 
@@ -17,9 +16,8 @@ loop-passed-preserved c =
     let ts = c.args.terms.now in
     let ds = c.args.store.now.doms in
     let n = c.loop-passed.passed in
-    let kept = c.loop-passed.kept in
+    let kept = c.loop-passed.ends in
     let so_far = c.loop-passed.invariant in
-    let fits = so_far.fits in
     let inside : kept.front + n + 1 ≤ length ts = omega (arith, c.loop-passed-test.true, c.saturating_sub-passed-end.ensures, c.count_of.ensures, so_far.other) in
     let place = length ts - 1 - n in
     let t = get_or ts place (Num (pos 0)) in
@@ -29,11 +27,11 @@ loop-passed-preserved c =
     let here : place + 1 + n ≡ length ts = omega (arith, inside) in
     elim c.match-state_of.branch [
       | in-True w ↦
-          rw (w.kept-is, w.turned-kept.ensures, to_z-of_z fits, to_z-of_z (turned_fits kept.number))
-          (record { told = back_true ts kept.front n place kept.number t ds at is here inside (subst (IsTrueIn ds) c.positive.ensures w.in-True.ensures) told; here = refl; other = so_far.other; fits = turned_fits kept.number })
+          rw (w.ends-is, w.turned-ends.ensures)
+          (record { told = back_true ts kept.front n place kept.number t ds at is here inside (subst (IsTrueIn ds) c.positive.ensures w.in-True.ensures) told; here = refl; other = so_far.other })
       | in-False w ↦
-          rw (w.kept-is)
-          (record { told = back_false ts kept.front n place kept.number t ds at is here inside (subst (IsUntrueIn ds) c.positive.ensures w.in-False.ensures) told; here = refl; other = so_far.other; fits = fits })
+          rw (w.ends-is)
+          (record { told = back_false ts kept.front n place kept.number t ds at is here inside (subst (IsUntrueIn ds) c.positive.ensures w.in-False.ensures) told; here = refl; other = so_far.other })
     ]
 
 pub returns-in-Open-clause-stop : goal.returns-in-Open-clause-stop

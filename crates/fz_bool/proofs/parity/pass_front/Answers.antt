@@ -1,6 +1,5 @@
 use Rattle.std.proofs.Common.{◌+◌, ◌≤◌, length, get_or, arith, refl, subst}
 use Rattle.std.specs.Prelude.{pos}
-use Rattle.std.proofs.Math.Facts.{to_z-of_z}
 use Rattle.fz_sets.proofs.Lists.{all_at}
 use Rattle.fz_spec.specs.declared.term.Term.TheVariants.{Num}
 use Rattle.fz_strength.specs.Clauses.{IsTrueIn, IsUntrueIn}
@@ -8,7 +7,7 @@ use Rattle.fz_kept.specs.Told.{AreEndsOdd}
 use Rattle.fz_prop.specs.Stores.{IsTermOf}
 use Rattle.fz_bool.specs.Looks.{IsOpen}
 use Rattle.fz_bool.proofs.Odd.{at_place}
-use Rattle.fz_bool.proofs.Ends.{front_true, front_false, turned_fits, open_at}
+use Rattle.fz_bool.proofs.Ends.{front_true, front_false, open_at}
 use Rattle.fz_bool.proofs.parity.pass_front.Goals.{in-True, in-False}
 use Rattle.fz_bool.proofs.parity.pass_front.Goals as goal
 
@@ -17,9 +16,8 @@ loop-place-preserved c =
     let ts = c.args.terms.now in
     let ds = c.args.store.now.doms in
     let i = c.loop-place.place in
-    let kept = c.loop-place.kept in
+    let kept = c.loop-place.ends in
     let so_far = c.loop-place.invariant in
-    let fits = so_far.fits in
     let inside : i + 1 + kept.back ≤ length ts = omega (arith, c.loop-place-test.true, c.saturating_sub-place-end.ensures, c.count_of.ensures, so_far.other) in
     let t = get_or ts i (Num (pos 0)) in
     let at = at_place ts i (omega (arith, inside)) in
@@ -27,11 +25,11 @@ loop-place-preserved c =
     let told : AreEndsOdd ts i kept.back kept.number ds = rw so_far.here at so_far.told in
     elim c.match-state_of.branch [
       | in-True w ↦
-          rw (w.kept-is, w.turned-kept.ensures, to_z-of_z fits, to_z-of_z (turned_fits kept.number))
-          (record { told = front_true ts i kept.back kept.number t ds at is inside (subst (IsTrueIn ds) c.positive.ensures w.in-True.ensures) told; here = refl; other = so_far.other; fits = turned_fits kept.number })
+          rw (w.ends-is, w.turned-ends.ensures)
+          (record { told = front_true ts i kept.back kept.number t ds at is inside (subst (IsTrueIn ds) c.positive.ensures w.in-True.ensures) told; here = refl; other = so_far.other })
       | in-False w ↦
-          rw (w.kept-is)
-          (record { told = front_false ts i kept.back kept.number t ds at is inside (subst (IsUntrueIn ds) c.positive.ensures w.in-False.ensures) told; here = refl; other = so_far.other; fits = fits })
+          rw (w.ends-is)
+          (record { told = front_false ts i kept.back kept.number t ds at is inside (subst (IsUntrueIn ds) c.positive.ensures w.in-False.ensures) told; here = refl; other = so_far.other })
     ]
 
 pub returns-in-Open-clause-stop : goal.returns-in-Open-clause-stop
