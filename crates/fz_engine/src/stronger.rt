@@ -27,10 +27,7 @@ pub fn stronger_of<'m>(
     match saying {
         Saying::Differ(terms) => Some(Saying::DifferByBounds(terms)),
         Saying::Sum(Relation::Equal, factors, terms, last) => {
-            if whole
-                && is_short(terms, *last)
-                && !is_kept_whole(factors, terms, *last, variables)
-            {
+            if whole && is_short(terms, *last) && !is_kept_whole(factors, terms, *last, variables) {
                 Some(Saying::SumByNumbers(factors, terms, *last))
             } else {
                 None

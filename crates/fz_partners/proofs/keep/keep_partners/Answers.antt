@@ -15,10 +15,10 @@ returns c =
     let es = c.keep_turned-answer.new.store.doms in
     let same = turned_same f g c.widest_last-turned.ensures.turned in
     let ours : Narrows (EquationTruth f) (EquationLine f) c.keep_turned-answer.result c.args.store.now c.keep_turned-answer.new.store =
-        narrows_same (EquationTruth g) (EquationTruth f) (EquationLine g) (EquationLine f) c.keep_turned-answer.result c.args.store.now c.keep_turned-answer.new.store same c.keep_turned-answer.ensures
+    narrows_same (EquationTruth g) (EquationTruth f) (EquationLine g) (EquationLine f) c.keep_turned-answer.result c.args.store.now c.keep_turned-answer.new.store same c.keep_turned-answer.ensures
     in
     let left : Narrows (EquationTruth e) (AsLeft e) c.keep_turned-answer.result c.args.store.now c.keep_turned-answer.new.store =
-        narrows_same (EquationTruth f) (EquationTruth e) (EquationLine f) (AsLeft e) c.keep_turned-answer.result c.args.store.now c.keep_turned-answer.new.store (counting_same e f c.counting-counting.ensures.counting) ours
+    narrows_same (EquationTruth f) (EquationTruth e) (EquationLine f) (AsLeft e) c.keep_turned-answer.result c.args.store.now c.keep_turned-answer.new.store (counting_same e f c.counting-counting.ensures.counting) ours
     in
     record {
       shrinks = left.shrinks;
