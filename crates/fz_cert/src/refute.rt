@@ -1,15 +1,18 @@
 //! Which constraints a box refutes.
 ghost use Rattle.std.specs.Prelude.{◌≡◌, ◌↔◌, ◌⊎◌, ◌<◌, ◌∷◌, [], negsuc, ◌+ℤ◌, ◌*ℤ◌, ◌^◌, ◌≤◌, unsigned_abs, length, slice_get, IfOk, IsTrue};
+ghost use Rattle.fz_model.specs.Groups.{within};
 ghost use Rattle.fz_refutes.specs.Refuted.{IsEmptyAmong, IsRefutedSmall, IsRefutedSum, IsSumOut, Refutes, RefutesIfThere, choices_of, open_after, greatest_sum, least_sum, variables_of};
 
 use crate::area::Area;
 use crate::ends::{sum_ends, term_ends};
 use crate::small::none_holds;
 use crate::variables::{few_open, fix, is_empty_among, variables_of};
+use fz_dom::Dom;
 use fz_model::constraint::Argument;
-use fz_model::{Constraint, Model, Term};
+use fz_model::{Constraint, ConstraintAt, Model, Term};
 use fz_spec::builtin::Builtin;
 use std::alloc::{AllocError, Global};
+use std::sync::Arc;
 
 /// Whether a box refutes the constraint of this number. The values are room for an assignment, whatever stands in it.
 ///
@@ -28,12 +31,21 @@ pub fn refutes(
         ↔ RefutesIfThere (slice_get model.now.constraints constraint) area.now) }
     ensures room { length values.new.items ≡ length area.now }
 {
-    is_refuted(
-        alloc,
-        &model.constraints()[constraint as usize],
-        area,
-        values,
-    )
+    match model.constraints().at(constraint as usize) {
+        ConstraintAt::Written(constraint) => is_refuted(alloc, constraint, area, values),
+        ConstraintAt::Element(term, set) => {
+            let constraint = element(alloc, term, set)?;
+            is_refuted(alloc, &constraint, area, values)
+        }
+    }
+}
+
+/// The constraint that an element of an array lies in a set.
+fn element(alloc: Global, term: Term, set: &Arc<Dom>) -> Result<Constraint, AllocError>
+    ensures { IfOk result (λ c. c ≡ within set.now.value term) }
+{
+    let arguments = Vec::from_array(alloc, [Argument::One(term), Argument::Set(set.clone()?)])?;
+    Ok(Constraint::new(Builtin::SetIn, arguments))
 }
 
 fn is_refuted(

@@ -16,7 +16,7 @@ use Rattle.fz_check.specs.Drafts.{scope_of, IsCounted, IsAhead}
 use Rattle.fz_check.specs.declared.draft.Draft.{Draft}
 use Rattle.fz_check.proofs.FaultLaws.{first_front, no_first}
 
-pub ahead_start : (p : Program) (d : Draft) → IsCounted d none_yet → scope_of d ≡ empty_scope → d.variables.items ≡ [] → d.constraints.items ≡ [] → d.outputs.items ≡ [] → IsAhead p d p.items
+pub ahead_start : (p : Program) (d : Draft) → IsCounted d none_yet → scope_of d ≡ empty_scope → d.variables.items ≡ [] → d.constraints ≡ [] → d.outputs.items ≡ [] → IsAhead p d p.items
 ahead_start p d c s v cs o = record {
   counts = none_yet;
   counted = c;
@@ -46,7 +46,7 @@ pub all_kept : (p : Program) (d : Draft) (a : IsAhead p d []) → IsFirstOf (sol
 all_kept p d a e = a.faults ∙ no_first (solve_faults (environment_of d.names) p.solve) (sym e)
 
 abbrev pub instance_of : Draft → Goal → List SearchPart → Instance
-instance_of d goal parts = record { variables = d.variables.items; constraints = d.constraints.items; goal = goal; outputs = d.outputs.items; search = parts }
+instance_of d goal parts = record { variables = d.variables.items; constraints = d.constraints; goal = goal; outputs = d.outputs.items; search = parts }
 
 -- the parts of a draft of all items make the model
 pub model_is : (p : Program) (d : Draft) (goal : Goal) (parts : List SearchPart) (a : IsAhead p d []) → goal ≡ goal_of (environment_of d.names) p.solve → parts ≡ search_of (environment_of d.names) p.solve.annotations
@@ -54,7 +54,7 @@ pub model_is : (p : Program) (d : Draft) (goal : Goal) (parts : List SearchPart)
 model_is p d goal parts a g s =
     let env = ap (λ (x : Scope). x.entries) a.scope in
     let vs = a.variables ∙ append-nil d.variables.items in
-    let cs = a.constraints ∙ append-nil d.constraints.items in
+    let cs = a.constraints ∙ append-nil d.constraints in
     let os = a.outputs ∙ append-nil d.outputs.items in
     let aim : goal_of (scope_behind empty_scope p.items).entries p.solve ≡ goal = ap (λ (e : Environment). goal_of e p.solve) env ∙ sym g in
     let search : search_of (scope_behind empty_scope p.items).entries p.solve.annotations ≡ parts = ap (λ (e : Environment). search_of e p.solve.annotations) env ∙ sym s in

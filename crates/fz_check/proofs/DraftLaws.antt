@@ -124,7 +124,7 @@ ahead_more p old new item rest a g = record {
       ∙ ap (λ (s : Scope). faults_from s (all_counted a.counts (additions item)) rest p.solve) (sym g.adds.scope);
   scope = a.scope ∙ ap (λ (s : Scope). scope_behind s rest) (sym g.adds.scope);
   variables = next variables_of old.variables.items new.variables.items a.variables g.adds.variables;
-  constraints = next constraints_of old.constraints.items new.constraints.items a.constraints g.adds.constraints;
+  constraints = next constraints_of old.constraints new.constraints a.constraints g.adds.constraints;
   outputs = next outputs_of old.outputs.items new.outputs.items a.outputs g.adds.outputs;
 }
   where

@@ -24,7 +24,7 @@ pub record IsCounted (d : Draft) (n : Counts) : Type 0 where
 pub record Adds (old new : Draft) (s : Scope) (item : Item) : Type 0 where
   pub scope : scope_of new ≡ behind s item
   pub variables : new.variables.items ≡ old.variables.items ++ variables_of s item
-  pub constraints : new.constraints.items ≡ old.constraints.items ++ constraints_of s item
+  pub constraints : new.constraints ≡ old.constraints ++ constraints_of s item
   pub outputs : new.outputs.items ≡ old.outputs.items ++ outputs_of s item
 
 -- an item that keeps all rules
@@ -44,7 +44,7 @@ pub record IsAhead (p : Program) (d : Draft) (rest : List Item) : Type 0 where
   pub faults : program_faults p ≡ faults_from (scope_of d) counts rest p.solve
   pub scope : scope_behind empty_scope p.items ≡ scope_behind (scope_of d) rest
   pub variables : made variables_of empty_scope p.items ≡ d.variables.items ++ made variables_of (scope_of d) rest
-  pub constraints : made constraints_of empty_scope p.items ≡ d.constraints.items ++ made constraints_of (scope_of d) rest
+  pub constraints : made constraints_of empty_scope p.items ≡ d.constraints ++ made constraints_of (scope_of d) rest
   pub outputs : made outputs_of empty_scope p.items ≡ d.outputs.items ++ made outputs_of (scope_of d) rest
 
 -- a draft of all items of a program that breaks no rule, and its solve item

@@ -21,7 +21,7 @@ use crate::declared::{array_fault, parameter_fault, variable_fault};
 use crate::entered::{array_entry, parameter_entry};
 use crate::faults::room_behind;
 use crate::parts::{push_array, push_bounds, push_scalar, push_value, value_of, variable_of};
-use fz_model::{Constraint, Output, Variable};
+use fz_model::{Constraint, Constraints, Output, Variable};
 use fz_resolve::annotations::output_shape;
 use fz_resolve::{Entry, Fault, Names};
 use fz_room::Room;
@@ -34,7 +34,7 @@ use std::alloc::{AllocError, Global};
 pub(crate) struct Draft<'a> {
     pub(crate) names: Names<'a>,
     pub(crate) variables: Vec<Variable>,
-    pub(crate) constraints: Vec<Constraint>,
+    pub(crate) constraints: Constraints,
     pub(crate) outputs: Vec<Output>,
     room: Room,
 }
@@ -45,13 +45,13 @@ impl<'a> Draft<'a> {
         ensures counted { IsCounted result none_yet }
         ensures scope { scope_of result ≡ models.empty_scope }
         ensures variables { result.variables.items ≡ [] }
-        ensures constraints { result.constraints.items ≡ [] }
+        ensures constraints { result.constraints ≡ [] }
         ensures outputs { result.outputs.items ≡ [] }
     {
         Draft {
             names: Names::new(alloc),
             variables: Vec::new(alloc),
-            constraints: Vec::new(alloc),
+            constraints: Constraints::new(alloc),
             outputs: Vec::new(alloc),
             room: Room::whole(),
         }

@@ -1,6 +1,5 @@
 //! What declarations add to a model.
 ghost use Rattle.std.specs.Prelude.{◌≡◌, ◌++◌, ◌∷◌, [], OnOk, IfOk, Some, None, true, false, map, option_map, ◌≤◌, length, pos};
-ghost use Rattle.std.specs.Arc.{arc_value};
 ghost use Rattle.fz_sets.specs.Sets.{LEAST, GREATEST};
 ghost use Rattle.fz_spec.specs.declared.term.Term.TheVariants.{Var};
 ghost use Rattle.fz_language.specs.Entries.{Environment};
@@ -15,7 +14,7 @@ ghost use Rattle.fz_language.specs.Annotations.{shape_among};
 ghost use Rattle.fz_check.specs.Parts.{scope};
 
 use fz_dom::Dom;
-use fz_model::{Argument, Constraint, Kind, Listed, Output, Term, Text, Variable};
+use fz_model::{Argument, Constraint, Constraints, Kind, Listed, Output, Term, Text, Variable};
 use fz_resolve::annotations::output_var_at;
 use fz_resolve::resolve::{literal, term};
 use fz_resolve::{Entry, Names};
@@ -99,12 +98,12 @@ pub(crate) fn value_of<'a>(names: &Names<'a>, item: &VariableItem<'a>) -> Option
 /// Adds the constraint that a variable equals its value, if it has one.
 pub(crate) fn push_value(
     alloc: Global,
-    constraints: &mut Vec<Constraint>,
+    constraints: &mut Constraints,
     kind: Kind,
     number: u32,
     value: Option<Term>,
 ) -> Result<(), AllocError>
-    ensures { OnOk result (constraints.new.items ≡ constraints.old.items
+    ensures { OnOk result (constraints.new ≡ constraints.old
         ++ models.equal_to_value kind number value) }
 {
     let Some(value) = value else {
@@ -178,50 +177,23 @@ fn text(alloc: Global, bytes: &[u8]) -> Result<Text, AllocError>
 /// Adds the constraints that the elements of an array lie in the set of its type, where that is written.
 pub(crate) fn push_bounds(
     alloc: Global,
-    constraints: &mut Vec<Constraint>,
+    constraints: &mut Constraints,
     item: &ArrayItem<'_>,
     entry: &Entry,
 ) -> Result<(), AllocError>
     requires { TypeFits (trees.type_of item.now.value_type) }
     ensures { OnOk result ((env : Environment) → let a = trees.array_item_of item.now in
         meant entry.now ≡ models.array_entry env a a.variable a.value_type
-        → constraints.new.items ≡ constraints.old.items
+        → constraints.new ≡ constraints.old
         ++ models.element_constraints (scope env 0) a) }
 {
     match entry {
         Entry::Terms(list) if is_bound(&item.value_type) => {
-            push_bound_terms(alloc, constraints, &item.value_type, list.terms())
+            let set = Arc::new(alloc, type_set(alloc, &item.value_type)?)?;
+            constraints.push_within(list.shared()?, set)
         }
         _ => Ok(()),
     }
-}
-
-/// Adds for each term the constraint that it lies in the set of its type, which all of them share.
-fn push_bound_terms(
-    alloc: Global,
-    constraints: &mut Vec<Constraint>,
-    value_type: &ValueType,
-    terms: &[Term],
-) -> Result<(), AllocError>
-    requires { TypeFits (trees.type_of value_type.now) }
-    ensures { OnOk result (constraints.new.items
-        ≡ constraints.old.items ++ map (models.bound_to (models.type_set
-        (trees.type_of value_type.now))) terms.now) }
-{
-    let set = Arc::new(alloc, type_set(alloc, value_type)?)?;
-    for term in terms {
-        let constraint = bound_to(alloc, &set, *term)?;
-        constraints.push(constraint)?;
-    }
-    Ok(())
-}
-
-/// The constraint that a term lies in a set.
-fn bound_to(alloc: Global, set: &Arc<Dom>, term: Term) -> Result<Constraint, AllocError>
-    ensures { IfOk result (λ c. c ≡ models.bound_to (arc_value set.now) term) }
-{
-    let arguments = Vec::from_array(alloc, [Argument::One(term), Argument::Set(set.clone()?)])?;
-    Ok(Constraint::new(Builtin::SetIn, arguments))
 }
 
 /// Adds the output item of an array with these index ranges.

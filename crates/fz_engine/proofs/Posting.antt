@@ -1,7 +1,6 @@
 -- Propagators of what the constraints of a model say.
-use Rattle.std.proofs.Common.{◌≡◌, inl, inr, ℕ, zero, suc, ◌+◌, ◌<◌, List, [], ◌∷◌, ◌++◌, ◌∙◌, refl, sym, ap, subst, arith, length, take, get_or, length-append, take_all}
+use Rattle.std.proofs.Common.{◌≡◌, inl, inr, ℕ, zero, suc, ◌+◌, ◌<◌, List, [], ◌∷◌, ◌++◌, ◌∙◌, refl, sym, ap, subst, arith, length, take, length-append, take_all}
 use Rattle.std.proofs.lemmas.List.{length-map, length-take-le}
-use Rattle.std.proofs.lemmas.Option.{slice_get_read}
 use Rattle.std.specs.Prelude.{ℤ, Some, slice_get, ◌≤◌, ◌^◌}
 use Rattle.std.specs.List.{AllByRecursion}
 use Rattle.fz_sets.proofs.Lists.{all_at, all_left, all_right, all_both, some_is}
@@ -124,8 +123,8 @@ said_more_of vs cs c sayings after so_far fit (inr more) =
 fits_at : (m : Instance) (i : ℕ) (c : Constraint) → IsModel m → slice_get m.constraints i ≡ Some c → IsFit m.variables (saying_of c)
 fits_at m i c model is = said_fits m.variables c (all_at (IsConstraint m.variables) m.constraints i c model.constrained is)
 
-pub fits_of : (m : Instance) (cs : List Constraint) (i : ℕ) (c : Constraint) → IsModel m → cs ≡ m.constraints → i < length cs → c ≡ get_or cs i c → IsFit m.variables (saying_of c)
-fits_of m cs i c model are within is = fits_at m i c model (subst (λ (l : List Constraint). slice_get l i ≡ Some c) are (slice_get_read cs (length cs) i c refl within is))
+pub fits_of : (m : Instance) (cs : List Constraint) (i : ℕ) (c : Constraint) → IsModel m → cs ≡ m.constraints → slice_get cs i ≡ Some c → IsFit m.variables (saying_of c)
+fits_of m cs i c model are is = fits_at m i c model (subst (λ (l : List Constraint). slice_get l i ≡ Some c) are is)
 
 known_fits : (vs : List Variable) (ts : List Term) → AllByRecursion (IsKnown vs) ts → AllByRecursion FitsTerm ts
 known_fits vs [] all = tt
@@ -166,16 +165,16 @@ network_of m sayings w model said listing =
 
 -- ---- one more
 
-taken_after : (cs : List Constraint) (i : ℕ) (c : Constraint) → i < length cs → c ≡ get_or cs i c → take i cs ++ c ∷ [] ≡ take (suc i) cs
-taken_after [] i c within is = absurd (omega (arith, within))
-taken_after (b ∷ cs) zero c within is = ap (λ (x : Constraint). x ∷ []) is
-taken_after (b ∷ cs) (suc i) c within is = ap (λ (l : List Constraint). b ∷ l) (taken_after cs i c (omega (arith, within)) is)
+taken_after : (cs : List Constraint) (i : ℕ) (c : Constraint) → slice_get cs i ≡ Some c → take i cs ++ c ∷ [] ≡ take (suc i) cs
+taken_after [] i c is = absurd (cc (is))
+taken_after (b ∷ cs) zero c is = ap (λ (x : Constraint). x ∷ []) (sym (some_is b c is))
+taken_after (b ∷ cs) (suc i) c is = ap (λ (l : List Constraint). b ∷ l) (taken_after cs i c is)
 
-pub said_next : (vs : List Variable) (cs : List Constraint) (i : ℕ) (c : Constraint) (sayings after : List Saying) → i < length cs → c ≡ get_or cs i c → AreSaidOf vs (take i cs) sayings → IsFit vs (saying_of c)
+pub said_next : (vs : List Variable) (cs : List Constraint) (i : ℕ) (c : Constraint) (sayings after : List Saying) → slice_get cs i ≡ Some c → AreSaidOf vs (take i cs) sayings → IsFit vs (saying_of c)
     → IsSaidMore (saying_of c) (sayings ++ saying_of c ∷ []) after → AreSaidOf vs (take (i + 1) cs) after
-said_next vs cs i c sayings after within is so_far fit more =
+said_next vs cs i c sayings after is so_far fit more =
     let next : suc i ≡ i + 1 = omega arith in
-    subst (λ (l : List Constraint). AreSaidOf vs l after) (taken_after cs i c within is ∙ ap (λ (k : ℕ). take k cs) next) (said_more_of vs (take i cs) c sayings after so_far fit more)
+    subst (λ (l : List Constraint). AreSaidOf vs l after) (taken_after cs i c is ∙ ap (λ (k : ℕ). take k cs) next) (said_more_of vs (take i cs) c sayings after so_far fit more)
 
 pub said_all : (vs : List Variable) (cs : List Constraint) (i : ℕ) (sayings : List Saying) → length cs ≤ i → AreSaidOf vs (take i cs) sayings → AreSaidOf vs cs sayings
 said_all vs cs i sayings past said = subst (λ (l : List Constraint). AreSaidOf vs l sayings) (take_all i cs past) said

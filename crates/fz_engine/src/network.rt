@@ -2,6 +2,7 @@
 ghost use Rattle.std.specs.Prelude.{◌≡◌, ◌<◌, ◌≤◌, ◌^◌, List, ◌∷◌, [], ◌++◌, length, map, IfOk, OnOk, slice_get, slice_index_or, ℕ, Some};
 ghost use Rattle.std.specs.List.{AllByRecursion};
 ghost use Rattle.std.specs.Arc.{arc_value};
+ghost use Rattle.fz_model.specs.Groups.{constraint_at};
 ghost use Rattle.fz_model.specs.Kept.{IsModel};
 ghost use Rattle.fz_strength.specs.Costs.{cost_of};
 ghost use Rattle.fz_strength.specs.Events.{AreBelow};
@@ -19,6 +20,7 @@ ghost use Rattle.fz_engine.specs.Networks.{AreSaidOf, IsFull, IsListing, IsNetwo
 use crate::stronger::stronger_of;
 use fz_agenda::{Agenda, Wakes};
 use fz_kept::Kept;
+use fz_model::ConstraintAt;
 use fz_prop::Cost;
 use fz_propagators::AnyPropagator;
 use fz_says::{Saying, Wait};
@@ -168,14 +170,25 @@ fn post_all(alloc: Global, model: &fz_model::Model) -> Result<Posted, AllocError
         propagators: Vec::with_capacity(alloc, constraints.len())?,
         wakes: Wakes::new(alloc, model.variables().len())?,
     };
-    for constraint in constraints {
-        let saying = Saying::of(constraint);
+    for number in 0..constraints.len() {
+        let constraint = constraints.at(number);
+        let saying = saying_of(constraint);
         post(alloc, &mut posted, &saying)?;
         if let Some(more) = stronger_of(&saying, constraint.is_whole(), model.variables()) {
             post(alloc, &mut posted, &more)?;
         }
     }
     Ok(posted)
+}
+
+/// What a constraint of a model says.
+fn saying_of<'m>(constraint: ConstraintAt<'m>) -> Saying<'m>
+    ensures { said_by result ≡ said.saying_of (constraint_at constraint) }
+{
+    match constraint {
+        ConstraintAt::Written(constraint) => Saying::of(constraint),
+        ConstraintAt::Element(term, set) => Saying::Member(term, set),
+    }
 }
 
 /// Adds a propagator of what is said.

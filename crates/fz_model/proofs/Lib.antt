@@ -1,3 +1,4 @@
 pub mod Same
 pub mod Mapped
 pub mod Names
+pub mod Numbered

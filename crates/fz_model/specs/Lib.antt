@@ -1,3 +1,4 @@
 pub mod Lists
 pub mod Arguments
+pub mod Groups
 pub mod Kept

@@ -6,6 +6,7 @@
 
 pub mod assignment;
 pub mod constraint;
+pub mod constraints;
 pub mod listed;
 pub mod model;
 pub mod output;
@@ -16,6 +17,7 @@ pub mod variable;
 
 pub use assignment::{Assignment, value_of};
 pub use constraint::{Argument, Constraint};
+pub use constraints::{ConstraintAt, Constraints};
 pub use fz_spec::goal::Goal;
 pub use fz_spec::kind::Kind;
 pub use fz_spec::term::Term;

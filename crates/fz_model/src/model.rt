@@ -6,7 +6,7 @@ ghost use Rattle.fz_spec.specs.Instance.{Instance, score, IsWhole};
 ghost use Rattle.fz_model.specs.Kept.{IsModel};
 
 use crate::assignment::{Assignment, value_of};
-use crate::constraint::Constraint;
+use crate::constraints::Constraints;
 use crate::output::Output;
 use crate::part::{Part, are_same, copies};
 use crate::search::SearchPart;
@@ -18,7 +18,7 @@ use std::alloc::AllocError;
 #[derive(Drop)]
 pub struct Model {
     variables: Vec<Variable>,
-    constraints: Vec<Constraint>,
+    constraints: Constraints,
     goal: Goal,
     outputs: Vec<Output>,
     search: Vec<SearchPart>,
@@ -32,7 +32,7 @@ impl std::marker::Model for Model {
 
     ghost view = { λ m. record {
       variables = m.variables.items;
-      constraints = m.constraints.items;
+      constraints = m.constraints;
       goal = m.goal;
       outputs = m.outputs.items;
       search = m.search.items;
@@ -40,7 +40,7 @@ impl std::marker::Model for Model {
 
     ghost invariant = { λ m. IsModel (record {
       variables = m.variables.items;
-      constraints = m.constraints.items;
+      constraints = m.constraints;
       goal = m.goal;
       outputs = m.outputs.items;
       search = m.search.items;
@@ -53,21 +53,21 @@ impl Model {
     /// the arguments that its row asks; of each output item a shape of as many elements as it has terms. It takes no memory.
     pub fn new(
         variables: Vec<Variable>,
-        constraints: Vec<Constraint>,
+        constraints: Constraints,
         goal: Goal,
         outputs: Vec<Output>,
         search: Vec<SearchPart>,
     ) -> Model
         requires { IsModel (record {
           variables = variables.items;
-          constraints = constraints.items;
+          constraints = constraints;
           goal = goal;
           outputs = outputs.items;
           search = search.items;
         }) }
         ensures { result ≡ record {
           variables = variables.items;
-          constraints = constraints.items;
+          constraints = constraints;
           goal = goal;
           outputs = outputs.items;
           search = search.items;
@@ -91,7 +91,7 @@ impl Model {
     }
 
     /// The constraints, in the order of the text.
-    pub fn constraints(&self) -> &[Constraint]
+    pub fn constraints(&self) -> &Constraints
         ensures constraints { result.now ≡ self.now.constraints }
         ensures kept { IsModel self.now }
     {
@@ -128,7 +128,7 @@ impl Model {
     {
         let alloc = *self.variables.allocator();
         let variables = copies(alloc, &self.variables)?;
-        let constraints = copies(alloc, &self.constraints)?;
+        let constraints = self.constraints.copy()?;
         let outputs = copies(alloc, &self.outputs)?;
         let search = copies(alloc, &self.search)?;
         Ok(Model {
@@ -145,7 +145,7 @@ impl Model {
         ensures { IsTrue result ↔ (self.now ≡ other.now) }
     {
         are_same(&self.variables, &other.variables)
-            && are_same(&self.constraints, &other.constraints)
+            && self.constraints.same(&other.constraints)
             && self.goal == other.goal
             && are_same(&self.outputs, &other.outputs)
             && are_same(&self.search, &other.search)

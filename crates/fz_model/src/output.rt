@@ -124,7 +124,7 @@ fn same_shape(this: &[(i32, i32)], that: &[(i32, i32)]) -> bool
     this == that
 }
 
-fn same_terms(these: &[Term], those: &[Term]) -> bool
+pub(crate) fn same_terms(these: &[Term], those: &[Term]) -> bool
     ensures { IsTrue result ↔ (these.now ≡ those.now) }
 {
     these == those

@@ -1,6 +1,8 @@
 //! Copies of models and of their parts, and a model that threads share.
 use crate::reading::{assignment_of, model_of};
-use fz_model::{Argument, Constraint, Goal, Kind, Model, Output, Part, SearchPart, Term};
+use fz_model::{
+    Argument, Constraint, ConstraintAt, Goal, Kind, Model, Output, Part, SearchPart, Term,
+};
 use fz_spec::builtin::Builtin;
 use fz_spec::search::{Pick, Value};
 use std::process::Abort;
@@ -97,8 +99,12 @@ fn check_constraint(rt: &impl Abort, constraint: &Constraint) {
 #[test]
 fn a_copy_is_the_same_constraint(rt: HostRuntime) {
     let model = model_of(&rt, rt.alloc(), TWO_VARIABLES);
-    for constraint in model.constraints() {
-        check_constraint(&rt, constraint);
+    let constraints = model.constraints();
+    for number in 0..constraints.len() {
+        match constraints.at(number) {
+            ConstraintAt::Written(constraint) => check_constraint(&rt, constraint),
+            ConstraintAt::Element(_, _) => assert!(rt; false),
+        }
     }
 }
 

@@ -1,8 +1,9 @@
 -- One number for each variable, and each constraint true, place by place.
 use Rattle.std.proofs.Common.{◌≡◌, ℕ, ◌+◌, ◌<◌, ◌≤◌, zero, suc, List, [], ◌∷◌, take, length, get_or, arith, sym, ap, refl, ◌∙◌, subst, add-one}
-use Rattle.std.specs.Prelude.{ℤ}
+use Rattle.std.specs.Prelude.{ℤ, Some, slice_get}
 use Rattle.std.specs.List.{AllByRecursion}
 use Rattle.fz_sets.specs.Sets.{IsInSet}
+use Rattle.fz_sets.proofs.Lists.{all_of, by_place, some_is}
 use Rattle.fz_spec.specs.Instance.{Variable, AreDeclared}
 
 pub one_length : (vs : List Variable) (xs : List ℤ) → AreDeclared vs xs → length vs ≡ length xs
@@ -42,9 +43,19 @@ read_more vs xs i v s x e h l at set is k m =
     rw add-one
     (declared_more vs xs i v e h l k (subst (λ (u : List (ℤ × ℤ)). IsInSet u (get_or xs i e)) (set ∙ ap (λ (u : Variable). u.set) at) (subst (λ (u : ℤ). IsInSet s u) is m)))
 
--- the same, of the element that the code reads
+-- ---- of each place before one
 
-pub all_whole : {X : Type 0} (P : X → Type 0) (xs : List X) (i : ℕ) → length xs ≤ i → AllByRecursion P (take i xs) → AllByRecursion P xs
-all_whole P [] i h k = tt
-all_whole P (x ∷ xs) zero h k = absurd (omega (arith, h))
-all_whole P (x ∷ xs) (suc i) h k = (k.0, all_whole P xs i (omega (arith, h)) k.1)
+inside_of : {X : Type 0} (xs : List X) (i : ℕ) (x : X) → slice_get xs i ≡ Some x → i < length xs
+inside_of [] i x at = absurd (cc (at))
+inside_of (y ∷ ys) zero x at = omega arith
+inside_of (y ∷ ys) (suc i) x at = let rest = inside_of ys i x at in omega (arith, rest)
+
+abbrev pub AllBefore : {X : Type 0} → (X → Type 0) → List X → ℕ → Type 0
+AllBefore {X} P xs n = (i : ℕ) (x : X) → i < n → slice_get xs i ≡ Some x → P x
+
+pub before_more : {X : Type 0} (P : X → Type 0) (xs : List X) (n : ℕ) (x : X) → slice_get xs n ≡ Some x → AllBefore P xs n → P x → AllBefore P xs (n + 1)
+before_more {X} P xs n x here before h =
+    by_place (λ i. (y : X) → i < n + 1 → slice_get xs i ≡ Some y → P y) n (λ y l at. subst P (some_is x y (sym here ∙ at)) h) (λ i other y l at. before i y (omega (arith, l, other)) at)
+
+pub all_before : {X : Type 0} (P : X → Type 0) (xs : List X) (n : ℕ) → length xs ≤ n → AllBefore P xs n → AllByRecursion P xs
+all_before P xs n le before = all_of P xs (λ i x at. before i x (let inside = inside_of xs i x at in omega (arith, inside, le)) at)

@@ -4,6 +4,7 @@ ghost use Rattle.fz_spec.specs.Constraints as meaning;
 ghost use Rattle.fz_spec.specs.Constraints.{IsTrueOf, Holds, term_value, term_values};
 ghost use Rattle.fz_spec.specs.Truth.{plain_of, IsReifiedOf, HoldsOfThree, HoldsOfExtreme, HoldsOfElement, HoldsOfVarElement, HoldsOfSet, HoldsOfList, HoldsOfListAnd, HoldsOfClause, HoldsOfTable, HoldsOfTasks, tasks_of};
 ghost use Rattle.fz_model.specs.Arguments.{argument_of};
+ghost use Rattle.fz_model.specs.Groups.{constraint_at};
 
 use crate::element::{is_true_of_element, is_true_of_var_element};
 use crate::lists::{
@@ -16,9 +17,20 @@ use crate::sums::{is_true_of_reified_sum, is_true_of_sum, weighted_sum};
 use crate::tasks::{Tasks, is_true_of_tasks};
 use fz_dom::Dom;
 use fz_model::constraint::{Argument, Constraint};
+use fz_model::constraints::ConstraintAt;
 use fz_model::value_of;
 use fz_spec::builtin::Builtin;
 use fz_spec::term::Term;
+
+/// Whether the numbers make a constraint of a model true.
+pub(crate) fn is_true_at(constraint: ConstraintAt<'_>, values: &[i32]) -> bool
+    ensures { IsTrue result ↔ IsTrueOf values.now (constraint_at constraint) }
+{
+    match constraint {
+        ConstraintAt::Written(constraint) => is_true(constraint, values),
+        ConstraintAt::Element(term, set) => set.contains(value_of(term, values)),
+    }
+}
 
 /// Whether the numbers make a constraint true. With arguments of other forms it is false.
 pub fn is_true(constraint: &Constraint, values: &[i32]) -> bool

@@ -4,9 +4,9 @@ ghost use Rattle.std.specs.List.{AllByRecursion};
 ghost use Rattle.fz_spec.specs.Constraints.{IsTrueOf};
 ghost use Rattle.fz_spec.specs.Instance.{AreDeclared, Satisfies};
 
-use crate::constraint::is_true;
+use crate::constraint::is_true_at;
 use fz_model::assignment::Assignment;
-use fz_model::constraint::Constraint;
+use fz_model::constraints::Constraints;
 use fz_model::model::Model;
 use fz_model::variable::Variable;
 
@@ -35,11 +35,11 @@ fn are_declared(variables: &[Variable], values: &[i32]) -> bool
 }
 
 /// Whether each constraint is true.
-fn are_true(constraints: &[Constraint], values: &[i32]) -> bool
+fn are_true(constraints: &Constraints, values: &[i32]) -> bool
     ensures { IsTrue result ↔ AllByRecursion (IsTrueOf values.now) constraints.now }
 {
-    for constraint in constraints {
-        if !is_true(constraint, values) {
+    for number in 0..constraints.len() {
+        if !is_true_at(constraints.at(number), values) {
             return false;
         }
     }

@@ -1,5 +1,6 @@
 use Rattle.std.proofs.Common.{◌≡◌, inl, inr, List, [], ◌∷◌, ◌++◌, ap, subst, arith, rules, length}
 use Rattle.fz_spec.specs.Constraints.{Constraint}
+use Rattle.fz_model.specs.Groups.{constraint_at}
 use Rattle.fz_strength.specs.Sayings.{saying_of}
 use Rattle.fz_says.specs.Said.{said_by}
 use Rattle.fz_engine.specs.Networks.{AreSaidOf, IsListing, IsSaidMore, sayings_of}
@@ -11,94 +12,98 @@ use Rattle.fz_engine.proofs.network.post_all.Goals as goal
 pub post-requires-clause-fits : goal.post-requires-clause-fits
 post-requires-clause-fits c =
     let m = c.args.model.now in
-    let item = c.constraint-item.result in
-    let fit = fits_of m c.constraints-constraints.result.now c.loop-constraint.constraint-index item c.constraints-constraints.ensures.kept c.constraints-constraints.ensures.constraints c.loop-constraint-test.true c.constraint-item.is in
-    rw c.of-saying.ensures (limits_of m.variables (saying_of item) fit)
+    let item = constraint_at c.at-constraint.result in
+    let fit = fits_of m c.constraints-constraints.result.now c.loop-number.number item c.constraints-constraints.ensures.kept c.constraints-constraints.ensures.constraints c.at-constraint.ensures in
+    rw c.saying_of-saying.ensures (limits_of m.variables (saying_of item) fit)
 
 pub post-requires-clause-sum : goal.post-requires-clause-sum
 post-requires-clause-sum c =
     let m = c.args.model.now in
-    let item = c.constraint-item.result in
-    let fit = fits_of m c.constraints-constraints.result.now c.loop-constraint.constraint-index item c.constraints-constraints.ensures.kept c.constraints-constraints.ensures.constraints c.loop-constraint-test.true c.constraint-item.is in
-    rw c.of-saying.ensures fit.sum
+    let item = constraint_at c.at-constraint.result in
+    let fit = fits_of m c.constraints-constraints.result.now c.loop-number.number item c.constraints-constraints.ensures.kept c.constraints-constraints.ensures.constraints c.at-constraint.ensures in
+    rw c.saying_of-saying.ensures fit.sum
 
 pub post-requires-clause-inside : goal.post-requires-clause-inside
 post-requires-clause-inside c =
     let m = c.args.model.now in
-    let item = c.constraint-item.result in
-    let fit = fits_of m c.constraints-constraints.result.now c.loop-constraint.constraint-index item c.constraints-constraints.ensures.kept c.constraints-constraints.ensures.constraints c.loop-constraint-test.true c.constraint-item.is in
-    rw (c.of-saying.ensures, c.loop-constraint.invariant.listing.size.any) (waits_below m.variables (saying_of item) fit)
+    let item = constraint_at c.at-constraint.result in
+    let fit = fits_of m c.constraints-constraints.result.now c.loop-number.number item c.constraints-constraints.ensures.kept c.constraints-constraints.ensures.constraints c.at-constraint.ensures in
+    rw (c.saying_of-saying.ensures, c.loop-number.invariant.listing.size.any) (waits_below m.variables (saying_of item) fit)
 
 pub post-requires-clause-few : goal.post-requires-clause-few
 post-requires-clause-few c =
     let cs = c.constraints-constraints.result.now in
     let some = ap (λ (l : List Constraint). length l) c.constraints-constraints.ensures.constraints in
     let limit = c.constraints-constraints.ensures.kept.few_constraints in
+    let test = c.loop-number-test.true in
+    let count = c.len-2.ensures in
     let room =
-    few_so_far c.args.model.now.variables c.loop-constraint.posted.propagators.items cs c.loop-constraint.constraint-index c.loop-constraint.invariant.said c.loop-constraint.auto.constraint-index-end (omega (arith, some, limit)) in
+    few_so_far c.args.model.now.variables c.loop-number.posted.propagators.items cs c.loop-number.number c.loop-number.invariant.said (omega (arith, test, count)) (omega (arith, some, limit)) in
     omega (arith, room)
 
 pub post-requires-clause-listing : goal.post-requires-clause-listing
 post-requires-clause-listing c =
-    listing_self (sayings_of c.loop-constraint.posted.propagators.items) c.loop-constraint.posted.wakes (length c.args.model.now.variables) c.loop-constraint.invariant.listing
+    listing_self (sayings_of c.loop-number.posted.propagators.items) c.loop-number.posted.wakes (length c.args.model.now.variables) c.loop-number.invariant.listing
 
 pub stronger_of-requires : goal.stronger_of-requires
 stronger_of-requires c =
     let m = c.args.model.now in
-    let item = c.constraint-item.result in
-    let fit = fits_of m c.constraints-constraints.result.now c.loop-constraint.constraint-index item c.constraints-constraints.ensures.kept c.constraints-constraints.ensures.constraints c.loop-constraint-test.true c.constraint-item.is in
-    rw c.of-saying.ensures fit.sum
+    let item = constraint_at c.at-constraint.result in
+    let fit = fits_of m c.constraints-constraints.result.now c.loop-number.number item c.constraints-constraints.ensures.kept c.constraints-constraints.ensures.constraints c.at-constraint.ensures in
+    rw c.saying_of-saying.ensures fit.sum
 
 pub post-requires-in-Some-clause-fits : goal.post-requires-in-Some-clause-fits
 post-requires-in-Some-clause-fits c =
     let m = c.args.model.now in
-    let item = c.constraint-item.result in
-    let fit = fits_of m c.constraints-constraints.result.now c.loop-constraint.constraint-index item c.constraints-constraints.ensures.kept c.constraints-constraints.ensures.constraints c.loop-constraint-test.true c.constraint-item.is in
+    let item = constraint_at c.at-constraint.result in
+    let fit = fits_of m c.constraints-constraints.result.now c.loop-number.number item c.constraints-constraints.ensures.kept c.constraints-constraints.ensures.constraints c.at-constraint.ensures in
     let more = said_by c.in-Some.more in
-    let fit_more = more_fit m.variables (saying_of item) more (rw c.of-saying.ensures at c.in-Some.ensures.stronger) c.in-Some.ensures.sum fit in
+    let fit_more = more_fit m.variables (saying_of item) more (rw c.saying_of-saying.ensures at c.in-Some.ensures.stronger) c.in-Some.ensures.sum fit in
     limits_of m.variables more fit_more
 
 pub post-requires-in-Some-clause-inside : goal.post-requires-in-Some-clause-inside
 post-requires-in-Some-clause-inside c =
     let m = c.args.model.now in
-    let item = c.constraint-item.result in
-    let fit = fits_of m c.constraints-constraints.result.now c.loop-constraint.constraint-index item c.constraints-constraints.ensures.kept c.constraints-constraints.ensures.constraints c.loop-constraint-test.true c.constraint-item.is in
+    let item = constraint_at c.at-constraint.result in
+    let fit = fits_of m c.constraints-constraints.result.now c.loop-number.number item c.constraints-constraints.ensures.kept c.constraints-constraints.ensures.constraints c.at-constraint.ensures in
     let more = said_by c.in-Some.more in
-    let fit_more = more_fit m.variables (saying_of item) more (rw c.of-saying.ensures at c.in-Some.ensures.stronger) c.in-Some.ensures.sum fit in
-    rw (c.in_ok-post.ensures.listing.size.any, c.loop-constraint.invariant.listing.size.any) (waits_below m.variables more fit_more)
+    let fit_more = more_fit m.variables (saying_of item) more (rw c.saying_of-saying.ensures at c.in-Some.ensures.stronger) c.in-Some.ensures.sum fit in
+    rw (c.in_ok-post.ensures.listing.size.any, c.loop-number.invariant.listing.size.any) (waits_below m.variables more fit_more)
 
 pub post-requires-in-Some-clause-few : goal.post-requires-in-Some-clause-few
 post-requires-in-Some-clause-few c =
     let cs = c.constraints-constraints.result.now in
     let some = ap (λ (l : List Constraint). length l) c.constraints-constraints.ensures.constraints in
     let limit = c.constraints-constraints.ensures.kept.few_constraints in
+    let test = c.loop-number-test.true in
+    let count = c.len-2.ensures in
     let room =
-    few_so_far c.args.model.now.variables c.loop-constraint.posted.propagators.items cs c.loop-constraint.constraint-index c.loop-constraint.invariant.said c.loop-constraint.auto.constraint-index-end (omega (arith, some, limit)) in
-    few_behind c.loop-constraint.posted.propagators.items c.post.new.posted.propagators.items _ room c.in_ok-post.ensures.said
+    few_so_far c.args.model.now.variables c.loop-number.posted.propagators.items cs c.loop-number.number c.loop-number.invariant.said (omega (arith, test, count)) (omega (arith, some, limit)) in
+    few_behind c.loop-number.posted.propagators.items c.post.new.posted.propagators.items _ room c.in_ok-post.ensures.said
 
-pub loop-constraint-init : goal.loop-constraint-init
-loop-constraint-init c = record { said = rw c.in_ok-with_capacity.ensures.items (said_none c.args.model.now.variables); listing = search rules }
+pub loop-number-init : goal.loop-number-init
+loop-number-init c = record { said = rw c.in_ok-with_capacity.ensures.items (said_none c.args.model.now.variables); listing = search rules }
 
-pub loop-constraint-preserved : goal.loop-constraint-preserved
-loop-constraint-preserved c =
+pub loop-number-preserved : goal.loop-number-preserved
+loop-number-preserved c =
     let m = c.args.model.now in
     let cs = c.constraints-constraints.result.now in
-    let item = c.constraint-item.result in
+    let item = constraint_at c.at-constraint.result in
     let says = saying_of item in
-    let fit = fits_of m cs c.loop-constraint.constraint-index item c.constraints-constraints.ensures.kept c.constraints-constraints.ensures.constraints c.loop-constraint-test.true c.constraint-item.is in
-    let before = sayings_of c.loop-constraint.posted.propagators.items in
+    let fit = fits_of m cs c.loop-number.number item c.constraints-constraints.ensures.kept c.constraints-constraints.ensures.constraints c.at-constraint.ensures in
+    let before = sayings_of c.loop-number.posted.propagators.items in
     let after = c.match-stronger_of.posted in
-    let so_far : sayings_of c.post.new.posted.propagators.items ≡ before ++ says ∷ [] = rw c.of-saying.ensures at c.in_ok-post.ensures.said in
+    let so_far : sayings_of c.post.new.posted.propagators.items ≡ before ++ says ∷ [] = rw c.saying_of-saying.ensures at c.in_ok-post.ensures.said in
     let more : IsSaidMore says (before ++ says ∷ []) (sayings_of after.propagators.items) = elim c.match-stronger_of.branch [
-      | in-Some+in_ok-post-2 w ↦ inr (said_by w.in-Some.more, rw c.of-saying.ensures at w.in-Some.ensures.stronger, w.in-Some.ensures.sum, rw (w.posted-is, ← so_far) w.in_ok-post-2.ensures.said)
+      | in-Some+in_ok-post-2 w ↦ inr (said_by w.in-Some.more, rw c.saying_of-saying.ensures at w.in-Some.ensures.stronger, w.in-Some.ensures.sum, rw (w.posted-is, ← so_far) w.in_ok-post-2.ensures.said)
       | in_default w ↦ inl (rw w.posted-is so_far)
     ] in
     let listing : IsListing (sayings_of after.propagators.items) after.wakes (length m.variables) = elim c.match-stronger_of.branch [
-      | in-Some+in_ok-post-2 w ↦ rw (w.posted-is, ← c.loop-constraint.invariant.listing.size.any, ← c.in_ok-post.ensures.listing.size.any) w.in_ok-post-2.ensures.listing
-      | in_default w ↦ rw (w.posted-is, ← c.loop-constraint.invariant.listing.size.any) c.in_ok-post.ensures.listing
+      | in-Some+in_ok-post-2 w ↦ rw (w.posted-is, ← c.loop-number.invariant.listing.size.any, ← c.in_ok-post.ensures.listing.size.any) w.in_ok-post-2.ensures.listing
+      | in_default w ↦ rw (w.posted-is, ← c.loop-number.invariant.listing.size.any) c.in_ok-post.ensures.listing
     ] in
     record {
-      said = said_next m.variables cs c.loop-constraint.constraint-index item before (sayings_of after.propagators.items) c.loop-constraint-test.true c.constraint-item.is c.loop-constraint.invariant.said fit more;
+      said = said_next m.variables cs c.loop-number.number item before (sayings_of after.propagators.items) c.at-constraint.ensures c.loop-number.invariant.said fit more;
       listing = listing;
     }
 
@@ -106,5 +111,5 @@ pub returns-clause-said : goal.returns-clause-said
 returns-clause-said c =
     let m = c.args.model.now in
     let cs = c.constraints-constraints.result.now in
-    subst (λ (l : List Constraint). AreSaidOf m.variables l (sayings_of c.loop-constraint.posted.propagators.items)) c.constraints-constraints.ensures.constraints
-    (said_all m.variables cs c.loop-constraint.constraint-index (sayings_of c.loop-constraint.posted.propagators.items) (let test = c.loop-constraint-test.false in omega (arith, test)) c.loop-constraint.invariant.said)
+    subst (λ (l : List Constraint). AreSaidOf m.variables l (sayings_of c.loop-number.posted.propagators.items)) c.constraints-constraints.ensures.constraints
+    (said_all m.variables cs c.loop-number.number (sayings_of c.loop-number.posted.propagators.items) (let test = c.loop-number-test.false in let count = c.len-2.ensures in omega (arith, test, count)) c.loop-number.invariant.said)

@@ -16,6 +16,6 @@ returns-in_ok-push-in-Ok c =
     (record {
       scope = refl;
       variables = sym (append-nil old.variables.items);
-      constraints = c.in_ok-push-in-Ok.ensures.items ∙ ap (λ x. old.constraints.items ++ x) (sym made);
+      constraints = c.in_ok-push-in-Ok.ensures ∙ ap (λ x. old.constraints ++ x) (sym made);
       outputs = sym (append-nil old.outputs.items);
     })
