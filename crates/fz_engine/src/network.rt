@@ -183,7 +183,7 @@ fn post_all(alloc: Global, model: &fz_model::Model) -> Result<Posted, AllocError
 
 /// What a constraint of a model says.
 fn saying_of<'m>(constraint: ConstraintAt<'m>) -> Saying<'m>
-    ensures { said_by result ≡ said.saying_of (constraint_at constraint) }
+    ensures { said_by result ≡ said.saying_of (constraint_at constraint.entry) }
 {
     match constraint {
         ConstraintAt::Written(constraint) => Saying::of(constraint),

@@ -24,7 +24,7 @@ use fz_spec::term::Term;
 
 /// Whether the numbers make a constraint of a model true.
 pub(crate) fn is_true_at(constraint: ConstraintAt<'_>, values: &[i32]) -> bool
-    ensures { IsTrue result ↔ IsTrueOf values.now (constraint_at constraint) }
+    ensures { IsTrue result ↔ IsTrueOf values.now (constraint_at constraint.entry) }
 {
     match constraint {
         ConstraintAt::Written(constraint) => is_true(constraint, values),

@@ -36,7 +36,7 @@ post-requires-clause-few c =
     let some = ap (λ (l : List Constraint). length l) c.constraints-constraints.ensures.constraints in
     let limit = c.constraints-constraints.ensures.kept.few_constraints in
     let test = c.loop-number-test.true in
-    let count = c.len-2.ensures in
+    let count = c.len-number-end.ensures in
     let room =
     few_so_far c.args.model.now.variables c.loop-number.posted.propagators.items cs c.loop-number.number c.loop-number.invariant.said (omega (arith, test, count)) (omega (arith, some, limit)) in
     omega (arith, room)
@@ -76,7 +76,7 @@ post-requires-in-Some-clause-few c =
     let some = ap (λ (l : List Constraint). length l) c.constraints-constraints.ensures.constraints in
     let limit = c.constraints-constraints.ensures.kept.few_constraints in
     let test = c.loop-number-test.true in
-    let count = c.len-2.ensures in
+    let count = c.len-number-end.ensures in
     let room =
     few_so_far c.args.model.now.variables c.loop-number.posted.propagators.items cs c.loop-number.number c.loop-number.invariant.said (omega (arith, test, count)) (omega (arith, some, limit)) in
     few_behind c.loop-number.posted.propagators.items c.post.new.posted.propagators.items _ room c.in_ok-post.ensures.said
@@ -112,4 +112,4 @@ returns-clause-said c =
     let m = c.args.model.now in
     let cs = c.constraints-constraints.result.now in
     subst (λ (l : List Constraint). AreSaidOf m.variables l (sayings_of c.loop-number.posted.propagators.items)) c.constraints-constraints.ensures.constraints
-    (said_all m.variables cs c.loop-number.number (sayings_of c.loop-number.posted.propagators.items) (let test = c.loop-number-test.false in let count = c.len-2.ensures in omega (arith, test, count)) c.loop-number.invariant.said)
+    (said_all m.variables cs c.loop-number.number (sayings_of c.loop-number.posted.propagators.items) (let test = c.loop-number-test.false in let count = c.len-number-end.ensures in omega (arith, test, count)) c.loop-number.invariant.said)

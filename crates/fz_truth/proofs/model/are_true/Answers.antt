@@ -19,4 +19,4 @@ loop-number-preserved c =
     before_more (IsTrueOf c.args.values.now) c.args.constraints.now c.loop-number.number (constraint_at c.at.result) c.at.ensures c.loop-number.invariant (c.if-not-is_true_at.ensures.0 refl)
 
 pub returns : goal.returns
-returns c = (λ t. all_before (IsTrueOf c.args.values.now) c.args.constraints.now c.loop-number.number (let test = c.loop-number-test.false in let count = c.len.ensures in omega (arith, test, count)) c.loop-number.invariant, λ all. refl)
+returns c = (λ t. all_before (IsTrueOf c.args.values.now) c.args.constraints.now c.loop-number.number (let test = c.loop-number-test.false in let count = c.len-number-end.ensures in omega (arith, test, count)) c.loop-number.invariant, λ all. refl)
