@@ -1,17 +1,23 @@
 -- Draining keeps what is settled.
 use Rattle.std.proofs.Common.{◌≡◌, ◌⊎◌, inl, inr, ℕ, zero, suc, ◌<◌, ◌≤◌, List, [], ◌∷◌, refl, sym, ◌∙◌, ap, subst, arith, length}
-use Rattle.std.specs.Prelude.{slice_index, slice_index_or, slice_set}
+use Rattle.std.specs.Prelude.{ℤ, slice_index, slice_index_or, slice_set}
 use Rattle.std.specs.List.{AllByRecursion}
 use Rattle.std.proofs.lemmas.Bool.{cases_lt}
 use Rattle.std.proofs.lemmas.Option.{slice_get_within}
+use Rattle.fz_sets.specs.Sets.{IsInSet}
+use Rattle.fz_spec.specs.declared.term.Term.{Term}
+use Rattle.fz_spec.specs.Truth.{SomeByRecursion}
 use Rattle.fz_strength.specs.declared.event.Event.{Event}
 use Rattle.fz_strength.specs.declared.event.Event.TheVariants.{Any, Bound, Fixed}
+use Rattle.fz_strength.specs.Domains.{term_set}
 use Rattle.fz_strength.specs.Events.{Wait, level}
-use Rattle.fz_strength.specs.Sayings.{Saying, waits_of}
+use Rattle.fz_strength.specs.Sayings.{Saying}
 use Rattle.fz_prop.specs.Stores.{Stored, IsStore, IsListed, IsTaken, mark_at, without_first}
+use Rattle.fz_agenda.specs.declared.watches.Watch.{Watch}
 use Rattle.fz_agenda.specs.Agendas.{IsSettled, AreWoken}
 use Rattle.fz_agenda.specs.Queues.{Lineup, IsWoken}
-use Rattle.fz_agenda.specs.Wakes.{Waking, waiting_at, IsListedAt, IsIndexOf, HaveSize, HasVariable, Extends, AllAwake, WaitsFor, IsCalled, IsDraining}
+use Rattle.fz_agenda.specs.Wakes.{Waking, waiting_at, watches_at, watch, IsListedAt, IsIndexOf, HaveSize, HasVariable, Extends, AllAwake, AreWatchersAwake, AreWatchesOf, Heeds, IsCalled, IsDraining}
+use Rattle.fz_agenda.specs.Watches.{steady_waits}
 use Rattle.fz_agenda.proofs.Settled.{may_be_taken}
 use Rattle.fz_agenda.proofs.Waking.{later}
 use Rattle.fz_agenda.proofs.Woken.{one_awake, same_woken, woken_twice, woken_by_more, settled_woken}
@@ -39,9 +45,28 @@ all_above w (x ∷ ws) states v n i awake listed within idle = (
   all_above w ws states v n i awake listed.1 within idle,
 )
 
-are_woken : (sayings : List Saying) (w : Waking) (states : List ℕ) (s : Stored) (v : ℕ) → IsIndexOf sayings w → length states ≡ length sayings → AllAwake w v (mark_at s v) states → AreWoken sayings states s v
-are_woken sayings w states s v index size awake = λ i saying is idle.
-    all_above w (waits_of saying) states v (mark_at s v) i awake (index i saying is) (omega (arith, size, slice_get_within sayings i saying is)) idle
+-- one that looks at a variable now isn't idle
+looking : (ds : List (List (ℤ × ℤ))) (states : List ℕ) (es : List Watch) (i : ℕ) (t : Term) (n : ℤ) → AreWatchersAwake ds states es → SomeByRecursion (λ (e : Watch). e ≡ watch i t n) es → IsInSet (term_set ds t) n
+    → i < length states → slice_index states i ≡ 0 → ⊥
+looking ds states [] i t n awake some left within idle = absurd some
+looking ds states (e ∷ es) i t n awake (inl same) left within idle =
+    subst (λ (x : Watch). IsInSet (term_set ds x.term) x.number → x.place < length states → slice_index states x.place ≡ 0 → ⊥) same awake.0 left within idle
+looking ds states (e ∷ es) i t n awake (inr more) left within idle = looking ds states es i t n awake.1 more left within idle
+
+unmarked : (n : ℕ) (A : Type 0) → (1 ≤ n → A) → (A → ⊥) → n ≡ 0
+unmarked zero A f not = refl
+unmarked (suc n) A f not = absurd (not (f (omega arith)))
+
+are_woken : (sayings : List Saying) (w : Waking) (states : List ℕ) (s : Stored) (v : ℕ) → IsIndexOf sayings w → length states ≡ length sayings → AllAwake w v (mark_at s v) states
+    → (1 ≤ mark_at s v → AreWatchersAwake s.doms states (watches_at w v)) → AreWoken sayings states s v
+are_woken sayings w states s v index size awake watching = λ i saying is idle.
+    let within : i < length states = omega (arith, size, slice_get_within sayings i saying is) in
+    let at = index i saying is in
+    record {
+      steady = all_above w (steady_waits saying) states v (mark_at s v) i awake at.steady within idle;
+      watched = λ t n looks left. unmarked (mark_at s v) (AreWatchersAwake s.doms states (watches_at w v)) watching
+          (λ all. looking s.doms states (watches_at w v) i t n all (at.watched v t n looks) left within idle);
+    }
 
 -- what was drained so far, and no mark has risen
 pub record IsUnderWay (w : Waking) (s : Stored) (l : Lineup) (t : Stored) (m : Lineup) : Type 0 where
@@ -57,19 +82,23 @@ draining_start w s l store = record {
 something : (s t : Stored) (v : ℕ) (rest : List ℕ) → t.changed ≡ v ∷ rest → s.changed ≡ [] → t ≡ s → ⊥
 something s t v rest is none same = let e : v ∷ rest ≡ [] = sym is ∙ (ap (λ (u : Stored). u.changed) same ∙ none) in cc
 
-called : (w : Waking) (s t : Stored) (l k m : Lineup) (v n : ℕ) → IsUnderWay w s l t k → n ≡ mark_at t v → IsWoken (WaitsFor w v n) w.costs k m → IsWoken (IsCalled w s) w.costs l m
+heeds_later : (w : Waking) (ds es : List (List (ℤ × ℤ))) (v n k i : ℕ) → ds ≡ es → n ≤ k → Heeds w ds v n i → Heeds w es v k i
+heeds_later w ds es v n k i same low (inl waits) = inl (later w v n k i low waits)
+heeds_later w ds es v n k i same low (inr watching) = inr (let some = watching.0 in omega (arith, some, low), subst (λ (fs : List (List (ℤ × ℤ))). SomeByRecursion (λ (e : Watch). (e.place ≡ i) × IsInSet (term_set fs e.term) e.number) (watches_at w v)) same watching.1)
+
+called : (w : Waking) (s t : Stored) (l k m : Lineup) (v n : ℕ) → IsUnderWay w s l t k → n ≡ mark_at t v → IsWoken (Heeds w t.doms v n) w.costs k m → IsWoken (IsCalled w s) w.costs l m
 called w s t l k m v n under marked woken =
     woken_twice (IsCalled w s) w.costs l k m under.draining.woken
-    (woken_by_more (WaitsFor w v n) (IsCalled w s) w.costs k m (λ i waits. (v, later w v n (mark_at s v) i (omega (arith, marked, under.marks v)) waits)) woken)
+    (woken_by_more (Heeds w t.doms v n) (IsCalled w s) w.costs k m (λ i heeds. (v, heeds_later w t.doms s.doms v n (mark_at s v) i under.draining.doms (omega (arith, marked, under.marks v)) heeds)) woken)
 
 -- those that wait for the first are woken, not all of them where memory gave out
-pub draining_woken : (w : Waking) (s t : Stored) (l k m : Lineup) (v n : ℕ) (rest : List ℕ) → IsUnderWay w s l t k → t.changed ≡ v ∷ rest → n ≡ mark_at t v → IsWoken (WaitsFor w v n) w.costs k m
+pub draining_woken : (w : Waking) (s t : Stored) (l k m : Lineup) (v n : ℕ) (rest : List ℕ) → IsUnderWay w s l t k → t.changed ≡ v ∷ rest → n ≡ mark_at t v → IsWoken (Heeds w t.doms v n) w.costs k m
     → IsDraining w s l t m
 draining_woken w s t l k m v n rest under is marked woken = record {
   store = under.draining.store;
   doms = under.draining.doms;
   woken = called w s t l k m v n under marked woken;
-  settled = λ sayings index settled. settled_woken sayings (WaitsFor w v n) w.costs k m t woken (under.draining.settled sayings index settled);
+  settled = λ sayings index settled. settled_woken sayings (Heeds w t.doms v n) w.costs k m t woken (under.draining.settled sayings index settled);
   still = λ none. absurd (something s t v rest is none (under.draining.still none).0);
 }
 
@@ -81,9 +110,9 @@ lower (x ∷ xs) (suc v) zero = omega arith
 lower (x ∷ xs) (suc v) (suc u) = lower xs v u
 
 -- and then it is taken from the list
-pub draining_taken : (w : Waking) (s t u : Stored) (l k m : Lineup) (v n : ℕ) (rest : List ℕ) → IsUnderWay w s l t k → t.changed ≡ v ∷ rest → IsWoken (WaitsFor w v n) w.costs k m
-    → n ≡ mark_at t v → AllAwake w v n m.states → IsTaken t u → IsStore u → IsUnderWay w s l u m
-draining_taken w s t u l k m v n rest under is woken marked awake taken store =
+pub draining_taken : (w : Waking) (s t u : Stored) (l k m : Lineup) (v n : ℕ) (rest : List ℕ) → IsUnderWay w s l t k → t.changed ≡ v ∷ rest → IsWoken (Heeds w t.doms v n) w.costs k m
+    → n ≡ mark_at t v → AllAwake w v n m.states → (1 ≤ n → AreWatchersAwake t.doms m.states (watches_at w v)) → IsTaken t u → IsStore u → IsUnderWay w s l u m
+draining_taken w s t u l k m v n rest under is woken marked awake watching taken store =
     let draining = under.draining in
     let first : taken.first ≡ v = let e : taken.first ∷ taken.rest ≡ v ∷ rest = sym taken.list ∙ is in cc in
     let at : u ≡ without_first t v taken.rest = taken.taken ∙ ap (λ (k : ℕ). without_first t k taken.rest) first in
@@ -93,9 +122,10 @@ draining_taken w s t u l k m v n rest under is woken marked awake taken store =
         doms = ap (λ (x : Stored). x.doms) at ∙ draining.doms;
         woken = called w s t l k m v n under marked woken;
         settled = λ sayings index settled.
-            let before : IsSettled sayings m.states t = settled_woken sayings (WaitsFor w v n) w.costs k m t woken (draining.settled sayings index settled) in
+            let before : IsSettled sayings m.states t = settled_woken sayings (Heeds w t.doms v n) w.costs k m t woken (draining.settled sayings index settled) in
             subst (λ (x : Stored). IsSettled sayings m.states x) (sym at)
-            (may_be_taken sayings m.states t v taken.rest before (are_woken sayings w m.states t v index before.size (subst (λ (k : ℕ). AllAwake w v k m.states) marked awake)));
+            (may_be_taken sayings m.states t v taken.rest before (are_woken sayings w m.states t v index before.size (subst (λ (k : ℕ). AllAwake w v k m.states) marked awake)
+            (subst (λ (k : ℕ). 1 ≤ k → AreWatchersAwake t.doms m.states (watches_at w v)) marked watching)));
         still = λ none. absurd (something s t v rest is none (draining.still none).0);
       };
       marks = λ x.
@@ -105,7 +135,18 @@ draining_taken w s t u l k m v n rest under is woken marked awake taken store =
     }
 
 pub has_variable : (w : Waking) (n v : ℕ) → HaveSize w n → v < n → HasVariable w v
-has_variable w n v size below = record { any = omega (arith, size.any, below); bound = omega (arith, size.bound, below); fixed = omega (arith, size.fixed, below) }
+has_variable w n v size below = record {
+  any = omega (arith, size.any, below);
+  bound = omega (arith, size.bound, below);
+  fixed = omega (arith, size.fixed, below);
+  watches = omega (arith, size.watches, below);
+}
+
+-- the terms of those that look at one variable for a while
+pub watches_of : (n v : ℕ) (lists : List (List Watch)) → AllByRecursion (AreWatchesOf n) lists → AreWatchesOf n (slice_index_or lists v [])
+watches_of n v [] all = tt
+watches_of n zero (es ∷ lists) all = all.0
+watches_of n (suc v) (es ∷ lists) all = watches_of n v lists all.1
 
 -- ---- one more in a list
 
@@ -127,45 +168,45 @@ tell event v i p place L (inl l) = inl l
 tell event v i p place L (inr e) = inr (refl, e.0, e.1)
 
 pub any_grown : (w : Waking) (after : List (List ℕ)) (p place : ℕ) → ((v i : ℕ) → IsListed (slice_index_or w.any v []) i → IsListed (slice_index_or after v []) i) → AreOnly w.any after p place
-    → IsGrown Any w (record { any = after; bound = w.bound; fixed = w.fixed; costs = w.costs }) p place
+    → IsGrown Any w (record { any = after; bound = w.bound; fixed = w.fixed; watches = w.watches; costs = w.costs }) p place
 any_grown w after p place grows only = record { extends = extends; only = others }
   where
-    extends : Extends w (record { any = after; bound = w.bound; fixed = w.fixed; costs = w.costs })
+    extends : Extends w (record { any = after; bound = w.bound; fixed = w.fixed; watches = w.watches; costs = w.costs })
     extends Any v i listed = grows v i listed
     extends Bound v i listed = listed
     extends Fixed v i listed = listed
 
-    others : (e : Event) (v i : ℕ) → IsListed (waiting_at (record { any = after; bound = w.bound; fixed = w.fixed; costs = w.costs }) e v) i
+    others : (e : Event) (v i : ℕ) → IsListed (waiting_at (record { any = after; bound = w.bound; fixed = w.fixed; watches = w.watches; costs = w.costs }) e v) i
         → IsListed (waiting_at w e v) i ⊎ ((e ≡ Any) × (v ≡ p) × (i ≡ place))
     others Any v i listed = tell Any v i p place (IsListed (waiting_at w Any v) i) (only v i listed)
     others Bound v i listed = inl listed
     others Fixed v i listed = inl listed
 
 pub bound_grown : (w : Waking) (after : List (List ℕ)) (p place : ℕ) → ((v i : ℕ) → IsListed (slice_index_or w.bound v []) i → IsListed (slice_index_or after v []) i) → AreOnly w.bound after p place
-    → IsGrown Bound w (record { any = w.any; bound = after; fixed = w.fixed; costs = w.costs }) p place
+    → IsGrown Bound w (record { any = w.any; bound = after; fixed = w.fixed; watches = w.watches; costs = w.costs }) p place
 bound_grown w after p place grows only = record { extends = extends; only = others }
   where
-    extends : Extends w (record { any = w.any; bound = after; fixed = w.fixed; costs = w.costs })
+    extends : Extends w (record { any = w.any; bound = after; fixed = w.fixed; watches = w.watches; costs = w.costs })
     extends Any v i listed = listed
     extends Bound v i listed = grows v i listed
     extends Fixed v i listed = listed
 
-    others : (e : Event) (v i : ℕ) → IsListed (waiting_at (record { any = w.any; bound = after; fixed = w.fixed; costs = w.costs }) e v) i
+    others : (e : Event) (v i : ℕ) → IsListed (waiting_at (record { any = w.any; bound = after; fixed = w.fixed; watches = w.watches; costs = w.costs }) e v) i
         → IsListed (waiting_at w e v) i ⊎ ((e ≡ Bound) × (v ≡ p) × (i ≡ place))
     others Any v i listed = inl listed
     others Bound v i listed = tell Bound v i p place (IsListed (waiting_at w Bound v) i) (only v i listed)
     others Fixed v i listed = inl listed
 
 pub fixed_grown : (w : Waking) (after : List (List ℕ)) (p place : ℕ) → ((v i : ℕ) → IsListed (slice_index_or w.fixed v []) i → IsListed (slice_index_or after v []) i) → AreOnly w.fixed after p place
-    → IsGrown Fixed w (record { any = w.any; bound = w.bound; fixed = after; costs = w.costs }) p place
+    → IsGrown Fixed w (record { any = w.any; bound = w.bound; fixed = after; watches = w.watches; costs = w.costs }) p place
 fixed_grown w after p place grows only = record { extends = extends; only = others }
   where
-    extends : Extends w (record { any = w.any; bound = w.bound; fixed = after; costs = w.costs })
+    extends : Extends w (record { any = w.any; bound = w.bound; fixed = after; watches = w.watches; costs = w.costs })
     extends Any v i listed = listed
     extends Bound v i listed = listed
     extends Fixed v i listed = grows v i listed
 
-    others : (e : Event) (v i : ℕ) → IsListed (waiting_at (record { any = w.any; bound = w.bound; fixed = after; costs = w.costs }) e v) i
+    others : (e : Event) (v i : ℕ) → IsListed (waiting_at (record { any = w.any; bound = w.bound; fixed = after; watches = w.watches; costs = w.costs }) e v) i
         → IsListed (waiting_at w e v) i ⊎ ((e ≡ Fixed) × (v ≡ p) × (i ≡ place))
     others Any v i listed = inl listed
     others Bound v i listed = inl listed

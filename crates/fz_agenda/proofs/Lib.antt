@@ -1,3 +1,4 @@
+pub mod Watched
 pub mod Settled
 pub mod Places
 pub mod Woken
@@ -5,5 +6,6 @@ pub mod Standing
 pub mod Chunks
 pub mod StateBits
 pub mod Waking
+pub mod Looking
 pub mod Drained
 pub mod Spared

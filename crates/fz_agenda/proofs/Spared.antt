@@ -4,12 +4,12 @@ use Rattle.std.specs.Prelude.{ℤ, slice_get, slice_index, slice_set, Some}
 use Rattle.std.specs.List.{AllByRecursion}
 use Rattle.std.proofs.lemmas.List.{length-set}
 use Rattle.fz_sets.proofs.Lists.{by_place, some_is}
-use Rattle.fz_strength.specs.Sayings.{Saying, Differ, line_of, waits_of}
+use Rattle.fz_strength.specs.Sayings.{Saying, Differ, line_of}
 use Rattle.fz_strength.specs.Promises.{RestsForGood}
 use Rattle.fz_prop.specs.Stores.{Stored}
-use Rattle.fz_agenda.specs.Agendas.{AreUnmarked, IsSettled}
+use Rattle.fz_agenda.specs.Agendas.{IsUnmarked, IsSettled}
 use Rattle.fz_agenda.specs.Queues.{Lineup, queue_at, class_of, cost_at, IsGone, IsWoken, rested, lineup}
-use Rattle.fz_agenda.specs.Wakes.{Waking, IsListedAt, IsIndexOf, IsCalled, IsDraining, IsDrainingBut}
+use Rattle.fz_agenda.specs.Wakes.{Waking, IsIndexedAt, IsIndexOf, IsCalled, IsDraining, IsDrainingBut}
 
 -- ---- lists with another element at one place
 
@@ -42,8 +42,8 @@ abbrev with_idler : List Saying → ℕ → List Saying
 with_idler sayings place = slice_set sayings place idler
 
 idler_listed : (sayings : List Saying) (place : ℕ) (w : Waking) → IsIndexOf sayings w → IsIndexOf (with_idler sayings place) w
-idler_listed sayings place w index = by_place (λ i. (saying : Saying) → slice_get (with_idler sayings place) i ≡ Some saying → IsListedAt w i (waits_of saying)) place
-    (λ saying is. subst (λ (x : Saying). IsListedAt w place (waits_of x)) (sym (set_same sayings place idler saying is)) tt)
+idler_listed sayings place w index = by_place (λ i. (saying : Saying) → slice_get (with_idler sayings place) i ≡ Some saying → IsIndexedAt w i saying) place
+    (λ saying is. subst (λ (x : Saying). IsIndexedAt w place x) (sym (set_same sayings place idler saying is)) (record { steady = tt; watched = λ v t n looks. absurd looks }))
     (λ i ne saying is. index i saying (sym (set_other sayings place i idler ne) ∙ is))
 
 idler_settled : (sayings : List Saying) (place : ℕ) (states after : List ℕ) (s : Stored) → IsSettled sayings states s → after ≡ slice_set states place 2 → slice_index after place ≡ 2
@@ -52,7 +52,7 @@ idler_settled sayings place states after s settled at two =
     let there : (i : ℕ) → i ≢ place → slice_index after i ≡ slice_index states i = λ i ne. ap (λ (xs : List ℕ). slice_index xs i) at ∙ get_or-set_other states place i 2 0 ne in
     record {
       size = ap length at ∙ length-set states place 2 ∙ settled.size ∙ sym (length-set sayings place idler);
-      idle = by_place (λ i. (saying : Saying) → slice_get (with_idler sayings place) i ≡ Some saying → slice_index after i ≡ 0 → AreUnmarked (waits_of saying) s → line_of saying s.doms) place
+      idle = by_place (λ i. (saying : Saying) → slice_get (with_idler sayings place) i ≡ Some saying → slice_index after i ≡ 0 → IsUnmarked saying s → line_of saying s.doms) place
           (λ saying is idle un. absurd (omega (arith, two, idle)))
           (λ i ne saying is idle un. settled.idle i saying (sym (set_other sayings place i idler ne) ∙ is) (sym (there i ne) ∙ idle) un);
       gone = by_place (λ i. (saying : Saying) → slice_get (with_idler sayings place) i ≡ Some saying → slice_index after i ≡ 2 → RestsForGood saying s.doms) place
@@ -68,7 +68,7 @@ back_settled sayings place saying states after s settled known rests at within =
     let there : (i : ℕ) → i ≢ place → slice_index after i ≡ slice_index states i = λ i ne. ap (λ (xs : List ℕ). slice_index xs i) at ∙ get_or-set_other states place i 0 0 ne in
     record {
       size = ap length at ∙ length-set states place 0 ∙ settled.size ∙ length-set sayings place idler;
-      idle = by_place (λ i. (x : Saying) → slice_get sayings i ≡ Some x → slice_index after i ≡ 0 → AreUnmarked (waits_of x) s → line_of x s.doms) place
+      idle = by_place (λ i. (x : Saying) → slice_get sayings i ≡ Some x → slice_index after i ≡ 0 → IsUnmarked x s → line_of x s.doms) place
           (λ x is idle un. subst (λ (y : Saying). line_of y s.doms) (some_is saying x (sym known ∙ is)) rests)
           (λ i ne x is idle un. settled.idle i x (set_other sayings place i idler ne ∙ is) (sym (there i ne) ∙ idle) un);
       gone = by_place (λ i. (x : Saying) → slice_get sayings i ≡ Some x → slice_index after i ≡ 2 → RestsForGood x s.doms) place

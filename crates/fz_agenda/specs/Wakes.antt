@@ -1,20 +1,28 @@
 -- Who waits for which change.
-use Rattle.std.specs.Prelude.{◌≡◌, ◌≢◌, ◌⊎◌, ℕ, ◌<◌, ◌≤◌, List, [], ◌∷◌, ◌++◌, length, slice_get, slice_index_or, Some}
+use Rattle.std.specs.Prelude.{◌≡◌, ◌≢◌, ◌⊎◌, ℕ, ℤ, ◌<◌, ◌≤◌, List, [], ◌∷◌, ◌++◌, length, slice_get, slice_index, slice_index_or, slice_set, Some}
 use Rattle.std.specs.List.{AllByRecursion}
+use Rattle.fz_sets.specs.Sets.{IsInSet}
+use Rattle.fz_spec.specs.declared.term.Term.{Term}
+use Rattle.fz_spec.specs.Truth.{SomeByRecursion}
 use Rattle.fz_strength.specs.declared.cost.Cost.{Cost}
 use Rattle.fz_strength.specs.declared.event.Event.{Event}
 use Rattle.fz_strength.specs.declared.event.Event.TheVariants.{Any, Bound, Fixed}
+use Rattle.fz_strength.specs.Domains.{term_set}
 use Rattle.fz_strength.specs.Events.{Wait}
-use Rattle.fz_strength.specs.Sayings.{Saying, line_of, waits_of}
-use Rattle.fz_prop.specs.Stores.{Stored, IsStore, IsListed, mark_at}
+use Rattle.fz_strength.specs.Sayings.{Saying, line_of}
+use Rattle.fz_prop.specs.Stores.{Stored, IsStore, IsListed, IsTermOf, mark_at}
 use Rattle.fz_agenda.specs.Agendas.{IsSettled}
+use Rattle.fz_agenda.specs.declared.watches.Watch.{Watch}
 use Rattle.fz_agenda.specs.Queues.{Lineup, rested, AreAwake, IsWoken}
+use Rattle.fz_agenda.specs.Watches.{LooksWhile, steady_waits}
 
--- for each kind of change and each variable the propagators that wait for it, and the class of each propagator's cost
+-- for each kind of change and each variable the propagators that wait for it; for each variable those that look at it only while a
+-- number is left of a term; and the class of each propagator's cost
 pub record Waking : Type 0 where
   pub any : List (List ℕ)
   pub bound : List (List ℕ)
   pub fixed : List (List ℕ)
+  pub watches : List (List Watch)
   pub costs : List Cost
 
 abbrev pub lists_of : Event → Waking → List (List ℕ)
@@ -29,21 +37,44 @@ waiting_at w event v = slice_index_or (lists_of event w) v []
 abbrev pub IsListedAt : Waking → ℕ → List Wait → Type 0
 IsListedAt w i ws = AllByRecursion (λ (wait : Wait). IsListed (waiting_at w wait.event wait.variable) i) ws
 
--- the propagator of each of these sayings is listed at each change that it waits for
+-- the propagator of this number looks at a variable while a number is left of a term
+abbrev pub watch : ℕ → Term → ℤ → Watch
+watch i t n = record { place = i; term = t; number = n }
+
+abbrev pub watches_at : Waking → ℕ → List Watch
+watches_at w v = slice_index_or w.watches v []
+
+abbrev pub IsWatch : Waking → ℕ → Watch → Type 0
+IsWatch w v e = SomeByRecursion (λ (x : Watch). x ≡ e) (watches_at w v)
+
+-- the propagator of what is said is listed at each change that it always waits for, and watches each variable that it looks at for a
+-- while
+pub record IsIndexedAt (w : Waking) (i : ℕ) (saying : Saying) : Type 0 where
+  pub steady : IsListedAt w i (steady_waits saying)
+  pub watched : (v : ℕ) (t : Term) (n : ℤ) → LooksWhile saying v t n → IsWatch w v (watch i t n)
+
+-- and so is each of these
 abbrev pub IsIndexOf : List Saying → Waking → Type 0
-IsIndexOf sayings w = (i : ℕ) (saying : Saying) → slice_get sayings i ≡ Some saying → IsListedAt w i (waits_of saying)
+IsIndexOf sayings w = (i : ℕ) (saying : Saying) → slice_get sayings i ≡ Some saying → IsIndexedAt w i saying
+
+-- the terms of these are of so many variables
+abbrev pub AreWatchesOf : ℕ → List Watch → Type 0
+AreWatchesOf n es = AllByRecursion (λ (e : Watch). IsTermOf n e.term) es
 
 -- lists for so many variables
 pub record HaveSize (w : Waking) (n : ℕ) : Type 0 where
   pub any : length w.any ≡ n
   pub bound : length w.bound ≡ n
   pub fixed : length w.fixed ≡ n
+  pub watches : length w.watches ≡ n
+  pub terms : AllByRecursion (AreWatchesOf n) w.watches
 
 -- lists for this variable
 pub record HasVariable (w : Waking) (v : ℕ) : Type 0 where
   pub any : v < length w.any
   pub bound : v < length w.bound
   pub fixed : v < length w.fixed
+  pub watches : v < length w.watches
 
 -- whoever is listed stays listed
 abbrev pub Extends : Waking → Waking → Type 0
@@ -51,21 +82,37 @@ Extends w u = (event : Event) (v i : ℕ) → IsListed (waiting_at w event v) i 
 
 -- the same lists, and one cost more
 abbrev pub with_cost : Waking → Cost → Waking
-with_cost w cost = record { any = w.any; bound = w.bound; fixed = w.fixed; costs = w.costs ++ cost ∷ [] }
+with_cost w cost = record { any = w.any; bound = w.bound; fixed = w.fixed; watches = w.watches; costs = w.costs ++ cost ∷ [] }
+
+-- the same, and one more that looks at a variable for a while
+abbrev pub with_watch : Waking → ℕ → Watch → Waking
+with_watch w v e = record { any = w.any; bound = w.bound; fixed = w.fixed; watches = slice_set w.watches v (watches_at w v ++ e ∷ []); costs = w.costs }
 
 -- the propagator of this number waits for a change of a variable up to a level
 abbrev pub WaitsFor : Waking → ℕ → ℕ → ℕ → Type 0
 WaitsFor w v n i = ((1 ≤ n) × IsListed (waiting_at w Any v) i) ⊎ ((2 ≤ n) × IsListed (waiting_at w Bound v) i) ⊎ ((3 ≤ n) × IsListed (waiting_at w Fixed v) i)
 
--- it waits for a change that some mark shows
+-- it looks at a variable now
+abbrev pub IsWatching : List (List (ℤ × ℤ)) → List Watch → ℕ → Type 0
+IsWatching ds es i = SomeByRecursion (λ (e : Watch). (e.place ≡ i) × IsInSet (term_set ds e.term) e.number) es
+
+-- and either of both
+abbrev pub Heeds : Waking → List (List (ℤ × ℤ)) → ℕ → ℕ → ℕ → Type 0
+Heeds w ds v n i = WaitsFor w v n i ⊎ ((1 ≤ n) × IsWatching ds (watches_at w v) i)
+
+-- some mark shows a change that it heeds
 abbrev pub IsCalled : Waking → Stored → ℕ → Type 0
-IsCalled w s i = (v : ℕ) × WaitsFor w v (mark_at s v) i
+IsCalled w s i = (v : ℕ) × Heeds w s.doms v (mark_at s v) i
 
 -- none is idle of those that wait for a change of a variable up to a level
 pub record AllAwake (w : Waking) (v n : ℕ) (states : List ℕ) : Type 0 where
   pub any : 1 ≤ n → AreAwake states (waiting_at w Any v)
   pub bound : 2 ≤ n → AreAwake states (waiting_at w Bound v)
   pub fixed : 3 ≤ n → AreAwake states (waiting_at w Fixed v)
+
+-- none is idle of those that look at a variable now
+abbrev pub AreWatchersAwake : List (List (ℤ × ℤ)) → List ℕ → List Watch → Type 0
+AreWatchersAwake ds states es = AllByRecursion (λ (e : Watch). IsInSet (term_set ds e.term) e.number → e.place < length states → slice_index states e.place ≡ 0 → ⊥) es
 
 -- From a store and a line-up, by waking those that wait for listed changes and taking these from the list, another store and
 -- line-up.

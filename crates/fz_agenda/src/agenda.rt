@@ -1,5 +1,5 @@
 //! Which propagators are queued.
-ghost use Rattle.std.specs.Prelude.{◌≡◌, ◌↔◌, ℕ, ◌<◌, ◌+◌, ◌*◌, List, [], ◌∷◌, ◌++◌, length, slice_index, slice_index_or, slice_set, replicate, IfOk, OnOk, OnErr, MatchOption};
+ghost use Rattle.std.specs.Prelude.{◌≡◌, ◌↔◌, ℕ, ◌<◌, ◌+◌, ◌*◌, List, [], ◌∷◌, ◌++◌, length, slice_index, slice_index_or, slice_set, replicate, IfOk, IsTrue, OnOk, OnErr, MatchOption};
 ghost use Rattle.std.specs.List.{concat};
 ghost use Rattle.std.specs.Int.{bit_at};
 ghost use Rattle.fz_prop.specs.Stores.{IsListed};
@@ -68,7 +68,7 @@ impl Agenda {
         ensures other { (IsIdle self.old place → ⊥) → self.new ≡ self.old }
         ensures err { OnErr result (self.new ≡ self.old) }
     {
-        if !self.states.is_idle(place as usize) {
+        if !self.is_idle(place) {
             return Ok(());
         }
         enqueue(
@@ -96,6 +96,14 @@ impl Agenda {
             place,
             class_of(cost),
         )
+    }
+
+    /// Whether a propagator is there and idle.
+    #[inline(always)]
+    pub(crate) fn is_idle(&self, place: u32) -> bool
+        ensures { IsTrue result ↔ IsIdle self.now place }
+    {
+        self.states.is_idle(place as usize)
     }
 
     /// Those of a word that are idle; what bits beyond the last propagator say is not known.

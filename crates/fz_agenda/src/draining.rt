@@ -45,7 +45,7 @@ pub fn drain(wakes: &Wakes, store: &mut Store, agenda: &mut Agenda) -> Result<()
 {
     let _ = store.doms();
     'changes: while let Some(variable) = store.first_changed() {
-        wakes.wake(variable, store.mark(variable), agenda)?;
+        wakes.wake(variable, store.mark(variable), store, agenda)?;
         store.take_changed();
         let _ = store.doms();
     }

@@ -10,7 +10,9 @@ mod members;
 pub mod queue;
 mod states;
 pub mod wakes;
+pub mod watches;
 
 pub use agenda::Agenda;
 pub use draining::{drain, drain_but};
 pub use wakes::Wakes;
+pub use watches::Watch;

@@ -1,16 +1,17 @@
 //! Who waits for which change.
-ghost use Rattle.std.specs.Prelude.{◌≡◌, ◌⊎◌, ◌↔◌, ℕ, ◌<◌, ◌≤◌, List, [], ◌∷◌, ◌++◌, length, slice_index_or, false, IsTrue, IfOk, OnOk, OnErr};
+ghost use Rattle.std.specs.Prelude.{◌≡◌, ◌⊎◌, ◌↔◌, ℕ, ◌<◌, ◌≤◌, List, [], ◌∷◌, ◌++◌, length, replicate, slice_index_or, false, IsTrue, IfOk, OnOk, OnErr};
 ghost use Rattle.std.specs.List.{concat};
 ghost use Rattle.fz_strength.specs.declared.event.Event.{Event};
 ghost use Rattle.fz_strength.specs.declared.event.Event.TheVariants.{Any, Bound, Fixed};
 ghost use Rattle.fz_prop.specs.Stores.{IsListed};
 ghost use Rattle.fz_agenda.specs.Queues.{cost_at, AreAwake, IsWoken};
-ghost use Rattle.fz_agenda.specs.Wakes.{Waking, waiting_at, with_cost, HaveSize, HasVariable, Extends, WaitsFor, AllAwake};
+ghost use Rattle.fz_agenda.specs.Wakes.{Waking, waiting_at, watches_at, with_cost, with_watch, HaveSize, HasVariable, Extends, Heeds, WaitsFor, AllAwake, AreWatchesOf, AreWatchersAwake};
 
 use crate::agenda::Agenda;
 use crate::members::Members;
+use crate::watches::{Watch, Watchers, wake_watching};
 use fz_bits::word::{common, lowest_bit, without_bit};
-use fz_prop::{Cost, Event};
+use fz_prop::{Cost, Event, Store};
 use std::alloc::{AllocError, Global};
 use std::marker::Model;
 
@@ -76,6 +77,8 @@ pub struct Wakes {
     any: Vec<Waiters>,
     bound: Vec<Waiters>,
     fixed: Vec<Waiters>,
+    /// For each variable those that look at it only for a while.
+    watches: Vec<Watchers>,
     /// The class of each propagator's cost.
     costs: Vec<Cost>,
 }
@@ -89,6 +92,7 @@ impl Model for Wakes {
       any = w.any.items;
       bound = w.bound.items;
       fixed = w.fixed.items;
+      watches = w.watches.items;
       costs = w.costs.items;
     } };
 }
@@ -105,10 +109,12 @@ impl Wakes {
         let any = empty_lists(alloc, count)?;
         let bound = empty_lists(alloc, count)?;
         let fixed = empty_lists(alloc, count)?;
+        let watches = no_watchers(alloc, count)?;
         Ok(Wakes {
             any,
             bound,
             fixed,
+            watches,
             costs: Vec::new(alloc),
         })
     }
@@ -146,6 +152,7 @@ impl Wakes {
         ensures only { (e : Event) (v i : ℕ) → IsListed (waiting_at self.new e v) i
             → IsListed (waiting_at self.old e v) i ⊎ ((e ≡ event) × (v ≡ variable) × (i ≡ place)) }
         ensures costs { self.new.costs ≡ self.old.costs }
+        ensures watches { self.new.watches ≡ self.old.watches }
     {
         match event {
             Event::Any => list_at(&mut self.any, variable, place),
@@ -154,19 +161,56 @@ impl Wakes {
         }
     }
 
-    /// Queues those that wait for the changes of a variable up to a level.
+    /// A propagator looks at a variable while a number is left of a term, and any change of the variable then wakes it.
+    ///
+    /// # Errors
+    /// `AllocError` where there is no memory; the lists are then as they were.
+    pub fn watch(&mut self, variable: u32, watch: Watch) -> Result<(), AllocError>
+        requires { HasVariable self.old variable }
+        ensures ok { OnOk result (self.new ≡ with_watch self.old variable watch) }
+        ensures err { OnErr result (self.new ≡ self.old) }
+    {
+        self.watches[variable as usize].add(watch)
+    }
+
+    /// Queues those that wait for the changes of a variable up to a level, or look at it now.
     ///
     /// # Errors
     /// `AllocError` where there is no memory.
     #[inline(always)]
-    pub fn wake(&self, variable: u32, level: u8, agenda: &mut Agenda) -> Result<(), AllocError>
-        requires { HasVariable self.now variable }
+    pub fn wake(
+        &self,
+        variable: u32,
+        level: u8,
+        store: &Store,
+        agenda: &mut Agenda,
+    ) -> Result<(), AllocError>
+        requires variable { HasVariable self.now variable }
+        requires terms { AreWatchesOf (length store.now.doms) (watches_at self.now variable) }
+        ensures woken { IsWoken (Heeds self.now store.now.doms variable level) self.now.costs
+            agenda.old agenda.new }
+        ensures awake { OnOk result (AllAwake self.now variable level agenda.new.states) }
+        ensures watching { OnOk result (1 ≤ level → AreWatchersAwake store.now.doms
+            agenda.new.states (watches_at self.now variable)) }
+    {
+        if level == 0 {
+            return Ok(());
+        }
+        let watches = self.watches[variable as usize].watches();
+        wake_watching(watches, store, &self.costs, agenda)?;
+        self.wake_waiting(variable, level, agenda)
+    }
+
+    /// Queues those that wait for the changes of a variable up to a level.
+    #[inline(always)]
+    fn wake_waiting(&self, variable: u32, level: u8, agenda: &mut Agenda) -> Result<(), AllocError>
+        requires variable { HasVariable self.now variable }
+        requires some { 1 ≤ level }
         ensures woken { IsWoken (WaitsFor self.now variable level) self.now.costs
             agenda.old agenda.new }
         ensures awake { OnOk result (AllAwake self.now variable level agenda.new.states) }
     {
         match level {
-            0 => Ok(()),
             1 => self.wake_any(variable, agenda),
             2 => self.wake_bound(variable, agenda),
             _ => self.wake_fixed(variable, agenda),
@@ -222,6 +266,17 @@ fn empty_lists(alloc: Global, count: usize) -> Result<Vec<Waiters>, AllocError>
     let mut lists = Vec::with_capacity(alloc, count)?;
     for _made in 0..count {
         lists.push(Waiters::new(alloc))?;
+    }
+    Ok(lists)
+}
+
+/// Lists for so many variables, of none that looks at one for a while.
+fn no_watchers(alloc: Global, count: usize) -> Result<Vec<Watchers>, AllocError>
+    ensures { IfOk result (λ v. v.items ≡ replicate count []) }
+{
+    let mut lists = Vec::with_capacity(alloc, count)?;
+    for _made in 0..count {
+        lists.push(Watchers::new(alloc))?;
     }
     Ok(lists)
 }
@@ -287,7 +342,7 @@ fn wake_members(members: &Members, costs: &[Cost], agenda: &mut Agenda) -> Resul
 
 /// The class of a propagator's cost.
 #[inline(always)]
-fn cost_at(costs: &[Cost], place: u32) -> Cost
+pub(crate) fn cost_at(costs: &[Cost], place: u32) -> Cost
     ensures { result ≡ cost_at costs.now place }
 {
     match costs.get(place as usize) {

@@ -13,7 +13,7 @@ returns-in-Any-clause-extends c =
 pub returns-in-Any-clause-only : goal.returns-in-Any-clause-only
 returns-in-Any-clause-only c =
     let now = the_view c.self.inside in
-    let after = the_view (record { any = c.list_at.new.lists; bound = c.self.inside.bound; fixed = c.self.inside.fixed; costs = c.self.inside.costs }) in
+    let after = the_view (record { any = c.list_at.new.lists; bound = c.self.inside.bound; fixed = c.self.inside.fixed; watches = c.self.inside.watches; costs = c.self.inside.costs }) in
     let listed = c.list_at.ensures in
     let grown = any_grown now c.list_at.new.lists.items c.args.variable c.args.place listed.extends listed.only in
     subst (λ (w : Waking). IsOnly w after c.args.event c.args.variable c.args.place) c.self.view_is
@@ -27,7 +27,7 @@ returns-in-Bound-clause-extends c =
 pub returns-in-Bound-clause-only : goal.returns-in-Bound-clause-only
 returns-in-Bound-clause-only c =
     let now = the_view c.self.inside in
-    let after = the_view (record { any = c.self.inside.any; bound = c.list_at-in-Bound.new.lists; fixed = c.self.inside.fixed; costs = c.self.inside.costs }) in
+    let after = the_view (record { any = c.self.inside.any; bound = c.list_at-in-Bound.new.lists; fixed = c.self.inside.fixed; watches = c.self.inside.watches; costs = c.self.inside.costs }) in
     let listed = c.list_at-in-Bound.ensures in
     let grown = bound_grown now c.list_at-in-Bound.new.lists.items c.args.variable c.args.place listed.extends listed.only in
     subst (λ (w : Waking). IsOnly w after c.args.event c.args.variable c.args.place) c.self.view_is
@@ -41,7 +41,7 @@ returns-in-Fixed-clause-extends c =
 pub returns-in-Fixed-clause-only : goal.returns-in-Fixed-clause-only
 returns-in-Fixed-clause-only c =
     let now = the_view c.self.inside in
-    let after = the_view (record { any = c.self.inside.any; bound = c.self.inside.bound; fixed = c.list_at-in-Fixed.new.lists; costs = c.self.inside.costs }) in
+    let after = the_view (record { any = c.self.inside.any; bound = c.self.inside.bound; fixed = c.list_at-in-Fixed.new.lists; watches = c.self.inside.watches; costs = c.self.inside.costs }) in
     let listed = c.list_at-in-Fixed.ensures in
     let grown = fixed_grown now c.list_at-in-Fixed.new.lists.items c.args.variable c.args.place listed.extends listed.only in
     subst (λ (w : Waking). IsOnly w after c.args.event c.args.variable c.args.place) c.self.view_is
