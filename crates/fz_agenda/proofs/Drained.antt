@@ -64,8 +64,10 @@ are_woken sayings w states s v index size awake watching = λ i saying is idle.
     let at = index i saying is in
     record {
       steady = all_above w (steady_waits saying) states v (mark_at s v) i awake at.steady within idle;
-      watched = λ t n looks left. unmarked (mark_at s v) (AreWatchersAwake s.doms states (watches_at w v)) watching
-          (λ all. looking s.doms states (watches_at w v) i t n all (at.watched v t n looks) left within idle);
+      watched = λ t n looks left. elim (at.watched v t n looks) [
+        | inl one ↦ unmarked (mark_at s v) (AreWatchersAwake s.doms states (watches_at w v)) watching (λ all. looking s.doms states (watches_at w v) i t n all one left within idle)
+        | inr listed ↦ (let low : mark_at s v < 1 = above w Any states v (mark_at s v) i awake listed within idle in omega (arith, low))
+      ];
     }
 
 -- what was drained so far, and no mark has risen
@@ -158,6 +160,9 @@ AreOnly lists after p place = (v i : ℕ) → IsListed (slice_index_or after v [
 abbrev pub IsOnly : Waking → Waking → Event → ℕ → ℕ → Type 0
 IsOnly w u event p place = (e : Event) (v i : ℕ) → IsListed (waiting_at u e v) i → IsListed (waiting_at w e v) i ⊎ ((e ≡ event) × (v ≡ p) × (i ≡ place))
 
+abbrev AreStillListed : Waking → Waking → Type 0
+AreStillListed w u = (event : Event) (v i : ℕ) → IsListed (waiting_at w event v) i → IsListed (waiting_at u event v) i
+
 -- in the lists of one kind one more stands at a variable
 pub record IsGrown (event : Event) (w u : Waking) (p place : ℕ) : Type 0 where
   pub extends : Extends w u
@@ -169,9 +174,9 @@ tell event v i p place L (inr e) = inr (refl, e.0, e.1)
 
 pub any_grown : (w : Waking) (after : List (List ℕ)) (p place : ℕ) → ((v i : ℕ) → IsListed (slice_index_or w.any v []) i → IsListed (slice_index_or after v []) i) → AreOnly w.any after p place
     → IsGrown Any w (record { any = after; bound = w.bound; fixed = w.fixed; watches = w.watches; costs = w.costs }) p place
-any_grown w after p place grows only = record { extends = extends; only = others }
+any_grown w after p place grows only = record { extends = record { listed = extends; watching = λ v e watching. watching }; only = others }
   where
-    extends : Extends w (record { any = after; bound = w.bound; fixed = w.fixed; watches = w.watches; costs = w.costs })
+    extends : AreStillListed w (record { any = after; bound = w.bound; fixed = w.fixed; watches = w.watches; costs = w.costs })
     extends Any v i listed = grows v i listed
     extends Bound v i listed = listed
     extends Fixed v i listed = listed
@@ -184,9 +189,9 @@ any_grown w after p place grows only = record { extends = extends; only = others
 
 pub bound_grown : (w : Waking) (after : List (List ℕ)) (p place : ℕ) → ((v i : ℕ) → IsListed (slice_index_or w.bound v []) i → IsListed (slice_index_or after v []) i) → AreOnly w.bound after p place
     → IsGrown Bound w (record { any = w.any; bound = after; fixed = w.fixed; watches = w.watches; costs = w.costs }) p place
-bound_grown w after p place grows only = record { extends = extends; only = others }
+bound_grown w after p place grows only = record { extends = record { listed = extends; watching = λ v e watching. watching }; only = others }
   where
-    extends : Extends w (record { any = w.any; bound = after; fixed = w.fixed; watches = w.watches; costs = w.costs })
+    extends : AreStillListed w (record { any = w.any; bound = after; fixed = w.fixed; watches = w.watches; costs = w.costs })
     extends Any v i listed = listed
     extends Bound v i listed = grows v i listed
     extends Fixed v i listed = listed
@@ -199,9 +204,9 @@ bound_grown w after p place grows only = record { extends = extends; only = othe
 
 pub fixed_grown : (w : Waking) (after : List (List ℕ)) (p place : ℕ) → ((v i : ℕ) → IsListed (slice_index_or w.fixed v []) i → IsListed (slice_index_or after v []) i) → AreOnly w.fixed after p place
     → IsGrown Fixed w (record { any = w.any; bound = w.bound; fixed = after; watches = w.watches; costs = w.costs }) p place
-fixed_grown w after p place grows only = record { extends = extends; only = others }
+fixed_grown w after p place grows only = record { extends = record { listed = extends; watching = λ v e watching. watching }; only = others }
   where
-    extends : Extends w (record { any = w.any; bound = w.bound; fixed = after; watches = w.watches; costs = w.costs })
+    extends : AreStillListed w (record { any = w.any; bound = w.bound; fixed = after; watches = w.watches; costs = w.costs })
     extends Any v i listed = listed
     extends Bound v i listed = listed
     extends Fixed v i listed = grows v i listed

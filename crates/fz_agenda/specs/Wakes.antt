@@ -47,11 +47,11 @@ watches_at w v = slice_index_or w.watches v []
 abbrev pub IsWatch : Waking → ℕ → Watch → Type 0
 IsWatch w v e = SomeByRecursion (λ (x : Watch). x ≡ e) (watches_at w v)
 
--- the propagator of what is said is listed at each change that it always waits for, and watches each variable that it looks at for a
--- while
+-- the propagator of what is said is listed at each change that it always waits for; and it watches each variable that it looks at for a
+-- while, or is listed at all its changes
 pub record IsIndexedAt (w : Waking) (i : ℕ) (saying : Saying) : Type 0 where
   pub steady : IsListedAt w i (steady_waits saying)
-  pub watched : (v : ℕ) (t : Term) (n : ℤ) → LooksWhile saying v t n → IsWatch w v (watch i t n)
+  pub watched : (v : ℕ) (t : Term) (n : ℤ) → LooksWhile saying v t n → IsWatch w v (watch i t n) ⊎ IsListed (waiting_at w Any v) i
 
 -- and so is each of these
 abbrev pub IsIndexOf : List Saying → Waking → Type 0
@@ -76,9 +76,10 @@ pub record HasVariable (w : Waking) (v : ℕ) : Type 0 where
   pub fixed : v < length w.fixed
   pub watches : v < length w.watches
 
--- whoever is listed stays listed
-abbrev pub Extends : Waking → Waking → Type 0
-Extends w u = (event : Event) (v i : ℕ) → IsListed (waiting_at w event v) i → IsListed (waiting_at u event v) i
+-- whoever is listed stays listed, and whoever watches goes on
+pub record Extends (w u : Waking) : Type 0 where
+  pub listed : (event : Event) (v i : ℕ) → IsListed (waiting_at w event v) i → IsListed (waiting_at u event v) i
+  pub watching : (v : ℕ) (e : Watch) → IsWatch w v e → IsWatch u v e
 
 -- the same lists, and one cost more
 abbrev pub with_cost : Waking → Cost → Waking

@@ -1,29 +1,33 @@
 //! What the spaces of a model share.
-ghost use Rattle.std.specs.Prelude.{◌≡◌, ◌<◌, ◌≤◌, ◌^◌, List, ◌∷◌, [], ◌++◌, length, map, IfOk, OnOk, slice_get, slice_index_or, ℕ, Some};
+ghost use Rattle.std.specs.Prelude.{◌≡◌, ◌⊎◌, ◌<◌, ◌≤◌, ◌+◌, ◌^◌, List, ◌∷◌, [], ◌++◌, length, map, IfOk, OnOk, pos, slice_get, slice_index_or, ℕ, ℤ, Some};
 ghost use Rattle.std.specs.List.{AllByRecursion};
 ghost use Rattle.std.specs.Arc.{arc_value};
 ghost use Rattle.fz_model.specs.Groups.{constraint_at};
 ghost use Rattle.fz_model.specs.Kept.{IsModel};
 ghost use Rattle.fz_strength.specs.Costs.{cost_of};
-ghost use Rattle.fz_strength.specs.Events.{AreBelow};
+ghost use Rattle.fz_spec.specs.declared.term.Term.TheVariants.{Var};
+ghost use Rattle.fz_strength.specs.declared.event.Event.TheVariants.{Any};
+ghost use Rattle.fz_strength.specs.Events.{AreBelow, wait_for, waits_for};
 ghost use Rattle.fz_strength.specs.Sayings as said;
 ghost use Rattle.fz_strength.specs.Sayings.{said_terms, waits_of};
+ghost use Rattle.fz_strength.specs.VariableElements.{StandsAt};
 ghost use Rattle.fz_kept.specs.Told.{nothing};
-ghost use Rattle.fz_prop.specs.Stores.{FitsTerm, Stored};
+ghost use Rattle.fz_prop.specs.Stores.{FitsTerm, IsListed, IsTermOf, Stored};
 ghost use Rattle.fz_says.specs.Fits.{FitsSum};
 ghost use Rattle.fz_says.specs.Said.{said_by, waits_in};
 ghost use Rattle.fz_propagators.specs.Forms.{said_of};
 ghost use Rattle.fz_agenda.specs.Agendas.{IsSettled};
-ghost use Rattle.fz_agenda.specs.Wakes.{IsListedAt, HaveSize, Extends};
+ghost use Rattle.fz_agenda.specs.Wakes.{waiting_at, watch, IsIndexedAt, IsListedAt, IsWatch, HaveSize, Extends};
 ghost use Rattle.fz_engine.specs.Networks.{AreSaidOf, IsFull, IsListing, IsNetwork, sayings_of};
 
 use crate::stronger::stronger_of;
-use fz_agenda::{Agenda, Wakes};
+use fz_agenda::{Agenda, Wakes, Watch};
 use fz_kept::Kept;
 use fz_model::ConstraintAt;
-use fz_prop::Cost;
+use fz_prop::{Cost, Event};
 use fz_propagators::AnyPropagator;
 use fz_says::{Saying, Wait};
+use fz_spec::term::Term;
 use std::alloc::{AllocError, Global};
 use std::marker::Model;
 use std::sync::Arc;
@@ -206,11 +210,107 @@ fn post(alloc: Global, posted: &mut Posted, saying: &Saying) -> Result<(), Alloc
 {
     let place = posted.wakes.costs().len() as u32;
     posted.wakes.add_cost(saying.cost())?;
-    let waits = saying.waits(alloc)?;
-    list(&mut posted.wakes, &waits, place)?;
+    list_said(alloc, &mut posted.wakes, saying, place)?;
     let propagator = AnyPropagator::of(alloc, saying)?;
     posted.propagators.push(propagator)?;
     Ok(())
+}
+
+/// Lists a propagator of what is said at all changes that may break its line.
+fn list_said(
+    alloc: Global,
+    wakes: &mut Wakes,
+    saying: &Saying,
+    place: u32,
+) -> Result<(), AllocError>
+    requires size { HaveSize wakes.old (length wakes.old.any) }
+    requires inside { AreBelow (waits_of (said_by saying.now)) (length wakes.old.any) }
+    ensures size { HaveSize wakes.new (length wakes.old.any) }
+    ensures extends { Extends wakes.old wakes.new }
+    ensures indexed { OnOk result (IsIndexedAt wakes.new place (said_by saying.now)) }
+    ensures costs { wakes.new.costs ≡ wakes.old.costs }
+{
+    match saying {
+        Saying::SelectTerm(terms, index, value) => {
+            list_term(wakes, *index, place)?;
+            list_term(wakes, *value, place)?;
+            watch_terms(wakes, terms.as_slice(), *index, place)
+        }
+        _ => {
+            let waits = saying.waits(alloc)?;
+            list(wakes, &waits, place)
+        }
+    }
+}
+
+/// Lists a propagator at all changes of a term.
+fn list_term(wakes: &mut Wakes, term: Term, place: u32) -> Result<(), AllocError>
+    requires size { HaveSize wakes.old (length wakes.old.any) }
+    requires inside { IsTermOf (length wakes.old.any) term }
+    ensures size { HaveSize wakes.new (length wakes.old.any) }
+    ensures extends { Extends wakes.old wakes.new }
+    ensures listed { OnOk result (IsListedAt wakes.new place (wait_for Any term)) }
+    ensures costs { wakes.new.costs ≡ wakes.old.costs }
+{
+    match term {
+        Term::Var(variable) => wakes.list(variable, Event::Any, place),
+        Term::Num(_) => Ok(()),
+    }
+}
+
+/// A propagator looks at each term of a list while its place, from 1, is left of an index.
+fn watch_terms(wakes: &mut Wakes, terms: &[Term], index: Term, place: u32) -> Result<(), AllocError>
+    requires size { HaveSize wakes.old (length wakes.old.any) }
+    requires index { IsTermOf (length wakes.old.any) index }
+    requires terms { AllByRecursion (IsTermOf (length wakes.old.any)) terms.now }
+    ensures size { HaveSize wakes.new (length wakes.old.any) }
+    ensures extends { Extends wakes.old wakes.new }
+    ensures watched { OnOk result ((v : ℕ) (n : ℤ) → StandsAt n terms.now (Var v)
+        → IsWatch wakes.new v (watch place index n)
+        ⊎ IsListed (waiting_at wakes.new Any v) place) }
+    ensures costs { wakes.new.costs ≡ wakes.old.costs }
+{
+    for (i, term) in terms.iter().enumerate() {
+        watch_term(wakes, *term, index, i, place)?;
+    }
+    Ok(())
+}
+
+/// A propagator looks at a term while the number after `before` is left of an index; at a number beyond all indices it always does.
+fn watch_term(
+    wakes: &mut Wakes,
+    term: Term,
+    index: Term,
+    before: usize,
+    place: u32,
+) -> Result<(), AllocError>
+    requires size { HaveSize wakes.old (length wakes.old.any) }
+    requires index { IsTermOf (length wakes.old.any) index }
+    requires term { IsTermOf (length wakes.old.any) term }
+    ensures size { HaveSize wakes.new (length wakes.old.any) }
+    ensures extends { Extends wakes.old wakes.new }
+    ensures watched { OnOk result ((v : ℕ) → term ≡ Var v
+        → IsWatch wakes.new v (watch place index (pos (before + 1)))
+        ⊎ IsListed (waiting_at wakes.new Any v) place) }
+    ensures costs { wakes.new.costs ≡ wakes.old.costs }
+{
+    let Term::Var(variable) = term else {
+        return Ok(());
+    };
+    match i32::try_from(before) {
+        Ok(number) if number < i32::MAX => {
+            let number = number + 1;
+            wakes.watch(
+                variable,
+                Watch {
+                    place,
+                    term: index,
+                    number,
+                },
+            )
+        }
+        _ => wakes.list(variable, Event::Any, place),
+    }
 }
 
 /// Lists a propagator at each change that it waits for.
