@@ -1,4 +1,5 @@
 pub mod Running
 mod Listing
+mod Watching
 mod Queuing
 pub mod Posting

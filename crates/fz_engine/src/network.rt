@@ -1,5 +1,5 @@
 //! What the spaces of a model share.
-ghost use Rattle.std.specs.Prelude.{◌≡◌, ◌⊎◌, ◌<◌, ◌≤◌, ◌+◌, ◌^◌, List, ◌∷◌, [], ◌++◌, length, map, IfOk, OnOk, pos, slice_get, slice_index_or, ℕ, ℤ, Some};
+ghost use Rattle.std.specs.Prelude.{◌≡◌, ◌⊎◌, ◌<◌, ◌≤◌, ◌+◌, ◌^◌, List, ◌∷◌, [], ◌++◌, length, map, IfOk, IfSome, OnOk, pos, slice_get, slice_index_or, ℕ, ℤ, Some};
 ghost use Rattle.std.specs.List.{AllByRecursion};
 ghost use Rattle.std.specs.Arc.{arc_value};
 ghost use Rattle.fz_model.specs.Groups.{constraint_at};
@@ -297,20 +297,27 @@ fn watch_term(
     let Term::Var(variable) = term else {
         return Ok(());
     };
-    match i32::try_from(before) {
-        Ok(number) if number < i32::MAX => {
-            let number = number + 1;
+    match number_after(before) {
+        Some(number) => {
+            let term = index;
             wakes.watch(
                 variable,
                 Watch {
                     place,
-                    term: index,
+                    term,
                     number,
                 },
             )
         }
-        _ => wakes.list(variable, Event::Any, place),
+        None => wakes.list(variable, Event::Any, place),
     }
+}
+
+/// The number after another, where it is an `i32`.
+fn number_after(before: usize) -> Option<i32>
+    ensures { IfSome result (λ n. n ≡ pos (before + 1)) }
+{
+    i32::try_from(before).ok()?.checked_add(1)
 }
 
 /// Lists a propagator at each change that it waits for.
