@@ -1,7 +1,6 @@
 -- Keeping the terms of an equation between bounds that its line doesn't give.
-use Rattle.std.proofs.Common.{◌≡◌, ◌*◌, List, sym, subst, ◌∙◌, ap, Result, arith}
-use Rattle.std.specs.Prelude.{ℤ, ◌*ℤ◌, IfOk, unsigned_abs}
-use Rattle.std.proofs.lemmas.Int.{unsigned_abs-mul}
+use Rattle.std.proofs.Common.{◌≡◌, List, sym, subst, Result, arith}
+use Rattle.std.specs.Prelude.{ℤ, IfOk}
 use Rattle.std.proofs.lemmas.Result.{IfOk-weaker}
 use Rattle.fz_dom.specs.declared.change.Change.{Change}
 use Rattle.fz_dom.specs.declared.change.Change.TheVariants.{Same, Changed, Wiped}
@@ -17,9 +16,9 @@ use Rattle.fz_prop.specs.Outcomes.{IsOutcome}
 use Rattle.fz_prop.specs.Stores.{Stored, Shrinks}
 use Rattle.fz_prop.proofs.Answering.{answer_twice}
 use Rattle.fz_prop.proofs.Twice.{room_after}
-use Rattle.fz_arith.specs.declared.ranges.Range.{Range}
+use Rattle.fz_ranges.specs.declared.ranges.Range.{Range}
+use Rattle.fz_ranges.specs.Ranges.{IsIn}
 use Rattle.fz_arith.specs.Narrowing.{LiesBetween, IsHelped, only_wiped, answer_after}
-use Rattle.fz_arith.specs.Ranges.{IsIn}
 
 -- what is true of an equation has a property, within a store
 abbrev pub IsNeeded : Equation → Stored → (List ℤ → Type 0) → Type 0
@@ -56,8 +55,3 @@ answer_more Wiped answer e r s t helped shrinks correct more h = answer_twice an
 
 pub lie_within : (a : List ℤ) (b : Bounds) (t : Term) (r : Range) → b ≡ between t r.low r.high → IsIn r (term_value a t) → LiesBetween a b
 lie_within a b t r is h = subst (LiesBetween a) (sym is) h
-
--- ---- sizes of a product
-
-pub product_size : (u w v : ℤ) → (u *ℤ w) ≡ v → unsigned_abs v ≡ unsigned_abs u * unsigned_abs w
-product_size u w v is = ap unsigned_abs (sym is) ∙ unsigned_abs-mul u w

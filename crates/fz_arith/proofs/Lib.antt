@@ -4,8 +4,5 @@ pub mod Same
 pub mod Sizing
 pub mod Places
 pub mod Steps
-pub mod Divisions
 pub mod Helping
-pub mod Parted
-pub mod Sides
 pub mod Beaten

@@ -1,13 +1,12 @@
 -- A product divided by a factor is the other factor; and what lies between corners.
 use Rattle.std.proofs.Common.{◌≡◌, ◌≢◌, ℕ, zero, suc, ◌+◌, ◌*◌, ◌/◌, [], ◌∷◌, refl, sym, ap, ◌∙◌, subst, add-zero, arith, inl, inr}
-use Rattle.std.specs.Prelude.{ℤ, pos, negsuc, neg_ℤ, ◌*ℤ◌, ◌≤ℤ◌, ◌<ℤ◌, int_div, int_rem, ◌⊎◌}
+use Rattle.std.specs.Prelude.{ℤ, pos, negsuc, neg_ℤ, ◌*ℤ◌, ◌≤ℤ◌, ◌<ℤ◌, int_div, ◌⊎◌}
 use Rattle.std.specs.Int.{int_min, int_max}
 use Rattle.std.specs.List.{fold}
-use Rattle.std.proofs.lemmas.Int.{ints, clamps, quot-rem}
+use Rattle.std.proofs.lemmas.Int.{ints, clamps}
 use Rattle.std.proofs.lemmas.Nat.{div-mul-add}
 use Rattle.std.proofs.Math.IntN.{zero-*ℤ, pos-*ℤ-pos, pos-*ℤ-negsuc, negsuc-*ℤ-pos, negsuc-*ℤ-negsuc}
 use Rattle.fz_dom.specs.Changes.{IsFromTo}
-use Rattle.fz_strength.specs.Operations.{remainder}
 use Rattle.fz_num.specs.Spans.{IsBetween}
 use Rattle.fz_num.proofs.Products.{factor_between, between_comm, divided_between, divisor_between}
 
@@ -109,8 +108,3 @@ pub quotient_corners : (l h l' h' z y : ℤ) → (pos 0 <ℤ l') ⊎ (h' <ℤ po
     → IsFromTo (lowest (int_div l l') (int_div l h') (int_div h l') (int_div h h')) (highest (int_div l l') (int_div l h') (int_div h l') (int_div h h')) (int_div z y)
 quotient_corners l h l' h' z y sign low high low' high' =
     corners int_div l h l' h' z y (divided_between y l h z low high) (divisor_between l l' h' y sign low' high') (divisor_between h l' h' y sign low' high')
-
--- ---- what a quotient leaves
-
-pub remainder_is : (x y : ℤ) → int_rem x y ≡ remainder x y
-remainder_is x y = let e = quot-rem x y in omega (arith, ints, e)

@@ -9,8 +9,6 @@ mod ends;
 mod extremes;
 mod factors;
 mod narrow;
-mod ranges;
 mod sized;
-mod sizes;
 
 pub use arithmetic::Arithmetic;

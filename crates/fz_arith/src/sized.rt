@@ -8,13 +8,13 @@ ghost use Rattle.fz_strength.specs.Operations.{equation, between, EquationTruth}
 ghost use Rattle.fz_prop.specs.Answers.{IsCorrectOf};
 ghost use Rattle.fz_prop.specs.Outcomes.{IsOutcome};
 ghost use Rattle.fz_prop.specs.Stores.{Shrinks, IsTermOf};
+ghost use Rattle.fz_ranges.specs.Ranges.{IsIn, IsNear, IsScaling};
 ghost use Rattle.fz_arith.specs.Narrowing.{LiesBetween, IsHelped};
-ghost use Rattle.fz_arith.specs.Ranges.{IsIn, IsNear, IsScaling};
 
 use crate::narrow::keep_between;
-use crate::ranges::{Range, Ranges, is_loose, narrowed};
 use fz_prop::terms::{greatest_of, least_of};
 use fz_prop::{Change, Store};
+use fz_ranges::{Range, Ranges, narrowed};
 use fz_spec::term::Term;
 use fz_strength::operation::{Bounds, Operation};
 use std::alloc::AllocError;
@@ -28,6 +28,27 @@ fn range_of(store: &Store, term: Term) -> Range
     Range {
         low: i64::from(least_of(store, term)),
         high: i64::from(greatest_of(store, term)),
+    }
+}
+
+fn has_zero(range: Range) -> bool {
+    range.low <= 0 && 0 <= range.high
+}
+
+fn is_fixed(range: Range) -> bool {
+    range.low == range.high
+}
+
+/// Whether the line says all: where both operands are fixed, or of a product that may be 0, as may a factor, so that the other can be
+/// anything.
+fn is_loose(operation: Operation, ranges: Ranges) -> bool {
+    let (first, second) = (ranges.first, ranges.second);
+    if is_fixed(first) && is_fixed(second) {
+        return true;
+    }
+    match operation {
+        Operation::Times => has_zero(ranges.value) && (has_zero(first) || has_zero(second)),
+        _ => false,
     }
 }
 

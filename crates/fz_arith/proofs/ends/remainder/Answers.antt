@@ -3,7 +3,7 @@ use Rattle.std.proofs.Math.Facts.{to_z-of_z}
 use Rattle.std.proofs.lemmas.Int.{rem_is}
 use mir.Val.{SFits}
 use mir.Syntax.{w64}
-use Rattle.fz_arith.proofs.Quotients.{remainder_is}
+use Rattle.fz_ranges.proofs.Parted.{remainder_is}
 use Rattle.fz_arith.proofs.ends.remainder.Goals as goal
 
 pub returns : goal.returns

@@ -1,7 +1,7 @@
 use Rattle.std.proofs.Common.{Bool, sym, subst}
-use Rattle.fz_arith.specs.Ranges.{IsTurned}
-use Rattle.fz_arith.proofs.Sides.{sign_of, sized_by}
-use Rattle.fz_arith.proofs.ranges.on_sides.Goals as goal
+use Rattle.fz_ranges.specs.Ranges.{IsTurned}
+use Rattle.fz_ranges.proofs.Sides.{sign_of, sized_by}
+use Rattle.fz_ranges.proofs.ranges.on_sides.Goals as goal
 
 pub returns : goal.returns
 returns c = λ u w v is on_u on_w made.

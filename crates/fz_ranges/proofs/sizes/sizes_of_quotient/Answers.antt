@@ -1,6 +1,6 @@
 use Rattle.std.proofs.Common.{◌+◌, ◌*◌, ◌≤◌, ◌^◌, arith}
-use Rattle.fz_arith.proofs.Divisions.{sized_other, sized_whole, sized_sum, once_more}
-use Rattle.fz_arith.proofs.sizes.sizes_of_quotient.Goals as goal
+use Rattle.fz_ranges.proofs.Divisions.{sized_other, sized_whole, sized_sum, once_more}
+use Rattle.fz_ranges.proofs.sizes.sizes_of_quotient.Goals as goal
 
 pub returns-clause-sizes : goal.returns-clause-sizes
 returns-clause-sizes c = λ m n k rest parted is_m is_n is_k.

@@ -1,6 +1,6 @@
 //! The sizes of numbers of which one is the product, the quotient or the rest of the two others: signs aside, these are natural numbers.
 ghost use Rattle.std.specs.Prelude.{ℕ, ◌+◌, ◌-◌, ◌*◌, ◌^◌, ◌≤◌, ◌<◌};
-ghost use Rattle.fz_arith.specs.Sizes.{IsSized, AreSized, AreAtMost, IsParted, IsSizedBy};
+ghost use Rattle.fz_ranges.specs.Sizes.{IsSized, AreSized, AreAtMost, IsParted, IsSizedBy};
 
 use fz_strength::operation::Operation;
 

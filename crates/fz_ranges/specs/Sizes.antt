@@ -2,8 +2,8 @@
 use Rattle.std.specs.Prelude.{◌≡◌, ℕ, ◌+◌, ◌*◌, ◌≤◌, ◌<◌}
 use Rattle.fz_strength.specs.declared.operation.Operation.{Operation}
 use Rattle.fz_strength.specs.declared.operation.Operation.TheVariants.{Times, Quotient, Remainder}
-use Rattle.fz_arith.specs.declared.sizes.Sizes.{Sizes}
-use Rattle.fz_arith.specs.declared.sizes.Triple.{Triple}
+use Rattle.fz_ranges.specs.declared.sizes.Sizes.{Sizes}
+use Rattle.fz_ranges.specs.declared.sizes.Triple.{Triple}
 
 -- a size lies from the least to the greatest
 abbrev pub IsSized : Sizes → ℕ → Type 0

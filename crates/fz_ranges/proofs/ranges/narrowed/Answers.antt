@@ -1,6 +1,6 @@
 use Rattle.std.proofs.Common.{pos, inl, inr}
 use Rattle.std.proofs.lemmas.Int.{by_lt_z}
-use Rattle.fz_arith.proofs.ranges.narrowed.Goals as goal
+use Rattle.fz_ranges.proofs.ranges.narrowed.Goals as goal
 
 pub returns : goal.returns
 returns c = λ u w v is made. by_lt_z u (pos 0)

@@ -1,18 +1,19 @@
 -- The sizes and the signs of products, quotients and rests.
-use Rattle.std.proofs.Common.{◌≡◌, ◌≢◌, ℕ, zero, suc, ◌*◌, ◌/◌, [], ◌∷◌, refl, subst, ap, ◌∙◌, arith, Bool, true, false}
+use Rattle.std.proofs.Common.{◌≡◌, ◌≢◌, ℕ, zero, suc, ◌*◌, ◌/◌, [], ◌∷◌, refl, sym, subst, ap, ◌∙◌, arith, Bool, true, false}
 use Rattle.std.specs.Prelude.{ℤ, pos, negsuc, neg_ℤ, ◌*ℤ◌, ◌≤ℤ◌, ◌<ℤ◌, int_div, int_rem, unsigned_abs}
-use Rattle.std.proofs.lemmas.Int.{ints}
+use Rattle.std.proofs.lemmas.Int.{ints, unsigned_abs-mul}
 use Rattle.std.proofs.Math.IntN.{pos-*ℤ-pos, pos-*ℤ-negsuc, negsuc-*ℤ-pos, negsuc-*ℤ-negsuc}
 use Rattle.fz_strength.specs.declared.operation.Operation.{Operation}
 use Rattle.fz_strength.specs.declared.operation.Operation.TheVariants.{Plus, Times, Quotient, Remainder, Abs, Min, Max}
 use Rattle.fz_strength.specs.Operations.{IsResult}
-use Rattle.fz_arith.specs.Ranges.{IsOnSide, IsTurned, IsScaling, turned}
-use Rattle.fz_arith.specs.Sizes.{IsParted, IsSizedBy}
-use Rattle.fz_arith.proofs.Helping.{product_size}
-use Rattle.fz_arith.proofs.Parted.{parted, rest_up, rest_down}
-use Rattle.fz_arith.proofs.Quotients.{remainder_is}
+use Rattle.fz_ranges.specs.Ranges.{IsOnSide, IsTurned, IsScaling, turned}
+use Rattle.fz_ranges.specs.Sizes.{IsParted, IsSizedBy}
+use Rattle.fz_ranges.proofs.Parted.{parted, remainder_is, rest_up, rest_down}
 
 -- ---- sizes
+
+product_size : (u w v : ℤ) → (u *ℤ w) ≡ v → unsigned_abs v ≡ unsigned_abs u * unsigned_abs w
+product_size u w v is = ap unsigned_abs (sym is) ∙ unsigned_abs-mul u w
 
 pub sized_by : (o : Operation) (u w v : ℤ) → IsResult o (u ∷ w ∷ []) v → IsSizedBy o (unsigned_abs u) (unsigned_abs w) (unsigned_abs v)
 sized_by Times u w v h = product_size u w v h

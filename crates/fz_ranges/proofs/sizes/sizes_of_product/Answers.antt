@@ -1,5 +1,5 @@
-use Rattle.fz_arith.proofs.Divisions.{sized_other}
-use Rattle.fz_arith.proofs.sizes.sizes_of_product.Goals as goal
+use Rattle.fz_ranges.proofs.Divisions.{sized_other}
+use Rattle.fz_ranges.proofs.sizes.sizes_of_product.Goals as goal
 
 pub returns-clause-sizes : goal.returns-clause-sizes
 returns-clause-sizes c = λ m n is_m is_n is_product.

@@ -1,10 +1,11 @@
 -- What a truncated quotient and its rest are, signs aside.
 use Rattle.std.proofs.Common.{◌≡◌, ◌≢◌, ℕ, zero, suc, ◌+◌, ◌*◌, ◌/◌, ◌%◌, ◌<◌, refl, sym, arith}
 use Rattle.std.specs.Prelude.{ℤ, pos, negsuc, neg_ℤ, ◌≤ℤ◌, int_div, int_rem, unsigned_abs}
-use Rattle.std.proofs.lemmas.Int.{ints, rem_below}
+use Rattle.std.proofs.lemmas.Int.{ints, quot-rem, rem_below}
 use Rattle.std.proofs.Math.Nat.{div-add-mod', zero-mod}
+use Rattle.fz_strength.specs.Operations.{remainder}
 use Rattle.fz_num.proofs.Products.{neg_size}
-use Rattle.fz_arith.specs.Sizes.{IsParted}
+use Rattle.fz_ranges.specs.Sizes.{IsParted}
 
 size_some : (w : ℤ) → w ≢ pos 0 → 0 < unsigned_abs w
 size_some (pos zero) not = absurd (not refl)
@@ -20,6 +21,9 @@ sum_of (negsuc a) (negsuc n) not = rw (neg_size (suc a % suc n)) (sym (div-add-m
 
 pub parted : (u w : ℤ) → w ≢ pos 0 → IsParted (unsigned_abs u) (unsigned_abs w) (unsigned_abs (int_div u w)) (unsigned_abs (int_rem u w))
 parted u w not = record { sum = sum_of u w not; below = rem_below u w (size_some w not) }
+
+pub remainder_is : (x y : ℤ) → int_rem x y ≡ remainder x y
+remainder_is x y = let e = quot-rem x y in omega (arith, ints, e)
 
 neg_down : (n : ℕ) → neg_ℤ (pos n) ≤ℤ pos 0
 neg_down n = omega (arith, ints)

@@ -1,7 +1,7 @@
 -- Divisions of natural numbers.
 use Rattle.std.proofs.Common.{◌≡◌, ℕ, ◌+◌, ◌-◌, ◌*◌, ◌<◌, ◌≤◌, arith, subst, sym}
-use Rattle.fz_arith.specs.declared.sizes.Sizes.{Sizes}
-use Rattle.fz_arith.specs.Sizes.{IsSized, IsParted}
+use Rattle.fz_ranges.specs.declared.sizes.Sizes.{Sizes}
+use Rattle.fz_ranges.specs.Sizes.{IsSized, IsParted}
 
 commuted : (m n : ℕ) → m * n ≡ n * m
 commuted m n = omega arith

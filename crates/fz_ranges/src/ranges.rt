@@ -1,8 +1,8 @@
 //! Ranges of three numbers of which one is the product, the quotient or the rest of the two others: on each side of 0 these are sizes.
 ghost use Rattle.std.specs.Prelude.{◌≡◌, ◌∷◌, [], ◌⊎◌, IsFalse, ◌-◌, ◌^◌, ℤ, pos, ◌≤ℤ◌, ◌↔◌, IsTrue, unsigned_abs};
 ghost use Rattle.fz_strength.specs.Operations.{IsResult};
-ghost use Rattle.fz_arith.specs.Sizes.{IsSized, AreAtMost, IsSizedBy};
-ghost use Rattle.fz_arith.specs.Ranges.{IsIn, AreIn, IsNear, AreNear, IsEmpty, IsOnSide, IsTurned, IsScaling, turned};
+ghost use Rattle.fz_ranges.specs.Sizes.{IsSized, AreAtMost, IsSizedBy};
+ghost use Rattle.fz_ranges.specs.Ranges.{IsIn, AreIn, IsNear, AreNear, IsEmpty, IsOnSide, IsTurned, IsScaling, turned};
 
 use crate::sizes::{Sizes, sizes_by};
 use fz_strength::operation::Operation;
@@ -255,27 +255,6 @@ fn on_sides(operation: Operation, ranges: Ranges, first: bool, second: bool) -> 
         value: turned_side(ranges.value, is_below),
     };
     all_sized(operation, sides)
-}
-
-fn has_zero(range: Range) -> bool {
-    range.low <= 0 && 0 <= range.high
-}
-
-fn is_fixed(range: Range) -> bool {
-    range.low == range.high
-}
-
-/// Whether the line says all: where both operands are fixed, or of a product that may be 0, as may a factor, so that the other can be
-/// anything.
-pub fn is_loose(operation: Operation, ranges: Ranges) -> bool {
-    let (first, second) = (ranges.first, ranges.second);
-    if is_fixed(first) && is_fixed(second) {
-        return true;
-    }
-    match operation {
-        Operation::Times => has_zero(ranges.value) && (has_zero(first) || has_zero(second)),
-        _ => false,
-    }
 }
 
 /// Whether both operands are 0 or more.

@@ -3,8 +3,8 @@ use Rattle.std.specs.Prelude.{Bool, true, false, not, ℤ, pos, neg_ℤ, ◌^◌
 use Rattle.fz_dom.specs.Changes.{IsFromTo}
 use Rattle.fz_strength.specs.declared.operation.Operation.{Operation}
 use Rattle.fz_strength.specs.declared.operation.Operation.TheVariants.{Times, Quotient, Remainder}
-use Rattle.fz_arith.specs.declared.ranges.Range.{Range}
-use Rattle.fz_arith.specs.declared.ranges.Ranges.{Ranges}
+use Rattle.fz_ranges.specs.declared.ranges.Range.{Range}
+use Rattle.fz_ranges.specs.declared.ranges.Ranges.{Ranges}
 
 abbrev pub IsIn : Range → ℤ → Type 0
 IsIn r u = IsFromTo r.low r.high u

@@ -1,5 +1,5 @@
 use Rattle.std.specs.Prelude.{unsigned_abs}
-use Rattle.fz_arith.proofs.ranges.all_sized.Goals as goal
+use Rattle.fz_ranges.proofs.ranges.all_sized.Goals as goal
 
 pub returns-then-is_some_empty : goal.returns-then-is_some_empty
 returns-then-is_some_empty c = λ u w v is made. absurd (c.is_some_empty.ensures.some c.if-is_some_empty.true u w v is)

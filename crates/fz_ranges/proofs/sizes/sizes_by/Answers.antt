@@ -1,7 +1,7 @@
 use Rattle.std.proofs.Common.{ℕ, subst}
 use Rattle.fz_strength.specs.declared.operation.Operation.{Operation}
-use Rattle.fz_arith.specs.Sizes.{IsParted, IsSizedBy}
-use Rattle.fz_arith.proofs.sizes.sizes_by.Goals as goal
+use Rattle.fz_ranges.specs.Sizes.{IsParted, IsSizedBy}
+use Rattle.fz_ranges.proofs.sizes.sizes_by.Goals as goal
 
 pub returns-in-Quotient-clause-sizes : goal.returns-in-Quotient-clause-sizes
 returns-in-Quotient-clause-sizes c = λ m n k made is_m is_n is_k.

@@ -1,0 +1,3 @@
+pub mod Divisions
+pub mod Parted
+pub mod Sides
