@@ -1,3 +1,2 @@
 pub mod Extremes
-pub mod Factors
 pub mod Narrowing

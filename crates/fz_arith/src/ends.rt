@@ -1,11 +1,11 @@
 //! Bounds that the ends of terms give.
-ghost use Rattle.std.specs.Prelude.{◌≡◌, ◌≢◌, ◌<◌, ℤ, pos, neg_ℤ, ◌+ℤ◌, ◌-ℤ◌, ◌*ℤ◌, ◌<ℤ◌, int_div, int_lt, List, [], ◌∷◌, ◌⊎◌, length, map, if◌then◌else◌};
+ghost use Rattle.std.specs.Prelude.{◌≡◌, ◌<◌, ℤ, pos, neg_ℤ, ◌<ℤ◌, int_div, int_lt, List, [], ◌∷◌, ◌⊎◌, length, map, if◌then◌else◌};
 ghost use Rattle.std.specs.Int.{int_min, int_max};
 ghost use Rattle.std.specs.List.{AllByRecursion, fold};
 ghost use Rattle.fz_sets.specs.Sets.{IsInSet};
 ghost use Rattle.fz_dom.specs.Changes.{IsFromTo};
 ghost use Rattle.fz_strength.specs.Domains.{term_set};
-ghost use Rattle.fz_strength.specs.Operations.{size_between, least_size, low_of, high_of, between, own_bounds, remainder, corner_bounds, difference_bounds, quotient_bounds, remainder_bounds, signed_bounds, result_bounds};
+ghost use Rattle.fz_strength.specs.Operations.{size_between, least_size, low_of, high_of, between, own_bounds, corner_bounds, difference_bounds, quotient_bounds, remainder_bounds, signed_bounds, result_bounds};
 ghost use Rattle.fz_strength.specs.declared.operation.Operation.TheVariants.{Plus, Times, Abs};
 ghost use Rattle.fz_prop.specs.Stores.{IsTermOf};
 ghost use Rattle.fz_arith.specs.Extremes.{pick};
@@ -13,52 +13,9 @@ ghost use Rattle.fz_arith.specs.Extremes.{pick};
 use fz_dom::Dom;
 use fz_prop::Store;
 use fz_prop::terms::{greatest_of, least_of};
+use fz_ranges::numbers::{difference, negative, product, quotient, remainder, sum};
 use fz_spec::term::Term;
 use fz_strength::operation::{Bounds, Operation};
-
-fn sum(x: i32, y: i32) -> i64
-    ensures { result ≡ x +ℤ y }
-{
-    i64::from(x) + i64::from(y)
-}
-
-fn difference(x: i32, y: i32) -> i64
-    ensures { result ≡ x -ℤ y }
-{
-    i64::from(x) - i64::from(y)
-}
-
-fn negative(x: i32) -> i64
-    ensures { result ≡ neg_ℤ x }
-{
-    -i64::from(x)
-}
-
-fn product(x: i32, y: i32) -> i64
-    ensures { result ≡ x *ℤ y }
-{
-    i64::from(x) * i64::from(y)
-}
-
-fn quotient(x: i32, y: i32) -> i64
-    requires { y ≢ pos 0 }
-    ensures { result ≡ int_div x y }
-{
-    match x.checked_div(y) {
-        Some(quotient) => i64::from(quotient),
-        None => -i64::from(x),
-    }
-}
-
-/// What a truncated quotient leaves; all of the number where the divisor is 0.
-fn remainder(x: i32, y: i32) -> i64
-    ensures { result ≡ remainder x y }
-{
-    if y == 0 {
-        return i64::from(x);
-    }
-    i64::from(x) % i64::from(y)
-}
 
 /// A term between the least and the greatest of four numbers.
 fn around(term: Term, a: i64, b: i64, c: i64, d: i64) -> Bounds

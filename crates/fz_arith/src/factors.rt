@@ -1,20 +1,20 @@
 //! Bounds of operands that the ends of the line don't give: of one variable in two places, and by sizes.
-ghost use Rattle.std.specs.Prelude.{◌≡◌, ℕ, ◌*◌, ◌^◌, ◌≤◌, ℤ, pos, ◌+ℤ◌, ◌*ℤ◌, ◌≤ℤ◌, ◌∷◌, [], length, IfOk, IsTrue, ◌↔◌, unsigned_abs};
+ghost use Rattle.std.specs.Prelude.{◌≡◌, ℤ, ◌+ℤ◌, ◌*ℤ◌, ◌∷◌, [], length, IfOk, IsTrue, ◌↔◌};
 ghost use Rattle.std.specs.List.{AllByRecursion};
 ghost use Rattle.fz_sets.specs.Sets.{IsInSet};
 ghost use Rattle.fz_dom.specs.Changes.{IsFromTo};
-ghost use Rattle.fz_strength.specs.declared.operation.Operation.TheVariants.{Plus, Times, Quotient, Remainder};
+ghost use Rattle.fz_strength.specs.declared.operation.Operation.TheVariants.{Plus, Times};
 ghost use Rattle.fz_strength.specs.Domains.{term_set};
 ghost use Rattle.fz_strength.specs.Operations.{equation, EquationTruth};
 ghost use Rattle.fz_prop.specs.Answers.{IsCorrectOf};
 ghost use Rattle.fz_prop.specs.Stores.{Shrinks, IsTermOf};
-ghost use Rattle.fz_arith.specs.Factors.{IsRoot};
 ghost use Rattle.fz_arith.specs.Narrowing.{IsHelped, only_wiped};
 
 use crate::narrow::keep_between;
 use crate::sized::keep_sized;
 use fz_prop::terms::{greatest_of, least_of};
 use fz_prop::{Change, Store};
+use fz_ranges::roots::{half, least_root, root};
 use fz_spec::term::Term;
 use fz_strength::operation::{Bounds, Operation};
 use std::alloc::AllocError;
@@ -34,16 +34,76 @@ pub fn keep_operands(
     ensures helped { IfOk result (λ r. IsHelped r (equation operation operands.now value)
         store.old store.new) }
 {
-    match (operation, operands) {
-        (Operation::Plus, [x, y]) if is_same(*x, value) => keep_zero(store, *x, *y),
-        (Operation::Plus, [x, y]) if is_same(*y, value) => keep_zero(store, *y, *x),
-        (Operation::Plus, [x, y]) if is_same(*x, *y) => keep_half(store, *x, value),
-        (Operation::Times, [x, y]) if is_same(*x, *y) => keep_root(store, *x, value),
-        (Operation::Times, [x, y]) => keep_product(store, *x, *y, value),
-        (Operation::Quotient, [x, y]) => keep_sized(store, Operation::Quotient, *x, *y, value),
-        (Operation::Remainder, [x, y]) => keep_sized(store, Operation::Remainder, *x, *y, value),
+    match operands {
+        [x, y] => keep_two(store, operation, *x, *y, value),
         _ => Ok(Change::Same),
     }
+}
+
+/// Keeps two operands and what an operation makes of them, as `keep_operands` does.
+fn keep_two(
+    store: &mut Store,
+    operation: Operation,
+    x: Term,
+    y: Term,
+    value: Term,
+) -> Result<Change, AllocError>
+    requires x { IsTermOf (length store.old.doms) x }
+    requires y { IsTermOf (length store.old.doms) y }
+    requires value { IsTermOf (length store.old.doms) value }
+    ensures shrinks { Shrinks store.old store.new }
+    ensures correct { IsCorrectOf (EquationTruth (equation operation (x ∷ y ∷ []) value))
+        store.old.doms store.new.doms }
+    ensures helped { IfOk result (λ r. IsHelped r (equation operation (x ∷ y ∷ []) value)
+        store.old store.new) }
+{
+    match operation {
+        Operation::Plus => keep_summands(store, x, y, value),
+        Operation::Times => keep_factors(store, x, y, value),
+        Operation::Quotient => keep_sized(store, Operation::Quotient, x, y, value),
+        Operation::Remainder => keep_sized(store, Operation::Remainder, x, y, value),
+        _ => Ok(Change::Same),
+    }
+}
+
+/// Keeps two summands and their sum, where two of these are one term.
+fn keep_summands(store: &mut Store, x: Term, y: Term, value: Term) -> Result<Change, AllocError>
+    requires x { IsTermOf (length store.old.doms) x }
+    requires y { IsTermOf (length store.old.doms) y }
+    requires value { IsTermOf (length store.old.doms) value }
+    ensures shrinks { Shrinks store.old store.new }
+    ensures correct { IsCorrectOf (EquationTruth (equation Plus (x ∷ y ∷ []) value))
+        store.old.doms store.new.doms }
+    ensures helped { IfOk result (λ r. IsHelped r (equation Plus (x ∷ y ∷ []) value)
+        store.old store.new) }
+{
+    if is_same(x, value) {
+        return keep_zero(store, x, y);
+    }
+    if is_same(y, value) {
+        return keep_zero(store, y, x);
+    }
+    if is_same(x, y) {
+        return keep_half(store, x, value);
+    }
+    Ok(Change::Same)
+}
+
+/// Keeps two factors and their product.
+fn keep_factors(store: &mut Store, x: Term, y: Term, value: Term) -> Result<Change, AllocError>
+    requires x { IsTermOf (length store.old.doms) x }
+    requires y { IsTermOf (length store.old.doms) y }
+    requires value { IsTermOf (length store.old.doms) value }
+    ensures shrinks { Shrinks store.old store.new }
+    ensures correct { IsCorrectOf (EquationTruth (equation Times (x ∷ y ∷ []) value))
+        store.old.doms store.new.doms }
+    ensures helped { IfOk result (λ r. IsHelped r (equation Times (x ∷ y ∷ []) value)
+        store.old store.new) }
+{
+    if is_same(x, y) {
+        return keep_root(store, x, value);
+    }
+    keep_product(store, x, y, value)
 }
 
 /// Whether two terms are one.
@@ -163,37 +223,4 @@ fn half_bounds(store: &Store, x: Term, value: Term) -> Bounds
         low: -half(-i64::from(low)),
         high: half(i64::from(high)),
     }
-}
-
-/// The greatest number that is twice at most another.
-fn half(number: i64) -> i64
-    requires { unsigned_abs number ≤ 2 ^ 31 }
-    ensures half { (u : ℤ) → (u +ℤ u) ≤ℤ number → u ≤ℤ result }
-    ensures near { unsigned_abs result ≤ 2 ^ 31 }
-{
-    if number < 0 {
-        (number - 1) / 2
-    } else {
-        number / 2
-    }
-}
-
-/// The greatest number whose square is at most another, 0 where that is negative.
-fn root(number: i32) -> u32
-    ensures { IsRoot number result }
-{
-    u32::try_from(number).unwrap_or(0).isqrt()
-}
-
-/// The least number whose square is at least another.
-fn least_root(number: i32) -> i64
-    ensures low { pos 0 ≤ℤ result }
-    ensures high { result ≤ℤ pos 65536 }
-    ensures least { (u : ℕ) → number ≤ℤ pos (u * u) → result ≤ℤ pos u }
-    ensures reached { number ≤ℤ (result *ℤ result) }
-{
-    if number <= 0 {
-        return 0;
-    }
-    i64::from(root(number - 1)) + 1
 }

@@ -1,3 +1,5 @@
 pub mod Divisions
 pub mod Parted
+pub mod Quotients
+pub mod Squares
 pub mod Sides

@@ -4,8 +4,8 @@ use Rattle.std.proofs.lemmas.Int.{ints}
 use Rattle.std.proofs.Math.Facts.{to_z-of_z}
 use mir.Val.{SFits, to_z}
 use mir.Syntax.{w32, w64}
-use Rattle.fz_arith.specs.Factors.{IsRoot}
-use Rattle.fz_arith.proofs.Sizing.{root_between}
+use Rattle.fz_ranges.specs.Roots.{IsRoot}
+use Rattle.fz_ranges.proofs.Squares.{root_between}
 use Rattle.fz_arith.proofs.factors.root_bounds.Goals as goal
 use Rattle.fz_arith.proofs.factors.root_bounds.Goals.{then-is_above, else-is_above}
 

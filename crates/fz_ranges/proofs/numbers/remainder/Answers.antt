@@ -4,7 +4,7 @@ use Rattle.std.proofs.lemmas.Int.{rem_is}
 use mir.Val.{SFits}
 use mir.Syntax.{w64}
 use Rattle.fz_ranges.proofs.Parted.{remainder_is}
-use Rattle.fz_arith.proofs.ends.remainder.Goals as goal
+use Rattle.fz_ranges.proofs.numbers.remainder.Goals as goal
 
 pub returns : goal.returns
 returns c =
