@@ -1,4 +1,5 @@
-//! Ranges of whole numbers: what is left of those of two operands and of their product, quotient or rest, by signs and sizes.
+//! Numbers and their ranges: what is left of the ranges of two numbers and of their product, quotient or rest; roots and halves; and
+//! operations on numbers of 32 bits, exact in 64.
 #![tactic(auto)]
 
 pub mod numbers;
