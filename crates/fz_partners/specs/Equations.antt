@@ -4,7 +4,7 @@ use Rattle.fz_sets.specs.Sets.{IsInSet}
 use Rattle.fz_spec.specs.declared.term.Term.{Term}
 use Rattle.fz_spec.specs.declared.term.Term.TheVariants.{Num}
 use Rattle.fz_spec.specs.Constraints.{term_values}
-use Rattle.fz_spec.specs.Truth.{IsRowOf, weighted_sum}
+use Rattle.fz_spec.specs.Truth.{weighted_sum}
 use Rattle.fz_strength.specs.Domains.{term_set}
 use Rattle.fz_strength.specs.Equations.{RestsByNumbers, sets_of}
 use Rattle.fz_strength.specs.Sayings.{Saying, SumByNumbers}
@@ -40,11 +40,6 @@ IsSolution e u v w = DoAgree e.first.term e.second.term e.third.term u v w × Is
 -- each of the numbers is left of its term
 abbrev pub IsLeft : List (List (ℤ × ℤ)) → Equation → ℤ → ℤ → ℤ → Type 0
 IsLeft ds e u v w = IsInSet (term_set ds e.first.term) u × IsInSet (term_set ds e.second.term) v × IsInSet (term_set ds e.third.term) w
-
--- The rows of a table are solutions, and all solutions that are left are among them.
-pub record AreSolutions (e : Equation) (ds : List (List (ℤ × ℤ))) (rows : List ℤ) : Type 0 where
-  pub sound : (u v w : ℤ) → IsRowOf (u ∷ v ∷ w ∷ []) rows → IsSolution e u v w
-  pub complete : (u v w : ℤ) → IsLeft ds e u v w → IsSolution e u v w → IsRowOf (u ∷ v ∷ w ∷ []) rows
 
 -- when an assignment makes it true, and where its propagator rests
 abbrev pub EquationTruth : Equation → List ℤ → Type 0

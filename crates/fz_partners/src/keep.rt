@@ -8,9 +8,9 @@ ghost use Rattle.fz_prop.specs.Stores.{IsTermOf};
 ghost use Rattle.fz_partners.specs.Equations.{AllCount, EquationLine, EquationTruth, terms_of};
 
 use crate::equation::{Equation, are_few, counting, widest_last};
+use crate::found::keep_found;
 use crate::solutions::solutions;
-use fz_prop::{Answer, Propagator, Store};
-use fz_table::Table;
+use fz_prop::{Answer, Store};
 use std::alloc::{AllocError, Global};
 
 /// Narrows a store so that three terms make a sum: where two of them have few pairs of numbers, each keeps the numbers that have partners
@@ -45,12 +45,6 @@ fn keep_turned(alloc: Global, store: &mut Store, equation: Equation) -> Result<A
     if !are_few(store, equation) {
         return Ok(Answer::Fix);
     }
-    let rows = solutions(alloc, store, equation)?;
-    let terms = [
-        equation.first.term,
-        equation.second.term,
-        equation.third.term,
-    ];
-    let table = Table::new(alloc, &terms, &rows)?;
-    table.propagate(store)
+    let found = solutions(alloc, store, equation)?;
+    keep_found(alloc, store, equation, &found)
 }

@@ -2,7 +2,9 @@
 #![tactic(auto)]
 
 mod equation;
+mod found;
 mod keep;
+mod numbers;
 pub mod partnered_sum;
 mod solutions;
 

@@ -5,30 +5,34 @@ ghost use Rattle.fz_sets.specs.Sets.{IsInSet};
 ghost use Rattle.fz_dom.specs.Shape.{IsNextAbove, IsNoneAbove};
 ghost use Rattle.fz_strength.specs.Domains.{term_set};
 ghost use Rattle.fz_prop.specs.Stores.{IsTermOf};
-ghost use Rattle.fz_partners.specs.Equations.{AreSolutions, DoAgree, IsSolution, terms_of};
+ghost use Rattle.fz_partners.specs.Equations.{DoAgree, IsSolution, terms_of};
+ghost use Rattle.fz_partners.specs.Found.{AreFound, AreOfTerms};
 
 use crate::equation::Equation;
+use crate::found::Found;
 use fz_num::floor_div;
 use fz_prop::Store;
 use fz_prop::terms::{greatest_of, has, least_of};
 use fz_spec::term::Term;
 use std::alloc::{AllocError, Global};
 
-/// The numbers of the three terms that make the sum, one row after the other.
-pub fn solutions(alloc: Global, store: &Store, equation: Equation) -> Result<Vec<i32>, AllocError>
+/// The numbers of the three terms that make the sum.
+///
+/// # Errors
+/// `AllocError` where there is no memory for them.
+pub fn solutions(alloc: Global, store: &Store, equation: Equation) -> Result<Found, AllocError>
     requires inside { AllByRecursion (IsTermOf (length store.now.doms)) (terms_of equation) }
     requires counts { equation.third.factor ≢ pos 0 }
-    ensures { IfOk result (λ rows. AreSolutions equation store.now.doms rows.items) }
+    ensures found { IfOk result (λ f. AreFound store.now.doms equation f) }
+    ensures of { IfOk result (λ f. AreOfTerms store.now.doms equation f) }
 {
-    let mut rows = Vec::new(alloc);
+    let mut found = Found::none(alloc, store, equation);
     let mut first = least_of(store, equation.first.term);
     'firsts: loop {
         let mut second = least_of(store, equation.second.term);
         'seconds: loop {
             if let Some(third) = third_of(store, equation, first, second) {
-                rows.push(first)?;
-                rows.push(second)?;
-                rows.push(third)?;
+                found.add(first, second, third)?;
             }
             match next_above(store, equation.second.term, second) {
                 Some(next) => second = next,
@@ -37,7 +41,7 @@ pub fn solutions(alloc: Global, store: &Store, equation: Equation) -> Result<Vec
         }
         match next_above(store, equation.first.term, first) {
             Some(next) => first = next,
-            None => return Ok(rows),
+            None => return Ok(found),
         }
     }
 }
@@ -62,7 +66,8 @@ fn third_of(store: &Store, equation: Equation, first: i32, second: i32) -> Optio
     ensures { MatchOption result
         ((w : ℤ) → IsInSet (term_set store.now.doms equation.third.term) w
         → IsSolution equation first second w → ⊥)
-        (λ w. IsSolution equation first second w
+        (λ w. IsInSet (term_set store.now.doms equation.third.term) w
+        × IsSolution equation first second w
         × ((x : ℤ) → IsSolution equation first second x → x ≡ w)) }
 {
     let factor = equation.third.factor;

@@ -53,6 +53,7 @@ returns-then-agree c =
     let makes : (m *ℤ w) ≡ c.rest_of-rest.result = sym product ∙ sym (c.from-2.ensures ∙ to_z-of_z fits_p) ∙ same in
     let agree : IsTrue c.agree.result ↔ DoAgree e.first.term e.second.term e.third.term u v w = rw (to_z-of_z fits_u, to_z-of_z fits_v, to_z-of_z fits_w) at c.agree.ensures in
     rw (to_z-of_z fits_w) (
+      c.in-Some.ensures.1,
       (agree.0 c.if-agree.true, sum_of_rest e u v w c.rest_of-rest.result rest makes),
       (λ x solution. sym (floor_exact m c.rest_of-rest.result c.floor_div-quotient.result x floor (rest_of_sum e u v x c.rest_of-rest.result rest solution.1)) ∙ sym quotient),
     )
