@@ -1,4 +1,5 @@
 pub mod Running
+mod Advancing
 mod Listing
 mod Watching
 mod Queuing

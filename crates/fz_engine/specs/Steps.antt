@@ -1,5 +1,5 @@
 -- What a step of propagation answers.
-use Rattle.std.specs.Prelude.{◌≡◌, ℕ, ◌<◌, List, slice_get, Some}
+use Rattle.std.specs.Prelude.{◌≡◌, ℕ, ◌+◌, ◌*◌, ◌<◌, List, length, slice_get, Some}
 use Rattle.fz_spec.specs.Constraints.{Constraint}
 use Rattle.fz_strength.specs.Domains.{room}
 use Rattle.fz_strength.specs.Promises.{RestsForGood}
@@ -21,6 +21,16 @@ IsAnswerAt Subsumed n place s t = (saying : Saying) × (slice_get n.sayings plac
 IsAnswerAt Fails n place s t = AreNeverTrue n.model.constraints s.doms
 
 abbrev pub IsProgress : Progress → List Constraint → Stored → List ℕ → Stored → List ℕ → Type 0
-IsProgress Rested cs s states t after = AllRest cs t.doms
+IsProgress Rested cs s states t after = (t.doms ≡ s.doms) × AllRest cs t.doms
 IsProgress Failed cs s states t after = AreNeverTrue cs s.doms
 IsProgress Going cs s states t after = IsDrained t × (work t after < work s states)
+
+-- how much may still happen where a store may list changes, which may queue every propagator
+abbrev pub most_work : Stored → List ℕ → ℕ
+most_work s states = room s.doms * (length states + 1) + length states
+
+-- a step behind the waking of those that wait for what the store lists, from there
+abbrev pub IsAdvance : Progress → List Constraint → Stored → List ℕ → Stored → List ℕ → Type 0
+IsAdvance Rested cs s states t after = (t.doms ≡ s.doms) × AllRest cs t.doms
+IsAdvance Failed cs s states t after = AreNeverTrue cs s.doms
+IsAdvance Going cs s states t after = IsDrained t × (work t after < most_work s states) × (IsDrained s → work t after < work s states)

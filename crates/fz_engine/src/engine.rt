@@ -5,7 +5,7 @@ ghost use Rattle.fz_kept.specs.Told.{nothing, owned, AreTold};
 ghost use Rattle.fz_agenda.specs.Queues.{IsFirst};
 ghost use Rattle.fz_agenda.specs.Wakes.{IsDrained};
 ghost use Rattle.fz_engine.specs.Runs.{IsAlive, IsRun, AreNeverTrue, AllRest};
-ghost use Rattle.fz_engine.specs.Steps.{IsAnswerAt, IsProgress};
+ghost use Rattle.fz_engine.specs.Steps.{IsAnswerAt, IsAdvance, IsProgress};
 
 use crate::network::Network;
 use fz_agenda::{Agenda, drain, drain_but};
@@ -46,6 +46,28 @@ pub fn settle(
     let _ = store.doms();
     drain(network.wakes(), store, agenda)?;
     run_all(network, store, kept, agenda)
+}
+
+/// Runs the next propagator, once those are woken that wait for a change that the store lists.
+///
+/// # Errors
+/// `AllocError` where there is no memory; what ran is kept, and no assignment is lost.
+pub fn advance(
+    network: &Network,
+    store: &mut Store,
+    kept: &mut [Kept],
+    agenda: &mut Agenda,
+) -> Result<Progress, AllocError>
+    requires alive { IsAlive network.now agenda.old.states store.old }
+    requires told { AreTold network.now.sayings kept.old store.old.doms }
+    ensures run { IsRun network.now store.old store.new agenda.new.states }
+    ensures told { AreTold network.now.sayings kept.new store.new.doms }
+    ensures progress { IfOk result (λ p. IsAdvance p network.now.model.constraints
+        store.old agenda.old.states store.new agenda.new.states) }
+{
+    let _ = store.doms();
+    drain(network.wakes(), store, agenda)?;
+    step(network, store, kept, agenda)
 }
 
 /// Runs propagators until all rest, from a store that lists no change.

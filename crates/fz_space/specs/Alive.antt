@@ -48,3 +48,8 @@ IsLeft status.Branch ds = IsUndecided ds
 abbrev pub HaveLines : Status → List Constraint → List (List (ℤ × ℤ)) → Type 0
 HaveLines status.Branch cs ds = AllRest cs ds
 HaveLines other cs ds = Unit {0}
+
+-- whether a propagator ran: none runs in a space that has failed, and where none runs the line of each constraint holds
+abbrev pub HasRun : Bool → Spaced → Spaced → Type 0
+HasRun true old new = old.failed ≡ false
+HasRun false old new = (new ≡ old) × (new.failed ≡ false → AllRest new.model.constraints new.doms)

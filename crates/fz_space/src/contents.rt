@@ -5,10 +5,11 @@ ghost use Rattle.std.specs.Arc.{arc_value};
 ghost use Rattle.fz_spec.specs.Instance.{IsWhole};
 ghost use Rattle.fz_tree.specs.declared.decision.Decision.{Decision};
 ghost use Rattle.fz_search_space.specs.Spaces.{Spaced, AllBetter, Covers, IsNarrower, IsStatus};
-ghost use Rattle.fz_space.specs.Alive.{HaveLines};
+ghost use Rattle.fz_space.specs.Alive.{HasRun, HaveLines};
 
 use crate::bound::keep_better;
 use crate::commit::take;
+use crate::next::run_next;
 use crate::rest::rest;
 use crate::root::{Parts, parts_of};
 use fz_agenda::Agenda;
@@ -60,6 +61,28 @@ impl Contents {
         ensures { result.now.doms ≡ self.now.doms }
     {
         &self.store
+    }
+
+    /// Runs the next propagator, if one is queued; whether one ran. In a space that has failed none runs; one whose propagator finds
+    /// that nothing is left has failed from then on.
+    ///
+    /// # Errors
+    /// `AllocError` where there is no memory; the space covers what it covered, and can be asked again.
+    pub fn advance(&mut self) -> Result<bool, AllocError>
+        ensures model { self.new.model ≡ self.old.model }
+        ensures covers { (known : Option (List ℤ)) (ds : List Decision)
+            → Covers known ds self.old → Covers known ds self.new }
+        ensures ran { IfOk result (λ b. HasRun b self.old self.new) }
+        ensures narrower { OnOk result (IsNarrower self.new self.old) }
+        ensures stays { self.old.failed ≡ true → self.new.failed ≡ true }
+    {
+        run_next(
+            &self.network,
+            &mut self.store,
+            &mut self.kept,
+            &mut self.agenda,
+            &mut self.failed,
+        )
     }
 }
 

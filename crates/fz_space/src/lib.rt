@@ -5,6 +5,7 @@
 mod bound;
 mod commit;
 mod contents;
+mod next;
 mod rest;
 mod root;
 pub mod space;

@@ -1,4 +1,4 @@
-use Rattle.std.proofs.Common.{sym, subst}
+use Rattle.std.proofs.Common.{refl, sym, subst}
 use Rattle.fz_agenda.specs.Queues.{Lineup}
 use Rattle.fz_engine.specs.Runs.{IsRun}
 use Rattle.fz_engine.proofs.Running.{run_none, all_rest}
@@ -11,4 +11,4 @@ returns-in-None-clause-run c =
 
 pub returns-in-None-clause-progress : goal.returns-in-None-clause-progress
 returns-in-None-clause-progress c =
-    all_rest c.args.network.now c.args.agenda.now.states c.args.store.now c.wakes.ensures.network c.doms.ensures.store c.requires.drained c.in-None.ensures.none c.requires.alive
+    (refl, all_rest c.args.network.now c.args.agenda.now.states c.args.store.now c.wakes.ensures.network c.doms.ensures.store c.requires.drained c.in-None.ensures.none c.requires.alive)
