@@ -1,10 +1,11 @@
 //! What spaces leave of small domains, beside all assignments: for each constraint, and each choice of domains of a few numbers for
 //! its variables, a space of these domains and that constraint comes to rest, and is compared with the assignments that satisfy. Each
 //! is looked at twice: once its domains are declared, and once they are what is left of wider ones that came to rest before, so that
-//! what propagators keep between runs is used. With a word, such as `nodes`, it counts the nodes of the search tree of a model on
-//! standard input, and with two, such as `nodes first`, up to the first solution.
+//! what propagators keep between runs is used. With the word `nodes` it counts what a search of the tree of a model on standard input
+//! does, with `rows` what one for each row does, and with a number behind the word, as in `nodes 1`, up to so many solutions.
 #![tactic(auto)]
 
+mod counted;
 mod judge;
 mod nodes;
 mod numbers;
@@ -12,7 +13,7 @@ mod rows;
 mod table;
 mod widest;
 
-use nodes::{Until, print_nodes};
+use nodes::{Sought, print_nodes};
 use rows::groups;
 use std::alloc::AllocError;
 use std::env;
@@ -20,10 +21,13 @@ use std::process::ExitCode;
 use table::{Row, Table};
 
 fn main(rt: HostRuntime) -> ExitCode {
-    match word_count(&rt) {
-        0 => {}
-        1 => return print_nodes(&rt, Until::End),
-        _ => return print_nodes(&rt, Until::First),
+    let Ok(words) = words(&rt) else {
+        return ExitCode::FAILURE;
+    };
+    if let Some(word) = words.first() {
+        let rows = word.as_str() == "rows";
+        let most = words.get(1).map_or(u64::MAX, |word| number_of(word));
+        return print_nodes(&rt, Sought { rows, most });
     }
     match all(&rt) {
         Ok(()) => ExitCode::SUCCESS,
@@ -31,12 +35,17 @@ fn main(rt: HostRuntime) -> ExitCode {
     }
 }
 
-/// How many arguments are given.
-fn word_count(rt: &HostRuntime) -> usize {
+/// The arguments.
+fn words(rt: &HostRuntime) -> Result<Vec<String>, AllocError> {
     match env::args(rt) {
-        Ok(arguments) => arguments.count().saturating_sub(1),
-        Err(_) => 0,
+        Ok(arguments) => arguments.skip(1).collect::<Vec<String>>(rt.alloc()),
+        Err(_) => Ok(Vec::new(rt.alloc())),
     }
+}
+
+/// The number that a word is, or 1.
+fn number_of(word: &str) -> u64 {
+    word.parse::<u64>().unwrap_or(1)
 }
 
 fn all(rt: &HostRuntime) -> Result<(), AllocError> {
