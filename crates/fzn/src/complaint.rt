@@ -51,18 +51,23 @@ pub fn complaint_of(
         ≡ complaints.complaint_of (map string_bytes words.now) status.now) }
     ensures done { status.now ≡ Done → result ≡ Ok None }
 {
+    if let Status::Done = status {
+        return Ok(None);
+    }
+    let options = options(alloc, words)?;
+    complaint_about(alloc, shown_name(options.as_ref()), status)
+}
+
+/// The line for standard error of a status, by the name of the text.
+fn complaint_about(alloc: Global, name: &str, status: &Status) -> Result<Option<String>, AllocError>
+    ensures { IfOk result (λ line. option_map string_bytes line
+        ≡ complaints.complaint_text name.now status.now) }
+{
     let line = match status {
         Status::Done => return Ok(None),
-        Status::Refused(refusal) => {
-            let options = options(alloc, words)?;
-            refusal_line(alloc, shown_name(options.as_ref()), refusal)?
-        }
+        Status::Refused(refusal) => refusal_line(alloc, name, refusal)?,
         Status::Usage => String::from_str(alloc, USAGE)?,
-        Status::SourceFault => {
-            let options = options(alloc, words)?;
-            let name = shown_name(options.as_ref());
-            format!(in alloc; "{name}: cannot be opened or read")?
-        }
+        Status::SourceFault => format!(in alloc; "{name}: cannot be opened or read")?,
         Status::SinkFault => String::from_str(alloc, "standard output: a write failed")?,
         Status::NoMemory => String::from_str(alloc, "fzn: out of memory")?,
     };
