@@ -182,12 +182,12 @@ solve :: int_search(bin, input_order, indomain_min) minimize goal;
 """
 
 
-def sorted_sums(n, top):
-    return f"""array [1..{n}] of var 1..{top}: x;
-array [1..{n}] of var 1..{top}: y = sort(x);
-constraint sum(x) = {n * top // 2} /\\ forall (i in 1..{n} - 1) (y[i + 1] - y[i] <= 2 /\\ x[i] + x[i + 1] = {top // 2} + y[i] div 2);
-constraint y[1] + y[{n}] = {top} + 1 /\\ x[1] = y[{n // 2}];
-solve :: int_search(x, first_fail, indomain_min) satisfy;
+def far_from_sorted(n, top):
+    return f"""array [1..{n}] of var 0..{top}: x;
+array [1..{n}] of var 0..{top}: y = sort(x);
+constraint sum(x) = {n * top // 2} /\\ forall (i in 1..{n} - 1) (abs(x[i] - x[i + 1]) in 1..2);
+var 0..{n * top}: goal = sum (i in 1..{n}) (abs(x[i] - y[i]));
+solve :: int_search(x, input_order, indomain_min) maximize goal;
 """
 
 
@@ -216,24 +216,27 @@ solve :: int_search(next, first_fail, indomain_max) maximize goal;
 """
 
 
-def placed(n, seed):
-    return f"""array [1..{n}, 1..{n}] of int: flow = {rows(numbers(seed, n * n, 0, 9), n)};
-array [1..{n}, 1..{n}] of int: far = {rows(numbers(seed + 1, n * n, 1, 9), n)};
-array [1..{n}] of var 1..{n}: place;
-array [1..{n}] of var 1..{n}: thing;
-constraint inverse(place, thing);
-var 0..{81 * n * n}: goal = sum (i, j in 1..{n} where i != j) (flow[i, j] * far[place[i], place[j]]);
-solve :: int_search(place, first_fail, indomain_min) minimize goal;
+def holes(n, left, seed):
+    source = random.Random(seed)
+    order, across, down = (source.sample(range(n), n) for _ in range(3))
+    given = [(order[(across[i] + down[j]) % n] + 1) if source.random() < left else 0 for i in range(n) for j in range(n)]
+    return f"""array [1..{n}, 1..{n}] of int: given = {rows(given, n)};
+array [1..{n}, 1..{n}] of var 1..{n}: x;
+array [1..{n}, 1..{n}] of var 1..{n}: at;
+constraint forall (i, j in 1..{n}) (given[i, j] = 0 \\/ x[i, j] = given[i, j]);
+constraint forall (i in 1..{n}) (inverse(x[i, ..], at[i, ..]) /\\ inverse(x[.., i], [at_column[i, v] | v in 1..{n}]));
+array [1..{n}, 1..{n}] of var 1..{n}: at_column;
+solve :: int_search(array1d(x), first_fail, indomain_min) satisfy;
 """
 
 
-def round_robin(teams):
-    return f"""int: n = {teams};
-array [1..n - 1, 1..n] of var 1..n: meets;
-constraint forall (r in 1..n - 1) (inverse(meets[r, ..], meets[r, ..]) /\\ forall (t in 1..n) (meets[r, t] != t));
-constraint forall (t in 1..n) (all_different(meets[.., t])) /\\ forall (t in 2..n) (meets[t - 1, 1] = t);
-constraint forall (r in 1..n - 2) (meets[r, 2] + 1 < meets[r + 1, 2] + {teams // 2});
-solve :: int_search(array1d(meets), first_fail, indomain_min) satisfy;
+def both_ways(n):
+    return f"""array [1..{n}] of var 1..{n}: x;
+array [1..{n}] of var 1..{n}: y;
+constraint inverse(x, y) /\\ all_different([x[i + 1] - x[i] | i in 1..{n} - 1]) /\\ all_different([y[i + 1] - y[i] | i in 1..{n} - 1]);
+constraint forall (i in 1..{n} - 1) (abs(x[i + 1] - x[i]) != 1 /\\ abs(y[i + 1] - y[i]) != 2);
+var 0..{n * n * n}: goal = sum (i in 1..{n}) (i * x[i] + (i mod 3) * y[i]);
+solve :: int_search(x, first_fail, indomain_min) maximize goal;
 """
 
 
@@ -308,23 +311,26 @@ solve :: int_search(x, input_order, indomain_min) minimize goal;
 
 
 def diagram(levels, width, seed, kind):
-    """A diagram of so many nodes a level, each with an edge for each of the numbers 1 to 3."""
+    """A diagram of so many nodes a level at most, each with an edge for most of the numbers 1 to 3; each node is reached."""
     source = random.Random(seed)
-    nodes = [1] + [level for level in range(2, levels + 1) for _ in range(width)]
-    at = {1: [1]}
-    for node, level in enumerate(nodes, 1):
-        if level > 1:
-            at.setdefault(level, []).append(node)
-    edges = [
-        (node, value, source.choice(at[level + 1]) if level < levels else 0, source.randint(1, 9))
-        for node, level in enumerate(nodes, 1)
-        for value in (1, 2, 3)
-        for _ in range(2 if kind == "mdd_nondet" and level < levels else 1)
-        if source.random() < 0.85
-    ]
+    at, last = {1: [1]}, 1
+    for level in range(2, levels + 1):
+        at[level] = list(range(last + 1, last + 1 + min(width, 2 * len(at[level - 1]))))
+        last = at[level][-1]
+    edges = []
+    for level in range(1, levels + 1):
+        ends = at.get(level + 1, [0])
+        source.shuffle(ends)
+        for place, node in enumerate(sorted(at[level])):
+            for value in (1, 2, 3):
+                if value < 3 or source.random() < 0.7:
+                    edges.append((node, value, ends[(2 * place + value) % len(ends)], source.randint(1, 9)))
+                if kind == "mdd_nondet" and len(ends) > 1:
+                    edges.append((node, value, ends[(2 * place + value + 1) % len(ends)], source.randint(1, 9)))
+    level_of = [level for level in range(1, levels + 1) for _ in at[level]]
     lists = [[edge[0] for edge in edges], [{edge[1]} for edge in edges], [edge[2] for edge in edges]]
     cost = f"{[edge[3] for edge in edges]}, " if kind == "cost_mdd" else ""
-    return f"{len(nodes)}, {nodes}, {len(edges)}, {lists[0]}, {lists[1]}, {cost}{lists[2]}"
+    return f"{last}, {level_of}, {len(edges)}, {lists[0]}, {lists[1]}, {cost}{lists[2]}"
 
 
 def ways(levels, width, seed, kind):
@@ -364,7 +370,7 @@ solve :: int_search([goal] ++ bin, input_order, indomain_min) minimize goal;
 
 def full_bins(things, count, seed):
     weight = numbers(seed, things, 5, 30)
-    room = -(-sum(weight) // count) + 1
+    room = -(-sum(weight) // count)
     return f"""array [1..{things}] of int: w = {sorted(weight, reverse=True)};
 array [1..{things}] of var 1..{count}: bin;
 array [1..{count}] of int: room = {[room + at % 2 for at in range(count)]};
@@ -378,7 +384,7 @@ def one_capacity(things, count, seed):
     weight = numbers(seed, things, 5, 30)
     return f"""array [1..{things}] of int: w = {sorted(weight, reverse=True)};
 array [1..{things}] of var 1..{count}: bin;
-constraint bin_packing({-(-sum(weight) // count) + 1}, bin, w);
+constraint bin_packing({-(-sum(weight) // count)}, bin, w);
 constraint forall (i in 1..{things} - 3) (bin[i] != bin[i + 3]);
 solve :: int_search(bin, first_fail, indomain_min) satisfy;
 """
@@ -386,7 +392,7 @@ solve :: int_search(bin, first_fail, indomain_min) satisfy;
 
 def costs_by_bin(things, count, seed):
     weight = numbers(seed, things, 5, 30)
-    room = -(-sum(weight) * 11 // (10 * count))
+    room = -(-sum(weight) * 21 // (20 * count))
     return f"""array [1..{things}] of int: w = {weight};
 array [1..{things}, 1..{count}] of int: cost = {rows(numbers(seed + 1, things * count, 1, 30), count)};
 array [1..{things}] of var 1..{count}: bin;
@@ -426,15 +432,15 @@ def of(*models):
 REDEFINITIONS = {
     "disjunctive": (["fzn_disjunctive", "fzn_disjunctive_strict"], of(
         ("job_shop_5_4", job_shop(5, 4, 1)), ("job_shop_7_5", job_shop(7, 5, 2)),
-        ("late_jobs_7", late_jobs(7, 3)), ("late_jobs_9", late_jobs(9, 4)))),
+        ("late_jobs_8", late_jobs(8, 3)), ("late_jobs_11", late_jobs(11, 5)))),
     "disjunctive_strict": (["fzn_disjunctive_strict"], of(
-        ("strict_tools_6", strict_tools(6, 5)), ("strict_tools_8", strict_tools(8, 6)),
+        ("strict_tools_8", strict_tools(8, 6)), ("strict_tools_10", strict_tools(10, 5)),
         ("job_shop_4_4", job_shop(4, 4, 7)), ("job_shop_6_6", job_shop(6, 6, 8)))),
     "disjunctive of options": (["fzn_disjunctive_opt", "fzn_disjunctive_strict_opt"], of(
         ("flexible_shop_6_2", flexible_shop(6, 2, 9)), ("flexible_shop_8_3", flexible_shop(8, 3, 10)),
-        ("accepted_8", accepted(8, 11)), ("accepted_12", accepted(12, 12)))),
+        ("accepted_10", accepted(10, 11)), ("accepted_12", accepted(12, 12)))),
     "cumulative of options": (["fzn_cumulative_opt", "fzn_disjunctive_opt", "fzn_disjunctive_strict_opt"], of(
-        ("teams_6", teams(6, 13)), ("teams_9", teams(9, 14)),
+        ("teams_10", teams(10, 13)), ("teams_14", teams(14, 14)),
         ("chosen_tasks_8", chosen_tasks(8, 15)), ("chosen_tasks_11", chosen_tasks(11, 16)))),
     "diffn": (["fzn_diffn"], of(
         ("strip_7", strip(7, 10, 17)), ("strip_9", strip(9, 12, 18)),
@@ -446,30 +452,30 @@ REDEFINITIONS = {
         ("squares_with_0_10", squares([8, 7, 6, 5, 4, 4, 3, 3, 2, 2], 16, 14, True)))),
     "lex orders of integers": (["fzn_lex_less_int", "fzn_lex_lesseq_int"], of(
         ("design_9_12", design(9, 12, 4, 3, 1)), ("design_10_30", design(10, 30, 9, 3, 2)),
-        ("codes_9_6", codes(9, 6, 4)), ("codes_18_6", codes(18, 6, 4)))),
+        ("codes_9_6", codes(9, 6, 4)), ("codes_10_7", codes(10, 7, 5)))),
     "lex orders of Booleans": (["fzn_lex_less_bool", "fzn_lex_lesseq_bool"], of(
         ("design_of_booleans_7_7", design(7, 7, 3, 3, 1, "bool")), ("design_of_booleans_9_12", design(9, 12, 4, 3, 1, "bool")),
         ("design_of_booleans_6_20", design(6, 20, 10, 3, 4, "bool")), ("design_of_booleans_10_30", design(10, 30, 9, 3, 2, "bool")))),
     "sort": (["fzn_sort"], of(
-        ("fair_loads_9_3", fair_loads(9, 3, 19)), ("fair_loads_12_4", fair_loads(12, 4, 20)),
-        ("sorted_sums_7", sorted_sums(7, 10)), ("sorted_sums_9", sorted_sums(9, 12)))),
+        ("fair_loads_8_3", fair_loads(8, 3, 19)), ("fair_loads_10_3", fair_loads(10, 3, 20)),
+        ("far_from_sorted_6", far_from_sorted(6, 6)), ("far_from_sorted_8", far_from_sorted(8, 8)))),
     "subcircuit": (["fzn_subcircuit"], of(
-        ("prizes_7", prizes(7, 21)), ("prizes_9", prizes(9, 22)),
-        ("longest_round_3_3", longest_round(3, 3)), ("longest_round_5_3", longest_round(5, 3)))),
+        ("prizes_9", prizes(9, 22)), ("prizes_10", prizes(10, 21)),
+        ("longest_round_5_3", longest_round(5, 3)), ("longest_round_5_5", longest_round(5, 5)))),
     "inverse": (["fzn_inverse"], of(
-        ("placed_7", placed(7, 23)), ("placed_8", placed(8, 24)),
-        ("round_robin_6", round_robin(6)), ("round_robin_8", round_robin(8)))),
+        ("holes_14", holes(14, 0.42, 23)), ("holes_20", holes(20, 0.42, 24)),
+        ("both_ways_8", both_ways(8)), ("both_ways_10", both_ways(10)))),
     "regular": (["fzn_regular", "fzn_regular_set"], of(
-        ("picture_15", picture(15, 25)), ("picture_25", picture(25, 26)),
-        ("roster_4_4", roster(4, 4, 27)), ("roster_5_5", roster(5, 5, 28)))),
+        ("picture_20", picture(20, 25)), ("picture_40", picture(40, 26)),
+        ("roster_5_6", roster(5, 6, 27)), ("roster_6_6", roster(6, 6, 28)))),
     "cost_regular": (["fzn_cost_regular"], of(
-        ("shifts_3_5", shifts(3, 5, 29)), ("shifts_4_5", shifts(4, 5, 30)),
-        ("one_line_14", one_line(14, 31)), ("one_line_18", one_line(18, 32)))),
+        ("shifts_4_5", shifts(4, 5, 30)), ("shifts_5_5", shifts(5, 5, 29)),
+        ("one_line_18", one_line(18, 32)), ("one_line_30", one_line(30, 31)))),
     "mdd": (["fzn_mdd"], of(
-        ("ways_10", ways(10, 6, 33, "mdd")), ("ways_14", ways(14, 8, 34, "mdd")),
-        ("ways_apart_4_8", ways_apart(4, 8, 5, 35, "mdd")), ("ways_apart_5_12", ways_apart(5, 12, 6, 36, "mdd")))),
+        ("ways_14", ways(14, 8, 34, "mdd")), ("ways_20", ways(20, 12, 33, "mdd")),
+        ("ways_apart_4_10", ways_apart(4, 10, 6, 35, "mdd")), ("ways_apart_5_12", ways_apart(5, 12, 6, 36, "mdd")))),
     "mdd_nondet": (["fzn_mdd_nondet"], of(
-        ("ways_of_many_10", ways(10, 6, 37, "mdd_nondet")), ("ways_of_many_13", ways(13, 8, 38, "mdd_nondet")),
+        ("ways_of_many_13", ways(13, 8, 38, "mdd_nondet")), ("ways_of_many_18", ways(18, 10, 37, "mdd_nondet")),
         ("ways_of_many_apart_4_8", ways_apart(4, 8, 5, 39, "mdd_nondet")),
         ("ways_of_many_apart_5_12", ways_apart(5, 12, 6, 40, "mdd_nondet")))),
     "cost_mdd": (["fzn_cost_mdd"], of(
@@ -478,10 +484,10 @@ REDEFINITIONS = {
         ("ways_at_a_cost_apart_4_8", ways_apart(4, 8, 5, 44, "cost_mdd")))),
     "bin_packing": (["fzn_bin_packing"], of(
         ("bins_12", bins(12, 45)), ("bins_16", bins(16, 46)),
-        ("one_capacity_12_4", one_capacity(12, 4, 47)), ("one_capacity_18_5", one_capacity(18, 5, 48)))),
+        ("one_capacity_18_5", one_capacity(18, 5, 48)), ("one_capacity_24_6", one_capacity(24, 6, 47)))),
     "bin_packing_capa": (["fzn_bin_packing_capa"], of(
-        ("full_bins_12_4", full_bins(12, 4, 47)), ("full_bins_18_5", full_bins(18, 5, 48)),
-        ("costs_by_bin_9_3", costs_by_bin(9, 3, 49)), ("costs_by_bin_12_4", costs_by_bin(12, 4, 50)))),
+        ("full_bins_18_5", full_bins(18, 5, 48)), ("full_bins_24_6", full_bins(24, 6, 47)),
+        ("costs_by_bin_14_4", costs_by_bin(14, 4, 49)), ("costs_by_bin_18_5", costs_by_bin(18, 5, 50)))),
     "table, reified": (["fzn_table_int_reif"], of(
         ("wishes_12_8", wishes(12, 8, 4, 51, 3)), ("wishes_24_10", wishes(24, 10, 4, 52, 4)),
         ("forbidden_12", forbidden(12, 3, 53, 3)), ("forbidden_18", forbidden(18, 4, 54, 4)))),
