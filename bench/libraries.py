@@ -216,17 +216,14 @@ solve :: int_search(next, first_fail, indomain_max) maximize goal;
 """
 
 
-def holes(n, left, seed):
-    source = random.Random(seed)
-    order, across, down = (source.sample(range(n), n) for _ in range(3))
-    given = [(order[(across[i] + down[j]) % n] + 1) if source.random() < left else 0 for i in range(n) for j in range(n)]
-    return f"""array [1..{n}, 1..{n}] of int: given = {rows(given, n)};
-array [1..{n}, 1..{n}] of var 1..{n}: x;
-array [1..{n}, 1..{n}] of var 1..{n}: at;
-constraint forall (i, j in 1..{n}) (given[i, j] = 0 \\/ x[i, j] = given[i, j]);
-constraint forall (i in 1..{n}) (inverse(x[i, ..], at[i, ..]) /\\ inverse(x[.., i], [at_column[i, v] | v in 1..{n}]));
-array [1..{n}, 1..{n}] of var 1..{n}: at_column;
-solve :: int_search(array1d(x), first_fail, indomain_min) satisfy;
+def round_robin(teams, seed):
+    return f"""int: n = {teams};
+array [1..n - 1, 1..n * n] of int: cost = {rows(numbers(seed, (teams - 1) * teams * teams, 0, 9), teams * teams)};
+array [1..n - 1, 1..n] of var 1..n: meets;
+constraint forall (r in 1..n - 1) (inverse(meets[r, ..], meets[r, ..]) /\\ forall (t in 1..n) (meets[r, t] != t));
+constraint forall (t in 1..n) (all_different(meets[.., t])) /\\ forall (t in 2..n) (meets[t - 1, 1] = t);
+var 0..9 * n * n: goal = sum (r in 1..n - 1, t in 1..n) (cost[r, (t - 1) * n + meets[r, t]]);
+solve :: int_search(array1d(meets), first_fail, indomain_min) minimize goal;
 """
 
 
@@ -463,7 +460,7 @@ REDEFINITIONS = {
         ("prizes_9", prizes(9, 22)), ("prizes_10", prizes(10, 21)),
         ("longest_round_5_3", longest_round(5, 3)), ("longest_round_5_5", longest_round(5, 5)))),
     "inverse": (["fzn_inverse"], of(
-        ("holes_14", holes(14, 0.42, 23)), ("holes_20", holes(20, 0.42, 24)),
+        ("round_robin_6", round_robin(6, 23)), ("round_robin_8", round_robin(8, 24)),
         ("both_ways_8", both_ways(8)), ("both_ways_10", both_ways(10)))),
     "regular": (["fzn_regular", "fzn_regular_set"], of(
         ("picture_20", picture(20, 25)), ("picture_40", picture(40, 26)),
