@@ -465,6 +465,9 @@ REDEFINITIONS = {
     "regular": (["fzn_regular", "fzn_regular_set"], of(
         ("picture_20", picture(20, 25)), ("picture_40", picture(40, 26)),
         ("roster_5_6", roster(5, 6, 27)), ("roster_6_6", roster(6, 6, 28)))),
+    "regular_nfa": (["fzn_regular_nfa", "fzn_regular_nfa_set"], of(
+        ("words_of_nfa_18", words_of_nfa(18, 55)), ("words_of_nfa_24", words_of_nfa(24, 56)),
+        ("pairs_of_nfa_4_11", pairs_of_nfa(4, 11)), ("pairs_of_nfa_6_14", pairs_of_nfa(6, 14)))),
     "cost_regular": (["fzn_cost_regular"], of(
         ("shifts_4_5", shifts(4, 5, 30)), ("shifts_5_5", shifts(5, 5, 29)),
         ("one_line_18", one_line(18, 32)), ("one_line_30", one_line(30, 31)))),
