@@ -3,6 +3,7 @@ ghost use Rattle.std.specs.Prelude.{length};
 ghost use Rattle.std.specs.List.{AllByRecursion};
 ghost use Rattle.fz_prop.specs.Stores.{IsTermOf};
 
+use crate::bounds::{crossed_intervals, turned};
 use crate::interval::{Interval, ends_of};
 use crate::span::Span;
 use fz_prop::Store;
@@ -101,9 +102,45 @@ pub fn rising_places(
     Ok(places)
 }
 
+/// Intervals that more terms are confined to than they have numbers, or as many, where one end of another term is in them, told by the
+/// ends of all terms, by rising greatest numbers. Where all lies close together, one from each least number on, else by two sweeps.
+///
+/// # Errors
+/// `AllocError` where there is no memory.
+pub fn filled_intervals(
+    alloc: Global,
+    ends: &[Interval],
+    span: Span,
+) -> Result<Vec<Interval>, AllocError> {
+    if span.is_close() {
+        return close_intervals(alloc, ends);
+    }
+    let mut filled = crossed_intervals(alloc, ends)?;
+    let turned_ends = turned(alloc, ends)?;
+    let below = crossed_intervals(alloc, &turned_ends)?;
+    for interval in &turned(alloc, &below)? {
+        filled.push(*interval)?;
+    }
+    Ok(filled)
+}
+
+/// An interval from each number on that is the least of a term that isn't fixed, where such a one is found.
+fn close_intervals(alloc: Global, ends: &[Interval]) -> Result<Vec<Interval>, AllocError> {
+    let mut filled = Vec::new(alloc);
+    for left in ends {
+        if left.low == left.high {
+            continue;
+        }
+        if let Some(interval) = filled_from(ends, left.low) {
+            filled.push(interval)?;
+        }
+    }
+    Ok(filled)
+}
+
 /// An interval from a low number on that more terms are confined to than it has numbers, or as many, where one end of another term is
 /// among these. It is told by the ends of all terms, by rising greatest numbers.
-pub fn filled_from(ends: &[Interval], low: i32) -> Option<Interval> {
+fn filled_from(ends: &[Interval], low: i32) -> Option<Interval> {
     let first = i64::from(low);
     let mut count = 0i128;
     let mut behind = first;
