@@ -1,4 +1,4 @@
-use Rattle.std.proofs.Common.{◌∙◌, ap, sym, subst, List}
+use Rattle.std.proofs.Common.{◌∙◌, ap, subst, List}
 use Rattle.fz_tree.specs.Frontier.{Frontier}
 use Rattle.fz_tree.specs.Book.{Part, PrefersClaimed}
 use Rattle.fz_book.specs.Places.{IsNowhere}
