@@ -261,6 +261,21 @@ impl Account {
         ensures ok { IfOk result (λ l. Learns l self.old assignment.now self.new) }
         ensures err { OnErr result (self.new ≡ self.old) }
     {
+        if self.mode != Mode::Best || !holds(&self.model, assignment) {
+            return Ok(Learned::Ignored);
+        }
+        self.learn_found(assignment)
+    }
+
+    /// Takes note of an assignment that satisfies, as `learn` does, but with no look at the constraints.
+    ///
+    /// # Errors
+    /// `AllocError` where there is no memory; the account is as before.
+    pub fn learn_found(&mut self, assignment: &Assignment) -> Result<Learned, AllocError>
+        requires satisfies { Satisfies self.old.model assignment.now }
+        ensures ok { IfOk result (λ l. Learns l self.old assignment.now self.new) }
+        ensures err { OnErr result (self.new ≡ self.old) }
+    {
         if !self.is_news(assignment) {
             return Ok(Learned::Ignored);
         }
@@ -269,11 +284,12 @@ impl Account {
         Ok(Learned::Learned)
     }
 
-    /// Whether an assignment is to be the witness.
+    /// Whether an assignment that satisfies is to be the witness.
     fn is_news(&self, assignment: &Assignment) -> bool
+        requires { Satisfies self.now.model assignment.now }
         ensures { IsTrue result ↔ IsNews self.now assignment.now }
     {
-        self.mode == Mode::Best && holds(&self.model, assignment) && self.is_bettered_by(assignment)
+        self.mode == Mode::Best && self.is_bettered_by(assignment)
     }
 
     /// Whether an assignment betters the witness.

@@ -3,6 +3,7 @@ ghost use Rattle.std.specs.Prelude.{drop, ◌≡◌, ◌≤◌, ◌+◌, ◌-◌
 ghost use Rattle.std.specs.List.{list_all, slice_get, AllByRecursion};
 ghost use Rattle.std.specs.Arc.{arc_value};
 ghost use Rattle.std.specs.Vec.{vec_len, vec_capacity};
+ghost use Rattle.fz_spec.specs.Instance.{Satisfies};
 ghost use Rattle.fz_tree.specs.Better.{IsModeOf, Betters};
 ghost use Rattle.fz_tree.specs.Account.{AccountLaw};
 ghost use Rattle.fz_tree.specs.Book.{BookLaw, Claims, Takes, IsAt, IsOpen, PrefersClaimed, opening, incumbent, is_claimed, claimed_part, parts_after};
@@ -239,17 +240,33 @@ impl Book {
         if !self.is_own(&account) {
             return Taken::Foreign(account);
         }
+        self.take_own(account)
+    }
+
+    /// Whether an account is of its model and mode.
+    pub fn is_own(&self, account: &Account) -> bool
+        ensures own { IsTrue result ↔ IsOwn self.now.book account.now }
+        ensures law { BookLaw self.now.book }
+    {
+        self.mode == account.mode() && self.model.same(account.model())
+    }
+
+    /// Takes an account of its model and mode, as `take` does, but with no look at the model.
+    pub fn take_own(&mut self, account: Account) -> Taken
+        requires own { IsOwn self.old.book account }
+        ensures taken { IsTaken result → Takes self.old.book account self.new.book }
+        ensures same { (IsTaken result → ⊥) → self.new.book ≡ self.old.book }
+        ensures own { IsForeign result → ⊥ }
+        ensures stranger { IsStranger result ↔ (IsOpen self.old.book account.before → ⊥) }
+        ensures room { LacksMemory result → (self.old.found_room < found_needed account)
+            ⊎ (self.old.given_room < given_needed account) }
+        ensures back { GivesBack result account }
+        ensures gone { self.new.gone ≡ self.old.gone }
+    {
         let Some(place) = place_of(&self.parts, account.before()) else {
             return Taken::Stranger(account);
         };
         self.take_at(place, account)
-    }
-
-    /// Whether an account is of its model and mode.
-    fn is_own(&self, account: &Account) -> bool
-        ensures own { IsTrue result ↔ IsOwn self.now.book account.now }
-    {
-        self.mode == account.mode() && self.model.same(account.model())
     }
 
     /// Takes an account of its model and mode and of one of its open frontiers, for which it has room: as `take` does, but with no look at
@@ -263,10 +280,7 @@ impl Book {
         ensures taken { Takes self.old.book account self.new.book }
         ensures gone { self.new.gone ≡ self.old.gone }
     {
-        let Some(place) = place_of(&self.parts, account.before()) else {
-            unreachable!()
-        };
-        match self.take_at(place, account) {
+        match self.take_own(account) {
             Taken::Taken => {}
             Taken::Stranger(_) | Taken::Foreign(_) | Taken::NoMemory(_) => unreachable!(),
         }
@@ -311,6 +325,26 @@ impl Book {
         ensures back { IfErr result (λ refused. refused.value ≡ assignment) }
         ensures gone { self.new.gone ≡ self.old.gone }
     {
+        if self.mode != Mode::Best || !holds(&self.model, &assignment) {
+            return Ok(Offered::NotBetter(assignment));
+        }
+        self.offer_found(assignment)
+    }
+
+    /// Records an assignment that satisfies, as `offer` does, but with no look at the constraints.
+    ///
+    /// # Errors
+    /// `AllocFailed` with the assignment where there is no memory; the book is as before, but for its room.
+    pub fn offer_found(
+        &mut self,
+        assignment: Assignment,
+    ) -> Result<Offered, AllocFailed<Assignment>>
+        requires satisfies { Satisfies self.old.book.model assignment }
+        ensures ok { IfOk result (λ o. Offers o self.old.book assignment self.new.book) }
+        ensures err { OnErr result (self.new.book ≡ self.old.book) }
+        ensures back { IfErr result (λ refused. refused.value ≡ assignment) }
+        ensures gone { self.new.gone ≡ self.old.gone }
+    {
         if !self.is_improved_by(&assignment) {
             return Ok(Offered::NotBetter(assignment));
         }
@@ -318,11 +352,12 @@ impl Book {
         Ok(Offered::Better)
     }
 
-    /// Whether an assignment is to be recorded.
+    /// Whether an assignment that satisfies is to be recorded.
     fn is_improved_by(&self, assignment: &Assignment) -> bool
+        requires { Satisfies self.now.book.model assignment.now }
         ensures { IsTrue result ↔ IsImprovement self.now.book assignment.now }
     {
-        self.mode == Mode::Best && holds(&self.model, assignment) && self.is_topped_by(assignment)
+        self.mode == Mode::Best && self.is_topped_by(assignment)
     }
 
     /// Whether an assignment betters the incumbent.

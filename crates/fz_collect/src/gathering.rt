@@ -1,21 +1,24 @@
 //! Taking in what several workers tell.
-ghost use Rattle.std.specs.Prelude.{IsTrue};
+ghost use Rattle.std.specs.Prelude.{◌≡◌, IsTrue};
+ghost use Rattle.fz_collect.specs.NewsOf.{IsNewsOf};
 
-use crate::collect::Collect;
+use crate::collect::{Collect, News};
 use crate::outbox::{Outbox, Told};
+use crate::subject::Subject;
 use std::alloc::Global;
 use std::sync::Wait;
 
 /// Has a collector take in what workers tell, until they have ended and all is taken in, or it has enough. Then the workers are to
 /// stop.
-pub fn gather<R: Wait, K, C: Collect<K>>(
+pub fn gather<R: Wait, K, T: Subject, C: Collect<K>>(
     rt: &R,
     alloc: Global,
-    outbox: &Outbox,
+    outbox: &Outbox<T>,
     collector: &mut C,
     lent: &mut K,
 )
-    requires { C.works collector.old lent.old }
+    requires works { C.works collector.old lent.old }
+    requires subject { (C.model collector.old ≡ T.model) × (C.mode collector.old ≡ T.mode) }
     ensures { C.grew collector.old lent.old collector.new lent.new }
 {
     if !collector.has_enough() {
@@ -26,15 +29,16 @@ pub fn gather<R: Wait, K, C: Collect<K>>(
 }
 
 /// Takes in what is told, turn by turn.
-fn take_turns<R: Wait, K, C: Collect<K>>(
+fn take_turns<R: Wait, K, T: Subject, C: Collect<K>>(
     rt: &R,
     alloc: Global,
-    outbox: &Outbox,
+    outbox: &Outbox<T>,
     collector: &mut C,
     lent: &mut K,
 )
     requires works { C.works collector.old lent.old }
     requires more { C.enough collector.old → ⊥ }
+    requires subject { (C.model collector.old ≡ T.model) × (C.mode collector.old ≡ T.mode) }
     ensures { C.grew collector.old lent.old collector.new lent.new }
 {
     'turns: for _ in rt.forever() {
@@ -47,15 +51,16 @@ fn take_turns<R: Wait, K, C: Collect<K>>(
 
 /// Takes in what is told, and rests where that is nothing. Workers are asked for what they found where that is due, and behind each
 /// rest. It says whether more may come.
-fn turn<R: Wait, K, C: Collect<K>>(
+fn turn<R: Wait, K, T: Subject, C: Collect<K>>(
     rt: &R,
     alloc: Global,
-    outbox: &Outbox,
+    outbox: &Outbox<T>,
     collector: &mut C,
     lent: &mut K,
 ) -> bool
     requires works { C.works collector.old lent.old }
     requires more { C.enough collector.old → ⊥ }
+    requires subject { (C.model collector.old ≡ T.model) × (C.mode collector.old ≡ T.mode) }
     ensures grew { C.grew collector.old lent.old collector.new lent.new }
     ensures works { IsTrue result → C.works collector.new lent.new }
     ensures more { IsTrue result → C.enough collector.new → ⊥ }
@@ -70,7 +75,7 @@ fn turn<R: Wait, K, C: Collect<K>>(
 }
 
 /// Rests where nothing was told. It says whether more may come.
-fn rest<R: Wait>(rt: &R, outbox: &Outbox, is_idle: bool, has_ended: bool) -> bool {
+fn rest<R: Wait, T: Subject>(rt: &R, outbox: &Outbox<T>, is_idle: bool, has_ended: bool) -> bool {
     if !is_idle {
         return true;
     }
@@ -83,24 +88,35 @@ fn rest<R: Wait>(rt: &R, outbox: &Outbox, is_idle: bool, has_ended: bool) -> boo
 }
 
 /// Has the collector take in what was told, and look up behind it. It says whether it takes in more.
-fn take_all<K, C: Collect<K>>(
+fn take_all<K, T: Subject, C: Collect<K>>(
     alloc: Global,
     collector: &mut C,
     lent: &mut K,
-    told: Vec<Told>,
+    told: Vec<Told<T>>,
 ) -> bool
     requires works { C.works collector.old lent.old }
     requires more { C.enough collector.old → ⊥ }
+    requires subject { (C.model collector.old ≡ T.model) × (C.mode collector.old ≡ T.mode) }
     ensures grew { C.grew collector.old lent.old collector.new lent.new }
     ensures works { IsTrue result → C.works collector.new lent.new }
     ensures more { IsTrue result → C.enough collector.new → ⊥ }
 {
     'each: for one in told {
-        collector.take_in(alloc, lent, one);
+        collector.take_in(alloc, lent, news_of(one));
         if collector.has_enough() {
             return false;
         }
     }
     collector.look_up(lent);
     !collector.has_enough()
+}
+
+/// What is told, alone.
+fn news_of<T: Subject>(told: Told<T>) -> News
+    ensures { IsNewsOf T.model T.mode result }
+{
+    match told {
+        Told::Taken(account) => News::Taken(account.into_account()),
+        Told::Better(solution) => News::Better(solution.into_assignment()),
+    }
 }

@@ -4,7 +4,9 @@
 pub mod collect;
 pub mod gathering;
 pub mod outbox;
+pub mod subject;
 
-pub use collect::Collect;
+pub use collect::{Collect, News};
 pub use gathering::gather;
 pub use outbox::{Outbox, Told};
+pub use subject::{OwnAccount, Solution, Subject};

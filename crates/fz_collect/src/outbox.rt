@@ -1,6 +1,6 @@
 //! What several workers tell while they search.
+use crate::subject::{OwnAccount, Solution, Subject};
 use fz_account::Account;
-use fz_model::Assignment;
 use std::alloc::{AllocError, Global};
 use std::mem;
 use std::sync::atomic::{AtomicBool, AtomicU64, Ordering};
@@ -20,18 +20,18 @@ const NUMBERS_AN_EDGE: u64 = 8;
 
 /// What a worker tells.
 #[derive(Drop)]
-pub enum Told {
+pub enum Told<T: Subject> {
     /// The workers' book took this account.
-    Taken(Account),
+    Taken(OwnAccount<T>),
     /// The workers' book recorded this assignment.
-    Better(Assignment),
+    Better(Solution<T>),
 }
 
 /// What workers told and nobody has taken yet, in the order in which it was told. Each worker tells what a book took while it holds
 /// that book's lock, so it is the order of the book.
 #[derive(Drop)]
-pub struct Outbox {
-    told: Mutex<Vec<Told>>,
+pub struct Outbox<T: Subject> {
+    told: Mutex<Vec<Told<T>>>,
     waiting: AtomicU64,
     asks: AtomicU64,
     is_read: AtomicBool,
@@ -40,9 +40,9 @@ pub struct Outbox {
     parker: Parker,
 }
 
-impl Outbox {
+impl<T: Subject> Outbox<T> {
     /// Nothing is told yet, and workers are asked for what they find first.
-    pub fn new(alloc: Global) -> Outbox {
+    pub fn new(alloc: Global) -> Outbox<T> {
         Outbox {
             told: Mutex::new(Vec::new(alloc)),
             waiting: AtomicU64::new(0),
@@ -58,7 +58,7 @@ impl Outbox {
     ///
     /// # Errors
     /// `AllocError` where there is no memory; then nothing is told.
-    pub fn tell<R: Wait>(&self, rt: &R, told: Told) -> Result<(), AllocError> {
+    pub fn tell<R: Wait>(&self, rt: &R, told: Told<T>) -> Result<(), AllocError> {
         let weight = weight_of(&told);
         let mut waiting = self.told.lock(rt);
         waiting.push(told)?;
@@ -108,7 +108,7 @@ impl Outbox {
     }
 
     /// Takes what was told.
-    pub(crate) fn take<R: Wait>(&self, rt: &R, alloc: Global) -> Vec<Told> {
+    pub(crate) fn take<R: Wait>(&self, rt: &R, alloc: Global) -> Vec<Told<T>> {
         let mut told = self.told.lock(rt);
         self.waiting.store(0, Ordering::SeqCst);
         mem::replace(&mut *told, Vec::new(alloc))
@@ -126,10 +126,10 @@ impl Outbox {
 }
 
 /// How many numbers are told, about.
-fn weight_of(told: &Told) -> u64 {
+fn weight_of<T: Subject>(told: &Told<T>) -> u64 {
     match told {
-        Told::Taken(account) => weight_of_account(account),
-        Told::Better(assignment) => assignment.values().len() as u64,
+        Told::Taken(account) => weight_of_account(account.account()),
+        Told::Better(solution) => solution.assignment().values().len() as u64,
     }
 }
 

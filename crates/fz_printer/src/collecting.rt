@@ -6,7 +6,7 @@ ghost use Rattle.fz_printer.specs.Gathered.{Gathers, HasEnough, IsFilled, IsWork
 ghost use Rattle.fz_printer.specs.Gatherings.{gathers_both, gathers_none};
 
 use crate::printer::Printer;
-use fz_collect::{Collect, Told};
+use fz_collect::{Collect, News};
 use fz_io::outside::Sink;
 use std::alloc::Global;
 
@@ -50,6 +50,12 @@ impl<K: Sink> Collect<K> for Printer {
 
     ghost grew = { λ p k q l. Gathers p (K.taken k) (K.faults k) q (K.taken l) (K.faults l) };
 
+    ghost model = { λ p. (book_of p).model };
+
+    ghost mode = { λ p. (book_of p).mode };
+
+    ghost keeps = { λ p k q l g. (g.model, g.mode) };
+
     ghost stays = { λ p k w. gathers_none p (K.taken k) (K.faults k) w.none w.ready };
 
     ghost goes_on = { λ p k q l r m first w second. gathers_both p q r (K.taken k) (K.taken l) (K.taken m) (K.faults k) (K.faults l) (K.faults m) first w.none second };
@@ -62,10 +68,10 @@ impl<K: Sink> Collect<K> for Printer {
         sink.is_due()
     }
 
-    fn take_in(&mut self, alloc: Global, sink: &mut K, told: Told) {
-        match told {
-            Told::Taken(account) => self.account(alloc, sink, account),
-            Told::Better(assignment) => self.offer(alloc, sink, assignment),
+    fn take_in(&mut self, alloc: Global, sink: &mut K, news: News) {
+        match news {
+            News::Taken(account) => self.account_own(alloc, sink, account),
+            News::Better(assignment) => self.offer_found(alloc, sink, assignment),
         }
     }
 

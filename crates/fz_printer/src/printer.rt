@@ -1,5 +1,7 @@
 //! Printers.
 ghost use Rattle.std.specs.Prelude.{◌≡◌, ◌<◌, ◌≤◌, ◌^◌, ◌-◌, None, Some, length};
+ghost use Rattle.fz_spec.specs.Instance.{Satisfies};
+ghost use Rattle.fz_book.specs.Outcomes.{IsOwn};
 
 use fz_account::Account;
 use fz_book::{Book, Taken};
@@ -89,10 +91,26 @@ impl Printer {
         ensures ready { stopped_of self.new ≡ None → IsReady self.new }
         ensures cause { CountsMark (S.faults sink.old) (S.faults sink.new) (stopped_of self.new) }
     {
-        match self.book.take(account) {
+        if self.book.is_own(&account) {
+            self.account_own(alloc, sink, account);
+        }
+    }
+
+    /// Takes an account of its book's model and mode, as `account` does, but with no look at the model.
+    pub fn account_own<S: Sink>(&mut self, alloc: Global, sink: &mut S, account: Account)
+        requires working { stopped_of self.old ≡ None }
+        requires ready { IsReady self.old }
+        requires faults { S.faults sink.old < 2 ^ 64 - 1 }
+        requires own { IsOwn (book_of self.old) account }
+        ensures taken { AccountsTo account self.old self.new }
+        ensures grew { Grew self.old self.new (S.taken sink.old) (S.taken sink.new) }
+        ensures ready { stopped_of self.new ≡ None → IsReady self.new }
+        ensures cause { CountsMark (S.faults sink.old) (S.faults sink.new) (stopped_of self.new) }
+    {
+        match self.book.take_own(account) {
             Taken::Taken => self.print_due(alloc, sink),
             Taken::Stranger(_) => {}
-            Taken::Foreign(_) => {}
+            Taken::Foreign(_) => unreachable!(),
             Taken::NoMemory(_) => self.stopped = Some(Stop::Memory),
         }
     }
@@ -112,6 +130,24 @@ impl Printer {
             Ok(_) => self.print_due(alloc, sink),
             Err(_) => self.stopped = Some(Stop::Memory),
         }
+    }
+
+    /// Takes an assignment that satisfies, as `offer` does, but with no look at the constraints.
+    pub fn offer_found<S: Sink>(&mut self, alloc: Global, sink: &mut S, assignment: Assignment)
+        requires working { stopped_of self.old ≡ None }
+        requires ready { IsReady self.old }
+        requires faults { S.faults sink.old < 2 ^ 64 - 1 }
+        requires satisfies { Satisfies (book_of self.old).model assignment }
+        ensures offered { OffersTo assignment self.old self.new }
+        ensures grew { Grew self.old self.new (S.taken sink.old) (S.taken sink.new) }
+        ensures ready { stopped_of self.new ≡ None → IsReady self.new }
+        ensures cause { CountsMark (S.faults sink.old) (S.faults sink.new) (stopped_of self.new) }
+    {
+        if self.book.offer_found(assignment).is_err() {
+            self.stopped = Some(Stop::Memory);
+            return;
+        }
+        self.print_due(alloc, sink);
     }
 
     /// Prints what is recorded and due, and not printed yet.

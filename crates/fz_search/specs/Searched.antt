@@ -37,6 +37,10 @@ abbrev pub HasEnded : Option ℕ → Book → Type 0
 HasEnded None b = b.parts ≡ []
 HasEnded (Some n) b = (n ≤ length b.recorded) ⊎ (b.parts ≡ [])
 
+-- a subject of the model, and of what is sought by the options
+abbrev pub IsOfModel : Instance → Mode → Instance → Options → Type 0
+IsOfModel subject mode m o = (subject ≡ m) × (mode ≡ mode_for m.goal o)
+
 pub record IsSearched (m : Instance) (mode : Mode) (w : Option ℕ) (b : Book) : Type 0 where
   pub model : b.model ≡ m
   pub own_mode : b.mode ≡ mode

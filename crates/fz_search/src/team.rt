@@ -4,12 +4,14 @@ ghost use Rattle.std.specs.Arc.{arc_value};
 ghost use Rattle.fz_tree.specs.Better.{IsModeOf};
 ghost use Rattle.fz_printer.specs.Printed.{book_of, stopped_of, CountsMark, IsReady};
 ghost use Rattle.fz_printer.specs.Gathered.{Gathers, IsFilled};
-ghost use Rattle.fz_search.specs.Searched.{IsPrinted};
+ghost use Rattle.fz_runs.specs.Modes.{mode_for};
+ghost use Rattle.fz_collect.specs.Subjects.{IsBookOf};
+ghost use Rattle.fz_search.specs.Searched.{IsOfModel, IsPrinted};
 
 use crate::searching::{begin, enough_for, mode_for, shows_found};
 use fz_account::Mode;
 use fz_cmd::Options;
-use fz_collect::{Outbox, gather};
+use fz_collect::{Outbox, Subject, gather};
 use fz_io::gate::Gate;
 use fz_io::outside::Sink;
 use fz_model::model::Model;
@@ -17,7 +19,9 @@ use fz_path::Path;
 use fz_printer::Printer;
 use fz_search_space::SearchSpace;
 use fz_stream::stream;
+use fz_team::{OwnBook, OwnPath, run_own};
 use std::alloc::{AllocError, Global};
+use std::marker::Brand;
 use std::sync::{Arc, Wait};
 use std::thread::{Threads, join_mut};
 
@@ -88,12 +92,14 @@ fn search_all<T: Threads + Wait + Sync, S: SearchSpace + Send, K: Sink + Send, G
     requires idle { path.old.held ≡ None }
     requires model { path.old.model ≡ (book_of printer.old).model }
     requires mode { path.old.mode ≡ (book_of printer.old).mode }
+    requires own { IsBookOf (arc_value model.now)
+        (mode_for (arc_value model.now).goal options.now) (book_of printer.old) }
     ensures gathers { Gathers printer.old (K.taken sink.old) (K.faults sink.old)
         printer.new (K.taken sink.new) (K.faults sink.new) }
     ensures ended { stopped_of printer.new ≡ None
         → IsFilled printer.new ⊎ ((book_of printer.new).parts ≡ []) }
 {
-    search_together::<T, S, K, G>(rt, alloc, model, options, printer, sink, gate);
+    search_together::<T, S, K, G, Brand>(rt, alloc, model, options, printer, sink, gate);
     if printer.stopped().is_some() {
         return;
     }
@@ -101,7 +107,13 @@ fn search_all<T: Threads + Wait + Sync, S: SearchSpace + Send, K: Sink + Send, G
 }
 
 /// The workers search, and what they tell is printed in the meantime; where no more thread can be made, behind it.
-fn search_together<T: Threads + Wait + Sync, S: SearchSpace + Send, K: Sink + Send, G: Gate + Sync>(
+fn search_together<
+    T: Threads + Wait + Sync,
+    S: SearchSpace + Send,
+    K: Sink + Send,
+    G: Gate + Sync,
+    B: Subject + Send + Sync,
+>(
     rt: &T,
     alloc: Global,
     model: &Arc<Model>,
@@ -114,70 +126,75 @@ fn search_together<T: Threads + Wait + Sync, S: SearchSpace + Send, K: Sink + Se
     requires working { stopped_of printer.old ≡ None }
     requires ready { IsReady printer.old }
     requires faults { K.faults sink.old < 2 ^ 64 - 1 }
+    requires subject { IsOfModel B.model B.mode (arc_value model.now) options.now }
+    requires own { IsBookOf B.model B.mode (book_of printer.old) }
     ensures { Gathers printer.old (K.taken sink.old) (K.faults sink.old)
         printer.new (K.taken sink.new) (K.faults sink.new) }
 {
-    let outbox = Outbox::new(alloc);
+    let outbox: Outbox<B> = Outbox::new(alloc);
     let told = &outbox;
     join_mut(
         rt,
         &mut || gather(rt, alloc, told, printer, sink),
         &mut ||
-            requires { S.accepts (arc_value model.now) }
-        { work_through::<T, S, G>(rt, alloc, model, options, gate, told) },
+            requires { S.accepts (arc_value model.now)
+                × IsOfModel B.model B.mode (arc_value model.now) options.now }
+        { work_through::<T, S, G, B>(rt, alloc, model, options, gate, told) },
     );
 }
 
 /// The workers search, and end what they tell.
-fn work_through<T: Threads + Wait + Sync, S: SearchSpace + Send, G: Gate + Sync>(
-    rt: &T,
-    alloc: Global,
-    model: &Arc<Model>,
-    options: &Options,
-    gate: &G,
-    outbox: &Outbox,
-)
-    requires { S.accepts (arc_value model.now) }
+fn work_through<
+    T: Threads + Wait + Sync,
+    S: SearchSpace + Send,
+    G: Gate + Sync,
+    B: Subject + Send + Sync,
+>(rt: &T, alloc: Global, model: &Arc<Model>, options: &Options, gate: &G, outbox: &Outbox<B>)
+    requires accepts { S.accepts (arc_value model.now) }
+    requires subject { IsOfModel B.model B.mode (arc_value model.now) options.now }
 {
-    let _whether_there_was_memory = work::<T, S, G>(rt, alloc, model, options, gate, outbox);
+    let _whether_there_was_memory = work::<T, S, G, B>(rt, alloc, model, options, gate, outbox);
     outbox.end();
 }
 
 /// The workers search, with a book of their own.
-fn work<T: Threads + Wait + Sync, S: SearchSpace + Send, G: Gate + Sync>(
+fn work<T: Threads + Wait + Sync, S: SearchSpace + Send, G: Gate + Sync, B: Subject + Send + Sync>(
     rt: &T,
     alloc: Global,
     model: &Arc<Model>,
     options: &Options,
     gate: &G,
-    outbox: &Outbox,
+    outbox: &Outbox<B>,
 ) -> Result<(), AllocError>
-    requires { S.accepts (arc_value model.now) }
+    requires accepts { S.accepts (arc_value model.now) }
+    requires subject { IsOfModel B.model B.mode (arc_value model.now) options.now }
 {
     let mode = mode_for(model.goal(), options);
-    let book = begin(alloc, model, mode)?;
-    let paths = paths_of::<S>(alloc, model, mode, options)?;
+    let book = OwnBook::new(begin(alloc, model, mode)?);
+    let paths = paths_of::<S, B>(alloc, model, mode, options)?;
     let enough = enough_for(model.goal(), options);
-    let _end = fz_team::run(rt, alloc, book, paths, enough, gate, outbox);
+    let _end = run_own(rt, alloc, book, paths, enough, gate, outbox);
     Ok(())
 }
 
 /// As many idle paths as workers are asked for.
-fn paths_of<S: SearchSpace>(
+fn paths_of<S: SearchSpace, B: Subject>(
     alloc: Global,
     model: &Arc<Model>,
     mode: Mode,
     options: &Options,
-) -> Result<Vec<Path<S>>, AllocError>
+) -> Result<Vec<OwnPath<S, B>>, AllocError>
     requires accepts { S.accepts (arc_value model.now) }
     requires mode { IsModeOf (arc_value model.now).goal mode }
+    requires subject { (arc_value model.now ≡ B.model) × (mode ≡ B.mode) }
     ensures several { IfOk result (λ v. (1 ≤ vec_len v) × (vec_len v ≤ 64)) }
 {
     let distance = options.commit_distance();
     let adaptive = options.adaptive_distance();
     let mut paths = Vec::new(alloc);
     'workers: for _worker in 0..options.workers() {
-        paths.push(Path::idle(alloc, model.clone()?, mode, distance, adaptive)?)?;
+        let path = Path::idle(alloc, model.clone()?, mode, distance, adaptive)?;
+        paths.push(OwnPath::new(path))?;
     }
     Ok(paths)
 }

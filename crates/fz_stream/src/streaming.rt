@@ -219,6 +219,7 @@ fn tell<S: SearchSpace, K: Sink>(alloc: Global, printer: &mut Printer, path: &Pa
     requires working { stopped_of printer.old ≡ None }
     requires ready { IsReady printer.old }
     requires faults { K.faults sink.old < 2 ^ 64 - 1 }
+    requires model { path.now.model ≡ (book_of printer.old).model }
     ensures told { OnNoMemory printer.new
         (IsTold true (book_of printer.old) path.now.known (book_of printer.new)) }
     ensures grew { Grew printer.old printer.new (K.taken sink.old) (K.taken sink.new) }
@@ -232,7 +233,7 @@ fn tell<S: SearchSpace, K: Sink>(alloc: Global, printer: &mut Printer, path: &Pa
         printer.refuse();
         return;
     };
-    printer.offer(alloc, sink, found);
+    printer.offer_found(alloc, sink, found);
 }
 
 /// The printer takes the account of what the path did.
@@ -262,5 +263,5 @@ fn report<S: SearchSpace, K: Sink>(
     let Some(account) = handed else {
         unreachable!()
     };
-    printer.account(alloc, sink, account);
+    printer.account_own(alloc, sink, account);
 }

@@ -1,5 +1,5 @@
 -- The word and the assignments that were put, one after the other.
-use Rattle.std.proofs.Common.{◌≡◌, ℕ, ◌+◌, ◌≤◌, ◌<◌, min, zero, suc, List, [], ◌∷◌, ◌++◌, length, refl, sym, ap, ◌∙◌, subst, arith, Option, Some, None, IfSome}
+use Rattle.std.proofs.Common.{◌≡◌, ℕ, ◌+◌, ◌≤◌, ◌<◌, min, zero, suc, List, [], ◌∷◌, ◌++◌, length, refl, sym, ap, ◌∙◌, subst, arith, Option, Some, None, IfSome, ◌⊎◌, inl, inr}
 use Rattle.std.specs.Prelude.{ℤ, nat_abs, All}
 use Rattle.fz_spec.specs.Instance.{Instance, Satisfies, score}
 use Rattle.fz_bound.specs.Rule.{UNSET, PARTS}
@@ -8,8 +8,13 @@ use Rattle.std.proofs.lemmas.List.{length-append}
 use Rattle.atomic_table.specs.Seated.{TableId}
 use Rattle.fz_bound.specs.Seats.{Seated, joined, split_from, split_off}
 use Rattle.fz_team.specs.declared.member.Member.{Member}
-use Rattle.fz_team.specs.Members.{IsMember}
-use Rattle.fz_team.specs.Ends.{IsWordOf, IsTeam}
+use Rattle.fz_path.specs.Tasks.{Tasked}
+use Rattle.fz_team.specs.Members.{IsMember, IsTaskOf}
+use Rattle.fz_tree.specs.declared.mode.Mode.{Mode}
+use Rattle.fz_tree.specs.Book.{Book}
+use Rattle.fz_team.specs.declared.end.End.{End}
+use Rattle.fz_team.specs.declared.end.End.TheVariants.{Short}
+use Rattle.fz_team.specs.Ends.{Ends, IsWordOf, IsTeam}
 
 pub least_small : (m : Instance) (l : List (List ℤ)) → least_score m l ≤ UNSET
 least_small m [] = omega arith
@@ -54,13 +59,13 @@ joins_one {S} m word n total seat new x l more before of joins lists bound parts
     rw (joins, lists) (bound, omega (arith, length-append before (x ∷ []), of.parts, parts), word_goes_on m l seat.least x.seat.least x.best is of.best)
 
 -- one worker more, with one part of the word
-pub one_joins : {S : Type 0} (m : Instance) (word : TableId) (n k : ℕ) (seat rest mine : Seated) (x : Member S) (before after : List (Member S)) → rest ≡ split_from seat → mine ≡ split_off seat → x.worker ≡ k → x.seat ≡ mine → x.best ≡ None → k < n → n ≤ 64
+pub one_joins : {S : Type 0} (m : Instance) (word : TableId) (n k : ℕ) (seat rest mine : Seated) (x : Member S) (before after : List (Member S)) → rest ≡ split_from seat → mine ≡ split_off seat → x.worker ≡ k → x.seat ≡ mine → x.best ≡ None → x.least ≡ UNSET → x.hand ≡ None → k < n → n ≤ 64
     → after ≡ before ++ x ∷ [] → seat.bound ≡ word → seat.least ≡ UNSET → seat.parts + k ≡ PARTS → All (IsMember m word n) before
     → (rest.bound ≡ word) × (rest.least ≡ UNSET) × (rest.parts + (k + 1) ≡ PARTS) × All (IsMember m word n) after
-one_joins {S} m word n k seat rest mine x before after left off numbered sits none low few grows bound fresh parts all =
+one_joins {S} m word n k seat rest mine x before after left off numbered sits none unset empty low few grows bound fresh parts all =
     let at : x.seat ≡ split_off seat = sits ∙ off in
     let scored : IsScoreOf m x.seat.least x.best = subst (λ (o : Option (List ℤ)). IsScoreOf m x.seat.least o) (sym none) (ap (λ (s : Seated). s.least) at) in
-    let of : IsMember m word n x = record { numbered = omega (arith, numbered, low); bound = ap (λ (s : Seated). s.bound) at ∙ bound; parts = ap (λ (s : Seated). s.parts) at; best = scored } in (
+    let of : IsMember m word n x = record { numbered = omega (arith, numbered, low); bound = ap (λ (s : Seated). s.bound) at ∙ bound; parts = ap (λ (s : Seated). s.parts) at; best = scored; least = unset ∙ sym (ap (λ (s : Seated). s.least) at); hand = subst (λ (o : Option Tasked). IfSome o (IsTaskOf m)) (sym empty) tt } in (
       ap (λ (s : Seated). s.bound) left ∙ bound,
       ap (λ (s : Seated). s.least) left ∙ fresh,
       omega (arith, ap (λ (s : Seated). s.parts) left, parts, low, few),
@@ -77,3 +82,8 @@ pub round_back : {S : Type 0} (m : Instance) (word : TableId) (n : ℕ) (left : 
 round_back {S} m word n left before {V} items o after is team all len =
     came_back m word n left before (items after) team (subst (λ (p : Option V). IfSome p (λ (v : V). All (IsMember m word n) (items v))) is all)
     (subst (λ (p : Option V). IfSome p (λ (v : V). length (items v) ≡ length before)) is len)
+
+-- an end that a book shows, or want of memory
+pub ends_again : (shown end : End) (enough : Option ℕ) (m : Instance) (mode : Mode) (b c : Book) → (shown ≡ end) ⊎ (shown ≡ Short) → c ≡ b → Ends end enough m mode b → Ends shown enough m mode c
+ends_again shown end enough m mode b c (inl same) is ends = subst (λ (e : End). Ends e enough m mode c) (sym same) (subst (λ (x : Book). Ends end enough m mode x) (sym is) ends)
+ends_again shown end enough m mode b c (inr short) is ends = subst (λ (e : End). Ends e enough m mode c) (sym short) tt

@@ -1,3 +1,4 @@
 pub mod Members
 pub mod Sections
 pub mod Ends
+pub mod OwnCuts

@@ -21,19 +21,19 @@ HandsIn Taken c old new = Takes old c new
 HandsIn Dropped c old new = (IsOwnOf old c → ⊥) × (new ≡ old)
 
 -- the account of what the path holds is handed in and copied, and it goes on with what is left
-pub record HasReported (reported : Reported) (path : Pathed) (book : Book) (path' : Pathed) (book' : Book) : Type 0 where
+pub record HasReported {T : Type 0} (reported : Reported T) (path : Pathed) (book : Book) (path' : Pathed) (book' : Book) : Type 0 where
   pub account : Account
   pub holds : path.held ≡ Some account
   pub path_is : path' ≡ with_held path (held_behind account)
   pub hands : HandsIn reported.handed account book book'
   pub copied : IfSome reported.copy (λ c. c ≡ account)
 
-abbrev pub Reports : Option Reported → Pathed → Book → Pathed → Book → Type 0
+abbrev pub Reports : {T : Type 0} → Option (Reported T) → Pathed → Book → Pathed → Book → Type 0
 Reports (Some reported) path book path' book' = HasReported reported path book path' book'
 Reports None path book path' book' = (path.held ≡ None) × (path' ≡ path) × (book' ≡ book)
 
 -- what is cut off the path is handed out, and the account that names it as given is handed in and copied
-pub record HasCut {S : Type 0} (off : CutOff S) (path : Walked) (book : Book) (path' : Pathed) (book' : Book) : Type 0 where
+pub record HasCut {S T : Type 0} (off : CutOff S T) (path : Walked) (book : Book) (path' : Pathed) (book' : Book) : Type 0 where
   pub cut : Cut S
   pub is_cut : IsCutOf cut path
   pub task_is : off.task ≡ cut.task
@@ -41,6 +41,6 @@ pub record HasCut {S : Type 0} (off : CutOff S) (path : Walked) (book : Book) (p
   pub hands : HandsIn off.handed cut.account book book'
   pub copied : IfSome off.copy (λ c. c ≡ cut.account)
 
-abbrev pub Cuts : {S : Type 0} → Option (CutOff S) → Walked → Book → Pathed → Book → Type 0
+abbrev pub Cuts : {S T : Type 0} → Option (CutOff S T) → Walked → Book → Pathed → Book → Type 0
 Cuts (Some off) path book path' book' = HasCut off path book path' book'
 Cuts None path book path' book' = (can_cut_held path.held ≡ false) × (path' ≡ bare path) × (book' ≡ book)

@@ -1,20 +1,17 @@
 //! One event of one worker: the lock, the call, the gate.
-ghost use Rattle.std.specs.Prelude.{length, ◌≡◌, ◌<◌, OnOk, OnErr};
-ghost use Rattle.fz_team.specs.Members.{IsMember};
+ghost use Rattle.std.specs.Prelude.{length, ◌≡◌, ◌<◌, IfOk, IfSome, OnOk, OnErr};
+ghost use Rattle.fz_team.specs.Members.{IsMember, IsTaskOf};
 
 use crate::crew::Crew;
 use crate::member::Member;
-use crate::score::{NO_SCORE, score_of};
+use crate::own::{OwnBook, Scored};
 use crate::section;
 use crate::section::{CutOff, Handed, Reported};
-use fz_account::Account;
 use fz_book::{Book, Offered, has_enough};
-use fz_collect::Told;
+use fz_collect::{OwnAccount, Solution, Subject, Told};
 use fz_io::gate::{EventKind, Gate};
-use fz_model::Assignment;
 use fz_path::{Path, Start, Step, Task, is_report_due};
 use fz_search_space::SearchSpace;
-use fz_truth::holds;
 use std::alloc::AllocError;
 use std::sync::Wait;
 use std::sync::atomic::Ordering;
@@ -31,7 +28,11 @@ pub enum Next {
 }
 
 /// What a path asks for, whose worker was asked so often for what it found when it last reported.
-fn next_of<S: SearchSpace, G: Gate>(crew: &Crew<S, G>, path: &Path<S>, heard: u64) -> Next {
+fn next_of<S: SearchSpace, G: Gate, T: Subject>(
+    crew: &Crew<S, G, T>,
+    path: &Path<S>,
+    heard: u64,
+) -> Next {
     if path.is_idle() {
         return Next::Gain;
     }
@@ -42,7 +43,11 @@ fn next_of<S: SearchSpace, G: Gate>(crew: &Crew<S, G>, path: &Path<S>, heard: u6
 }
 
 /// Whether what a path found is to be reported: at once where so many are enough, else in batches, or where it has waited.
-fn is_to_tell<S: SearchSpace, G: Gate>(crew: &Crew<S, G>, path: &Path<S>, heard: u64) -> bool {
+fn is_to_tell<S: SearchSpace, G: Gate, T: Subject>(
+    crew: &Crew<S, G, T>,
+    path: &Path<S>,
+    heard: u64,
+) -> bool {
     if path.found_count() == 0 {
         return false;
     }
@@ -50,15 +55,15 @@ fn is_to_tell<S: SearchSpace, G: Gate>(crew: &Crew<S, G>, path: &Path<S>, heard:
 }
 
 /// What a worker is to do first: in a later round its path may hold something.
-pub fn first<R: Wait, S: SearchSpace, G: Gate>(
+pub fn first<R: Wait, S: SearchSpace, G: Gate, T: Subject>(
     rt: &R,
-    crew: &Crew<S, G>,
+    crew: &Crew<S, G, T>,
     worker: u32,
     heard: u64,
 ) -> Next
     requires { worker < length crew.now.paths.now }
 {
-    next_of(crew, &crew.paths[worker as usize].lock(rt), heard)
+    next_of(crew, crew.paths[worker as usize].lock(rt).path(), heard)
 }
 
 /// Whether nothing more is to be done on a book.
@@ -67,29 +72,29 @@ fn is_done(book: &Book, enough: Option<u32>) -> bool {
 }
 
 /// A step of the worker's path. What it found is put where a best one is sought.
-pub fn step<R: Wait, S: SearchSpace, G: Gate>(
+pub fn step<R: Wait, S: SearchSpace, G: Gate, T: Subject>(
     rt: &R,
-    crew: &Crew<S, G>,
+    crew: &Crew<S, G, T>,
     member: &mut Member<S>,
 ) -> Result<Next, AllocError>
-    requires { IsMember crew.now.model.now crew.now.bound.now (length crew.now.paths.now) member.old }
-    ensures { IsMember crew.now.model.now crew.now.bound.now (length crew.now.paths.now) member.new }
+    requires { IsMember T.model crew.now.bound.now (length crew.now.paths.now) member.old }
+    ensures { IsMember T.model crew.now.bound.now (length crew.now.paths.now) member.new }
 {
     let (found, next) = look(rt, crew, member.worker, member.heard)?;
     if let Some(found) = found {
-        offer(rt, crew, &found)?;
+        offer(rt, crew, &found.solution)?;
         put(crew, member, found);
     }
     Ok(next)
 }
 
 /// The step itself, and a copy of what it found where a best one is sought.
-fn look<R: Wait, S: SearchSpace, G: Gate>(
+fn look<R: Wait, S: SearchSpace, G: Gate, T: Subject>(
     rt: &R,
-    crew: &Crew<S, G>,
+    crew: &Crew<S, G, T>,
     worker: u32,
     heard: u64,
-) -> Result<(Option<Assignment>, Next), AllocError>
+) -> Result<(Option<Scored<T>>, Next), AllocError>
     requires { worker < length crew.now.paths.now }
 {
     crew.gate.before(worker, EventKind::Step);
@@ -99,102 +104,71 @@ fn look<R: Wait, S: SearchSpace, G: Gate>(
         crew.gate.at(worker, EventKind::Step);
     }
     let found = if step == Step::Found {
-        known(&path)?
+        path.known()?
     } else {
         None
     };
-    Ok((found, next_of(crew, &path, heard)))
-}
-
-/// A copy of what a path knows.
-fn known<S: SearchSpace>(path: &Path<S>) -> Result<Option<Assignment>, AllocError> {
-    match path.known() {
-        Some(known) => Ok(Some(known.copy()?)),
-        None => Ok(None),
-    }
+    Ok((found, next_of(crew, path.path(), heard)))
 }
 
 /// The book records it, if it is better than its incumbent; then it is told.
-fn offer<R: Wait, S: SearchSpace, G: Gate>(
+fn offer<R: Wait, S: SearchSpace, G: Gate, T: Subject>(
     rt: &R,
-    crew: &Crew<S, G>,
-    found: &Assignment,
+    crew: &Crew<S, G, T>,
+    found: &Solution<T>,
 ) -> Result<(), AllocError> {
     let (found, copy) = (found.copy()?, found.copy()?);
     let mut book = crew.book.lock(rt);
-    match book.offer(found) {
-        Ok(Offered::Better) => crew.outbox.tell(rt, Told::Better(copy)),
-        Ok(Offered::NotBetter(_)) => Ok(()),
-        Err(_) => Err(AllocError),
+    match book.offer(found)? {
+        Offered::Better => crew.outbox.tell(rt, Told::Better(copy)),
+        Offered::NotBetter(_) => Ok(()),
     }
 }
 
-/// Puts the score of an assignment that satisfies, and keeps it where its score is the least that this worker put.
-fn put<S: SearchSpace, G: Gate>(crew: &Crew<S, G>, member: &mut Member<S>, found: Assignment)
-    requires { IsMember crew.now.model.now crew.now.bound.now (length crew.now.paths.now) member.old }
-    ensures { IsMember crew.now.model.now crew.now.bound.now (length crew.now.paths.now) member.new }
+/// Puts the score of a solution, and keeps the solution where its score is the least that this worker put.
+fn put<S: SearchSpace, G: Gate, T: Subject>(
+    crew: &Crew<S, G, T>,
+    member: &mut Member<S>,
+    found: Scored<T>,
+)
+    requires { IsMember T.model crew.now.bound.now (length crew.now.paths.now) member.old }
+    ensures { IsMember T.model crew.now.bound.now (length crew.now.paths.now) member.new }
 {
-    if !holds(crew.model, &found) {
-        return;
-    }
-    let score = score_of(crew.model, &found);
+    let Scored { solution, score } = found;
     member.known = member.known.min(score);
-    let least = least_of(crew, member);
     crew.bound.put(&mut member.seat, score);
-    if score < least {
-        member.best = Some(found);
-    }
-}
-
-/// The least score that a worker put.
-fn least_of<S: SearchSpace, G: Gate>(crew: &Crew<S, G>, member: &Member<S>) -> u64
-    requires { IsMember crew.now.model.now crew.now.bound.now (length crew.now.paths.now) member.now }
-    ensures { result ≡ member.now.seat.least }
-{
-    match &member.best {
-        Some(best) => score_of(crew.model, best),
-        None => NO_SCORE,
+    if score < member.least {
+        member.least = score;
+        member.best = Some(solution.into_assignment());
     }
 }
 
 /// The worker's path learns the incumbent, where the word says that there is a better one than it knows.
-pub fn learn<R: Wait, S: SearchSpace, G: Gate>(
+pub fn learn<R: Wait, S: SearchSpace, G: Gate, T: Subject>(
     rt: &R,
-    crew: &Crew<S, G>,
+    crew: &Crew<S, G, T>,
     member: &mut Member<S>,
 ) -> Result<(), AllocError>
-    requires { IsMember crew.now.model.now crew.now.bound.now (length crew.now.paths.now) member.old }
-    ensures { IsMember crew.now.model.now crew.now.bound.now (length crew.now.paths.now) member.new }
+    requires { IsMember T.model crew.now.bound.now (length crew.now.paths.now) member.old }
+    ensures { IsMember T.model crew.now.bound.now (length crew.now.paths.now) member.new }
 {
     if member.known <= crew.bound.load(&mut member.seat) {
         return Ok(());
     }
-    let Some(best) = incumbent(rt, crew)? else {
+    let Some(best) = crew.book.lock(rt).incumbent()? else {
         return Ok(());
     };
-    tell(rt, crew, member.worker, &best)?;
+    tell(rt, crew, member.worker, &best.solution)?;
     put(crew, member, best);
     Ok(())
 }
 
-/// A copy of the incumbent.
-fn incumbent<R: Wait, S: SearchSpace, G: Gate>(
+/// The worker's path learns a solution.
+fn tell<R: Wait, S: SearchSpace, G: Gate, T: Subject>(
     rt: &R,
-    crew: &Crew<S, G>,
-) -> Result<Option<Assignment>, AllocError> {
-    let book = crew.book.lock(rt);
-    match book.incumbent() {
-        Some(best) => Ok(Some(best.copy()?)),
-        None => Ok(None),
-    }
-}
-
-/// The worker's path learns an assignment.
-fn tell<R: Wait, S: SearchSpace, G: Gate>(
-    rt: &R,
-    crew: &Crew<S, G>,
+    crew: &Crew<S, G, T>,
     worker: u32,
-    best: &Assignment,
+    best: &Solution<T>,
 ) -> Result<(), AllocError>
     requires { worker < length crew.now.paths.now }
 {
@@ -206,13 +180,13 @@ fn tell<R: Wait, S: SearchSpace, G: Gate>(
 }
 
 /// The worker hands in its account.
-pub fn report<R: Wait, S: SearchSpace, G: Gate>(
+pub fn report<R: Wait, S: SearchSpace, G: Gate, T: Subject>(
     rt: &R,
-    crew: &Crew<S, G>,
+    crew: &Crew<S, G, T>,
     member: &mut Member<S>,
 ) -> Result<Next, AllocError>
-    requires { IsMember crew.now.model.now crew.now.bound.now (length crew.now.paths.now) member.old }
-    ensures { IsMember crew.now.model.now crew.now.bound.now (length crew.now.paths.now) member.new }
+    requires { IsMember T.model crew.now.bound.now (length crew.now.paths.now) member.old }
+    ensures { IsMember T.model crew.now.bound.now (length crew.now.paths.now) member.new }
 {
     member.heard = crew.outbox.asks();
     crew.gate.before(member.worker, EventKind::Report);
@@ -223,18 +197,18 @@ pub fn report<R: Wait, S: SearchSpace, G: Gate>(
         crew.gate.at(member.worker, EventKind::Report);
         tell_account(rt, crew, &mut book, copy)?;
     }
-    if is_done(&book, crew.enough) {
+    if is_done(book.book(), crew.enough) {
         crew.stop.store(true, Ordering::SeqCst);
     }
-    Ok(next_of(crew, &path, member.heard))
+    Ok(next_of(crew, path.path(), member.heard))
 }
 
 /// What the book took is told, by whoever holds its lock; where somebody prints it, the book lets go of it.
-fn tell_account<R: Wait, S: SearchSpace, G: Gate>(
+fn tell_account<R: Wait, S: SearchSpace, G: Gate, T: Subject>(
     rt: &R,
-    crew: &Crew<S, G>,
-    book: &mut Book,
-    copy: Option<Account>,
+    crew: &Crew<S, G, T>,
+    book: &mut OwnBook<T>,
+    copy: Option<OwnAccount<T>>,
 ) -> Result<(), AllocError>
     ensures { book.new.book ≡ book.old.book }
 {
@@ -260,13 +234,13 @@ fn taken(handed: Handed) -> Result<(), AllocError>
 }
 
 /// The worker takes up the task in its hand. What its path learned with it is put.
-pub fn start<R: Wait, S: SearchSpace, G: Gate>(
+pub fn start<R: Wait, S: SearchSpace, G: Gate, T: Subject>(
     rt: &R,
-    crew: &Crew<S, G>,
+    crew: &Crew<S, G, T>,
     member: &mut Member<S>,
 ) -> Result<Next, AllocError>
-    requires { IsMember crew.now.model.now crew.now.bound.now (length crew.now.paths.now) member.old }
-    ensures { IsMember crew.now.model.now crew.now.bound.now (length crew.now.paths.now) member.new }
+    requires { IsMember T.model crew.now.bound.now (length crew.now.paths.now) member.old }
+    ensures { IsMember T.model crew.now.bound.now (length crew.now.paths.now) member.new }
 {
     let Some(task) = member.hand.take() else {
         return Ok(Next::Gain);
@@ -279,26 +253,27 @@ pub fn start<R: Wait, S: SearchSpace, G: Gate>(
 }
 
 /// The start itself, and a copy of what the path knows then.
-fn take_up<R: Wait, S: SearchSpace, G: Gate>(
+fn take_up<R: Wait, S: SearchSpace, G: Gate, T: Subject>(
     rt: &R,
-    crew: &Crew<S, G>,
+    crew: &Crew<S, G, T>,
     member: &mut Member<S>,
     task: Task<S>,
-) -> Result<(Option<Assignment>, Next), AllocError>
-    requires { IsMember crew.now.model.now crew.now.bound.now (length crew.now.paths.now) member.old }
-    ensures { IsMember crew.now.model.now crew.now.bound.now (length crew.now.paths.now) member.new }
+) -> Result<(Option<Scored<T>>, Next), AllocError>
+    requires member { IsMember T.model crew.now.bound.now (length crew.now.paths.now) member.old }
+    requires task { IsTaskOf T.model task }
+    ensures { IsMember T.model crew.now.bound.now (length crew.now.paths.now) member.new }
 {
     crew.gate.before(member.worker, EventKind::Start);
     let mut path = crew.paths[member.worker as usize].lock(rt);
-    match path.start_near(task) {
+    match path.start(task) {
         Start::Started => {
             crew.gate.at(member.worker, EventKind::Start);
-            let known = known(&path)?;
-            Ok((known, next_of(crew, &path, member.heard)))
+            let known = path.known()?;
+            Ok((known, next_of(crew, path.path(), member.heard)))
         }
         Start::Busy(task) => {
             member.hand = Some(task);
-            Ok((None, next_of(crew, &path, member.heard)))
+            Ok((None, next_of(crew, path.path(), member.heard)))
         }
         Start::NoMemory(task) => {
             member.hand = Some(task);
@@ -308,13 +283,13 @@ fn take_up<R: Wait, S: SearchSpace, G: Gate>(
 }
 
 /// The worker claims what nobody has claimed, or steals a part of what another holds. It says whether its hand is full.
-pub fn gain<R: Wait, S: SearchSpace, G: Gate>(
+pub fn gain<R: Wait, S: SearchSpace, G: Gate, T: Subject>(
     rt: &R,
-    crew: &Crew<S, G>,
+    crew: &Crew<S, G, T>,
     member: &mut Member<S>,
 ) -> Result<bool, AllocError>
-    requires { IsMember crew.now.model.now crew.now.bound.now (length crew.now.paths.now) member.old }
-    ensures { IsMember crew.now.model.now crew.now.bound.now (length crew.now.paths.now) member.new }
+    requires { IsMember T.model crew.now.bound.now (length crew.now.paths.now) member.old }
+    ensures { IsMember T.model crew.now.bound.now (length crew.now.paths.now) member.new }
 {
     let task = if has_unclaimed(rt, crew) {
         claim(rt, crew, member.worker)?
@@ -329,20 +304,25 @@ pub fn gain<R: Wait, S: SearchSpace, G: Gate>(
 }
 
 /// Whether something is unclaimed. Where nothing is left to do, workers are told to stop.
-fn has_unclaimed<R: Wait, S: SearchSpace, G: Gate>(rt: &R, crew: &Crew<S, G>) -> bool {
+fn has_unclaimed<R: Wait, S: SearchSpace, G: Gate, T: Subject>(
+    rt: &R,
+    crew: &Crew<S, G, T>,
+) -> bool {
     let book = crew.book.lock(rt);
-    if is_done(&book, crew.enough) {
+    if is_done(book.book(), crew.enough) {
         crew.stop.store(true, Ordering::SeqCst);
         return false;
     }
-    book.has_unclaimed()
+    book.book().has_unclaimed()
 }
 
-fn claim<R: Wait, S: SearchSpace, G: Gate>(
+fn claim<R: Wait, S: SearchSpace, G: Gate, T: Subject>(
     rt: &R,
-    crew: &Crew<S, G>,
+    crew: &Crew<S, G, T>,
     worker: u32,
-) -> Result<Option<Task<S>>, AllocError> {
+) -> Result<Option<Task<S>>, AllocError>
+    ensures { IfOk result (λ o. IfSome o (IsTaskOf T.model)) }
+{
     crew.gate.before(worker, EventKind::Claim);
     let mut book = crew.book.lock(rt);
     let Some(frontier) = book.claim()? else {
@@ -353,12 +333,13 @@ fn claim<R: Wait, S: SearchSpace, G: Gate>(
 }
 
 /// Tries the paths behind the worker's own, around.
-fn steal_any<R: Wait, S: SearchSpace, G: Gate>(
+fn steal_any<R: Wait, S: SearchSpace, G: Gate, T: Subject>(
     rt: &R,
-    crew: &Crew<S, G>,
+    crew: &Crew<S, G, T>,
     worker: u32,
 ) -> Result<Option<Task<S>>, AllocError>
     requires { worker < length crew.now.paths.now }
+    ensures { IfOk result (λ o. IfSome o (IsTaskOf T.model)) }
 {
     let own = worker as usize;
     'behind: for victim in own + 1..crew.paths.len() {
@@ -377,13 +358,14 @@ fn steal_any<R: Wait, S: SearchSpace, G: Gate>(
 }
 
 /// Tries one path: its lock first, the book's inside.
-fn steal<R: Wait, S: SearchSpace, G: Gate>(
+fn steal<R: Wait, S: SearchSpace, G: Gate, T: Subject>(
     rt: &R,
-    crew: &Crew<S, G>,
+    crew: &Crew<S, G, T>,
     worker: u32,
     victim: usize,
 ) -> Result<Option<Task<S>>, AllocError>
     requires { victim < length crew.now.paths.now }
+    ensures { IfOk result (λ o. IfSome o (IsTaskOf T.model)) }
 {
     if !can_cut(rt, crew, victim) {
         return Ok(None);
@@ -401,8 +383,12 @@ fn steal<R: Wait, S: SearchSpace, G: Gate>(
 }
 
 /// Whether a path had a part to be cut off when it was looked at.
-fn can_cut<R: Wait, S: SearchSpace, G: Gate>(rt: &R, crew: &Crew<S, G>, victim: usize) -> bool
+fn can_cut<R: Wait, S: SearchSpace, G: Gate, T: Subject>(
+    rt: &R,
+    crew: &Crew<S, G, T>,
+    victim: usize,
+) -> bool
     requires { victim < length crew.now.paths.now }
 {
-    crew.paths[victim].lock(rt).can_cut()
+    crew.paths[victim].lock(rt).path().can_cut()
 }

@@ -5,6 +5,7 @@ mod crew;
 pub mod end;
 mod event;
 pub mod member;
+pub mod own;
 mod rest;
 mod score;
 pub mod section;
@@ -12,4 +13,5 @@ mod team;
 mod work;
 
 pub use end::{End, TeamEnd};
-pub use team::run;
+pub use own::{OwnBook, OwnPath};
+pub use team::{run, run_own};

@@ -1,6 +1,7 @@
 //! Teams.
 ghost use Rattle.std.specs.Prelude.{◌≡◌, ◌≤◌, ◌+◌, ◌++◌, ◌⊎◌, All, IfOk, IfSome, OnOk, vec_len, length};
 ghost use Rattle.fz_tree.specs.Book.{BookLaw};
+ghost use Rattle.fz_collect.specs.Subjects.{IsBookOf};
 ghost use Rattle.fz_bound.specs.Rule.{UNSET, PARTS};
 ghost use Rattle.fz_team.specs.Members.{IsMember, listed};
 ghost use Rattle.fz_team.specs.Ends.{Ends, IsTeam, HasBests, IsWordOf};
@@ -8,15 +9,15 @@ ghost use Rattle.fz_team.specs.Ends.{Ends, IsTeam, HasBests, IsWordOf};
 use crate::crew::Crew;
 use crate::end::{End, TeamEnd};
 use crate::member::Member;
+use crate::own::{OwnBook, OwnPath};
 use crate::score::NO_SCORE;
 use crate::work::work;
 use crossbeam_utils::CachePadded;
-use fz_account::Mode;
 use fz_book::{Book, has_enough};
 use fz_bound::{Bound, Seat};
-use fz_collect::Outbox;
+use fz_collect::{Outbox, Subject};
 use fz_io::gate::Gate;
-use fz_model::{Assignment, Model};
+use fz_model::Assignment;
 use fz_path::Path;
 use fz_search_space::SearchSpace;
 use std::alloc::{AllocError, Global};
@@ -28,9 +29,8 @@ use std::thread::Threads;
 /// What a team needs from round to round: a path for each worker behind a lock of its own, the bound word with the seat that is
 /// left, and the workers.
 #[derive(Drop)]
-struct Team<S: SearchSpace> {
-    model: Model,
-    paths: Vec<CachePadded<Mutex<Path<S>>>>,
+struct Team<S: SearchSpace, T: Subject> {
+    paths: Vec<CachePadded<Mutex<OwnPath<S, T>>>>,
     bound: Bound,
     seat: Seat,
     members: Vec<Member<S>>,
@@ -38,35 +38,85 @@ struct Team<S: SearchSpace> {
 
 /// Lets one worker for each path search what is open in a book, each in a thread where one can be made, until nothing is open or as
 /// many are recorded as are asked for. Each account that the book takes, and each better one that it records, is told, until nobody
-/// takes that any more. Whatever the threads did, the book keeps its law.
-pub fn run<R: Threads + Wait + Sync, S: SearchSpace + Send, G: Gate + Sync>(
+/// takes that any more. Whatever the threads did, the book keeps its law. Where a path is of another model or mode than the book,
+/// nothing is searched, and it ends as for want of memory.
+pub fn run<
+    R: Threads + Wait + Sync,
+    S: SearchSpace + Send,
+    G: Gate + Sync,
+    T: Subject + Send + Sync,
+>(
     rt: &R,
     alloc: Global,
     book: Book,
     paths: Vec<Path<S>>,
     enough: Option<u32>,
     gate: &G,
-    outbox: &Outbox,
+    outbox: &Outbox<T>,
 ) -> TeamEnd
     requires several { (1 ≤ vec_len paths) × (vec_len paths ≤ 64) }
+    requires subject { IsBookOf T.model T.mode book.book }
     ensures law { BookLaw result.book.book }
     ensures end { Ends result.end enough book.book.model book.book.mode result.book.book }
     ensures bests { HasBests result.end book.book.model result.bests.items result.word }
 {
-    let mode = book.mode();
-    match team_of(alloc, &book, paths) {
+    match own_paths(alloc, &book, paths) {
+        Ok(paths) => run_own(rt, alloc, OwnBook::new(book), paths, enough, gate, outbox),
+        Err(_) => short(alloc, book),
+    }
+}
+
+/// The paths, where all are of the book's model and mode; else it is as where there is no memory.
+fn own_paths<S: SearchSpace, T: Subject>(
+    alloc: Global,
+    book: &Book,
+    paths: Vec<Path<S>>,
+) -> Result<Vec<OwnPath<S, T>>, AllocError>
+    requires { IsBookOf T.model T.mode book.now.book }
+    ensures { IfOk result (λ v. vec_len v ≡ vec_len paths) }
+{
+    let mut own = Vec::with_capacity(alloc, paths.len())?;
+    for path in paths {
+        if path.mode() != book.mode() || !path.model().same(book.model()) {
+            return Err(AllocError);
+        }
+        own.push(OwnPath::new(path))?;
+    }
+    Ok(own)
+}
+
+/// The same with a book and paths that are known to be of one model and mode.
+pub fn run_own<
+    R: Threads + Wait + Sync,
+    S: SearchSpace + Send,
+    G: Gate + Sync,
+    T: Subject + Send + Sync,
+>(
+    rt: &R,
+    alloc: Global,
+    book: OwnBook<T>,
+    paths: Vec<OwnPath<S, T>>,
+    enough: Option<u32>,
+    gate: &G,
+    outbox: &Outbox<T>,
+) -> TeamEnd
+    requires several { (1 ≤ vec_len paths) × (vec_len paths ≤ 64) }
+    ensures law { BookLaw result.book.book }
+    ensures end { Ends result.end enough T.model T.mode result.book.book }
+    ensures bests { HasBests result.end T.model result.bests.items result.word }
+{
+    match team_of(alloc, paths) {
         Ok(
             Team {
-                model,
                 paths,
                 bound,
                 seat,
                 members,
             },
         ) => rounds(
-            rt, alloc, book, &model, mode, &paths, bound, seat, members, enough, gate, outbox,
+            rt, alloc, book, &paths, bound, seat, members, enough, gate, outbox,
         ),
-        Err(_) => short(alloc, book),
+        Err(_) => short(alloc, book.into_book()),
     }
 }
 
@@ -101,21 +151,17 @@ fn stopped(alloc: Global, book: Book) -> TeamEnd
 }
 
 /// A team of one worker for each path.
-fn team_of<S: SearchSpace>(
+fn team_of<S: SearchSpace, T: Subject>(
     alloc: Global,
-    book: &Book,
-    paths: Vec<Path<S>>,
-) -> Result<Team<S>, AllocError>
+    paths: Vec<OwnPath<S, T>>,
+) -> Result<Team<S, T>, AllocError>
     requires { vec_len paths ≤ 64 }
-    ensures model { IfOk result (λ t. t.model ≡ book.now.book.model) }
-    ensures team { IfOk result (λ t. IsTeam t.model t.bound (vec_len t.paths) t.seat t.members.items) }
+    ensures { IfOk result (λ t. IsTeam T.model t.bound (vec_len t.paths) t.seat t.members.items) }
 {
-    let model = book.model().copy()?;
     let (bound, mut seat) = Bound::create(alloc)?;
     let paths = locked(alloc, paths)?;
-    let members = members_of(alloc, paths.len(), &model, &bound, &mut seat)?;
+    let members = members_of::<S, T>(alloc, paths.len(), &bound, &mut seat)?;
     Ok(Team {
-        model,
         paths,
         bound,
         seat,
@@ -124,10 +170,10 @@ fn team_of<S: SearchSpace>(
 }
 
 /// Each path behind a lock.
-fn locked<S: SearchSpace>(
+fn locked<S: SearchSpace, T: Subject>(
     alloc: Global,
-    paths: Vec<Path<S>>,
-) -> Result<Vec<CachePadded<Mutex<Path<S>>>>, AllocError>
+    paths: Vec<OwnPath<S, T>>,
+) -> Result<Vec<CachePadded<Mutex<OwnPath<S, T>>>>, AllocError>
     ensures { IfOk result (λ v. vec_len v ≡ vec_len paths) }
 {
     let mut locked = Vec::with_capacity(alloc, paths.len())?;
@@ -138,17 +184,16 @@ fn locked<S: SearchSpace>(
 }
 
 /// So many workers, each with one part of the bound word.
-fn members_of<S: SearchSpace>(
+fn members_of<S: SearchSpace, T: Subject>(
     alloc: Global,
     count: usize,
-    model: &Model,
     bound: &Bound,
     seat: &mut Seat,
 ) -> Result<Vec<Member<S>>, AllocError>
     requires bound { seat.old.bound ≡ bound.now }
     requires fresh { (seat.old.parts ≡ PARTS) × (seat.old.least ≡ UNSET) }
     requires count { count ≤ 64 }
-    ensures members { IfOk result (λ v. All (IsMember model.now bound.now count) v.items) }
+    ensures members { IfOk result (λ v. All (IsMember T.model bound.now count) v.items) }
     ensures seat { (seat.new.bound ≡ bound.now) × (seat.new.least ≡ UNSET) }
     ensures parts { IfOk result (λ v. seat.new.parts + length v.items ≡ PARTS) }
 {
@@ -159,6 +204,7 @@ fn members_of<S: SearchSpace>(
             worker: worker as u32,
             seat: mine,
             best: None,
+            least: NO_SCORE,
             hand: None,
             known: NO_SCORE,
             heard: 0,
@@ -169,60 +215,60 @@ fn members_of<S: SearchSpace>(
 }
 
 /// Rounds of the workers, until one shows an end.
-fn rounds<R: Threads + Wait + Sync, S: SearchSpace + Send, G: Gate + Sync>(
+fn rounds<
+    R: Threads + Wait + Sync,
+    S: SearchSpace + Send,
+    G: Gate + Sync,
+    T: Subject + Send + Sync,
+>(
     rt: &R,
     alloc: Global,
-    book: Book,
-    model: &Model,
-    mode: Mode,
-    paths: &[CachePadded<Mutex<Path<S>>>],
+    book: OwnBook<T>,
+    paths: &[CachePadded<Mutex<OwnPath<S, T>>>],
     bound: Bound,
     seat: Seat,
     members: Vec<Member<S>>,
     enough: Option<u32>,
     gate: &G,
-    outbox: &Outbox,
+    outbox: &Outbox<T>,
 ) -> TeamEnd
-    requires { IsTeam model.now bound (length paths.now) seat members.items }
+    requires { IsTeam T.model bound (length paths.now) seat members.items }
     ensures law { BookLaw result.book.book }
-    ensures end { Ends result.end enough model.now mode result.book.book }
-    ensures bests { HasBests result.end model.now result.bests.items result.word }
+    ensures end { Ends result.end enough T.model T.mode result.book.book }
+    ensures bests { HasBests result.end T.model result.bests.items result.word }
 {
     let mut book = book;
     let mut members = members;
     'rounds: for _ in rt.forever() {
-        let (back, after) = round(
-            rt, model, paths, &bound, book, members, enough, gate, outbox,
-        );
+        let (back, after) = round(rt, paths, &bound, book, members, enough, gate, outbox);
         book = back;
         let Some(after) = after else {
-            return short(alloc, book);
+            return short(alloc, book.into_book());
         };
         members = after;
-        if let Some(end) = end_of(&book, model, mode, enough) {
-            return closing(alloc, book, model, bound, seat, members, end);
+        if let Some(end) = end_of(&book, enough) {
+            return closing::<S, T>(alloc, book.into_book(), bound, seat, members, end);
         }
         if outbox.is_stopped() {
-            return stopped(alloc, book);
+            return stopped(alloc, book.into_book());
         }
     }
     unreachable!()
 }
 
 /// One round: the workers act until they are told to stop. None where one of them had no memory.
-fn round<R: Threads + Wait + Sync, S: SearchSpace + Send, G: Gate + Sync>(
+fn round<R: Threads + Wait + Sync, S: SearchSpace + Send, G: Gate + Sync, T: Subject + Send + Sync>(
     rt: &R,
-    model: &Model,
-    paths: &[CachePadded<Mutex<Path<S>>>],
+    paths: &[CachePadded<Mutex<OwnPath<S, T>>>],
     bound: &Bound,
-    book: Book,
+    book: OwnBook<T>,
     members: Vec<Member<S>>,
     enough: Option<u32>,
     gate: &G,
-    outbox: &Outbox,
-) -> (Book, Option<Vec<Member<S>>>)
-    requires { All (IsMember model.now bound.now (length paths.now)) members.items }
-    ensures all { IfSome result.1 (λ v. All (IsMember model.now bound.now (length paths.now)) v.items) }
+    outbox: &Outbox<T>,
+) -> (OwnBook<T>, Option<Vec<Member<S>>>)
+    requires { All (IsMember T.model bound.now (length paths.now)) members.items }
+    ensures all { IfSome result.1 (λ v. All (IsMember T.model bound.now (length paths.now)) v.items) }
     ensures len { IfSome result.1 (λ v. length v.items ≡ length members.items) }
 {
     let book = Mutex::new(book);
@@ -231,7 +277,6 @@ fn round<R: Threads + Wait + Sync, S: SearchSpace + Send, G: Gate + Sync>(
         paths,
         book: &book,
         bound,
-        model,
         stop: &stop,
         gate,
         outbox,
@@ -246,32 +291,31 @@ fn round<R: Threads + Wait + Sync, S: SearchSpace + Send, G: Gate + Sync>(
 }
 
 /// Each worker in a thread of its own, where one can be made.
-fn in_threads<R: Threads + Wait + Sync, S: SearchSpace + Send, G: Gate + Sync>(
-    rt: &R,
-    crew: &Crew<S, G>,
-    members: Vec<Member<S>>,
-) -> Result<Vec<Member<S>>, AllocError>
-    requires { All (IsMember crew.now.model.now crew.now.bound.now (length crew.now.paths.now)) members.items }
-    ensures all { IfOk result (λ v. All (IsMember crew.now.model.now crew.now.bound.now (length crew.now.paths.now)) v.items) }
+fn in_threads<
+    R: Threads + Wait + Sync,
+    S: SearchSpace + Send,
+    G: Gate + Sync,
+    T: Subject + Send + Sync,
+>(rt: &R, crew: &Crew<S, G, T>, members: Vec<Member<S>>) -> Result<Vec<Member<S>>, AllocError>
+    requires { All (IsMember T.model crew.now.bound.now (length crew.now.paths.now)) members.items }
+    ensures all { IfOk result (λ v. All (IsMember T.model crew.now.bound.now (length crew.now.paths.now)) v.items) }
     ensures len { IfOk result (λ v. length v.items ≡ length members.items) }
 {
     thread::map_vec(
         rt,
         members,
         &|member: Member<S>| -> Member<S>
-            requires { IsMember crew.now.model.now crew.now.bound.now (length crew.now.paths.now) member }
-            ensures { IsMember crew.entry.now.model.now crew.entry.now.bound.now (length crew.entry.now.paths.now) result }
+            requires { IsMember T.model crew.now.bound.now (length crew.now.paths.now) member }
+            ensures { IsMember T.model crew.entry.now.bound.now (length crew.entry.now.paths.now) result }
         { work(rt, crew, member) },
     )
 }
 
-/// The end that a book shows. A book of another model or mode shows none but want of memory.
-fn end_of(book: &Book, model: &Model, mode: Mode, enough: Option<u32>) -> Option<End>
-    ensures { IfSome result (λ end. Ends end enough model.now mode book.now.book) }
+/// The end that a book shows.
+fn end_of<T: Subject>(book: &OwnBook<T>, enough: Option<u32>) -> Option<End>
+    ensures { IfSome result (λ end. Ends end enough T.model T.mode book.now.book) }
 {
-    if book.mode() != mode || !book.model().same(model) {
-        return Some(End::Short);
-    }
+    let book = book.book();
     if has_enough(book, enough) {
         return Some(End::Enough);
     }
@@ -282,23 +326,22 @@ fn end_of(book: &Book, model: &Model, mode: Mode, enough: Option<u32>) -> Option
 }
 
 /// What is left at the end: all seats are joined, and the word is closed.
-fn closing<S: SearchSpace>(
+fn closing<S: SearchSpace, T: Subject>(
     alloc: Global,
     book: Book,
-    model: &Model,
     bound: Bound,
     seat: Seat,
     members: Vec<Member<S>>,
     end: End,
 ) -> TeamEnd
-    requires team { (count : _) × IsTeam model.now bound count seat members.items }
+    requires team { (count : _) × IsTeam T.model bound count seat members.items }
     ensures law { BookLaw result.book.book }
     ensures book { result.book.book ≡ book.book }
     ensures end { (result.end ≡ end) ⊎ (result.end ≡ End.Short) }
-    ensures bests { HasBests result.end model.now result.bests.items result.word }
+    ensures bests { HasBests result.end T.model result.bests.items result.word }
 {
     let _ = book.model();
-    match gathered(alloc, model, &bound, seat, members) {
+    match gathered::<S, T>(alloc, &bound, seat, members) {
         Ok((seat, bests)) => TeamEnd {
             book,
             bests,
@@ -310,16 +353,15 @@ fn closing<S: SearchSpace>(
 }
 
 /// All seats in one, and what the workers found.
-fn gathered<S: SearchSpace>(
+fn gathered<S: SearchSpace, T: Subject>(
     alloc: Global,
-    model: &Model,
     bound: &Bound,
     seat: Seat,
     members: Vec<Member<S>>,
 ) -> Result<(Seat, Vec<Assignment>), AllocError>
-    requires team { (count : _) × IsTeam model.now bound.now count seat members.items }
+    requires team { (count : _) × IsTeam T.model bound.now count seat members.items }
     ensures seat { IfOk result (λ r. (r.0.bound ≡ bound.now) × (r.0.parts ≡ PARTS)) }
-    ensures word { IfOk result (λ r. IsWordOf model.now r.1.items r.0.least) }
+    ensures word { IfOk result (λ r. IsWordOf T.model r.1.items r.0.least) }
 {
     let mut seat = seat;
     let mut bests = Vec::new(alloc);

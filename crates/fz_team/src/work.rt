@@ -6,6 +6,7 @@ use crate::crew::Crew;
 use crate::event::{Next, first, gain, learn, report, start, step};
 use crate::member::Member;
 use crate::rest::Rest;
+use fz_collect::Subject;
 use fz_io::gate::Gate;
 use fz_search_space::SearchSpace;
 use std::alloc::AllocError;
@@ -13,13 +14,13 @@ use std::sync::Wait;
 use std::sync::atomic::Ordering;
 
 /// Acts until workers are to stop.
-pub fn work<R: Wait, S: SearchSpace, G: Gate>(
+pub fn work<R: Wait, S: SearchSpace, G: Gate, T: Subject>(
     rt: &R,
-    crew: &Crew<S, G>,
+    crew: &Crew<S, G, T>,
     mut member: Member<S>,
 ) -> Member<S>
-    requires { IsMember crew.now.model.now crew.now.bound.now (length crew.now.paths.now) member }
-    ensures { IsMember crew.now.model.now crew.now.bound.now (length crew.now.paths.now) result }
+    requires { IsMember T.model crew.now.bound.now (length crew.now.paths.now) member }
+    ensures { IsMember T.model crew.now.bound.now (length crew.now.paths.now) result }
 {
     let mut rest = Rest::new();
     let mut next = first(rt, crew, member.worker, member.heard);
@@ -39,15 +40,15 @@ pub fn work<R: Wait, S: SearchSpace, G: Gate>(
 }
 
 /// One turn: a report, a step, a start, a claim or a theft; or a rest, while much waits to be printed.
-fn turn<R: Wait, S: SearchSpace, G: Gate>(
+fn turn<R: Wait, S: SearchSpace, G: Gate, T: Subject>(
     rt: &R,
-    crew: &Crew<S, G>,
+    crew: &Crew<S, G, T>,
     member: &mut Member<S>,
     next: Next,
     rest: &mut Rest,
 ) -> Result<Next, AllocError>
-    requires { IsMember crew.now.model.now crew.now.bound.now (length crew.now.paths.now) member.old }
-    ensures { IsMember crew.now.model.now crew.now.bound.now (length crew.now.paths.now) member.new }
+    requires { IsMember T.model crew.now.bound.now (length crew.now.paths.now) member.old }
+    ensures { IsMember T.model crew.now.bound.now (length crew.now.paths.now) member.new }
 {
     if crew.outbox.is_full() {
         rest.wait(rt);

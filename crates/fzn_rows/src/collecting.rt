@@ -1,27 +1,38 @@
 //! Several workers in threads, and a collector of a test's own.
+ghost use Rattle.std.specs.Prelude.{◌≡◌};
+ghost use Rattle.fz_collect.specs.Subjects.{IsBookOf};
+
 use crate::reading::{THREE_BY_THREE, book_of, path_of};
 use fz_book::{Book, Taken};
-use fz_collect::{Collect, Outbox, Told, gather};
+use fz_collect::{Collect, News, Outbox, Subject, gather};
 use fz_io::gate::NoGate;
 use fz_team::{End, run};
 use std::alloc::Global;
+use std::marker::{Brand, PhantomData};
 use std::process::Abort;
 use std::sync::Wait;
-use std::thread::{Threads, join_mut};
+use std::thread::Threads;
 
 /// A book of its own, and how many accounts it didn't take.
 #[derive(Drop)]
-struct Booked {
+struct Booked<T: Subject> {
     book: Book,
     dropped: u32,
+    subject: PhantomData<T>,
 }
 
-impl Collect<()> for Booked {
+impl<T: Subject> Collect<()> for Booked<T> {
     ghost works = { λ b k. Unit {0} };
 
     ghost enough = { λ b. ⊥ };
 
     ghost grew = { λ b k c l. Unit {0} };
+
+    ghost model = { λ b. T.model };
+
+    ghost mode = { λ b. T.mode };
+
+    ghost keeps = { λ b k c l g. (λ i. T.model, λ i. T.mode) };
 
     ghost stays = { λ b k w. tt };
 
@@ -35,10 +46,10 @@ impl Collect<()> for Booked {
         true
     }
 
-    fn take_in(&mut self, _alloc: Global, _lent: &mut (), told: Told) {
-        let is_taken = match told {
-            Told::Taken(account) => matches!(self.book.take(account), Taken::Taken),
-            Told::Better(_) => true,
+    fn take_in(&mut self, _alloc: Global, _lent: &mut (), news: News) {
+        let is_taken = match news {
+            News::Taken(account) => matches!(self.book.take(account), Taken::Taken),
+            News::Better(_) => true,
         };
         if !is_taken {
             self.dropped = self.dropped.saturating_add(1);
@@ -48,33 +59,40 @@ impl Collect<()> for Booked {
     fn look_up(&mut self, _lent: &mut ()) {}
 }
 
-/// Two workers search nine pairs, and end what they tell.
-fn search<R: Abort + Threads + Wait + Sync>(rt: &R, alloc: Global, outbox: &Outbox) -> End {
-    let book = book_of(rt, alloc, THREE_BY_THREE);
+/// Two workers search a book of nine pairs, and a collector is told behind them. How they end, its book, and how many accounts it
+/// didn't take.
+fn collected<R: Abort + Threads + Wait + Sync, T: Subject + Send + Sync>(
+    rt: &R,
+    alloc: Global,
+    book: Book,
+) -> (End, Book, u32)
+    requires { IsBookOf T.model T.mode book.book }
+{
+    let outbox: Outbox<T> = Outbox::new(alloc);
     let first = path_of(rt, alloc, THREE_BY_THREE);
     let second = path_of(rt, alloc, THREE_BY_THREE);
     let paths = vec![in alloc; first, second].ok().expect(rt, "memory");
-    let end = run(rt, alloc, book, paths, None, &NoGate, outbox).end;
+    let end = run(rt, alloc, book, paths, None, &NoGate, &outbox).end;
     outbox.end();
-    end
+    let mut collector: Booked<T> = Booked {
+        book: book_of(rt, alloc, THREE_BY_THREE),
+        dropped: 0,
+        subject: PhantomData,
+    };
+    gather(rt, alloc, &outbox, &mut collector, &mut ());
+    (end, collector.book, collector.dropped)
 }
 
 #[test]
 fn a_collector_is_told_of_all_pairs(rt: HostRuntime) {
     let alloc = rt.alloc();
-    let mut collector = Booked {
-        book: book_of(&rt, alloc, THREE_BY_THREE),
-        dropped: 0,
-    };
-    let outbox = Outbox::new(alloc);
-    let told = &outbox;
-    let (_, end) = join_mut(
+    let (end, book, dropped) = collected::<HostRuntime, Brand>(
         &rt,
-        &mut || gather(&rt, alloc, told, &mut collector, &mut ()),
-        &mut || search(&rt, alloc, told),
+        alloc,
+        book_of(&rt, alloc, THREE_BY_THREE),
     );
     assert_eq!(rt; end, End::Closed);
-    assert_eq!(rt; collector.dropped, 0);
-    assert!(rt; collector.book.is_closed());
-    assert_eq!(rt; collector.book.recorded_count(), 9);
+    assert_eq!(rt; dropped, 0);
+    assert!(rt; book.is_closed());
+    assert_eq!(rt; book.recorded_count(), 9);
 }

@@ -4,4 +4,4 @@ use Rattle.fz_team.proofs.team.gathered.Given as goal
 
 abbrev pub invariant-members : goal.invariant-members
 invariant-members g l =
-    (l.seat.bound ≡ l.bound) × (l.seat.parts ≡ l.initial.seat.parts + length l.yielded) × IsWordOf l.model l.bests.items l.seat.least
+    (l.seat.bound ≡ l.bound) × (l.seat.parts ≡ l.initial.seat.parts + length l.yielded) × IsWordOf g.T.Subject.model l.bests.items l.seat.least

@@ -7,4 +7,4 @@ use Rattle.fz_team.proofs.team.members_of.Given as goal
 
 abbrev pub invariant-workers : goal.invariant-workers
 invariant-workers g l =
-    (l.seat.bound ≡ l.bound) × (l.seat.least ≡ UNSET) × (l.seat.parts + l.worker ≡ PARTS) × (vec_len l.members ≡ l.worker) × All (IsMember l.model l.bound l.count) l.members.items
+    (l.seat.bound ≡ l.bound) × (l.seat.least ≡ UNSET) × (l.seat.parts + l.worker ≡ PARTS) × (vec_len l.members ≡ l.worker) × All (IsMember g.T.Subject.model l.bound l.count) l.members.items

@@ -4,4 +4,4 @@ use Rattle.fz_team.proofs.team.rounds.Given as goal
 
 abbrev pub invariant-rounds : goal.invariant-rounds
 invariant-rounds g l =
-    (goal.iterator-rounds g).can_next l.iterator' × (goal.iterator-rounds g).is_finite l.iterator' × IsTeam l.model l.bound (length l.paths) l.seat l.members.items
+    (goal.iterator-rounds g).can_next l.iterator' × (goal.iterator-rounds g).is_finite l.iterator' × IsTeam g.T.Subject.model l.bound (length l.paths) l.seat l.members.items

@@ -1,16 +1,13 @@
-use Rattle.std.proofs.Common.{◌∙◌, ℕ, subst}
+use Rattle.std.proofs.Common.{ℕ, subst}
 use Rattle.std.specs.Prelude.{All}
 use Rattle.fz_team.specs.Members.{IsMember}
 use Rattle.fz_team.proofs.team.team_of.Goals as goal
 
-pub returns-clause-model : goal.returns-clause-model
-returns-clause-model g c = c.in_ok-model.ensures ∙ c.model.ensures.model
-
-pub returns-clause-team : goal.returns-clause-team
-returns-clause-team g c =
+pub returns : goal.returns
+returns g c =
     record {
       bound = c.in_ok-members.ensures.seat.0;
       fresh = c.in_ok-members.ensures.seat.1;
       parts = c.in_ok-members.ensures.parts;
-      members = subst (λ (n : ℕ). All (IsMember c.in_ok-model.model c.in_ok-bound.bound n) c.in_ok-members.members.items) c.len.ensures c.in_ok-members.ensures.members;
+      members = subst (λ (n : ℕ). All (IsMember g.T.Subject.model c.in_ok-bound.bound n) c.in_ok-members.members.items) c.len.ensures c.in_ok-members.ensures.members;
     }

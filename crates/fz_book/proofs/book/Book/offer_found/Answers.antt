@@ -2,7 +2,7 @@ use Rattle.std.proofs.Common.{refl, ap}
 use Rattle.fz_book.specs.Inside.{book_of}
 use Rattle.fz_book.specs.Room.{Roomy}
 use Rattle.fz_book.proofs.Takings.{offer_code}
-use Rattle.fz_book.proofs.book.Book.offer.Goals as goal
+use Rattle.fz_book.proofs.book.Book.offer_found.Goals as goal
 
 pub invariant_of-self-2 : goal.invariant_of-self-2
 invariant_of-self-2 c =

@@ -1,19 +1,16 @@
-use Rattle.std.proofs.Common.{◌∙◌, ap, sym, subst, List}
+use Rattle.std.proofs.Common.{◌∙◌, ap, subst, List}
 use Rattle.fz_tree.specs.Frontier.{Frontier}
 use Rattle.fz_tree.specs.Book.{Part, PrefersClaimed}
 use Rattle.fz_book.specs.Places.{IsNowhere}
 use Rattle.fz_book.specs.Room.{Roomy}
 use Rattle.fz_book.proofs.Takings.{not_open}
-use Rattle.fz_book.proofs.book.Book.take.Goals as goal
+use Rattle.fz_book.proofs.book.Book.take_own.Goals as goal
 
 pub returns-in_default-clause-stranger : goal.returns-in_default-clause-stranger
 returns-in_default-clause-stranger c =
     let nowhere : IsNowhere c.deref.result.now c.args.account.before = subst (λ (f : Frontier). IsNowhere c.deref.result.now f) c.before-2.ensures.before c.in_default.ensures.place in (
-      λ t. (
-        c.is_own.ensures.own.0 c.if-not-is_own.false,
-        not_open c.args.self.now.book c.args.account.before
-            (subst (λ (ps : List Part). IsNowhere ps c.args.account.before) (c.deref.ensures.value ∙ ap (λ (r : Roomy). r.book.parts) c.self.view_is) nowhere),
-      ),
+      λ t. not_open c.args.self.now.book c.args.account.before
+          (subst (λ (ps : List Part). IsNowhere ps c.args.account.before) (c.deref.ensures.value ∙ ap (λ (r : Roomy). r.book.parts) c.self.view_is) nowhere),
       λ h. tt,
     )
 
