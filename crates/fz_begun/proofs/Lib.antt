@@ -3,3 +3,4 @@ pub mod Extensions
 pub mod Certifying
 pub mod Endings
 pub mod Recorded
+pub mod Whole

@@ -7,7 +7,7 @@ use Rattle.fz_spec.specs.declared.kind.Kind.TheVariants.{Bool, Int}
 use Rattle.fz_spec.specs.declared.code.Code.{Code}
 use Rattle.fz_spec.specs.Codes.{code_text}
 use Rattle.fz_spec.specs.Constraints.{term_value}
-use Rattle.fz_spec.specs.Instance.{Instance, Output, Lists}
+use Rattle.fz_spec.specs.Instance.{Instance, Output}
 
 abbrev pub value_text : Kind → ℤ → List ℕ
 value_text Bool x = if int_eq x (pos 0) then codes "false" else codes "true"
@@ -49,11 +49,6 @@ blocks m l = flat_map (block m) l
 abbrev pub closing : List (List ℤ) → List ℕ
 closing [] = codes "=====UNSATISFIABLE=====\n"
 closing (a ∷ l) = codes "==========\n"
-
--- all solutions of a model, in the order of this list
-pub record PrintsAll (m : Instance) (l : List (List ℤ)) (printed : List ℕ) : Type 0 where
-  pub lists : Lists m l
-  pub text : printed ≡ blocks m l ++ closing l
 
 -- "% line 1, column 2: E03" and the line "=====ERROR====="
 abbrev pub refusal_text : Code → ℕ → ℕ → List ℕ

@@ -1,5 +1,5 @@
 //! Laws that the definitions keep: each is the clause of a function that does nothing, so that the clause is proved.
-ghost use Rattle.fz_spec.specs.Laws.{SatisfyingIsDeclared, NothingListed, ClosingIsOne};
+ghost use Rattle.fz_spec.specs.Laws.{SatisfyingIsDeclared, NothingListed};
 
 /// An assignment that satisfies a model has one number for each variable, each in its declared set.
 pub fn satisfying_is_declared()
@@ -9,9 +9,4 @@ pub fn satisfying_is_declared()
 /// The empty list is the list of a model's satisfying assignments exactly where there is none.
 pub fn nothing_listed()
     ensures { NothingListed }
-{}
-
-/// What is printed determines the closing line, and so whether a solution was found.
-pub fn closing_is_one()
-    ensures { ClosingIsOne }
 {}

@@ -1,7 +1,8 @@
 //! What the program says on standard error.
-ghost use Rattle.std.specs.Prelude.{◌≡◌, IfOk, map, option_map, option_copied, string_bytes};
+ghost use Rattle.std.specs.Prelude.{◌≡◌, None, Ok, IfOk, map, option_map, option_copied, string_bytes};
 ghost use Rattle.fz_cmd.specs.Meaning.{options_of};
 ghost use Rattle.fzn.specs.Complaints as complaints;
+ghost use Rattle.fzn.specs.declared.status.Status.TheVariants.{Done};
 
 use crate::status::Status;
 use fz_cmd::Options;
@@ -40,15 +41,19 @@ pub const USAGE: &str = "usage: fzn [options] [FILE]
   --generate N           a knapsack of N items is solved, and no text is read: 1 to 1000
   FILE                   the text; - is standard input, as is no FILE";
 
-/// The line for standard error behind a run of these words, none where it is done.
+/// The line for standard error after a run of these words. Where it is done there is none, and no memory is asked for.
 pub fn complaint_of(
     alloc: Global,
     words: &[String],
     status: &Status,
 ) -> Result<Option<String>, AllocError>
-    ensures { IfOk result (λ line. option_map string_bytes line
+    ensures line { IfOk result (λ line. option_map string_bytes line
         ≡ complaints.complaint_of (map string_bytes words.now) status.now) }
+    ensures done { status.now ≡ Done → result ≡ Ok None }
 {
+    if let Status::Done = status {
+        return Ok(None);
+    }
     let options = options(alloc, words)?;
     complaint_about(alloc, shown_name(options.as_ref()), status)
 }
