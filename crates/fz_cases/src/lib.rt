@@ -3,8 +3,6 @@
 #![tactic(auto)]
 
 #[cfg(test)]
-mod frontiers;
-#[cfg(test)]
 mod numbers;
 #[cfg(test)]
 mod outside;

@@ -1,4 +1,7 @@
 //! A book, step by step, and searches of whole books.
+ghost use Rattle.std.specs.Prelude.{◌≡◌, IfSome};
+ghost use Rattle.fz_book.specs.Reports.{IsReportable};
+
 use crate::answer::Answer;
 use crate::steps::{Stepped, assignment_of, mode, shared_model, take_all, values_of};
 use fz_account::Account;
@@ -141,19 +144,51 @@ pub fn edges_of(alloc: Global, frontier: &Frontier) -> Result<String, AllocError
 
 /// A search of a text's model that stops where so many are recorded, and then goes on with the same path; `best` records the best alone.
 pub fn search(alloc: Global, text: &str, word: &str) -> Result<Answer, AllocError> {
-    let (Some(mut book), Some(mut path)) = (book_of(alloc, text)?, path_of(alloc, text)?) else {
-        return Ok(Answer::of(1, Vec::new(alloc)));
-    };
-    if !path.is_idle() || path.mode() != book.mode() || !path.model().same(book.model()) {
-        return Ok(Answer::of(1, Vec::new(alloc)));
+    match (book_of(alloc, text)?, path_of(alloc, text)?) {
+        (Some(book), Some(path)) => search_twice(alloc, book, path, word),
+        _ => Ok(Answer::of(1, Vec::new(alloc))),
     }
+}
+
+fn search_twice(
+    alloc: Global,
+    book: Book,
+    path: Path<Space>,
+    word: &str,
+) -> Result<Answer, AllocError> {
+    let (mut book, mut path) = (book, path);
+    if path.is_idle() && path.mode() == book.mode() && path.model().same(book.model()) {
+        return finish_twice(alloc, &mut book, &mut path, word);
+    }
+    Ok(Answer::of(1, Vec::new(alloc)))
+}
+
+fn finish_twice(
+    alloc: Global,
+    book: &mut Book,
+    path: &mut Path<Space>,
+    word: &str,
+) -> Result<Answer, AllocError>
+    requires held { IfSome path.old.held (IsReportable book.old.book) }
+    requires model { path.old.model ≡ book.old.book.model }
+    requires mode { path.old.mode ≡ book.old.book.mode }
+{
     let improving = word != "best";
-    let first = finish(&mut book, &mut path, word.parse::<u32>().ok(), improving)?;
-    let before = recorded(alloc, &book)?;
-    let second = finish(&mut book, &mut path, None, improving)?;
-    let after = recorded(alloc, &book)?;
-    let (first, second) = (word_of(first), word_of(second));
-    let told = format!(in alloc; "{first}: {before}; {second}: {after}\n")?;
+    let first = finish(book, path, word.parse::<u32>().ok(), improving)?;
+    let count = book.recorded_count();
+    let second = finish(book, path, None, improving)?;
+    searched(alloc, word_of(first), count, word_of(second), book)
+}
+
+fn searched(
+    alloc: Global,
+    first: &str,
+    count: usize,
+    second: &str,
+    book: &Book,
+) -> Result<Answer, AllocError> {
+    let after = recorded(alloc, book)?;
+    let told = format!(in alloc; "{first} {count}; {second}: {after}\n")?;
     Ok(Answer::of(0, told.into_bytes()))
 }
 

@@ -3,7 +3,7 @@ use crate::answer::Answer;
 use crate::case::Case;
 use crate::models::{divide, generated, truth};
 use crate::runs::{check, run, run_meeting, run_showing, words_of};
-use crate::{books, collecting, domains, machines, paths, seeds, spaces, words};
+use crate::{books, collecting, domains, frontiers, machines, paths, seeds, spaces, words};
 use std::alloc::{AllocError, Global};
 use std::sync::Wait;
 use std::thread::Threads;
@@ -123,6 +123,7 @@ fn answer_of<R: Threads + Wait + Sync>(
         b"search" => books::search(alloc, &case.text, rest)?,
         b"seeds" => seeds::run(alloc, &case.text, rest)?,
         b"collecting" => collecting::run(rt, alloc, &case.text)?,
+        b"frontier" => frontiers::run(alloc, rest, &case.steps)?,
         b"domain" => domains::run(alloc, rest, &case.steps)?,
         b"true" => truth_of(alloc, rest, 0)?,
         b"false" => truth_of(alloc, rest, 1)?,

@@ -9,6 +9,7 @@ mod calls;
 mod case;
 mod collecting;
 mod domains;
+mod frontiers;
 mod machines;
 mod meeting;
 mod models;

@@ -1,5 +1,6 @@
 //! Calls of both programs over a case's texts in memory.
-ghost use Rattle.std.specs.Prelude.{◌<◌, ◌-◌, ◌^◌};
+ghost use Rattle.std.specs.Prelude.{◌<◌, ◌-◌, ◌^◌, IfOk};
+ghost use Rattle.fz_io.specs.Memory.{sink_faults, source_faults};
 
 use crate::answer::Answer;
 use crate::case::{Case, Faults};
@@ -36,7 +37,9 @@ fn numbers(alloc: Global, fault: Option<u64>) -> Result<Vec<u64>, AllocError> {
 }
 
 /// A source of the text under the names `m.fzn` and `-`; where there is an output that is `-`.
-fn source_of(alloc: Global, case: &Case) -> Result<MemSource, AllocError> {
+fn source_of(alloc: Global, case: &Case) -> Result<MemSource, AllocError>
+    ensures { IfOk result (λ s. source_faults s < 2 ^ 64 - 1) }
+{
     let second = if case.has_output {
         &case.output
     } else {
@@ -56,7 +59,9 @@ fn text_of(alloc: Global, name: &str, text: &str) -> Result<NamedText, AllocErro
     })
 }
 
-fn sink_of(alloc: Global, faults: Faults) -> Result<MemSink, AllocError> {
+fn sink_of(alloc: Global, faults: Faults) -> Result<MemSink, AllocError>
+    ensures { IfOk result (λ s. sink_faults s < 2 ^ 64 - 1) }
+{
     let sink = MemSink::new(alloc, numbers(alloc, faults.sink)?);
     Ok(sink.with_step(faults.step))
 }

@@ -59,10 +59,9 @@ fn status(alloc: Global, space: &mut Space) -> Result<String, AllocError> {
 
 /// The ranges of a domain, as ` 1..3+5..7`.
 fn push_ranges(alloc: Global, text: &mut String, dom: &Dom) -> Result<(), AllocError> {
-    let mut between = " ";
-    for (low, high) in dom.ranges() {
-        text.push_str(&format!(in alloc; "{between}{low}..{high}")?)?;
-        between = "+";
+    for (number, (low, high)) in dom.ranges().enumerate() {
+        text.push_str(if number > 0 { "+" } else { " " })?;
+        text.push_str(&format!(in alloc; "{low}..{high}")?)?;
     }
     Ok(())
 }

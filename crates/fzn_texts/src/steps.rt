@@ -34,14 +34,14 @@ fn take_row<S: Stepped>(
     row: &str,
     text: &mut String,
 ) -> Result<(), AllocError> {
-    let mut between = "";
-    for step in row.split(", ") {
-        text.push_str(between)?;
+    for (number, step) in row.split(", ").enumerate() {
+        if number > 0 {
+            text.push_str(", ")?;
+        }
         match stepped.take(alloc, step)? {
             Some(answer) => text.push_str(&answer)?,
             None => text.push_str("no step")?,
         }
-        between = ", ";
     }
     text.push_str("\n")
 }
@@ -91,11 +91,11 @@ pub fn assignment_of(alloc: Global, word: &str) -> Result<Option<Assignment>, Al
 /// The values of assignments, as `1 2 | 2 1`.
 pub fn values_of(alloc: Global, assignments: &[Assignment]) -> Result<String, AllocError> {
     let mut text = String::new(alloc);
-    let mut between = "";
-    for assignment in assignments {
-        text.push_str(between)?;
+    for (number, assignment) in assignments.iter().enumerate() {
+        if number > 0 {
+            text.push_str(" | ")?;
+        }
         push_values(alloc, &mut text, assignment)?;
-        between = " | ";
     }
     Ok(text)
 }
@@ -105,10 +105,11 @@ fn push_values(
     text: &mut String,
     assignment: &Assignment,
 ) -> Result<(), AllocError> {
-    let mut between = "";
-    for value in assignment.values() {
-        text.push_str(&format!(in alloc; "{between}{value}")?)?;
-        between = " ";
+    for (number, value) in assignment.values().iter().enumerate() {
+        if number > 0 {
+            text.push_str(" ")?;
+        }
+        text.push_str(&format!(in alloc; "{value}")?)?;
     }
     Ok(())
 }
