@@ -8,6 +8,15 @@ predicate fzn_lex_less_bool(array [int] of var bool: x :: promise_ctx_antitone, 
     } in
     before[0] /\
     forall (i in 0..n - 1) (
-        before[i] <-> (x[first_x + i] <= y[first_y + i] /\ (x[first_x + i] < y[first_y + i] \/ before[i + 1]))
+        let {
+            var bool: a = x[first_x + i];
+            var bool: b = y[first_y + i];
+        } in
+        (before[i] /\ a -> b) /\
+        (before[i] /\ a -> before[i + 1]) /\
+        (before[i] -> b \/ before[i + 1]) /\
+        (b -> a \/ before[i]) /\
+        (before[i + 1] /\ b -> before[i]) /\
+        (before[i + 1] -> a \/ before[i])
     ) /\
     before[n] = (length(x) < length(y));

@@ -8,6 +8,13 @@ predicate fzn_lex_less_int(array [int] of var int: x :: promise_ctx_antitone, ar
     } in
     before[0] /\
     forall (i in 0..n - 1) (
-        before[i] <-> (x[first_x + i] <= y[first_y + i] /\ (x[first_x + i] < y[first_y + i] \/ before[i + 1]))
+        let {
+            var bool: less = x[first_x + i] < y[first_y + i];
+            var bool: at_most = x[first_x + i] <= y[first_y + i];
+        } in
+        (before[i] -> at_most) /\
+        (before[i] -> less \/ before[i + 1]) /\
+        (less -> before[i]) /\
+        (at_most /\ before[i + 1] -> before[i])
     ) /\
     before[n] = (length(x) < length(y));

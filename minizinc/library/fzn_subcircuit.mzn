@@ -1,4 +1,4 @@
-% By places along the way from its first town, 0 for a town that isn't on it, so that nothing is left free.
+% By places: those of the way from its first town on, then the towns outside in their order, so that nothing is left free.
 include "fzn_all_different_int.mzn";
 
 predicate fzn_subcircuit(array [int] of var int: x) =
@@ -10,13 +10,17 @@ predicate fzn_subcircuit(array [int] of var int: x) =
             int: none = max(towns) + 1;
             array [towns] of var bool: visited = array1d(towns, [x[i] != i | i in towns]);
             var min(towns)..none: first = min([if visited[i] then i else none endif | i in towns]);
-            array [towns] of var 0..length(x): place;
+            array [towns] of var 1..length(x): place;
+            var 0..length(x): count = sum(visited);
         } in
         fzn_all_different_int(x) /\
+        fzn_all_different_int(place) /\
         forall (i in towns) (
             x[i] in towns /\
-            (place[i] > 0) = visited[i] /\
-            (place[i] = 1) = (first = i) /\
-            (visited[i] /\ x[i] != first -> place[x[i]] = place[i] + 1)
-        )
+            (place[i] <= count) = visited[i] /\
+            (first = i -> place[i] = 1) /\
+            (visited[i] /\ x[i] != first -> place[x[i]] = place[i] + 1) /\
+            (visited[i] /\ x[i] = first -> place[i] = count)
+        ) /\
+        forall (i, j in towns where i < j) (visited[i] \/ visited[j] \/ place[i] < place[j])
     endif;

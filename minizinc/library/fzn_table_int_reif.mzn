@@ -11,12 +11,12 @@ predicate fzn_table_int_reif(array [int] of var int: x, array [int, int] of int:
         not b
     elseif is_fixed(b) /\ fix(b) then
         fzn_table_int(x, t)
-    elseif is_fixed(b) then
-        forall (r in rows) (exists (i in 1..length(x)) (term[i] != row[r, i]))
     elseif length(x) = 1 then
         b <-> term[1] in {row[r, 1] | r in rows}
     elseif sum (i in 1..length(x)) (log2(card(dom(term[i])))) <= 10.0 then
         fzn_table_of_truth(term, row, rows, b)
+    elseif is_fixed(b) then
+        forall (r in rows) (exists (i in 1..length(x)) (term[i] != row[r, i]))
     else
         let {
             int: first = min(rows);

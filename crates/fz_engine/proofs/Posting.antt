@@ -23,7 +23,7 @@ use Rattle.fz_spec.specs.declared.limits.TheConstants.{CONSTRAINT_LIMIT}
 use Rattle.fz_propagators.specs.declared.any.AnyPropagator.{AnyPropagator}
 use Rattle.fz_propagators.specs.Forms.{said_of}
 use Rattle.fz_agenda.specs.Wakes.{Waking}
-use Rattle.fz_engine.specs.Networks.{AreSaid, AreSaidOf, AreOf, IsListing, IsNetwork, IsSaidMore, sayings_of, stronger_of}
+use Rattle.fz_engine.specs.Networks.{AreSaid, AreSaidOf, AreOf, IsListing, IsMoreOf, IsNetwork, IsSaidMore, sayings_of, stronger_of}
 use Rattle.fz_engine.proofs.Listing.{at_end}
 
 -- ---- what is said
@@ -42,22 +42,6 @@ AreTrue a cs = AllByRecursion (IsTrueOf a) cs
 
 abbrev Follow : List ℤ → List Saying → Type 0
 Follow a sayings = AllByRecursion (λ (saying : Saying). truth_of saying a) sayings
-
-more_said : (cs : List Constraint) (sayings : List Saying) (saying : Saying) → AreSaid cs sayings → ((a : List ℤ) → AreTrue a cs → truth_of saying a) → AreSaid cs (sayings ++ saying ∷ [])
-more_said cs sayings saying said holds = record {
-  each = λ i c is. let p = said.each i c is in (p.0, at_front sayings (saying ∷ []) p.0 (saying_of c) p.1);
-  follow = λ a all. all_both (λ (s : Saying). truth_of s a) sayings (saying ∷ []) (said.follow a all) (holds a all, tt);
-}
-
-one_said : (cs : List Constraint) (c : Constraint) (sayings : List Saying) → AreSaid cs sayings → AreSaid (cs ++ c ∷ []) (sayings ++ saying_of c ∷ [])
-one_said cs c sayings said = record {
-  each = λ i d is. elim (at_end cs c d i is) [
-    | inl there ↦ let p = said.each i d there in (p.0, at_front sayings (saying_of c ∷ []) p.0 (saying_of d) p.1)
-    | inr last ↦ (length sayings, subst (λ (x : Constraint). slice_get (sayings ++ saying_of c ∷ []) (length sayings) ≡ Some (saying_of x)) last.1 (at_back sayings (saying_of c)))
-  ];
-  follow = λ a all.
-      all_both (λ (s : Saying). truth_of s a) sayings (saying_of c ∷ []) (said.follow a (all_left (IsTrueOf a) cs (c ∷ []) all)) ((says c a).0 (all_right (IsTrueOf a) cs (c ∷ []) all).0, tt);
-}
 
 -- ---- what is said once more
 
@@ -93,30 +77,74 @@ said_none vs = record {
   few = omega arith;
 }
 
--- one constraint more
-pub said_more_of : (vs : List Variable) (cs : List Constraint) (c : Constraint) (sayings after : List Saying) → AreSaidOf vs cs sayings → IsFit vs (saying_of c)
-    → IsSaidMore (saying_of c) (sayings ++ saying_of c ∷ []) after → AreSaidOf vs (cs ++ c ∷ []) after
-said_more_of vs cs c sayings after so_far fit (inl same) =
-    let size = length-append sayings (saying_of c ∷ []) in
+-- What some constraints say is among these, all of which are true where all constraints of a longer list are, and there is room for
+-- so many more.
+record AreSaidOn (vs : List Variable) (cs all : List Constraint) (sayings : List Saying) (left : ℕ) : Type 0 where
+  each : (i : ℕ) (c : Constraint) → slice_get cs i ≡ Some c → (j : ℕ) × (slice_get sayings j ≡ Some (saying_of c))
+  follow : (a : List ℤ) → AreTrue a all → Follow a sayings
+  fit : AllByRecursion (IsFit vs) sayings
+  few : length sayings + left ≤ length all + length all + length all
+
+said_on : (vs : List Variable) (cs : List Constraint) (c : Constraint) (sayings : List Saying) → AreSaidOf vs cs sayings → AreSaidOn vs cs (cs ++ c ∷ []) sayings 3
+said_on vs cs c sayings so_far =
     let size_of_cs = length-append cs (c ∷ []) in
     let few = so_far.few in
-    subst (λ (l : List Saying). AreSaidOf vs (cs ++ c ∷ []) l) (sym same) (record {
-      said = one_said cs c sayings so_far.said;
+    record {
+      each = so_far.said.each;
+      follow = λ a all. so_far.said.follow a (all_left (IsTrueOf a) cs (c ∷ []) all);
+      fit = so_far.fit;
+      few = omega (arith, size_of_cs, few);
+    }
+
+said_last : (vs : List Variable) (cs : List Constraint) (c : Constraint) (sayings : List Saying) (left : ℕ) → AreSaidOn vs cs (cs ++ c ∷ []) sayings (suc left) → IsFit vs (saying_of c)
+    → AreSaidOn vs (cs ++ c ∷ []) (cs ++ c ∷ []) (sayings ++ saying_of c ∷ []) left
+said_last vs cs c sayings left so_far fit =
+    let size = length-append sayings (saying_of c ∷ []) in
+    let few = so_far.few in
+    record {
+      each = λ i d is. elim (at_end cs c d i is) [
+        | inl there ↦ let p = so_far.each i d there in (p.0, at_front sayings (saying_of c ∷ []) p.0 (saying_of d) p.1)
+        | inr last ↦ (length sayings, subst (λ (x : Constraint). slice_get (sayings ++ saying_of c ∷ []) (length sayings) ≡ Some (saying_of x)) last.1 (at_back sayings (saying_of c)))
+      ];
+      follow = λ a all.
+          all_both (λ (s : Saying). truth_of s a) sayings (saying_of c ∷ []) (so_far.follow a all) ((says c a).0 (all_right (IsTrueOf a) cs (c ∷ []) all).0, tt);
       fit = all_both (IsFit vs) sayings (saying_of c ∷ []) so_far.fit (fit, tt);
-      few = omega (arith, size, size_of_cs, few);
-    })
-said_more_of vs cs c sayings after so_far fit (inr more) =
-    let t = more.0 in
-    let front = sayings ++ saying_of c ∷ [] in
-    let size = length-append sayings (saying_of c ∷ []) in
-    let size_of_front = length-append front (t ∷ []) in
-    let size_of_cs = length-append cs (c ∷ []) in
+      few = omega (arith, size, few);
+    }
+
+is_more_fit : (vs : List Variable) (s t : Saying) → IsMoreOf s t → IsFit vs s → IsFit vs t
+is_more_fit vs s t (inl stronger) fit = more_fit vs s t stronger.0 stronger.1 fit
+is_more_fit vs s t (inr plain) fit = plain.fits vs fit
+
+more_holds : (c : Constraint) (t : Saying) (a : List ℤ) → IsMoreOf (saying_of c) t → IsTrueOf a c → truth_of t a
+more_holds c t a (inl stronger) holds = holds_more c t a stronger.0 holds
+more_holds c t a (inr plain) holds = (plain.same a).0 ((says c a).0 holds)
+
+-- maybe something beside what the last one says
+said_and_more : (vs : List Variable) (ds cs : List Constraint) (c : Constraint) (before after : List Saying) (left : ℕ) → AreSaidOn vs ds (cs ++ c ∷ []) before (suc left) → IsFit vs (saying_of c)
+    → IsSaidMore (saying_of c) before after → AreSaidOn vs ds (cs ++ c ∷ []) after left
+said_and_more vs ds cs c before after left so_far fit (inl same) =
     let few = so_far.few in
-    subst (λ (l : List Saying). AreSaidOf vs (cs ++ c ∷ []) l) (sym more.3) (record {
-      said = more_said (cs ++ c ∷ []) front t (one_said cs c sayings so_far.said) (λ a all. holds_more c t a more.1 (all_right (IsTrueOf a) cs (c ∷ []) all).0);
-      fit = all_both (IsFit vs) front (t ∷ []) (all_both (IsFit vs) sayings (saying_of c ∷ []) so_far.fit (fit, tt)) (more_fit vs (saying_of c) t more.1 more.2 fit, tt);
-      few = omega (arith, size, size_of_front, size_of_cs, few);
+    subst (λ (l : List Saying). AreSaidOn vs ds (cs ++ c ∷ []) l left) (sym same) (record { each = so_far.each; follow = so_far.follow; fit = so_far.fit; few = omega (arith, few) })
+said_and_more vs ds cs c before after left so_far fit (inr more) =
+    let t = more.0 in
+    let size = length-append before (t ∷ []) in
+    let few = so_far.few in
+    subst (λ (l : List Saying). AreSaidOn vs ds (cs ++ c ∷ []) l left) (sym more.2) (record {
+      each = λ i d is. let p = so_far.each i d is in (p.0, at_front before (t ∷ []) p.0 (saying_of d) p.1);
+      follow = λ a all. all_both (λ (s : Saying). truth_of s a) before (t ∷ []) (so_far.follow a all) (more_holds c t a more.1 (all_right (IsTrueOf a) cs (c ∷ []) all).0, tt);
+      fit = all_both (IsFit vs) before (t ∷ []) so_far.fit (is_more_fit vs (saying_of c) t more.1 fit, tt);
+      few = omega (arith, size, few);
     })
+
+-- one constraint more
+said_more_of : (vs : List Variable) (cs : List Constraint) (c : Constraint) (sayings plain after : List Saying) → AreSaidOf vs cs sayings → IsFit vs (saying_of c)
+    → IsSaidMore (saying_of c) sayings plain → IsSaidMore (saying_of c) (plain ++ saying_of c ∷ []) after → AreSaidOf vs (cs ++ c ∷ []) after
+said_more_of vs cs c sayings plain after so_far fit one other =
+    let before = said_and_more vs cs cs c sayings plain 2 (said_on vs cs c sayings so_far) fit one in
+    let all = said_and_more vs (cs ++ c ∷ []) cs c (plain ++ saying_of c ∷ []) after 0 (said_last vs cs c plain 1 before fit) fit other in
+    let few = all.few in
+    record { said = record { each = all.each; follow = all.follow }; fit = all.fit; few = omega (arith, few) }
 
 -- ---- what fits the model
 
@@ -155,12 +183,12 @@ pub network_of : (m : Instance) (sayings : List Saying) (w : Waking) → IsModel
     → IsNetwork (record { model = m; sayings = sayings; wakes = w })
 network_of m sayings w model said listing =
     let some = model.few_constraints in
-    let twice = said.few in
+    let thrice = said.few in
     record {
       said = said.said;
       listing = listing;
       terms = terms_declared m sayings model said.fit;
-      few = omega (arith, some, twice);
+      few = omega (arith, some, thrice);
     }
 
 -- ---- one more
@@ -170,24 +198,34 @@ taken_after [] i c is = absurd (cc (is))
 taken_after (b ∷ cs) zero c is = ap (λ (x : Constraint). x ∷ []) (sym (some_is b c is))
 taken_after (b ∷ cs) (suc i) c is = ap (λ (l : List Constraint). b ∷ l) (taken_after cs i c is)
 
-pub said_next : (vs : List Variable) (cs : List Constraint) (i : ℕ) (c : Constraint) (sayings after : List Saying) → slice_get cs i ≡ Some c → AreSaidOf vs (take i cs) sayings → IsFit vs (saying_of c)
-    → IsSaidMore (saying_of c) (sayings ++ saying_of c ∷ []) after → AreSaidOf vs (take (i + 1) cs) after
-said_next vs cs i c sayings after is so_far fit more =
+pub said_next : (vs : List Variable) (cs : List Constraint) (i : ℕ) (c : Constraint) (sayings plain after : List Saying) → slice_get cs i ≡ Some c → AreSaidOf vs (take i cs) sayings → IsFit vs (saying_of c)
+    → IsSaidMore (saying_of c) sayings plain → IsSaidMore (saying_of c) (plain ++ saying_of c ∷ []) after → AreSaidOf vs (take (i + 1) cs) after
+said_next vs cs i c sayings plain after is so_far fit one other =
     let next : suc i ≡ i + 1 = omega arith in
-    subst (λ (l : List Constraint). AreSaidOf vs l after) (taken_after cs i c is ∙ ap (λ (k : ℕ). take k cs) next) (said_more_of vs (take i cs) c sayings after so_far fit more)
+    subst (λ (l : List Constraint). AreSaidOf vs l after) (taken_after cs i c is ∙ ap (λ (k : ℕ). take k cs) next) (said_more_of vs (take i cs) c sayings plain after so_far fit one other)
 
 pub said_all : (vs : List Variable) (cs : List Constraint) (i : ℕ) (sayings : List Saying) → length cs ≤ i → AreSaidOf vs (take i cs) sayings → AreSaidOf vs cs sayings
 said_all vs cs i sayings past said = subst (λ (l : List Constraint). AreSaidOf vs l sayings) (take_all i cs past) said
 
 -- there is room for more
-pub few_so_far : (vs : List Variable) (ps : List AnyPropagator) (cs : List Constraint) (i : ℕ) → AreSaidOf vs (take i cs) (sayings_of ps) → i ≤ length cs → length cs ≤ CONSTRAINT_LIMIT → length ps + 1 < 2 ^ 32
+pub few_so_far : (vs : List Variable) (ps : List AnyPropagator) (cs : List Constraint) (i : ℕ) → AreSaidOf vs (take i cs) (sayings_of ps) → i ≤ length cs → length cs ≤ CONSTRAINT_LIMIT → length ps + 2 < 2 ^ 32
 few_so_far vs ps cs i said within few =
     let size = length-map ps said_of in
     let some = said.few in
     let taken = length-take-le i cs within in
     omega (arith, size, some, taken, within, few)
 
--- and for one more behind it
+-- and for one more behind what was maybe said
+pub few_after : (ps qs : List AnyPropagator) (saying : Saying) → length ps + 2 < 2 ^ 32 → IsSaidMore saying (sayings_of ps) (sayings_of qs) → length qs + 1 < 2 ^ 32
+few_after ps qs saying few (inl same) =
+    let size = length-map ps said_of in
+    let more = sym (length-map qs said_of) ∙ ap (λ (l : List Saying). length l) same in
+    omega (arith, size, more, few)
+few_after ps qs saying few (inr more) =
+    let size = length-map ps said_of in
+    let longer = sym (length-map qs said_of) ∙ ap (λ (l : List Saying). length l) more.2 ∙ length-append (sayings_of ps) (more.0 ∷ []) in
+    omega (arith, size, longer, few)
+
 pub few_behind : (ps qs : List AnyPropagator) (saying : Saying) → length ps + 1 < 2 ^ 32 → sayings_of qs ≡ sayings_of ps ++ saying ∷ [] → length qs < 2 ^ 32
 few_behind ps qs saying few is =
     let size = length-map ps said_of in

@@ -12,6 +12,7 @@ use Rattle.fz_prop.specs.Stores.{IsTermOf, declared_sets}
 use Rattle.fz_agenda.specs.Queues.{Lineup, queue_at, class_of, cost_at}
 use Rattle.fz_agenda.specs.Wakes.{Waking, IsIndexOf, HaveSize}
 use Rattle.fz_says.specs.Fits.{FitsSum, IsFit}
+use Rattle.fz_plain.specs.Plain.{IsPlainOf}
 use Rattle.fz_propagators.specs.declared.any.AnyPropagator.{AnyPropagator}
 use Rattle.fz_propagators.specs.Forms.{said_of}
 
@@ -36,15 +37,19 @@ stronger_of (Differ xs) = Some (DifferByBounds xs)
 stronger_of (Sum Equal ks ts c) = Some (SumByNumbers ks ts c)
 stronger_of saying = None
 
--- what was said, and maybe what is said once more
-abbrev pub IsSaidMore : Saying → List Saying → List Saying → Type 0
-IsSaidMore saying before after = (after ≡ before) ⊎ ((more : Saying) × (stronger_of saying ≡ Some more) × FitsSum more × (after ≡ before ++ more ∷ []))
+-- what may be said beside something: to a propagator that looks at more, or in a plainer form
+abbrev pub IsMoreOf : Saying → Saying → Type 0
+IsMoreOf saying more = ((stronger_of saying ≡ Some more) × FitsSum more) ⊎ IsPlainOf saying more
 
--- What constraints of these variables say fits the model, and is at most twice as much.
+-- what was said, and maybe what is said beside something
+abbrev pub IsSaidMore : Saying → List Saying → List Saying → Type 0
+IsSaidMore saying before after = (after ≡ before) ⊎ ((more : Saying) × IsMoreOf saying more × (after ≡ before ++ more ∷ []))
+
+-- What constraints of these variables say fits the model, and is at most three times as much.
 pub record AreSaidOf (vs : List Variable) (cs : List Constraint) (sayings : List Saying) : Type 0 where
   pub said : AreSaid cs sayings
   pub fit : AllByRecursion (IsFit vs) sayings
-  pub few : length sayings ≤ length cs + length cs
+  pub few : length sayings ≤ length cs + length cs + length cs
 
 -- over so many variables, each is listed at all changes that it waits for, and the class of its cost is known
 pub record IsListing (sayings : List Saying) (w : Waking) (n : ℕ) : Type 0 where

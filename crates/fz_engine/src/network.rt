@@ -13,17 +13,18 @@ ghost use Rattle.fz_strength.specs.Sayings.{said_terms, waits_of};
 ghost use Rattle.fz_strength.specs.VariableElements.{StandsAt};
 ghost use Rattle.fz_kept.specs.Told.{nothing};
 ghost use Rattle.fz_prop.specs.Stores.{FitsTerm, IsListed, IsTermOf, Stored};
-ghost use Rattle.fz_says.specs.Fits.{FitsSum};
+ghost use Rattle.fz_says.specs.Fits.{FitsSum, IsFit};
 ghost use Rattle.fz_says.specs.Said.{said_by, waits_in};
 ghost use Rattle.fz_propagators.specs.Forms.{said_of};
 ghost use Rattle.fz_agenda.specs.Agendas.{IsSettled};
 ghost use Rattle.fz_agenda.specs.Wakes.{waiting_at, watch, IsIndexedAt, IsListedAt, IsWatch, HaveSize, Extends};
-ghost use Rattle.fz_engine.specs.Networks.{AreSaidOf, IsFull, IsListing, IsNetwork, sayings_of};
+ghost use Rattle.fz_engine.specs.Networks.{AreSaidOf, IsFull, IsListing, IsNetwork, IsSaidMore, sayings_of};
 
 use crate::stronger::stronger_of;
 use fz_agenda::{Agenda, Wakes, Watch};
 use fz_kept::Kept;
-use fz_model::ConstraintAt;
+use fz_model::{ConstraintAt, Variable};
+use fz_plain::plain_of;
 use fz_prop::{Cost, Event};
 use fz_propagators::AnyPropagator;
 use fz_says::{Saying, Wait};
@@ -177,6 +178,8 @@ fn post_all(alloc: Global, model: &fz_model::Model) -> Result<Posted, AllocError
     for number in 0..constraints.len() {
         let constraint = constraints.at(number);
         let saying = saying_of(constraint);
+        // It runs first.
+        post_plain(alloc, &mut posted, &saying, model.variables())?;
         post(alloc, &mut posted, &saying)?;
         if let Some(more) = stronger_of(&saying, constraint.is_whole(), model.variables()) {
             post(alloc, &mut posted, &more)?;
@@ -214,6 +217,30 @@ fn post(alloc: Global, posted: &mut Posted, saying: &Saying) -> Result<(), Alloc
     let propagator = AnyPropagator::of(alloc, saying)?;
     posted.propagators.push(propagator)?;
     Ok(())
+}
+
+/// Adds a propagator of the plainer form of what is said, if there is one.
+fn post_plain(
+    alloc: Global,
+    posted: &mut Posted,
+    saying: &Saying,
+    variables: &[Variable],
+) -> Result<(), AllocError>
+    requires fit { IsFit variables.now (said_by saying.now) }
+    requires size { length posted.old.wakes.any ≡ length variables.now }
+    requires few { length posted.old.propagators.items < 2 ^ 32 }
+    requires listing { IsListing (sayings_of posted.old.propagators.items) posted.old.wakes
+        (length posted.old.wakes.any) }
+    ensures said { OnOk result (IsSaidMore (said_by saying.now)
+        (sayings_of posted.old.propagators.items) (sayings_of posted.new.propagators.items)) }
+    ensures listing { OnOk result (IsListing (sayings_of posted.new.propagators.items)
+        posted.new.wakes (length posted.old.wakes.any)) }
+{
+    let _ = variables;
+    match plain_of(alloc, saying)? {
+        Some(plain) => post(alloc, posted, &plain.saying()),
+        None => Ok(()),
+    }
 }
 
 /// Lists a propagator of what is said at all changes that may break its line.

@@ -3,6 +3,7 @@
 //! simple algorithm for bounds consistency of the alldifferent constraint").
 #![tactic(auto)]
 
+mod bounds;
 pub mod hall;
 mod interval;
 mod narrow;

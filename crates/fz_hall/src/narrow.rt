@@ -10,7 +10,7 @@ ghost use Rattle.fz_hall.specs.Intervals.{IsFull, IsKeptOut};
 
 use crate::interval::{Interval, count_confined, ends_of};
 use crate::span::span_of;
-use crate::sweep::{filled_from, may_fill, rising_places};
+use crate::sweep::{filled_intervals, may_fill, rising_places};
 use fz_alldiff::keep_different;
 use fz_prop::terms::{are_fixed, keep_from, keep_to};
 use fz_prop::{Answer, Change, Store};
@@ -57,17 +57,12 @@ fn keep_filled(alloc: Global, store: &mut Store, terms: &[Term]) -> Result<Chang
         return Ok(Change::Same);
     }
     let places = rising_places(alloc, store, terms, span)?;
+    let filled = filled_intervals(alloc, &places, span)?;
     let mut has_changed = false;
-    for left in &places {
-        if left.low == left.high {
-            continue;
-        }
-        let Some(filled) = filled_from(&places, left.low) else {
-            continue;
-        };
+    for left in &filled {
         let interval = Interval {
-            low: span.number_at(filled.low),
-            high: span.number_at(filled.high),
+            low: span.number_at(left.low),
+            high: span.number_at(left.high),
         };
         let change = keep_interval(store, terms, interval)?;
         if let Change::Wiped = change {

@@ -3,11 +3,15 @@ ghost use Rattle.std.specs.Prelude.{length};
 ghost use Rattle.std.specs.List.{AllByRecursion};
 ghost use Rattle.fz_prop.specs.Stores.{IsTermOf};
 
+use crate::bounds::{crossed_intervals, turned};
 use crate::interval::{Interval, ends_of};
 use crate::span::Span;
 use fz_prop::Store;
 use fz_spec::term::Term;
 use std::alloc::{AllocError, Global};
+
+/// From how many least numbers on a look at all terms takes less than two sweeps.
+const FEW: usize = 8;
 
 /// Whether some terms may fill an interval beside another one. Where all lies within 64 numbers, as many that aren't fixed as a number
 /// have at most this many free numbers between their ends, and not all do. Else one has fewer numbers there than there are terms.
@@ -101,9 +105,85 @@ pub fn rising_places(
     Ok(places)
 }
 
+/// Intervals that more terms are confined to than they have numbers, or as many, where one end of another term is in them, told by the
+/// ends of all terms, by rising greatest numbers. Where all lies close together, or they have few least numbers, one from each of these
+/// on, else by two sweeps.
+///
+/// # Errors
+/// `AllocError` where there is no memory.
+pub fn filled_intervals(
+    alloc: Global,
+    ends: &[Interval],
+    span: Span,
+) -> Result<Vec<Interval>, AllocError> {
+    if span.is_close() {
+        return close_intervals(alloc, ends);
+    }
+    let lows = least_numbers(alloc, ends)?;
+    if lows.len() <= FEW {
+        return intervals_from(alloc, ends, &lows);
+    }
+    let mut filled = crossed_intervals(alloc, ends)?;
+    let turned_ends = turned(alloc, ends)?;
+    let below = crossed_intervals(alloc, &turned_ends)?;
+    for interval in &turned(alloc, &below)? {
+        filled.push(*interval)?;
+    }
+    Ok(filled)
+}
+
+/// The least numbers of terms that aren't fixed, each once.
+fn least_numbers(alloc: Global, ends: &[Interval]) -> Result<Vec<i32>, AllocError> {
+    let mut all = Vec::with_capacity(alloc, ends.len())?;
+    for left in ends {
+        if left.low != left.high {
+            all.push(left.low)?;
+        }
+    }
+    all.sort_unstable();
+    let mut lows = Vec::new(alloc);
+    let mut before = None;
+    for low in &all {
+        if before != Some(*low) {
+            lows.push(*low)?;
+        }
+        before = Some(*low);
+    }
+    Ok(lows)
+}
+
+/// An interval from each of these numbers on, where one is found.
+fn intervals_from(
+    alloc: Global,
+    ends: &[Interval],
+    lows: &[i32],
+) -> Result<Vec<Interval>, AllocError> {
+    let mut filled = Vec::new(alloc);
+    for low in lows {
+        if let Some(interval) = filled_from(ends, *low) {
+            filled.push(interval)?;
+        }
+    }
+    Ok(filled)
+}
+
+/// An interval from each number on that is the least of a term that isn't fixed, where such a one is found.
+fn close_intervals(alloc: Global, ends: &[Interval]) -> Result<Vec<Interval>, AllocError> {
+    let mut filled = Vec::new(alloc);
+    for left in ends {
+        if left.low == left.high {
+            continue;
+        }
+        if let Some(interval) = filled_from(ends, left.low) {
+            filled.push(interval)?;
+        }
+    }
+    Ok(filled)
+}
+
 /// An interval from a low number on that more terms are confined to than it has numbers, or as many, where one end of another term is
 /// among these. It is told by the ends of all terms, by rising greatest numbers.
-pub fn filled_from(ends: &[Interval], low: i32) -> Option<Interval> {
+fn filled_from(ends: &[Interval], low: i32) -> Option<Interval> {
     let first = i64::from(low);
     let mut count = 0i128;
     let mut behind = first;

@@ -29,7 +29,7 @@ some_level true b = omega arith
 some_level false true = omega arith
 some_level false false = omega arith
 
-at_least_one : (e : List (ℤ × ℤ)) (low high : ℤ) → 1 ≤ change_level low high e
+pub at_least_one : (e : List (ℤ × ℤ)) (low high : ℤ) → 1 ≤ change_level low high e
 at_least_one e low high = some_level (nat_eq (set_size e) 1) (int_eq low (least e) && int_eq high (greatest e))
 
 when_below : (b : Bool) (n : ℕ) → cond b 3 n < 3 → (b ≡ false) × (cond b 3 n ≡ n)

@@ -1,4 +1,5 @@
 pub mod Levels
+pub mod Listed
 pub mod Steps
 pub mod Waits
 pub mod TermChanges

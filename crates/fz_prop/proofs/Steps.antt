@@ -1,9 +1,9 @@
 -- A change of one domain is a step of the store.
-use Rattle.std.proofs.Common.{◌≡◌, ◌≢◌, ℕ, ◌<◌, ◌≤◌, List, [], ◌∷◌, ◌++◌, refl, sym, subst, ◌∙◌, arith, length, true, false, nat_eq, inl, inr, cond, max, get_or-set_same, get_or-set_other, drop, length-append}
+use Rattle.std.proofs.Common.{◌≡◌, ◌≢◌, ℕ, ◌+◌, ◌<◌, ◌≤◌, List, [], ◌∷◌, ◌++◌, refl, sym, subst, ◌∙◌, arith, length, true, false, nat_eq, inl, inr, cond, max, get_or-set_same, get_or-set_other, suc, ap, drop, drop-cons, get_or, length-append}
 use Rattle.std.specs.Prelude.{ℤ, pos, ◌-ℤ◌, ◌↔◌, slice_set, slice_index}
 use Rattle.std.proofs.lemmas.Int.{ints}
 use Rattle.std.specs.List.{AllByRecursion}
-use Rattle.std.proofs.lemmas.List.{length-set, set-get_or, drop-append-le}
+use Rattle.std.proofs.lemmas.List.{length-set, set-get_or}
 use Rattle.std.proofs.lemmas.List.Sums.{sum_by-set}
 use Rattle.fz_sets.specs.Sets.{IsInSet, set_size}
 use Rattle.fz_dom.specs.Shape.{IsDomain, least, greatest}
@@ -14,41 +14,11 @@ use Rattle.fz_strength.specs.declared.event.Event.{Event}
 use Rattle.fz_strength.specs.Domains.{dom_at, room}
 use Rattle.fz_strength.specs.Events.{level, IsQuiet}
 use Rattle.fz_strength.proofs.Terms.{quiet_self}
-use Rattle.fz_sets.proofs.Lists.{all_both, by_place}
+use Rattle.fz_sets.proofs.Lists.{by_place}
 use Rattle.fz_prop.specs.Cuts.{change_level}
-use Rattle.fz_prop.specs.Stores.{Stored, IsStore, Shrinks, NarrowsAt, IsChangeAt, IsCut, IsNoted, mark_at, IsListed, with_listed, with_dom}
-use Rattle.fz_prop.proofs.Levels.{tells}
-
--- ---- lists of changed variables
-
-pub listed_before : (xs ys : List ℕ) (v : ℕ) → IsListed xs v → IsListed (xs ++ ys) v
-listed_before [] ys v is = absurd is
-listed_before (x ∷ xs) ys v is = elim is [ inl h ↦ inl h | inr h ↦ inr (listed_before xs ys v h) ]
-
-pub listed_last : (xs : List ℕ) (v : ℕ) → IsListed (xs ++ v ∷ []) v
-listed_last [] v = inl refl
-listed_last (x ∷ xs) v = inr (listed_last xs v)
-
-listed_still : (n v u : ℕ) (xs : List ℕ) → IsListed xs u → IsListed (with_listed n v xs) u
-listed_still n v u xs is = elim (nat_eq n 0) as (λ b. IsListed (cond b (xs ++ v ∷ []) xs) u) [ true ↦ listed_before xs (v ∷ []) u is | false ↦ is ]
-
-listed_now : (n v : ℕ) (xs : List ℕ) → (0 < n → IsListed xs v) → IsListed (with_listed n v xs) v
-listed_now n v xs listed = elim (nat_eq n 0) as (λ b. nat_eq n 0 ≡ b → IsListed (cond b (xs ++ v ∷ []) xs) v) [
-  | true ↦ λ e. listed_last xs v
-  | false ↦ λ e. listed (grind arith)
-] refl
-
-all_listed : (P : ℕ → Type 0) (n v : ℕ) (xs : List ℕ) → P v → AllByRecursion P xs → AllByRecursion P (with_listed n v xs)
-all_listed P n v xs here all = elim (nat_eq n 0) as (λ b. AllByRecursion P (cond b (xs ++ v ∷ []) xs)) [ true ↦ all_both P xs (v ∷ []) all (here, tt) | false ↦ all ]
-
-pub drop_listed : (h n v : ℕ) (xs : List ℕ) → h ≤ length xs → drop h (with_listed n v xs) ≡ with_listed n v (drop h xs)
-drop_listed h n v xs within = elim (nat_eq n 0) as (λ b. drop h (cond b (xs ++ v ∷ []) xs) ≡ cond b (drop h xs ++ v ∷ []) (drop h xs)) [
-  | true ↦ drop-append-le h xs (v ∷ []) within
-  | false ↦ refl
-]
-
-pub length_listed : (n v : ℕ) (xs : List ℕ) → length xs ≤ length (with_listed n v xs)
-length_listed n v xs = elim (nat_eq n 0) as (λ b. length xs ≤ length (cond b (xs ++ v ∷ []) xs)) [ true ↦ omega (arith, length-append xs (v ∷ [])) | false ↦ omega arith ]
+use Rattle.fz_prop.specs.Stores.{Stored, IsStore, Shrinks, NarrowsAt, IsChangeAt, IsCut, IsNoted, mark_at, IsListed, AreListedOnce, with_listed, with_dom, without_first}
+use Rattle.fz_prop.proofs.Levels.{tells, at_least_one}
+use Rattle.fz_prop.proofs.Listed.{listed_still, listed_now, listed_or_same, all_listed, once_listed, drop_listed, length_listed, few_listed}
 
 -- ---- the step
 
@@ -71,6 +41,9 @@ step s v P e n is within level_is keeping smaller filled domain =
     let size : length t.doms ≡ length ds = length-set ds v e in
     let marks_size : length t.marks ≡ length s.marks = length-set s.marks v (max (mark_at s v) n) in
     let falls : room t.doms < room ds = omega (arith, smaller, sum_by-set set_size ds v e [] within) in
+    let inside : AllByRecursion (λ u. u < length t.doms) t.changed =
+    all_listed (λ u. u < length t.doms) (mark_at s v) v s.changed (omega (arith, within, size)) (subst (λ (k : ℕ). AllByRecursion (λ u. u < k) s.changed) (sym size) is.inside) in
+    let once : AreListedOnce t.changed = once_listed (mark_at s v) v s.changed (is.marked v) is.once in
     record {
       store = record {
         size = marks_size ∙ (is.size ∙ sym size);
@@ -80,7 +53,12 @@ step s v P e n is within level_is keeping smaller filled domain =
         listed = by_place (λ u. 0 < mark_at t u → IsListed t.changed u) v
             (λ h. listed_now (mark_at s v) v s.changed (is.listed v))
             (λ u ne h. listed_still (mark_at s v) v u s.changed (is.listed u (rw (mark_there u ne) at h)));
-        inside = all_listed (λ u. u < length t.doms) (mark_at s v) v s.changed (omega (arith, within, size)) (subst (λ (k : ℕ). AllByRecursion (λ u. u < k) s.changed) (sym size) is.inside);
+        marked = by_place (λ u. IsListed t.changed u → 0 < mark_at t u) v
+            (λ h. omega (arith, mark_here, level_is, at_least_one e (least d) (greatest d)))
+            (λ u ne h. elim (listed_or_same (mark_at s v) v u s.changed h) [ inl before ↦ rw (mark_there u ne) (is.marked u before) | inr same ↦ absurd (ne (sym same)) ]);
+        once = once;
+        inside = inside;
+        few = few_listed t.changed (length t.doms) once inside;
       };
       shrinks = record {
         narrower = record {
@@ -117,6 +95,26 @@ same_shrinks s = record {
 pub put_back : (ds : List (List (ℤ × ℤ))) (v : ℕ) (e : List (ℤ × ℤ)) → e ≡ dom_at ds v → slice_set ds v e ≡ ds
 put_back ds v e same = rw same (set-get_or ds v [])
 
+-- the first is taken from the list
+pub taken_store : (s : Stored) (v : ℕ) (rest : List ℕ) → IsStore s → s.changed ≡ v ∷ rest → IsStore (without_first s v rest)
+taken_store s v rest is list =
+    let t : Stored = without_first s v rest in
+    let once : AreListedOnce (v ∷ rest) = subst AreListedOnce list is.once in
+    let inside : AllByRecursion (λ u. u < length s.doms) (v ∷ rest) = subst (AllByRecursion (λ u. u < length s.doms)) list is.inside in
+    let there : (u : ℕ) → u ≢ v → mark_at t u ≡ mark_at s u = λ u ne. get_or-set_other s.marks v u 0 0 ne in
+    let here : mark_at t v ≡ 0 = get_or-set_same s.marks v 0 0 (omega (arith, inside.0, is.size)) in
+    record {
+      size = length-set s.marks v 0 ∙ is.size;
+      domains = is.domains;
+      listed = by_place (λ u. 0 < mark_at t u → IsListed rest u) v (λ h. absurd (omega (arith, h, here)))
+          (λ u ne h. elim (subst (λ (l : List ℕ). IsListed l u) list (is.listed u (rw (there u ne) at h))) [ inl same ↦ absurd (ne (sym same)) | inr more ↦ more ]);
+      marked = by_place (λ u. IsListed rest u → 0 < mark_at t u) v (λ h. absurd (once.0 h))
+          (λ u ne h. rw (there u ne) (is.marked u (subst (λ (l : List ℕ). IsListed l u) (sym list) (inr h))));
+      once = once.1;
+      inside = inside.1;
+      few = few_listed rest (length s.doms) once.1 inside.1;
+    }
+
 -- ---- the step of a store that is kept as lists, with the changed variables behind a place
 
 record IsKeptStep (ds es : List (List (ℤ × ℤ))) (ms ns cs gs : List ℕ) (h v : ℕ) (P : ℤ → Type 0) : Type 0 where
@@ -143,23 +141,28 @@ kept ds ms cs h = record { doms = ds; marks = ms; changed = drop h cs }
 pub record IsKeptChange (change : Change) (ds es : List (List (ℤ × ℤ))) (ms ns cs gs : List ℕ) (h v : ℕ) (P : ℤ → Type 0) : Type 0 where
   pub store : IsStore (kept es ns gs h)
   pub head : h ≤ length gs
+  pub few : h ≤ length es
   pub shrinks : Shrinks (kept ds ms cs h) (kept es ns gs h)
   pub is : IsChangeAt change v P (kept ds ms cs h) (kept es ns gs h)
 
 kept_same : (ds es : List (List (ℤ × ℤ))) (ms ns cs gs : List ℕ) (h : ℕ) → es ≡ ds → ns ≡ ms → gs ≡ cs → kept es ns gs h ≡ kept ds ms cs h
 kept_same ds es ms ns cs gs h same_doms same_marks same_changed = rw (same_doms, same_marks, same_changed) refl
 
+kept_few : (ds : List (List (ℤ × ℤ))) (h v : ℕ) (e : List (ℤ × ℤ)) → h ≤ length ds → h ≤ length (slice_set ds v e)
+kept_few ds h v e few = omega (arith, few, length-set ds v e)
+
 pub kept_change : (change : Change) (ds : List (List (ℤ × ℤ))) (ms ns cs bs gs : List ℕ) (h v n : ℕ) (e : List (ℤ × ℤ)) (P : ℤ → Type 0)
-    → IsStore (kept ds ms cs h) → h ≤ length cs → v < length ds → IsCut change n P (dom_at ds v) e → IsDomain e → bs ≡ cs → IsNoted change n v ms ns bs gs
+    → IsStore (kept ds ms cs h) → (h ≤ length cs) × (h ≤ length ds) → v < length ds → IsCut change n P (dom_at ds v) e → IsDomain e → bs ≡ cs → IsNoted change n v ms ns bs gs
     → IsKeptChange change ds (slice_set ds v e) ms ns cs gs h v P
 kept_change Changed ds ms ns cs bs gs h v n e P is head within cut domain same_bs noted =
-    let s = kept_step ds ms ns cs bs gs h v n e P is head within cut.1 cut.0.0 cut.0.1 cut.0.2 domain same_bs noted.0 noted.1 in
-    record { store = s.step.store; head = s.head; shrinks = s.step.shrinks; is = s.step.narrows }
+    let s = kept_step ds ms ns cs bs gs h v n e P is head.0 within cut.1 cut.0.0 cut.0.1 cut.0.2 domain same_bs noted.0 noted.1 in
+    record { store = s.step.store; head = s.head; few = kept_few ds h v e head.1; shrinks = s.step.shrinks; is = s.step.narrows }
 kept_change Same ds ms ns cs bs gs h v n e P is head within cut domain same_bs noted =
     let same = kept_same ds (slice_set ds v e) ms ns cs gs h (put_back ds v e cut.0.0) noted.0 (noted.1 ∙ same_bs) in
     record {
       store = subst IsStore (sym same) is;
-      head = rw (noted.1, same_bs) head;
+      head = rw (noted.1, same_bs) head.0;
+      few = kept_few ds h v e head.1;
       shrinks = subst (Shrinks (kept ds ms cs h)) (sym same) (same_shrinks (kept ds ms cs h));
       is = (same, cut.0.1);
     }
@@ -167,10 +170,20 @@ kept_change Wiped ds ms ns cs bs gs h v n e P is head within cut domain same_bs 
     let same = kept_same ds (slice_set ds v e) ms ns cs gs h (put_back ds v e cut.0.0) noted.0 (noted.1 ∙ same_bs) in
     record {
       store = subst IsStore (sym same) is;
-      head = rw (noted.1, same_bs) head;
+      head = rw (noted.1, same_bs) head.0;
+      few = kept_few ds h v e head.1;
       shrinks = subst (Shrinks (kept ds ms cs h)) (sym same) (same_shrinks (kept ds ms cs h));
       is = (same, cut.0.1);
     }
+
+-- and of a list from which the first is taken
+pub kept_taken : (ds : List (List (ℤ × ℤ))) (ms cs gs : List ℕ) (h k v x : ℕ) → IsStore (kept ds ms cs h) → h < length cs → x ≡ get_or cs h v → drop k gs ≡ drop (h + 1) cs
+    → IsStore (kept ds (slice_set ms x 0) gs k)
+kept_taken ds ms cs gs h k v x is within first left =
+    let next : suc h ≡ h + 1 = omega arith in
+    let from : drop h cs ≡ get_or cs h v ∷ drop (h + 1) cs = rw next at (drop-cons cs h v within) in
+    let here : drop h cs ≡ x ∷ drop k gs = rw (first, left) from in
+    taken_store (kept ds ms cs h) x (drop k gs) is here
 
 -- a change by another property that says the same of all numbers that were left
 pub change_at_as : (change : Change) (v : ℕ) (P Q : ℤ → Type 0) (s t : Stored) → ((x : ℤ) → IsInSet (dom_at s.doms v) x → P x ↔ Q x) → IsChangeAt change v P s t

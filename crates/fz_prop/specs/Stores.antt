@@ -28,12 +28,21 @@ mark_at s v = slice_index s.marks v
 abbrev pub IsListed : List ℕ → ℕ → Type 0
 IsListed changed v = SomeByRecursion (λ u. u ≡ v) changed
 
--- each is a domain with a number, and a variable with a mark is listed
+-- none is listed twice
+abbrev pub AreListedOnce : List ℕ → Type 0
+AreListedOnce [] = Unit {0}
+AreListedOnce (v ∷ vs) = (IsListed vs v → ⊥) × AreListedOnce vs
+
+-- Each is a domain with a number. The variables with a mark are listed, each once, and no others, so that no more are listed than
+-- there are variables.
 pub record IsStore (s : Stored) : Type 0 where
   pub size : length s.marks ≡ length s.doms
   pub domains : AreDomains s.doms
   pub listed : (v : ℕ) → 0 < mark_at s v → IsListed s.changed v
+  pub marked : (v : ℕ) → IsListed s.changed v → 0 < mark_at s v
+  pub once : AreListedOnce s.changed
   pub inside : AllByRecursion (λ v. v < length s.doms) s.changed
+  pub few : length s.changed ≤ length s.doms
 
 -- what every call that narrows does
 pub record Shrinks (s t : Stored) : Type 0 where

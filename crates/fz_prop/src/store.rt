@@ -20,7 +20,7 @@ pub struct Store {
     doms: Vec<Dom>,
     /// For each variable the level of its changes since it was taken from the list.
     marks: Vec<u8>,
-    /// The changed variables from `head` on.
+    /// The changed variables from `head` on. Those before it were taken, and are no more than there are variables.
     changed: Vec<u32>,
     head: usize,
 }
@@ -41,7 +41,7 @@ impl Model for Store {
       doms = s.doms.items;
       marks = s.marks.items;
       changed = drop s.head s.changed.items;
-    }) × (s.head ≤ length s.changed.items) };
+    }) × (s.head ≤ length s.changed.items) × (s.head ≤ length s.doms.items) };
 }
 
 impl Store {
@@ -308,7 +308,7 @@ impl Store {
     {
         let first = self.changed[self.head];
         self.marks[first as usize] = 0;
-        self.head += 1;
+        self.head = close_up(&mut self.changed, self.head + 1, self.doms.len());
     }
 
     /// The first of the changed variables, which is taken from the list; `None` exactly where none changed.
@@ -377,6 +377,37 @@ fn list(changed: &mut Vec<u32>, variable: u32)
     match changed.push(variable) {
         Ok(()) | Err(_) => {}
     }
+}
+
+/// Those that were taken leave a list of changed variables once none is left behind them, or they are as many as there are variables.
+/// It tells how many are still there.
+#[inline(always)]
+fn close_up(changed: &mut Vec<u32>, taken: usize, variables: usize) -> usize
+    requires { taken ≤ length changed.old.items }
+    ensures left { drop result changed.new.items ≡ drop taken changed.old.items }
+    ensures inside { result ≤ length changed.new.items }
+    ensures few { result ≤ variables }
+{
+    if taken == changed.len() {
+        changed.clear();
+        return 0;
+    }
+    if taken < variables {
+        return taken;
+    }
+    move_up(changed, taken);
+    0
+}
+
+/// The first so many leave a list.
+#[inline(never)]
+fn move_up(list: &mut Vec<u32>, count: usize)
+    requires { count ≤ length list.old.items }
+    ensures { list.new.items ≡ drop count list.old.items }
+{
+    let left = list.len() - count;
+    list.rotate_left(count);
+    list.truncate(left);
 }
 
 /// Copies of the sets of variables; `None` exactly where one of them is empty.

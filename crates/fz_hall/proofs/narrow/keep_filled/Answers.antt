@@ -33,4 +33,4 @@ pub loop-left-preserved : goal.loop-left-preserved
 loop-left-preserved c =
     let T : List ℤ → Type 0 = IsDifferent c.args.terms.now in
     kept_changed T T c.args.store.now c.loop-left.store c.keep_interval.new.store c.loop-left.has_changed c.loop-left.invariant (λ a h. h) c.keep_interval.ensures.shrinks c.keep_interval.ensures.correct
-    (changed_of c.in_ok-change.change T c.loop-left.store c.keep_interval.new.store c.in_default-change.not-Wiped c.in_default-change-2.not-Same c.in_ok-change.ensures.outcome)
+    (changed_of c.in_ok-change.change T c.loop-left.store c.keep_interval.new.store c.in_default.not-Wiped c.in_default-change.not-Same c.in_ok-change.ensures.outcome)

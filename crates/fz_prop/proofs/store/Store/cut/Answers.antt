@@ -17,10 +17,10 @@ stepped c =
     let cut : IsCut c.in_ok-change.change c.in_ok-change.level (Keeps c.args.cut) (dom_at c.self.inside.doms.items c.args.variable) c.cut_one.new.dom =
     rw at at c.in_ok-change.ensures.cut in
     kept_change c.in_ok-change.change c.self.inside.doms.items c.self.inside.marks.items c.note.new.marks.items c.self.inside.changed.items c.reserve.new.self.items c.note.new.changed.items c.self.inside.head
-    c.args.variable c.in_ok-change.level c.cut_one.new.dom (Keeps c.args.cut) c.self.invariant.0 c.self.invariant.1 within cut c.cut_one.ensures.domain c.reserve.ensures.items c.note.ensures
+    c.args.variable c.in_ok-change.level c.cut_one.new.dom (Keeps c.args.cut) c.self.invariant.0 (c.self.invariant.1, c.self.invariant.2) within cut c.cut_one.ensures.domain c.reserve.ensures.items c.note.ensures
 
 pub invariant_of-self-2 : goal.invariant_of-self-2
-invariant_of-self-2 c = ((stepped c).store, (stepped c).head)
+invariant_of-self-2 c = ((stepped c).store, (stepped c).head, (stepped c).few)
 
 pub returns-clause-shrinks : goal.returns-clause-shrinks
 returns-clause-shrinks c = rw (← c.self.view_is) (stepped c).shrinks

@@ -17,10 +17,10 @@ stepped c =
     let cut : IsCut c.cut_window-change.result.0 c.cut_window-change.result.1 (λ x. IsBit c.args.window.base c.args.window.bits x) (dom_at c.self.inside.doms.items c.args.variable) c.cut_window-change.new.dom =
     rw at at c.cut_window-change.ensures.cut in
     kept_change c.cut_window-change.result.0 c.self.inside.doms.items c.self.inside.marks.items c.note.new.marks.items c.self.inside.changed.items c.reserve.new.self.items c.note.new.changed.items c.self.inside.head
-    c.args.variable c.cut_window-change.result.1 c.cut_window-change.new.dom (λ x. IsBit c.args.window.base c.args.window.bits x) c.self.invariant.0 c.self.invariant.1 within cut c.cut_window-change.ensures.domain c.reserve.ensures.items c.note.ensures
+    c.args.variable c.cut_window-change.result.1 c.cut_window-change.new.dom (λ x. IsBit c.args.window.base c.args.window.bits x) c.self.invariant.0 (c.self.invariant.1, c.self.invariant.2) within cut c.cut_window-change.ensures.domain c.reserve.ensures.items c.note.ensures
 
 pub invariant_of-self-2 : goal.invariant_of-self-2
-invariant_of-self-2 c = ((stepped c).store, (stepped c).head)
+invariant_of-self-2 c = ((stepped c).store, (stepped c).head, (stepped c).few)
 
 pub returns-clause-shrinks : goal.returns-clause-shrinks
 returns-clause-shrinks c = rw (← c.self.view_is) (stepped c).shrinks
