@@ -28,50 +28,6 @@ fn texts(alloc: Global) -> Result<Vec<NamedText>, AllocError> {
     Ok(texts)
 }
 
-/// A call of a source.
-#[derive(Clone, Copy)]
-enum Call {
-    Select(&'static str),
-    /// Of at most four bytes.
-    Read,
-}
-
-/// The bytes that a call of the source gives; `None` where it fails.
-fn given(alloc: Global, source: &mut MemSource, call: Call) -> Result<Option<Vec<u8>>, AllocError> {
-    if source.fault_count() > 9 {
-        return Ok(None);
-    }
-    let mut buffer = [0u8; 4];
-    let count = match call {
-        Call::Select(name) => source.select(name).map(|()| 0),
-        Call::Read => source.read(&mut buffer),
-    };
-    match count {
-        Ok(count) => Ok(Some(buffer[..count].to_vec(alloc)?)),
-        Err(_) => Ok(None),
-    }
-}
-
-#[test]
-fn a_source_goes_on_after_a_fault(rt: HostRuntime) -> Result<(), Fail> {
-    let alloc = rt.alloc();
-    let mut source = MemSource::new(texts(alloc)?, [3].to_vec(alloc)?);
-    for (next, bytes) in [
-        (Call::Select("digits"), Some("")),
-        (Call::Read, Some("0123")),
-        (Call::Read, None),
-        (Call::Read, Some("4567")),
-        (Call::Select("letters"), None),
-        (Call::Read, Some("89")),
-        (Call::Read, Some("")),
-    ] {
-        let bytes_given = given(alloc, &mut source, next)?;
-        assert_eq!(rt; bytes_given.as_deref(), bytes.map(str::as_bytes));
-    }
-    assert_eq!(rt; source.fault_count(), 2);
-    Ok(())
-}
-
 /// What was read, with a mark for how it ended.
 fn shown(alloc: Global, whole: Whole) -> Result<Vec<u8>, AllocError> {
     match whole {
@@ -109,48 +65,6 @@ fn a_whole_text_ends_at_the_limit(rt: HostRuntime) -> Result<(), Fail> {
         let given = whole(alloc, &mut source, "digits", limit)?;
         assert_eq!(rt; given.as_slice(), text.as_bytes(), "at {limit}");
     }
-    Ok(())
-}
-
-#[test]
-fn a_whole_text_fails_in_mid_stream(rt: HostRuntime) -> Result<(), Fail> {
-    let alloc = rt.alloc();
-    let mut source = MemSource::new(texts(alloc)?, [3].to_vec(alloc)?);
-    for (text, faults) in [("failed", 1), ("0123456789", 1)] {
-        let given = whole(alloc, &mut source, "digits", 10)?;
-        assert_eq!(rt; given.as_slice(), text.as_bytes());
-        assert_eq!(rt; source.fault_count(), faults);
-    }
-    Ok(())
-}
-
-/// Whether the sink takes a piece; no piece is a flush.
-fn takes(sink: &mut MemSink, piece: Option<&str>) -> bool {
-    if sink.fault_count() > 9 {
-        return false;
-    }
-    match piece {
-        Some(piece) => put_all(sink, piece.as_bytes()).is_ok(),
-        None => sink.flush().is_ok(),
-    }
-}
-
-#[test]
-fn a_sink_goes_on_after_a_fault(rt: HostRuntime) -> Result<(), Fail> {
-    let alloc = rt.alloc();
-    let mut sink = MemSink::new(alloc, [2].to_vec(alloc)?);
-    // a piece, whether it is taken, and what the sink has then, flushed and not
-    for (piece, is_taken, bytes, flushed) in [
-        (Some("one"), true, "one", 0),
-        (Some("two"), false, "one", 0),
-        (Some("three"), true, "onethree", 0),
-        (None, true, "onethree", 8),
-    ] {
-        assert_eq!(rt; takes(&mut sink, piece), is_taken);
-        assert_eq!(rt; sink.bytes(), bytes.as_bytes());
-        assert_eq!(rt; sink.flushed_count(), flushed);
-    }
-    assert_eq!(rt; sink.fault_count(), 1);
     Ok(())
 }
 

@@ -13,7 +13,7 @@ const NOBODY: u32 = 4_294_967_295;
 /// second's start; the second waits before its first step until the first has made its second; and the first waits there, with its
 /// path's lock in hand, for the second's first step.
 #[derive(Drop)]
-pub(crate) struct Meeting {
+pub struct Meeting {
     first: AtomicU32,
     turned_to: AtomicU32,
     steps: AtomicU32,
@@ -25,7 +25,7 @@ pub(crate) struct Meeting {
 }
 
 impl Meeting {
-    pub(crate) fn new() -> Meeting {
+    pub fn new() -> Meeting {
         Meeting {
             first: AtomicU32::new(NOBODY),
             turned_to: AtomicU32::new(0),
@@ -39,12 +39,12 @@ impl Meeting {
     }
 
     /// How many steps were made.
-    pub(crate) fn steps(&self) -> u32 {
+    pub fn steps(&self) -> u32 {
         self.steps.load(Ordering::SeqCst)
     }
 
     /// Whether a wait was given up.
-    pub(crate) fn is_missed(&self) -> bool {
+    pub fn is_missed(&self) -> bool {
         self.missed.load(Ordering::SeqCst)
     }
 

@@ -1,39 +1,58 @@
-//! Several workers on one model, by many seeds. The model has four free Booleans: a tree of 15 nodes that branch and 16 solutions.
-ghost use Rattle.std.specs.Prelude.{◌≡◌, ◌≤◌};
-ghost use Rattle.fz_tree.specs.Better.{IsModeOf};
+//! Workers that take turns on a model of four Booleans, by many seeds.
+ghost use Rattle.std.specs.Prelude.{◌≤◌};
 
-use fz_account::Mode;
+use crate::answer::Answer;
+use crate::steps::{mode, shared_model};
 use fz_book::End;
 use fz_machine::schedule::next_number;
 use fz_machine::{Event, Machine};
-use fz_model::{Assignment, Goal};
+use fz_model::{Assignment, Model};
 use fz_space::Space;
-use fzn::model_of;
-use std::alloc::Global;
-use std::process::Abort;
+use std::alloc::{AllocError, Global};
 use std::sync::Arc;
-use std::test::Fail;
 
-const FOUR: &str = "var bool: a; var bool: b; var bool: c; var bool: d; solve satisfy;";
+/// Runs by fifty seeds: by how many of them each assignment is recorded once, and whether workers steal in most.
+pub fn run(alloc: Global, text: &str, workers: &str) -> Result<Answer, AllocError> {
+    let (mut sound, mut stealing) = (0u32, 0u32);
+    for seed in 0..50 {
+        if let Some(machine) = machine_of(alloc, text, workers)? {
+            sound = sound.saturating_add(u32::from(is_sound(machine, seed)?));
+        }
+        if let Some(machine) = machine_of(alloc, text, workers)? {
+            stealing = stealing.saturating_add(u32::from(steals(machine, seed)?));
+        }
+    }
+    let told = format!(in alloc; "{sound} sound, most steal: {}\n", stealing > 25)?;
+    Ok(Answer::of(0, told.into_bytes()))
+}
 
-/// The mode of a goal.
-fn mode(goal: &Goal) -> Mode
-    ensures { IsModeOf goal.now result }
-{
-    match goal {
-        Goal::Satisfy => Mode::All,
-        Goal::Minimize(_) | Goal::Maximize(_) => Mode::Best,
+/// So many idle workers on a text's model; none where that is refused.
+fn machine_of(
+    alloc: Global,
+    text: &str,
+    workers: &str,
+) -> Result<Option<Machine<Space>>, AllocError> {
+    let Some(model) = shared_model(alloc, text)? else {
+        return Ok(None);
+    };
+    match workers.parse::<u32>() {
+        Ok(workers) if 1 <= workers => Ok(Some(machine_on(alloc, model, workers)?)),
+        _ => Ok(None),
     }
 }
 
-/// So many idle workers on the model.
-fn machine(rt: &impl Abort, alloc: Global, workers: u32) -> Result<Machine<Space>, Fail>
+fn machine_on(alloc: Global, model: Arc<Model>, workers: u32) -> Result<Machine<Space>, AllocError>
     requires { 1 ≤ workers }
 {
-    let model = model_of(alloc, FOUR.as_bytes())?.ok().expect(rt, "a model");
     let mode = mode(model.goal());
-    let model = Arc::new(alloc, model)?;
     Ok(Machine::new(alloc, model, mode, workers, 8, 2)?)
+}
+
+/// Whether a run records each assignment once.
+fn is_sound(machine: Machine<Space>, seed: u64) -> Result<bool, AllocError> {
+    let mut machine = machine;
+    let is_closed = machine.run(seed, None)? == End::Closed;
+    Ok(is_closed && each_is_once(machine.book().recorded()))
 }
 
 /// The four values as one number from 0 to 15.
@@ -56,48 +75,18 @@ fn each_is_once(found: &[Assignment]) -> bool {
     found.len() == 16 && seen.iter().all(|seen| *seen)
 }
 
-/// How many steals a run by a seed makes, which is followed turn by turn.
-fn steals(rt: &impl Abort, alloc: Global, workers: u32, seed: u64) -> Result<u32, Fail>
-    requires { 1 ≤ workers }
-{
-    let mut machine = machine(rt, alloc, workers)?;
+/// Whether a part is stolen in a run, which is followed turn by turn to its end.
+fn steals(machine: Machine<Space>, seed: u64) -> Result<bool, AllocError> {
+    let mut machine = machine;
     let mut number = seed;
-    let mut steals = 0u32;
+    let mut has_stolen = false;
     for _turn in 0..1000 {
         number = next_number(number);
         let Some(event) = machine.turn(number, None) else {
-            assert!(rt; each_is_once(machine.book().recorded()));
-            return Ok(steals);
+            return Ok(has_stolen && each_is_once(machine.book().recorded()));
         };
         machine.apply(event)?;
-        if matches!(event, Event::Steal(_, _)) {
-            steals = steals.saturating_add(1);
-        }
+        has_stolen = has_stolen || matches!(event, Event::Steal(_, _));
     }
-    panic!(rt; "more turns than the tree takes");
-}
-
-/// Runs by fifty seeds: each records the 16 solutions, and most steal.
-fn run_seeds(rt: &impl Abort, alloc: Global, workers: u32) -> Result<(), Fail>
-    requires { 1 ≤ workers }
-{
-    let mut stealing = 0u32;
-    for seed in 0..50 {
-        let mut machine = machine(rt, alloc, workers)?;
-        assert_eq!(rt; machine.run(seed, None)?, End::Closed);
-        assert!(rt; each_is_once(machine.into_book().recorded()));
-        if steals(rt, alloc, workers, seed)? > 0 {
-            stealing = stealing.saturating_add(1);
-        }
-    }
-    assert!(rt; stealing > 25);
-    Ok(())
-}
-
-#[test]
-fn whatever_the_seed_each_solution_is_recorded_once(rt: HostRuntime) -> Result<(), Fail> {
-    for workers in [2, 3, 64] {
-        run_seeds(&rt, rt.alloc(), workers)?;
-    }
-    Ok(())
+    Ok(false)
 }

@@ -11,20 +11,20 @@ const TURNS: u32 = 10_000_000;
 
 /// Another sink, which shows that it has taken something.
 #[derive(Drop)]
-pub(crate) struct ShowingSink<'a, S: Sink + Drop> {
+pub struct ShowingSink<'a, S: Sink + Drop> {
     inner: S,
     has_taken: &'a AtomicBool,
 }
 
 impl<'a, S: Sink + Drop> ShowingSink<'a, S> {
-    pub(crate) fn new(inner: S, has_taken: &'a AtomicBool) -> ShowingSink<'a, S>
+    pub fn new(inner: S, has_taken: &'a AtomicBool) -> ShowingSink<'a, S>
         ensures { result.inner ≡ inner }
     {
         ShowingSink { inner, has_taken }
     }
 
     /// The other sink.
-    pub(crate) fn inner(&self) -> &S {
+    pub fn inner(&self) -> &S {
         &self.inner
     }
 }
@@ -54,7 +54,7 @@ impl<S: Sink + Drop> Sink for ShowingSink<'_, S> {
 
 /// Each of two workers waits behind its first report until a sink has taken something.
 #[derive(Drop)]
-pub(crate) struct Watching<'a> {
+pub struct Watching<'a> {
     has_taken: &'a AtomicBool,
     first_reported: AtomicBool,
     second_reported: AtomicBool,
@@ -63,7 +63,7 @@ pub(crate) struct Watching<'a> {
 }
 
 impl<'a> Watching<'a> {
-    pub(crate) fn new(has_taken: &'a AtomicBool) -> Watching<'a> {
+    pub fn new(has_taken: &'a AtomicBool) -> Watching<'a> {
         Watching {
             has_taken,
             first_reported: AtomicBool::new(false),
@@ -74,12 +74,12 @@ impl<'a> Watching<'a> {
     }
 
     /// Whether a worker came to the wait.
-    pub(crate) fn has_waited(&self) -> bool {
+    pub fn has_waited(&self) -> bool {
         self.waited.load(Ordering::SeqCst)
     }
 
     /// Whether a wait was given up.
-    pub(crate) fn is_missed(&self) -> bool {
+    pub fn is_missed(&self) -> bool {
         self.missed.load(Ordering::SeqCst)
     }
 

@@ -1,0 +1,51 @@
+//! Cases of both programs, read from files: each line of a case that begins with a word is a call, and each call is made and its answer
+//! compared with what the case says. Printed is a line for each file, and what differs. How a case is written is told in the first
+//! lines of `data/solutions`.
+#![tactic(auto)]
+
+mod answer;
+mod books;
+mod calls;
+mod case;
+mod collecting;
+mod domains;
+mod frontiers;
+mod machines;
+mod meeting;
+mod models;
+mod paths;
+mod runs;
+mod seeds;
+mod spaces;
+mod steps;
+mod watching;
+mod words;
+
+use calls::Report;
+use std::alloc::AllocGlobal;
+use std::env::Env;
+use std::fs::Files;
+use std::io::Print;
+use std::process::ExitCode;
+use std::sync::Wait;
+use std::thread::Threads;
+use std::{env, fs, io};
+
+fn main(rt: HostRuntime) -> ExitCode {
+    match run_all(&rt) {
+        Ok(()) => ExitCode::SUCCESS,
+        Err(_) => ExitCode::FAILURE,
+    }
+}
+
+/// Runs the cases of the files that the arguments name, and prints what comes of them.
+fn run_all<R: Env + Files + Print + AllocGlobal + Threads + Wait + Sync>(rt: &R) -> io::Result<()> {
+    for name in env::args(rt)?.skip(1) {
+        let text = fs::read_to_string(rt, &name)?;
+        let mut report = Report::new(rt.alloc(), &name);
+        report.run(rt, &text)?;
+        let told = report.text()?;
+        print!(rt; "{told}")?;
+    }
+    Ok(())
+}

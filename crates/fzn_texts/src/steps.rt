@@ -1,0 +1,115 @@
+//! Steps with a value, and what each of them answers.
+ghost use Rattle.fz_sets.specs.Sets.{IsWithinLimits};
+ghost use Rattle.fz_tree.specs.Better.{IsModeOf};
+
+use crate::answer::Answer;
+use fz_account::Mode;
+use fz_model::{Assignment, Goal, Model};
+use fz_reader::model_of;
+use std::alloc::{AllocError, Global};
+use std::sync::Arc;
+
+/// What takes steps.
+pub trait Stepped: Drop {
+    /// Takes a step, and says what it answers; none where it is no step.
+    fn take(&mut self, alloc: Global, step: &str) -> Result<Option<String>, AllocError>;
+}
+
+/// Takes rows of steps, and prints a line of answers for each.
+pub fn take_all<S: Stepped>(
+    alloc: Global,
+    stepped: &mut S,
+    rows: &[&str],
+) -> Result<Answer, AllocError> {
+    let mut text = String::new(alloc);
+    for row in rows {
+        take_row(alloc, stepped, row, &mut text)?;
+    }
+    Ok(Answer::of(0, text.into_bytes()))
+}
+
+fn take_row<S: Stepped>(
+    alloc: Global,
+    stepped: &mut S,
+    row: &str,
+    text: &mut String,
+) -> Result<(), AllocError> {
+    for (number, step) in row.split(", ").enumerate() {
+        if number > 0 {
+            text.push_str(", ")?;
+        }
+        match stepped.take(alloc, step)? {
+            Some(answer) => text.push_str(&answer)?,
+            None => text.push_str("no step")?,
+        }
+    }
+    text.push_str("\n")
+}
+
+/// The model of a text; none where it is refused.
+pub fn shared_model(alloc: Global, text: &str) -> Result<Option<Arc<Model>>, AllocError> {
+    match model_of(alloc, text.as_bytes())? {
+        Ok(model) => match Arc::new(alloc, model) {
+            Ok(model) => Ok(Some(model)),
+            Err(_) => Err(AllocError),
+        },
+        Err(_) => Ok(None),
+    }
+}
+
+/// What is sought of a goal: all solutions, or a best one.
+pub fn mode(goal: &Goal) -> Mode
+    ensures { IsModeOf goal.now result }
+{
+    match goal {
+        Goal::Satisfy => Mode::All,
+        Goal::Minimize(_) | Goal::Maximize(_) => Mode::Best,
+    }
+}
+
+/// The number within the limits that is nearest.
+pub fn near(value: i32) -> i32
+    ensures { IsWithinLimits result }
+{
+    if value < -2_147_483_646 {
+        -2_147_483_646
+    } else if 2_147_483_646 < value {
+        2_147_483_646
+    } else {
+        value
+    }
+}
+
+/// The assignment of a number to one variable; none where it is no number.
+pub fn assignment_of(alloc: Global, word: &str) -> Result<Option<Assignment>, AllocError> {
+    match word.parse::<i32>() {
+        Ok(value) => Ok(Some(Assignment::new(alloc, &[near(value)])?)),
+        Err(_) => Ok(None),
+    }
+}
+
+/// The values of assignments, as `1 2 | 2 1`.
+pub fn values_of(alloc: Global, assignments: &[Assignment]) -> Result<String, AllocError> {
+    let mut text = String::new(alloc);
+    for (number, assignment) in assignments.iter().enumerate() {
+        if number > 0 {
+            text.push_str(" | ")?;
+        }
+        push_values(alloc, &mut text, assignment)?;
+    }
+    Ok(text)
+}
+
+fn push_values(
+    alloc: Global,
+    text: &mut String,
+    assignment: &Assignment,
+) -> Result<(), AllocError> {
+    for (number, value) in assignment.values().iter().enumerate() {
+        if number > 0 {
+            text.push_str(" ")?;
+        }
+        text.push_str(&format!(in alloc; "{value}")?)?;
+    }
+    Ok(())
+}

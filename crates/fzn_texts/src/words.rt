@@ -1,0 +1,48 @@
+//! What words give.
+use crate::answer::Answer;
+use fz_cmd::Options;
+use fz_cmd::words::options;
+use std::alloc::{AllocError, Global};
+
+/// The options of some words, or that they are refused.
+pub fn read(alloc: Global, words: &[String]) -> Result<Answer, AllocError> {
+    match options(alloc, words)? {
+        Some(options) => Ok(Answer::of(0, shown(alloc, &options)?.into_bytes())),
+        None => Ok(Answer::of(2, Vec::new(alloc))),
+    }
+}
+
+/// The numbers and the file of options, and what is set of the others.
+fn shown(alloc: Global, options: &Options) -> Result<String, AllocError> {
+    let mut text = format!(in alloc;
+        "workers={} commit={} adaptive={} file={}",
+        options.workers(),
+        options.commit_distance(),
+        options.adaptive_distance(),
+        options.file().as_str()
+    )?;
+    for (name, is_set) in [
+        (" all", options.all()),
+        (" distinct", options.distinct()),
+        (" stats", options.stats()),
+        (" certificate", options.certificate()),
+    ] {
+        text.push_str(if is_set { name } else { "" })?;
+    }
+    push_numbers(alloc, &mut text, options)?;
+    text.push_str("\n")?;
+    Ok(text)
+}
+
+fn push_numbers(alloc: Global, text: &mut String, options: &Options) -> Result<(), AllocError> {
+    if let Some(limit) = options.limit() {
+        text.push_str(&format!(in alloc; " limit={limit}")?)?;
+    }
+    if let Some(seed) = options.interleave() {
+        text.push_str(&format!(in alloc; " interleave={seed}")?)?;
+    }
+    if let Some(items) = options.generate() {
+        text.push_str(&format!(in alloc; " generate={items}")?)?;
+    }
+    Ok(())
+}
