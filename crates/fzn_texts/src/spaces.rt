@@ -57,13 +57,12 @@ fn status(alloc: Global, space: &mut Space) -> Result<String, AllocError> {
     Ok(text)
 }
 
-/// The ranges of a domain, as ` 1..3+5..7`.
+/// The ranges of a domain, as ` 1..3 5..7;`.
 fn push_ranges(alloc: Global, text: &mut String, dom: &Dom) -> Result<(), AllocError> {
-    for (number, (low, high)) in dom.ranges().enumerate() {
-        text.push_str(if number > 0 { "+" } else { " " })?;
-        text.push_str(&format!(in alloc; "{low}..{high}")?)?;
+    for (low, high) in dom.ranges() {
+        text.push_str(&format!(in alloc; " {low}..{high}")?)?;
     }
-    Ok(())
+    text.push_str(";")
 }
 
 /// The first variable is a number, or it isn't.
