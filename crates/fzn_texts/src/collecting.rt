@@ -7,6 +7,8 @@ use crate::books::{book_of, path_of};
 use fz_book::{Book, Taken};
 use fz_collect::{Collect, News, Outbox, Subject, gather};
 use fz_io::gate::NoGate;
+use fz_path::Path;
+use fz_space::Space;
 use fz_team::{End, TeamEnd, run as search_by};
 use std::alloc::{AllocError, Global};
 use std::marker::{Brand, PhantomData};
@@ -68,9 +70,10 @@ pub fn run<R: Threads + Wait + Sync>(
     let (Some(book), Some(own)) = (book_of(alloc, text)?, book_of(alloc, text)?) else {
         return Ok(Answer::of(1, Vec::new(alloc)));
     };
-    let Some((end, own, dropped)) = collected::<R, Brand>(rt, alloc, text, book, own)? else {
+    let (Some(first), Some(second)) = (path_of(alloc, text)?, path_of(alloc, text)?) else {
         return Ok(Answer::of(1, Vec::new(alloc)));
     };
+    let (end, own, dropped) = collected::<R, Brand>(rt, alloc, book, own, first, second)?;
     let end = word_of(end);
     let (recorded, is_closed) = (own.recorded_count(), own.is_closed());
     let told = format!(in alloc; "{end}: {recorded} recorded, {dropped} dropped, {is_closed}\n")?;
@@ -81,16 +84,14 @@ pub fn run<R: Threads + Wait + Sync>(
 fn collected<R: Threads + Wait + Sync, T: Subject + Send + Sync>(
     rt: &R,
     alloc: Global,
-    text: &str,
     book: Book,
     own: Book,
-) -> Result<Option<(End, Book, u32)>, AllocError>
+    first: Path<Space>,
+    second: Path<Space>,
+) -> Result<(End, Book, u32), AllocError>
     requires { IsBookOf T.model T.mode book.book }
 {
     let outbox: Outbox<T> = Outbox::new(alloc);
-    let (Some(first), Some(second)) = (path_of(alloc, text)?, path_of(alloc, text)?) else {
-        return Ok(None);
-    };
     let paths = vec![in alloc; first, second]?;
     let end = search_by(rt, alloc, book, paths, None, &NoGate, &outbox).end;
     outbox.end();
@@ -100,7 +101,7 @@ fn collected<R: Threads + Wait + Sync, T: Subject + Send + Sync>(
         subject: PhantomData,
     };
     gather(rt, alloc, &outbox, &mut collector, &mut ());
-    Ok(Some((end, collector.book, collector.dropped)))
+    Ok((end, collector.book, collector.dropped))
 }
 
 /// What a team of one worker leaves: how it ended, the best that the worker found, and the least score that was put.
@@ -109,12 +110,10 @@ pub fn team<R: Threads + Wait + Sync>(
     alloc: Global,
     text: &str,
 ) -> Result<Answer, AllocError> {
-    let Some(book) = book_of(alloc, text)? else {
+    let (Some(book), Some(path)) = (book_of(alloc, text)?, path_of(alloc, text)?) else {
         return Ok(Answer::of(1, Vec::new(alloc)));
     };
-    let Some(left) = searched::<R, Brand>(rt, alloc, text, book)? else {
-        return Ok(Answer::of(1, Vec::new(alloc)));
-    };
+    let left = searched::<R, Brand>(rt, alloc, book, path)?;
     let mut told = format!(in alloc; "{}:", word_of(left.end))?;
     for best in &left.bests {
         for value in best.values() {
@@ -129,17 +128,14 @@ pub fn team<R: Threads + Wait + Sync>(
 fn searched<R: Threads + Wait + Sync, T: Subject + Send + Sync>(
     rt: &R,
     alloc: Global,
-    text: &str,
     book: Book,
-) -> Result<Option<TeamEnd>, AllocError>
+    path: Path<Space>,
+) -> Result<TeamEnd, AllocError>
     requires { IsBookOf T.model T.mode book.book }
 {
     let outbox: Outbox<T> = Outbox::new(alloc);
-    let Some(path) = path_of(alloc, text)? else {
-        return Ok(None);
-    };
     let paths = vec![in alloc; path]?;
-    Ok(Some(search_by(rt, alloc, book, paths, None, &NoGate, &outbox)))
+    Ok(search_by(rt, alloc, book, paths, None, &NoGate, &outbox))
 }
 
 fn word_of(end: End) -> &'static str {
