@@ -127,4 +127,4 @@ def write_section(path, title, body):
     place = behind.find("\n## ")
     rest = behind[place:] if place >= 0 else ""
     with open(path, "w", encoding="utf-8") as file:
-        file.write(f"{before.rstrip()}\n\n{title}\n\n{body.rstrip()}\n{rest}")
+        file.write(f"{before.rstrip()}\n\n{title}\n\n{body.rstrip()}\n{rest}".lstrip())

@@ -1,5 +1,5 @@
-//! Which of two assignments of a model is better: the one whose goal value is less where the goal is to minimise, greater where it
-//! is to maximise (MiniZinc Handbook, "Solve items").
+//! Which of two assignments of a model is better, by its goal (MiniZinc Handbook, "Solve items"). To minimise, it is the one
+//! whose goal value is less; to maximise, greater.
 #![tactic(auto)]
 
 pub mod order;

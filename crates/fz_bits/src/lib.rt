@@ -1,4 +1,4 @@
-//! Words of bits, each the set of the places of its ones, windows of 64 numbers, and sets of numbers that are kept as words, 64
+//! Words of bits, each the set of the places of its ones, and windows of 64 numbers. Sets of numbers are kept as words, 64
 //! numbers to each.
 #![tactic(auto)]
 

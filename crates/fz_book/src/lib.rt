@@ -1,8 +1,8 @@
 //! Books: what is recorded of a model's satisfying assignments, and which frontiers of its search tree are open.
 //!
-//! The law of books stands in fz_tree and holds of every book: in a search for all satisfying assignments each is recorded or in
-//! one open frontier, once in all; in a search for the best one so is each that betters the incumbent. So a book with nothing
-//! open is complete.
+//! The law of books stands in fz_tree and holds of every book. In a search for all satisfying assignments each is recorded or
+//! in one open frontier, once in all. In a search for the best one so is each that betters the incumbent. So a book with
+//! nothing open is complete. What is printed is let go of.
 #![tactic(auto)]
 
 pub mod book;

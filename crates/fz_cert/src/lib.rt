@@ -1,6 +1,9 @@
-//! The checker of certificates: whether an output proves that its last block is best, or that no assignment satisfies.
-//! The boxes, walks and lines of certificates stand here, too, for what makes them.
-//! It stands on the definitions, on domains and models, and on the judge of constraints; on no propagation and no search.
+//! The checker of certificates: whether an output proves that its last block is best, or that no assignment satisfies. The
+//! boxes, walks and lines of certificates stand here, too, for what makes them.
+//!
+//! A certificate is a tree of boxes: a box is refuted by a constraint's sum, by trying at most 256 choices, or split at a
+//! number. The checker guesses each line, prints it and compares. It stands on the definitions, on domains and models, and on
+//! the judge of constraints; on no propagation and no search.
 #![tactic(auto)]
 
 pub mod area;

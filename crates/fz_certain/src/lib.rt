@@ -1,5 +1,5 @@
-//! Where nothing is better than an assignment, or none satisfies, there is a certificate: the laws, as the clauses of functions that do
-//! nothing, so that the clauses are proved.
+//! If nothing is better than an assignment, or none satisfies, there is a certificate. The laws are the clauses of functions
+//! that do nothing, so that the clauses are proved.
 #![tactic(auto)]
 
 pub mod laws;

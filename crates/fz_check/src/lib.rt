@@ -1,6 +1,9 @@
 //! The rules of a FlatZinc program: names, types, lengths and limits (fzn's own rules; the types are those of the MiniZinc
-//! Handbook, "FlatZinc"). A program that keeps them is a model; else the first rule that its first item breaks is told, with the
-//! place.
+//! Handbook, "FlatZinc"). A program that keeps them is a model; else the first rule that its first item breaks is reported,
+//! with the place.
+//!
+//! The whole fault of an item is computed, in the order of the rules. A row of the table of constraints is found by binary
+//! search.
 #![tactic(auto)]
 
 mod call;

@@ -1,5 +1,5 @@
-//! What the words of a command line mean: those that clap's own rules give a simple command without help and version options,
-//! each number within its bounds.
+//! What the words of a command line mean, by clap's own rules for a simple command without help and version. Each number lies
+//! within its bounds.
 #![tactic(auto)]
 
 mod command;

@@ -1,4 +1,4 @@
-//! What several workers tell while they search: an outbox that they tell, and the loop that hands each of it to a collector.
+//! What several workers report while they search: an outbox, and the loop that hands each report to a collector.
 #![tactic(auto)]
 
 pub mod collect;

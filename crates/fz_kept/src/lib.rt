@@ -1,4 +1,5 @@
-//! What the propagators of a space keep between runs.
+//! What the propagators of a space keep between runs. It is true of the store for good, so it needs no undo. Long sums,
+//! clauses, parities, different terms and extremes have a cell for it.
 #![tactic(auto)]
 
 pub mod ends;

@@ -2,7 +2,7 @@
 //! is the integer part of FlatZinc (MiniZinc Handbook, "FlatZinc and the MiniZinc Challenge"); where the handbook leaves a
 //! choice, the rule is fzn's own and says so.
 //!
-//! The definitions stand in `specs/`. Here are the enum that code and definitions share, the laws that the definitions keep,
+//! The definitions stand in `specs/`. Here are the enums that code and definitions share, the laws that the definitions keep,
 //! and how some texts are read.
 #![tactic(auto)]
 

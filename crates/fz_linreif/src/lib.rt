@@ -1,5 +1,5 @@
-//! The propagator of linear equations, disequations and orders with a Boolean that says whether they hold. Where the ends of the
-//! sum decide, the Boolean is fixed; where it is fixed, the sum is narrowed by the constraint or by its opposite.
+//! The propagator of linear equations, disequations and orders with a Boolean that says whether they hold. If the ends of the
+//! sum decide, the Boolean is fixed; if it is fixed, the sum is narrowed by the constraint or by its opposite.
 #![tactic(auto)]
 
 mod decide;

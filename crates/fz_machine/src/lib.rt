@@ -1,5 +1,6 @@
-//! Several workers that search one tree on one thread: each event of one of them is a call, and a schedule says whose turn it is.
-//! What an event makes of workers and book, and what holds whatever the events, is said in fz_core.
+//! Several workers that search one tree on one thread: each event of one of them is a call, and a schedule says whose turn it
+//! is. What an event makes of workers and book, and what holds whatever the events, is said in fz_core. An event is to claim,
+//! start, step, report, steal or learn.
 #![tactic(auto)]
 
 pub mod machine;

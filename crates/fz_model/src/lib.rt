@@ -1,7 +1,10 @@
 //! The model of a FlatZinc text, and assignments of its variables (MiniZinc Handbook, "FlatZinc").
 //!
-//! Each type is to contracts the value that `fz_spec` defines: a `Model` is an instance, an `Assignment` a list of whole numbers.
-//! What a type keeps, as that numbers lie within the limits, its constructors ask for and its readers tell.
+//! Each type is to contracts the value that `fz_spec` defines: a `Model` is an instance, an `Assignment` a list of whole
+//! numbers. What a type keeps, as that numbers lie within the limits, its constructors ask for and its readers hand out.
+//!
+//! A set or an array that several constraints name stands once, behind a counted pointer. That the elements of an array lie in
+//! the set of its type is the array's list and the set; such a constraint is found by its number, by binary search.
 #![tactic(auto)]
 
 pub mod assignment;

@@ -1,9 +1,9 @@
-//! Paths: one worker's depth-first search of a frontier, with recomputation (Schulte, Tack, Lagerkvist: "Modeling and Programming
-//! with Gecode", "Recomputation"; Gecode's `search/seq/path.hh`).
+//! Paths: one worker's depth-first search of a frontier, with recomputation (Schulte, Tack, Lagerkvist: "Modeling and
+//! Programming with Gecode", "Recomputation").
 //!
-//! What a path holds is an account of the frontier that it was started with. The space of a node is remade from the nearest copy
-//! above it by the taken decisions, and covers exactly these. Where rows are sought the tree is divided by what is printed, and a node
-//! where that is fixed is decided by a search below it, over the same spaces.
+//! What a path holds is an account of the frontier that it was started with. The space of a node is remade from the nearest
+//! copy above it by the taken decisions, and covers exactly these. With `--distinct` the tree is divided by what is printed,
+//! and a node where that is fixed is decided by a search below it, which ends at the first solution.
 #![tactic(auto)]
 
 mod beginning;

@@ -1,5 +1,5 @@
-//! Plainer forms of what is said: a relation of a term to itself is decided, equal terms of a sum are added up, and a sum that is always
-//! or never related so to a number is.
+//! Plainer forms of what is said. A relation of a term to itself is decided, and equal terms of a sum are added up. An equation
+//! whose number is no multiple of its factors' greatest divisor has no solution.
 #![tactic(auto)]
 
 mod decided;

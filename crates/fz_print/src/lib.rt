@@ -1,5 +1,4 @@
-//! What a run prints, byte for byte: a block for a solution, the line behind the blocks, and the text of a refusal
-//! (MiniZinc Handbook, "Output").
+//! What a run prints, byte for byte: a block, the closing line, and the text of a refusal (MiniZinc Handbook, "Output").
 #![tactic(auto)]
 
 pub mod block;

@@ -1,5 +1,9 @@
-//! Stores and propagators: a domain for each variable, the changes of domains in the order in which they came, and what a
-//! propagator, which narrows a store by what it says, promises of a run (Schulte, Stuckey: "Efficient Constraint Propagation Engines").
+//! Stores and propagators (Schulte, Stuckey: "Efficient Constraint Propagation Engines"). A store is a domain for each variable
+//! and the changes in the order in which they came; a propagator narrows it by what it says, and promises what a run leaves.
+//!
+//! Each changed variable is listed with a mark: fixed, an end moved, or another number left. A change makes room in the list
+//! first, so if memory is refused nothing has changed. What is taken leaves the list, which stays at most twice as long as
+//! there are variables.
 #![tactic(auto)]
 
 pub mod answer;

@@ -1,4 +1,4 @@
-//! Numbers and their ranges: what is left of the ranges of two numbers and of their product, quotient or rest; roots and halves; and
+//! Numbers and their ranges: what is left of two numbers and of their product, quotient or rest. With roots and halves, and
 //! operations on numbers of 32 bits, exact in 64.
 #![tactic(auto)]
 

@@ -1,5 +1,5 @@
-//! What the expressions and declarations of a FlatZinc program are, one by one: what names stand for, the places of unknown ones,
-//! the arguments, sets and index ranges that are written, and which rule an item breaks.
+//! What the expressions and declarations of a FlatZinc program are, one by one. That is what names stand for, the places of
+//! unknown ones, the arguments, sets and index ranges that are written, and which rule an item breaks.
 #![tactic(auto)]
 
 pub mod annotations;

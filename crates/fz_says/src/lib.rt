@@ -1,5 +1,5 @@
-//! What a constraint says, of the arguments of a model: which shape of saying it has, what is waited for there, and what a run of
-//! a propagator of it costs. Here alone code tells constraints apart by their names.
+//! What a constraint says, of the arguments of a model: its shape, what is waited for there, and what a run costs. Here alone
+//! code distinguishes constraints by their names.
 #![tactic(auto)]
 
 mod costs;

@@ -1,5 +1,5 @@
-//! The search of a model by the options: by one worker, by several that take turns on one thread, or by several in threads; and what
-//! is shown of the book that it leaves.
+//! The search of a model by the options: by one worker, by several that take turns, or by several in threads. With what is
+//! shown of the book that it leaves.
 #![tactic(auto)]
 
 pub mod searching;

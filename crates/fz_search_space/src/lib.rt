@@ -1,5 +1,5 @@
-//! What a search asks of a space: a domain for each variable of a model, cut down by decisions, and whether they are all fixed
-//! (Schulte, Tack, Lagerkvist: "Modeling and Programming with Gecode", "Getting started" of its part on search).
+//! What a search asks of a space: a domain for each variable, cut down by decisions, and whether they are all fixed (Schulte,
+//! Tack, Lagerkvist: "Modeling and Programming with Gecode", "Getting started" of its part on search).
 #![tactic(auto)]
 
 pub mod numbers;

@@ -1,5 +1,5 @@
-//! What fzn promises, as definitions that the contracts of the other crates cite: what a model means, what a command line
-//! means, and what a run prints. How a text is read stands in fz_language.
+//! What fzn promises, as definitions that the contracts of the other crates cite: what a model means, and what a run prints.
+//! How a text is read stands in fz_language.
 //!
 //! The definitions stand in `specs/`. Here are the enums that code and definitions share, and the laws that the definitions
 //! keep.

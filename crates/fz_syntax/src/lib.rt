@@ -1,5 +1,5 @@
-//! The syntax trees of a FlatZinc text (MiniZinc Handbook, "FlatZinc grammar"): a type for each rule of the grammar, with a
-//! field for each part of the rule that says something.
+//! The syntax trees of a FlatZinc text (MiniZinc Handbook, "FlatZinc grammar"). There is a type for each rule of the grammar,
+//! with a field for each part of the rule that says something.
 //!
 //! A leaf is a name, which is its bytes, an integer, or a mark. Each has its place, `at`: the count of bytes of the text before
 //! it. The definitions of `fz_language` have the same trees; `specs/Trees.antt` says which tree stands for which.

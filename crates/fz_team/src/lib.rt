@@ -1,4 +1,7 @@
 //! Several threads that search one tree: each has a path behind a lock of its own, and all have one book behind another.
+//!
+//! The bound that they share is one atomic word. An idle worker looks, then locks the book and cuts a part from another, with a
+//! copy of a space near it. What is found waits in an outbox, which one loop prints.
 #![tactic(auto)]
 
 mod crew;

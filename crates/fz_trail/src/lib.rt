@@ -1,6 +1,10 @@
-//! The spaces beside a path: the root's, copies at some of its nodes, and the one that a worker looks at. A node's space is remade
-//! from the nearest copy above it by the taken decisions (Schulte, Tack, Lagerkvist: "Modeling and Programming with Gecode",
-//! "Recomputation"; Gecode's `search/seq/path.hh`).
+//! The spaces beside a path: the root's, copies at some of its nodes, and the current one. A node's space is remade from the
+//! nearest copy above it by the taken decisions (Schulte: "Comparing trailing and copying for constraint programming"; Gecode's
+//! `search/seq/path.hh`).
+//!
+//! A copy is kept if none stands within the commit distance above, at a node that the path came back to, and at those up to
+//! seven edges below it. A node that is remade by several decisions gets a copy in the middle of the way. Of more than 64
+//! copies every second of the older half goes.
 #![tactic(auto)]
 
 pub mod kept;

@@ -1,5 +1,5 @@
-//! Whether an assignment satisfies a model: each number lies in the set of its variable, and each constraint is true.
-//! Sums are taken in 128 bits, where none of them wraps. Nothing here takes memory.
+//! Whether an assignment satisfies a model: each number lies in the set of its variable, and each constraint is true. Sums are
+//! taken in 128 bits, where none of them wraps. Nothing here takes memory.
 #![tactic(auto)]
 
 mod constraint;

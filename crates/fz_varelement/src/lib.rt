@@ -1,4 +1,5 @@
-//! The propagator of an index into a list of terms.
+//! The propagator of an index into a list of terms. Each place gives a word of the numbers that its term may be. The one term
+//! that is left takes the value's domain.
 #![tactic(auto)]
 
 mod matches;

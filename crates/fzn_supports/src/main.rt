@@ -1,8 +1,10 @@
-//! What spaces leave of small domains, beside all assignments: for each constraint, and each choice of domains of a few numbers for
-//! its variables, a space of these domains and that constraint comes to rest, and is compared with the assignments that satisfy. Each
-//! is looked at twice: once its domains are declared, and once they are what is left of wider ones that came to rest before, so that
-//! what propagators keep between runs is used. With the word `nodes` it counts what a search of the tree of a model on standard input
-//! does, with `rows` what one for each row does, and with a number behind the word, as in `nodes 1`, up to so many solutions.
+//! What spaces leave of small domains, beside all assignments. For each constraint, and each choice of domains of a few numbers
+//! for its variables, a space of these domains and that constraint comes to rest, and is compared with the assignments that
+//! satisfy. Each is looked at twice: as declared, and as what is left of wider domains that came to rest before, so that what
+//! propagators keep between runs is used.
+//!
+//! With the word `nodes` it counts what a search of the tree of a model on standard input does, with `rows` what one for each
+//! row does, and with a number after the word, as in `nodes 1`, up to that many solutions.
 #![tactic(auto)]
 
 mod counted;

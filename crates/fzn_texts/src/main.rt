@@ -1,6 +1,6 @@
-//! Cases of both programs, read from files: each line of a case that begins with a word is a call, and each call is made and its answer
-//! compared with what the case says. Printed is a line for each file, and what differs. How a case is written is told in the first
-//! lines of `data/solutions`.
+//! Cases of both programs, read from files: each call of a case is made, and its answer compared with what the case says. Each
+//! line of a case that begins with a word is a call. Printed is a line for each file, and what differs. How a case is written
+//! stands in the first lines of `data/solutions`.
 #![tactic(auto)]
 
 mod answer;
