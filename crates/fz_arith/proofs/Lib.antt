@@ -6,3 +6,4 @@ pub mod Places
 pub mod Steps
 pub mod Helping
 pub mod Beaten
+pub mod ProductEnds

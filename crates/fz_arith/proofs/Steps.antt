@@ -227,6 +227,12 @@ rested_answer true false e r s n passed are h same told =
     let line = subst (λ (u : Stored). IsEquationLine e u.doms) (sym h.steps.0) (line_now e r.doms n (omega (arith, passed, bounds_length e r.doms)) h.steps.1 (h.divides refl)) in
     subsumed e s.doms (subst (λ (u : Stored). AllByRecursion (IsTermOf (length u.doms)) (equation_terms e)) (sym h.steps.0) are) (told.0 refl) line
 
+-- the line holds of a store that stays
+pub rested_line : (fixed : Bool) (e : Equation) (s : Stored) → AllByRecursion (IsTermOf (length s.doms)) (equation_terms e) → IsEquationLine e s.doms → IsTrue fixed ↔ AllFixed s.doms (equation_terms e)
+    → IsAnswerOf (rested_by fixed) (EquationTruth e) (IsEquationLine e) s.doms s.doms
+rested_line false e s are line told = line
+rested_line true e s are line told = subsumed e s.doms are (told.0 refl) line
+
 -- where something left, there is less room
 pub changed_answer : (e : Equation) (r s : Stored) (n : ℕ) (changed : Bool) → IsNarrowing e r s n changed → changed ≡ true → IsAnswerOf NoFix (EquationTruth e) (IsEquationLine e) r.doms s.doms
 changed_answer e r s n true h is = h.steps

@@ -12,6 +12,7 @@ mod ends;
 mod extremes;
 mod factors;
 mod narrow;
+mod positive;
 mod sized;
 
 pub use arithmetic::Arithmetic;

@@ -11,6 +11,7 @@ ghost use Rattle.fz_arith.specs.Narrowing.{IsClamped, IsDivided, IsStep, answer_
 
 use crate::bounds::bounds_at;
 use crate::factors::keep_operands;
+use crate::positive::rests_as_product;
 use fz_prop::terms::{are_fixed, remove, value_of};
 use fz_prop::{Answer, Change, Store};
 use fz_spec::term::Term;
@@ -38,7 +39,7 @@ pub fn keep_equation(
     if let Change::Wiped = change {
         return Ok(Answer::Failed);
     }
-    let answer = keep_bounds(store, operation, operands, value)?;
+    let answer = keep_line(store, operation, operands, value)?;
     Ok(after(change, answer))
 }
 
@@ -50,6 +51,30 @@ fn after(change: Change, answer: Answer) -> Answer
         (Change::Changed, Answer::Fix) => Answer::NoFix,
         (_, answer) => answer,
     }
+}
+
+/// Keeps each term between the bounds that the ends of the others give, unless a look at the ends shows that all are.
+fn keep_line(
+    store: &mut Store,
+    operation: Operation,
+    operands: &[Term],
+    value: Term,
+) -> Result<Answer, AllocError>
+    requires value { IsTermOf (length store.old.doms) value }
+    requires operands { AllByRecursion (IsTermOf (length store.old.doms)) operands.now }
+    ensures shrinks { Shrinks store.old store.new }
+    ensures correct { IsCorrectOf (EquationTruth (equation operation operands.now value))
+        store.old.doms store.new.doms }
+    ensures answer { IfOk result
+        (λ r. IsAnswerOf r (EquationTruth (equation operation operands.now value))
+        (IsEquationLine (equation operation operands.now value))
+        store.old.doms store.new.doms) }
+{
+    let _ = store.doms();
+    if rests_as_product(store, operation, operands, value) {
+        return Ok(Answer::rested(are_all_fixed(store, operands, value)));
+    }
+    keep_bounds(store, operation, operands, value)
 }
 
 /// Keeps each term between the bounds that the ends of the others give.

@@ -145,7 +145,21 @@ fn room_in(window: Window, high: i32) -> i128
     use_of(high, width(window))
 }
 
-/// Whether tasks use more in a window than a bound allows. Where all that they ever use is no more, nothing is added up.
+/// Whether tasks seem to use more in a window than there is room for. This is a hint, in 64 bits: a sum that doesn't fit is as large as
+/// may be.
+fn seems_overdrawn(tasks: &[OpenTask], window: Window, room: i128) -> bool
+    requires { unsigned_abs window.until ≤ 2 ^ 32 }
+{
+    let mut total = 0i64;
+    for task in tasks {
+        let more = i64::from(task.usage).saturating_mul(least_overlap(window, *task));
+        total = total.saturating_add(more);
+    }
+    room < i128::from(total)
+}
+
+/// Whether tasks use more in a window than a bound allows. Nothing is added up if all that they ever use is no more, and nothing exactly
+/// if it seems to be no more.
 fn is_overdrawn_in(tasks: &[OpenTask], window: Window, high: i32, most: i128) -> bool
     requires few { length tasks.now ≤ 2 ^ 20 }
     requires near { unsigned_abs window.until ≤ 2 ^ 32 }
@@ -155,7 +169,7 @@ fn is_overdrawn_in(tasks: &[OpenTask], window: Window, high: i32, most: i128) ->
         return false;
     }
     let room = room_in(window, high);
-    room < most && room < energy_in(tasks, window)
+    room < most && seems_overdrawn(tasks, window, room) && room < energy_in(tasks, window)
 }
 
 /// Whether a task may run outside a window.

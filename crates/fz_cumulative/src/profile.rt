@@ -17,7 +17,7 @@ use std::alloc::{AllocError, Global};
 pub fn profile(alloc: Global, tasks: &[OpenTask]) -> Result<Vec<i128>, AllocError>
     ensures { IfOk result (λ v. v.items ≡ profile_of tasks.now) }
 {
-    let mut loads = Vec::new(alloc);
+    let mut loads = Vec::with_capacity(alloc, tasks.len())?;
     for i in 0..tasks.len() {
         loads.push(parts_at(tasks, tasks[i].latest))?;
     }

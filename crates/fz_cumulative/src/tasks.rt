@@ -43,7 +43,7 @@ pub fn open_tasks(
     ensures { IfOk result (λ v.
         v.items ≡ line.open_tasks store.now.doms starts.now durations.now usages.now) }
 {
-    let mut tasks = Vec::new(alloc);
+    let mut tasks = Vec::with_capacity(alloc, starts.len())?;
     for i in 0..starts.len().min(durations.len()).min(usages.len()) {
         tasks.push(open_task(store, starts[i], durations[i], usages[i]))?;
     }

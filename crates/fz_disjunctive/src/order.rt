@@ -51,7 +51,7 @@ pub fn soonest_ends(alloc: Global, jobs: &[Job]) -> Result<Option<Vec<i128>>, Al
     ensures { IfOk result (λ ends. MatchOption ends (HasNoSchedule jobs.now)
         (λ v. length v.items ≡ length jobs.now)) }
 {
-    let mut ends = Vec::new(alloc);
+    let mut ends = Vec::with_capacity(alloc, jobs.len())?;
     for index in 0..jobs.len() {
         let time = jobs[index].latest_end();
         let end = soonest_end(jobs, Choice::EndingBy(time), i128::MIN);

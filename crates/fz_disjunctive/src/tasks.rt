@@ -91,7 +91,7 @@ pub fn jobs_of(
 ) -> Result<Vec<Job>, AllocError>
     ensures { IfOk result (λ v. AreJobs direction tasks.now high v.items) }
 {
-    let mut jobs = Vec::new(alloc);
+    let mut jobs = Vec::with_capacity(alloc, tasks.len())?;
     for place in 0..tasks.len() {
         if !is_wide(tasks[place], high) {
             continue;

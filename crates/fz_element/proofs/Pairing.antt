@@ -1,14 +1,19 @@
 -- The indices whose number is left, index by index.
-use Rattle.std.proofs.Common.{◌≡◌, ℕ, ◌<◌, List, [], ◌∷◌, ◌++◌, sym, subst, arith, length, inl, inr}
+use Rattle.std.proofs.Common.{◌≡◌, ℕ, zero, suc, ◌+◌, ◌<◌, ◌≤◌, List, [], ◌∷◌, ◌++◌, sym, subst, arith, length, take, get_or, inl, inr, ◌⊎◌}
+use Rattle.std.specs.Int.{int_max, int_min}
 use Rattle.std.specs.Prelude.{ℤ, pos, ◌≤ℤ◌, ◌<ℤ◌, ◌+ℤ◌, ◌-ℤ◌, ◌↔◌, slice_get, Some, nat_abs}
-use Rattle.std.proofs.lemmas.Int.{ints}
+use Rattle.std.proofs.lemmas.Int.{ints, clamps, by_lt_z}
+use Rattle.std.proofs.lemmas.List.{take_all}
+use Rattle.fz_dom.specs.Shape.{IsDomain}
+use Rattle.fz_dom.proofs.Kept.{limits_of}
+use Rattle.fz_dom.proofs.Ranges.{AreRanges-head, AreRanges-tail, above_gap, proper}
 use Rattle.std.proofs.lemmas.Option.{slice_get_within}
 use Rattle.fz_bits.specs.Words.{AreOnes}
 use Rattle.fz_bits.specs.Windows.{IsBit}
-use Rattle.fz_sets.specs.Sets.{IsInSet, IsWithinLimits, AreOneSet, AreWithinLimits}
+use Rattle.fz_sets.specs.Sets.{IsInRange, IsInSet, IsWithinLimits, AreOneSet, AreRanges, AreWithinLimits}
 use Rattle.fz_spec.specs.Truth.{IsElement}
 use Rattle.fz_prop.proofs.Grown.{same_or_other, in_more, in_before, in_last, limits_more}
-use Rattle.fz_element.specs.Selecting.{IsPair, ArePairs}
+use Rattle.fz_element.specs.Selecting.{IsPair, ArePairs, ArePairsBelow, AreAllPairs}
 
 -- ---- elements
 
@@ -27,13 +32,6 @@ element_only k xs n m is_n is_m =
     cc (at_n, is_m.2)
 
 -- ---- the loop
-
--- the pairs whose index is below j
-pub record ArePairsBelow (xs : List ℤ) (D E : ℤ → Type 0) (indices numbers : List (ℤ × ℤ)) (j : ℤ) : Type 0 where
-  pub indices_are : (k : ℤ) → IsInSet indices k ↔ ((n : ℤ) × IsPair xs D E k n × (k <ℤ j))
-  pub numbers_are : (n : ℤ) → IsInSet numbers n ↔ ((k : ℤ) × IsPair xs D E k n × (k <ℤ j))
-  pub index_limits : AreWithinLimits indices
-  pub number_limits : AreWithinLimits numbers
 
 pub pairs_none : (xs : List ℤ) (D E : ℤ → Type 0) (j : ℤ) → ((k n : ℤ) → IsPair xs D E k n → j ≤ℤ k) → ArePairsBelow xs D E [] [] j
 pairs_none xs D E j none = record {
@@ -90,18 +88,141 @@ pairs_more xs D E indices numbers j m pair within_j within_m h = record {
   number_limits = limits_more numbers m h.number_limits within_m;
 }
 
-pub pairs_all : (xs : List ℤ) (D E : ℤ → Type 0) (indices numbers s t : List (ℤ × ℤ)) (j : ℤ) → ((k n : ℤ) → IsPair xs D E k n → k <ℤ j) → ArePairsBelow xs D E indices numbers j
-    → AreOneSet s indices → AreOneSet t numbers → ArePairs xs D E (λ k. IsInSet s k) (λ n. IsInSet t n)
-pairs_all xs D E indices numbers s t j all h is_s is_t = record {
-  indices_are = λ k. (
-    (λ is. let p = (h.indices_are k).0 ((is_s k).0 is) in (p.0, p.1)),
-    (λ p. (is_s k).1 ((h.indices_are k).1 (p.0, p.1, all k p.0 p.1))),
-  );
-  numbers_are = λ n. (
-    (λ is. let p = (h.numbers_are n).0 ((is_t n).0 is) in (p.0, p.1)),
-    (λ p. (is_t n).1 ((h.numbers_are n).1 (p.0, p.1, all p.0 n p.1))),
-  );
+-- none has an index from j up to another
+pub pairs_skipped : (xs : List ℤ) (D E : ℤ → Type 0) (indices numbers : List (ℤ × ℤ)) (j i : ℤ) → j ≤ℤ i → ((k n : ℤ) → IsPair xs D E k n → j ≤ℤ k → k <ℤ i → ⊥)
+    → ArePairsBelow xs D E indices numbers j → ArePairsBelow xs D E indices numbers i
+pairs_skipped xs D E indices numbers j i le none h =
+    let before : (k n : ℤ) → IsPair xs D E k n → k <ℤ i → k <ℤ j = λ k n pair below. by_lt_z k j (λ lt. lt) (λ from. absurd (none k n pair from below)) in
+    record {
+      indices_are = λ k. (
+        (λ is. let p = (h.indices_are k).0 is in let below = p.2 in (p.0, p.1, omega (arith, ints, below, le))),
+        (λ p. (h.indices_are k).1 (p.0, p.1, before k p.0 p.1 p.2)),
+      );
+      numbers_are = λ n. (
+        (λ is. let p = (h.numbers_are n).0 is in let below = p.2 in (p.0, p.1, omega (arith, ints, below, le))),
+        (λ p. (h.numbers_are n).1 (p.0, p.1, before p.0 n p.1 p.2)),
+      );
+      index_limits = h.index_limits;
+      number_limits = h.number_limits;
+    }
+
+pub pairs_whole : (xs : List ℤ) (D E : ℤ → Type 0) (indices numbers : List (ℤ × ℤ)) (j : ℤ) → ((k n : ℤ) → IsPair xs D E k n → k <ℤ j)
+    → ArePairsBelow xs D E indices numbers j → AreAllPairs xs D E indices numbers
+pairs_whole xs D E indices numbers j all h = record {
+  pairs = record {
+    indices_are = λ k. ((λ is. let p = (h.indices_are k).0 is in (p.0, p.1)), (λ p. (h.indices_are k).1 (p.0, p.1, all k p.0 p.1)));
+    numbers_are = λ n. ((λ is. let p = (h.numbers_are n).0 is in (p.0, p.1)), (λ p. (h.numbers_are n).1 (p.0, p.1, all p.0 n p.1)));
+  };
+  index_limits = h.index_limits;
+  number_limits = h.number_limits;
 }
+
+pub pairs_all : (xs : List ℤ) (D E : ℤ → Type 0) (indices numbers s t : List (ℤ × ℤ)) → AreAllPairs xs D E indices numbers
+    → AreOneSet s indices → AreOneSet t numbers → ArePairs xs D E (λ k. IsInSet s k) (λ n. IsInSet t n)
+pairs_all xs D E indices numbers s t h is_s is_t = record {
+  indices_are = λ k. ((λ is. (h.pairs.indices_are k).0 ((is_s k).0 is)), (λ p. (is_s k).1 ((h.pairs.indices_are k).1 p)));
+  numbers_are = λ n. ((λ is. (h.pairs.numbers_are n).0 ((is_t n).0 is)), (λ p. (is_t n).1 ((h.pairs.numbers_are n).1 p)));
+}
+
+-- ---- an index that is a number
+
+-- from it, or 1, up to it, or the end of the list, there is no other
+pub only_index : (m k count first end : ℤ) → first ≡ int_max m (pos 1) → end ≡ int_min m count +ℤ pos 1 → first ≤ℤ k → k <ℤ end → k ≡ m
+only_index m k count first end low high from below = omega (arith, ints, clamps, low, high, from, below)
+
+-- ---- range by range
+
+-- what lies before the range at a place lies in the ranges before it
+pub in_earlier : (i : ℕ) (rs : List (ℤ × ℤ)) (x : ℤ) (d : ℤ × ℤ) → AreRanges rs → i < length rs → IsInSet rs x → x <ℤ (get_or rs i d).0 → IsInSet (take i rs) x
+in_earlier i [] x d h within is below = absurd is
+in_earlier zero (r ∷ rs) x d h within (inl is) below = let low = is.0 in absurd (omega (arith, ints, low, below))
+in_earlier zero (r ∷ rs) x d h within (inr is) below =
+    let above = above_gap r rs x h is in let proper = AreRanges-head r rs h in absurd (omega (arith, ints, above, proper, below))
+in_earlier (suc i) (r ∷ rs) x d h within (inl is) below = inl is
+in_earlier (suc i) (r ∷ rs) x d h within (inr is) below = inr (in_earlier i rs x d (AreRanges-tail r rs h) (omega (arith, within)) is below)
+
+-- and with it in the first ranges or in it
+in_next : (i : ℕ) (rs : List (ℤ × ℤ)) (x : ℤ) (d : ℤ × ℤ) → i < length rs → IsInSet (take (suc i) rs) x → IsInSet (take i rs) x ⊎ IsInRange (get_or rs i d) x
+in_next i [] x d within is = absurd (omega (arith, within))
+in_next zero (r ∷ rs) x d within (inl is) = inr is
+in_next zero (r ∷ rs) x d within (inr is) = absurd is
+in_next (suc i) (r ∷ rs) x d within (inl is) = inl (inl is)
+in_next (suc i) (r ∷ rs) x d within (inr is) = elim (in_next i rs x d (omega (arith, within)) is) [ inl h ↦ inl (inr h) | inr h ↦ inr h ]
+
+pub in_one_more : (i : ℕ) (rs : List (ℤ × ℤ)) (x : ℤ) (d : ℤ × ℤ) → i < length rs → IsInSet (take (i + 1) rs) x → IsInSet (take i rs) x ⊎ IsInRange (get_or rs i d) x
+in_one_more i rs x d within is = in_next i rs x d within (let e : i + 1 ≡ suc i = omega arith in subst (λ (n : ℕ). IsInSet (take n rs) x) e is)
+
+pub in_at : (i : ℕ) (rs : List (ℤ × ℤ)) (x : ℤ) (d : ℤ × ℤ) → i < length rs → IsInRange (get_or rs i d) x → IsInSet rs x
+in_at i [] x d within is = absurd (omega (arith, within))
+in_at zero (r ∷ rs) x d within is = inl is
+in_at (suc i) (r ∷ rs) x d within is = inr (in_at i rs x d (omega (arith, within)) is)
+
+pub high_limits : (i : ℕ) (rs : List (ℤ × ℤ)) (d : ℤ × ℤ) → IsDomain rs → i < length rs → IsWithinLimits (get_or rs i d).1
+high_limits i rs d domain within =
+    limits_of rs (get_or rs i d).1 domain (in_at i rs (get_or rs i d).1 d within (proper rs i d domain.0 within, omega (arith, ints)))
+
+-- All pairs of the first ranges of the index, where only indices from `first` up to `end` are looked at: those below `reached`.
+pub record AreReached (xs : List ℤ) (rs : List (ℤ × ℤ)) (E : ℤ → Type 0) (indices numbers : List (ℤ × ℤ)) (i : ℕ) (first end reached : ℤ) : Type 0 where
+  pub from : first ≤ℤ reached
+  pub pairs : ArePairsBelow xs (λ k. IsInSet rs k) E indices numbers reached
+  pub passed : (k : ℤ) → IsInSet (take i rs) k → first ≤ℤ k → k <ℤ end → k <ℤ reached
+
+pub reached_start : (xs : List ℤ) (rs : List (ℤ × ℤ)) (E : ℤ → Type 0) (first end : ℤ) → ((k n : ℤ) → IsPair xs (λ j. IsInSet rs j) E k n → first ≤ℤ k)
+    → AreReached xs rs E [] [] 0 first end first
+reached_start xs rs E first end low = record {
+  from = omega (arith, ints);
+  pairs = pairs_none xs (λ k. IsInSet rs k) E first low;
+  passed = λ k is. absurd is;
+}
+
+-- before one more range is added, of which something is looked at
+pub reached_low : (xs : List ℤ) (rs : List (ℤ × ℤ)) (E : ℤ → Type 0) (indices numbers : List (ℤ × ℤ)) (i : ℕ) (first end reached low from until : ℤ) (d : ℤ × ℤ) → AreRanges rs → i < length rs
+    → low ≡ (get_or rs i d).0 → from ≡ int_max low reached → from <ℤ until → until ≤ℤ end
+    → AreReached xs rs E indices numbers i first end reached → ArePairsBelow xs (λ k. IsInSet rs k) E indices numbers from
+reached_low xs rs E indices numbers i first end reached low from until d h within is_low is_from some most a =
+    let start = a.from in
+    pairs_skipped xs (λ k. IsInSet rs k) E indices numbers reached from (omega (arith, ints, clamps, is_from))
+    (λ k n pair after before. by_lt_z k low
+    (λ below. let passed = a.passed k (in_earlier i rs k d h within pair.index (subst (λ (z : ℤ). k <ℤ z) is_low below)) (omega (arith, ints, start, after)) (omega (arith, ints, before, some, most)) in
+    omega (arith, ints, passed, after))
+    (λ above. omega (arith, ints, clamps, is_from, above, after, before)))
+    a.pairs
+
+-- and once it is added
+pub reached_more : (xs : List ℤ) (rs : List (ℤ × ℤ)) (E : ℤ → Type 0) (indices numbers more found : List (ℤ × ℤ)) (i : ℕ) (first end reached low high from until after : ℤ) (d : ℤ × ℤ) → i < length rs
+    → high ≡ (get_or rs i d).1 → from ≡ int_max low reached → until ≡ int_min end (high +ℤ pos 1) → from <ℤ until → after ≡ int_max from until
+    → AreReached xs rs E indices numbers i first end reached → ArePairsBelow xs (λ k. IsInSet rs k) E more found after
+    → AreReached xs rs E more found (i + 1) first end until
+reached_more xs rs E indices numbers more found i first end reached low high from until after d within is_high is_from is_until some is_after a pairs =
+    let start = a.from in record {
+      from = omega (arith, ints, clamps, start, is_from, some);
+      pairs = subst (λ (z : ℤ). ArePairsBelow xs (λ k. IsInSet rs k) E more found z) (omega (arith, ints, clamps, is_after, some)) pairs;
+      passed = λ k is at before. elim (in_one_more i rs k d within is) [
+        | inl earlier ↦ let passed = a.passed k earlier at before in omega (arith, ints, clamps, passed, is_from, some)
+        | inr here ↦ let top = here.1 in omega (arith, ints, clamps, top, is_high, is_until, before)
+      ];
+    }
+
+-- one of which nothing is looked at
+pub reached_passed : (xs : List ℤ) (rs : List (ℤ × ℤ)) (E : ℤ → Type 0) (indices numbers : List (ℤ × ℤ)) (i : ℕ) (first end reached low high from until : ℤ) (d : ℤ × ℤ) → i < length rs
+    → low ≡ (get_or rs i d).0 → high ≡ (get_or rs i d).1 → from ≡ int_max low reached → until ≡ int_min end (high +ℤ pos 1) → until ≤ℤ from
+    → AreReached xs rs E indices numbers i first end reached → AreReached xs rs E indices numbers (i + 1) first end reached
+reached_passed xs rs E indices numbers i first end reached low high from until d within is_low is_high is_from is_until none a = record {
+  from = a.from;
+  pairs = a.pairs;
+  passed = λ k is at before. elim (in_one_more i rs k d within is) [
+    | inl earlier ↦ a.passed k earlier at before
+    | inr here ↦ let bottom = here.0 in let top = here.1 in omega (arith, ints, clamps, bottom, top, is_low, is_high, is_from, is_until, none, before)
+  ];
+}
+
+pub reached_all : (xs : List ℤ) (rs : List (ℤ × ℤ)) (E : ℤ → Type 0) (indices numbers : List (ℤ × ℤ)) (i : ℕ) (first end reached : ℤ) → length rs ≤ i
+    → ((k n : ℤ) → IsPair xs (λ j. IsInSet rs j) E k n → first ≤ℤ k) → ((k n : ℤ) → IsPair xs (λ j. IsInSet rs j) E k n → k <ℤ end)
+    → AreReached xs rs E indices numbers i first end reached → AreAllPairs xs (λ k. IsInSet rs k) E indices numbers
+reached_all xs rs E indices numbers i first end reached all low high a =
+    pairs_whole xs (λ k. IsInSet rs k) E indices numbers reached
+    (λ k n pair. a.passed k (subst (λ (s : List (ℤ × ℤ)). IsInSet s k) (sym (take_all i rs all)) pair.index) (low k n pair) (high k n pair))
+    a.pairs
 
 -- ---- windows of what is left
 

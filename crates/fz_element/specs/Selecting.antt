@@ -1,7 +1,7 @@
 -- An index into a list of numbers: when an assignment makes it true, its line, and what its propagator makes.
-use Rattle.std.specs.Prelude.{◌≡◌, ◌↔◌, ◌⊎◌, ℤ, pos, ◌+ℤ◌, ◌≤ℤ◌, List}
+use Rattle.std.specs.Prelude.{◌≡◌, ◌↔◌, ◌⊎◌, ℤ, pos, ◌+ℤ◌, ◌≤ℤ◌, ◌<ℤ◌, List}
 use Rattle.std.specs.List.{AllByRecursion}
-use Rattle.fz_sets.specs.Sets.{IsInSet, LEAST, GREATEST}
+use Rattle.fz_sets.specs.Sets.{IsInSet, AreWithinLimits, LEAST, GREATEST}
 use Rattle.fz_bits.specs.declared.window.Window.{Window}
 use Rattle.fz_bits.specs.Windows.{IsBit}
 use Rattle.fz_spec.specs.declared.term.Term.{Term}
@@ -28,6 +28,19 @@ pub record IsPair (xs : List ℤ) (D E : ℤ → Type 0) (k n : ℤ) : Type 0 wh
 pub record ArePairs (xs : List ℤ) (D E P Q : ℤ → Type 0) : Type 0 where
   pub indices_are : (k : ℤ) → P k ↔ ((n : ℤ) × IsPair xs D E k n)
   pub numbers_are : (n : ℤ) → Q n ↔ ((k : ℤ) × IsPair xs D E k n)
+
+-- the pairs whose index is below j, as ranges of indices and of numbers
+pub record ArePairsBelow (xs : List ℤ) (D E : ℤ → Type 0) (indices numbers : List (ℤ × ℤ)) (j : ℤ) : Type 0 where
+  pub indices_are : (k : ℤ) → IsInSet indices k ↔ ((n : ℤ) × IsPair xs D E k n × (k <ℤ j))
+  pub numbers_are : (n : ℤ) → IsInSet numbers n ↔ ((k : ℤ) × IsPair xs D E k n × (k <ℤ j))
+  pub index_limits : AreWithinLimits indices
+  pub number_limits : AreWithinLimits numbers
+
+-- and all pairs
+pub record AreAllPairs (xs : List ℤ) (D E : ℤ → Type 0) (indices numbers : List (ℤ × ℤ)) : Type 0 where
+  pub pairs : ArePairs xs D E (λ k. IsInSet indices k) (λ n. IsInSet numbers n)
+  pub index_limits : AreWithinLimits indices
+  pub number_limits : AreWithinLimits numbers
 
 -- indices and numbers, and the pair of one more index, if its number has the property
 pub record IsJoined (xs : List ℤ) (j : ℤ) (E P Q R S : ℤ → Type 0) : Type 0 where

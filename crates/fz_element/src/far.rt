@@ -1,10 +1,11 @@
 //! The indices whose number is left, one by one.
-ghost use Rattle.std.specs.Prelude.{◌≡◌, ◌↔◌, ℕ, ℤ, pos, ◌+ℤ◌, ◌≤ℤ◌, length, Some, IsTrue, IfOk, IfSome, MatchOption};
+ghost use Rattle.std.specs.Prelude.{◌≡◌, ◌↔◌, ℕ, ℤ, pos, ◌+ℤ◌, ◌≤ℤ◌, ◌<ℤ◌, length, [], Some, IsTrue, IfOk, IfSome, OnOk};
+ghost use Rattle.std.specs.Int.{int_max};
 ghost use Rattle.std.specs.List.{slice_get};
 ghost use Rattle.fz_sets.specs.Sets.{IsInSet};
 ghost use Rattle.fz_strength.specs.Domains.{term_set};
 ghost use Rattle.fz_prop.specs.Stores.{IsTermOf, FitsTerm};
-ghost use Rattle.fz_element.specs.Selecting.{IsPair, ArePairs, Has, AreWithin, IsSeen, AreSeen};
+ghost use Rattle.fz_element.specs.Selecting.{ArePairs, ArePairsBelow, AreAllPairs, Has, AreWithin, IsSeen, AreSeen};
 
 use crate::numbers::{Numbers, Pairs, number_at};
 use fz_bits::Window;
@@ -14,6 +15,13 @@ use fz_prop::indices::{first_index, index_end};
 use fz_prop::terms::{has, least_of, word_of};
 use fz_spec::term::Term;
 use std::alloc::{AllocError, Global};
+
+/// Indices, and the numbers at them, as ranges of one number each.
+#[derive(Drop)]
+struct Found {
+    places: Vec<(i32, i32)>,
+    numbers: Vec<(i32, i32)>,
+}
 
 /// The indices that are left and whose number is left, and these numbers.
 pub fn far_pairs(
@@ -34,59 +42,99 @@ pub fn far_pairs(
     ensures indices { IfOk result (λ p. AreWithin p.indices) }
     ensures values { IfOk result (λ p. AreWithin p.values) }
 {
-    let _ = store.doms();
-    let (first, end) = (
-        first_index(store, index),
-        index_end(store, index, numbers.len()),
-    );
     let room = numbers.len().min(64);
-    let mut places = Vec::with_capacity(alloc, room)?;
-    let mut found = Vec::with_capacity(alloc, room)?;
-    let indices = windows_of(store, index);
-    let values = windows_of(store, value);
-    for place in first..end {
-        let number = paired(store, index, &indices, numbers, value, &values, place);
-        if let Some(number) = number {
-            places.push((place, place))?;
-            found.push((number, number))?;
-        }
-    }
-    let indices = Dom::from_ranges(alloc, &places)?;
-    let values = Dom::from_ranges(alloc, &found)?;
+    let mut found = Found {
+        places: Vec::with_capacity(alloc, room)?,
+        numbers: Vec::with_capacity(alloc, room)?,
+    };
+    add_pairs(store, index, numbers, value, &mut found)?;
+    let indices = Dom::from_ranges(alloc, &found.places)?;
+    let values = Dom::from_ranges(alloc, &found.numbers)?;
     Ok(Pairs {
         indices: Numbers::Far(indices),
         values: Numbers::Far(values),
     })
 }
 
-/// The number at an index, if both are left; windows have numbers that are left of the index and of the value.
-fn paired(
+/// Adds the indices that are left and whose number is left, and these numbers, to none: range by range of the index.
+fn add_pairs(
     store: &Store,
     index: Term,
-    indices: &[Window],
+    numbers: &[i32],
+    value: Term,
+    found: &mut Found,
+) -> Result<(), AllocError>
+    requires index { IsTermOf (length store.now.doms) index }
+    requires value { IsTermOf (length store.now.doms) value }
+    requires fits_index { FitsTerm index }
+    requires fits_value { FitsTerm value }
+    requires none { (found.old.places.items ≡ []) × (found.old.numbers.items ≡ []) }
+    ensures { OnOk result (AreAllPairs numbers.now
+        (λ k. IsInSet (term_set store.now.doms index) k)
+        (λ n. IsInSet (term_set store.now.doms value) n)
+        found.new.places.items found.new.numbers.items) }
+{
+    let _ = store.doms();
+    let (first, end) = (
+        first_index(store, index),
+        index_end(store, index, numbers.len()),
+    );
+    let values = windows_of(store, value);
+    let Term::Var(variable) = index else {
+        return add_range(store, index, numbers, value, &values, first, end, found);
+    };
+    let left = store.dom(variable);
+    let mut reached = first;
+    for i in 0..left.range_count() {
+        let (low, high) = left.range_at(i);
+        let (from, until) = (low.max(reached), end.min(high + 1));
+        if from < until {
+            add_range(store, index, numbers, value, &values, from, until, found)?;
+            reached = until;
+        }
+    }
+    Ok(())
+}
+
+/// Adds the indices of a range, which are all left, whose number is left, and these numbers.
+fn add_range(
+    store: &Store,
+    index: Term,
     numbers: &[i32],
     value: Term,
     values: &[Window],
-    place: i32,
-) -> Option<i32>
+    from: i32,
+    until: i32,
+    found: &mut Found,
+) -> Result<(), AllocError>
     requires index { IsTermOf (length store.now.doms) index }
     requires value { IsTermOf (length store.now.doms) value }
-    requires indices { AreSeen (λ k. IsInSet (term_set store.now.doms index) k) indices.now }
+    requires fits_index { FitsTerm index }
+    requires fits_value { FitsTerm value }
     requires values { AreSeen (λ m. IsInSet (term_set store.now.doms value) m) values.now }
-    ensures { MatchOption result
-        ((n : ℤ) → IsPair numbers.now (λ k. IsInSet (term_set store.now.doms index) k)
-        (λ m. IsInSet (term_set store.now.doms value) m) place n → ⊥)
-        (λ n. IsPair numbers.now (λ k. IsInSet (term_set store.now.doms index) k)
-        (λ m. IsInSet (term_set store.now.doms value) m) place n) }
+    requires left { (k : ℤ) → from ≤ℤ k → k <ℤ until
+        → IsInSet (term_set store.now.doms index) k }
+    requires begun { ArePairsBelow numbers.now
+        (λ k. IsInSet (term_set store.now.doms index) k)
+        (λ n. IsInSet (term_set store.now.doms value) n)
+        found.old.places.items found.old.numbers.items from }
+    ensures { OnOk result (ArePairsBelow numbers.now
+        (λ k. IsInSet (term_set store.now.doms index) k)
+        (λ n. IsInSet (term_set store.now.doms value) n)
+        found.new.places.items found.new.numbers.items (int_max from until)) }
 {
-    let Some(number) = number_at(numbers, place) else {
-        return None;
-    };
-    if is_left(store, index, indices, place) && is_left(store, value, values, number) {
-        Some(number)
-    } else {
-        None
+    let _ = store.doms();
+    let _ = index;
+    for place in from..until {
+        let Some(number) = number_at(numbers, place) else {
+            continue;
+        };
+        if is_left(store, value, values, number) {
+            found.places.push((place, place))?;
+            found.numbers.push((number, number))?;
+        }
     }
+    Ok(())
 }
 
 /// Whether a number is left of a term, of whose numbers windows have some.
