@@ -5,9 +5,10 @@ use Rattle.std.specs.Str.Parse.{digits_value, without_leading_plus}
 use Rattle.clap.specs.Words.{Row, Text, first_of, matches_of, fault_of}
 use Rattle.clap.specs.ValueTests.{is_unsigned_in}
 use Rattle.clap.specs.Walk.{is_empty}
-use Rattle.fz_gen.specs.declared.text.TheConstants.{ITEMS_LEAST, ITEMS_MOST}
 use Rattle.fz_cmd.specs.declared.words.Numbers.{Numbers}
-use Rattle.fz_cmd.specs.declared.options.TheConstants.{ADAPTIVE_DISTANCE, ADAPTIVE_DISTANCE_LEAST, ADAPTIVE_DISTANCE_MOST, COMMIT_DISTANCE, COMMIT_DISTANCE_LEAST, COMMIT_DISTANCE_MOST, WORKERS, WORKERS_LEAST, WORKERS_MOST}
+use Rattle.fz_cmd.specs.declared.options.Takes.{Takes}
+use Rattle.fz_cmd.specs.declared.options.Takes.TheVariants.{Nothing, Number, Defaulted}
+use Rattle.fz_cmd.specs.declared.options.TheConstants.{ALL, LIMIT, DISTINCT, WORKERS, STATS, CERTIFICATE, COMMIT_DISTANCE, ADAPTIVE_DISTANCE, INTERLEAVE, GENERATE}
 use Rattle.fz_cmd.specs.Command.{fzn_app}
 
 -- All solutions or not, how many of them, whether each block of values is printed once, by how many workers, the commit distance, the adaptive distance, the seed of the workers' turns,
@@ -25,12 +26,23 @@ pub record Options : Type 0 where
   pub generate : Option ℕ
   pub file : List ℕ
 
+-- a number is one that an option takes
+abbrev pub IsTakenBy : Takes → ℕ → Type 0
+IsTakenBy Nothing n = ⊥
+IsTakenBy (Number least most) n = (least ≤ n) × (n ≤ most)
+IsTakenBy (Defaulted least most default) n = (least ≤ n) × (n ≤ most)
+
+-- its default is one, if it has one
+abbrev pub HasDefault : Takes → Type 0
+HasDefault (Defaulted least most default) = (least ≤ default) × (default ≤ most)
+HasDefault takes = Unit {0}
+
 -- each number is in its range
 pub record AreInRange (count distance adaptive : ℕ) (items : Option ℕ) : Type 0 where
-  pub workers : (WORKERS_LEAST ≤ count) × (count ≤ WORKERS_MOST)
-  pub commit_distance : (COMMIT_DISTANCE_LEAST ≤ distance) × (distance ≤ COMMIT_DISTANCE_MOST)
-  pub adaptive_distance : (ADAPTIVE_DISTANCE_LEAST ≤ adaptive) × (adaptive ≤ ADAPTIVE_DISTANCE_MOST)
-  pub generate : IfSome items (λ n. (ITEMS_LEAST ≤ n) × (n ≤ ITEMS_MOST))
+  pub workers : IsTakenBy WORKERS.2 count
+  pub commit_distance : IsTakenBy COMMIT_DISTANCE.2 distance
+  pub adaptive_distance : IsTakenBy ADAPTIVE_DISTANCE.2 adaptive
+  pub generate : IfSome items (IsTakenBy GENERATE.2)
 
 abbrev pub HasRanges : Options → Type 0
 HasRanges o = AreInRange o.workers o.commit_distance o.adaptive_distance o.generate
@@ -48,8 +60,11 @@ abbrev pub given_in : ℕ → ℕ → Option Text → Option (Option ℕ)
 given_in least most None = Some None
 given_in least most (Some t) = option_map (λ n. Some n) (number_in least most t)
 
-abbrev pub number_at : List Row → Text → ℕ → ℕ → Option (Option ℕ)
-number_at rows id least most = given_in least most (first_of id rows)
+-- the number of an option that takes one: its own, its default if it has one, or none
+abbrev pub number_at : List Row → Text → Takes → Option (Option ℕ)
+number_at rows id Nothing = Some None
+number_at rows id (Number least most) = given_in least most (first_of id rows)
+number_at rows id (Defaulted least most default) = option_map (λ given. Some (unwrap_or given default)) (given_in least most (first_of id rows))
 
 -- the numbers that the matches give, each within its bounds
 abbrev pub numbers_of : List Row → Option Numbers
@@ -62,36 +77,36 @@ numbers_of rows =
     option_and_then (λ generate.
     Some (record {
       limit = limit;
-      workers = unwrap_or workers WORKERS;
-      commit_distance = unwrap_or distance COMMIT_DISTANCE;
-      adaptive_distance = unwrap_or adaptive ADAPTIVE_DISTANCE;
+      workers = unwrap_or workers 0;
+      commit_distance = unwrap_or distance 0;
+      adaptive_distance = unwrap_or adaptive 0;
       interleave = interleave;
       generate = generate;
     }))
-    (number_at rows (codes "generate") ITEMS_LEAST ITEMS_MOST))
-    (number_at rows (codes "interleave") 0 18446744073709551615))
-    (number_at rows (codes "adaptive-distance") ADAPTIVE_DISTANCE_LEAST ADAPTIVE_DISTANCE_MOST))
-    (number_at rows (codes "commit-distance") COMMIT_DISTANCE_LEAST COMMIT_DISTANCE_MOST))
-    (number_at rows (codes "workers") WORKERS_LEAST WORKERS_MOST))
-    (number_at rows (codes "limit") 0 4294967295)
+    (number_at rows GENERATE.0.now GENERATE.2))
+    (number_at rows INTERLEAVE.0.now INTERLEAVE.2))
+    (number_at rows ADAPTIVE_DISTANCE.0.now ADAPTIVE_DISTANCE.2))
+    (number_at rows COMMIT_DISTANCE.0.now COMMIT_DISTANCE.2))
+    (number_at rows WORKERS.0.now WORKERS.2))
+    (number_at rows LIMIT.0.now LIMIT.2)
 
 -- A certificate is of one best solution of a model that is read, or of none, and nothing else is printed behind it.
 abbrev pub suits_no_certificate : List Row → Numbers → Bool
-suits_no_certificate rows n = is_on (codes "all") rows || is_some n.limit || is_on (codes "distinct") rows || is_on (codes "stats") rows || is_some n.generate
+suits_no_certificate rows n = is_on ALL.0.now rows || is_some n.limit || is_on DISTINCT.0.now rows || is_on STATS.0.now rows || is_some n.generate
 
 -- The options that the numbers, the flags and the name of a file give. Where a model is generated no file may be named; beside a certificate
 -- stands no option that it doesn't suit.
 abbrev pub with_file : List Row → Numbers → Option Text → Option Options
-with_file rows n file = cond ((is_some n.generate && is_some file) || (is_on (codes "certificate") rows && suits_no_certificate rows n)) None (Some (record {
-  all = is_on (codes "all") rows;
+with_file rows n file = cond ((is_some n.generate && is_some file) || (is_on CERTIFICATE.0.now rows && suits_no_certificate rows n)) None (Some (record {
+  all = is_on ALL.0.now rows;
   limit = n.limit;
-  distinct = is_on (codes "distinct") rows;
+  distinct = is_on DISTINCT.0.now rows;
   workers = n.workers;
   commit_distance = n.commit_distance;
   adaptive_distance = n.adaptive_distance;
   interleave = n.interleave;
-  stats = is_on (codes "stats") rows;
-  certificate = is_on (codes "certificate") rows;
+  stats = is_on STATS.0.now rows;
+  certificate = is_on CERTIFICATE.0.now rows;
   generate = n.generate;
   file = unwrap_or file (codes "-");
 }))

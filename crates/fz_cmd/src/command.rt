@@ -1,74 +1,52 @@
 //! The command that clap reads the words by.
-ghost use Rattle.std.specs.Prelude.{◌≡◌, false, IfOk, map, string_bytes};
-ghost use Rattle.clap.specs.Words.{app_of, rule_of, rows_of, found_of, matches_of, fault_of, FailsBy};
-ghost use Rattle.fz_cmd.specs.Command.{all_rule, limit_rule, workers_rule, number_rule, stats_rule, flag_rule, file_rule, plain_app, fzn_app};
+ghost use Rattle.std.specs.Prelude.{◌≡◌, false, Some, None, IfOk, fold, map, string_bytes};
+ghost use Rattle.clap.specs.Words.{app_of, rule_of, with_rule, rows_of, found_of, matches_of, fault_of, FailsBy};
+ghost use Rattle.clap.specs.Simple.{new_rule};
+ghost use Rattle.clap.specs.declared.builder.action.ArgAction.TheVariants.{Set};
+ghost use Rattle.clap.specs.declared.builder.value_parser.ValueParser.TheVariants.{Unsigned};
+ghost use Rattle.fz_cmd.specs.Command.{rule_of_row, word_of, file_rule, plain_app, fzn_app};
 
-use crate::options::{
-    ADAPTIVE_DISTANCE_LEAST, ADAPTIVE_DISTANCE_MOST, COMMIT_DISTANCE_LEAST, COMMIT_DISTANCE_MOST,
-    WORKERS_LEAST, WORKERS_MOST,
-};
+use crate::options::{OPTIONS, Row, Takes};
 use clap::builder::ValueParser;
 use clap::{Arg, ArgAction, ArgMatches, Command, Error};
-use fz_gen::text::{ITEMS_LEAST, ITEMS_MOST};
 use std::alloc::{AllocError, Global};
 
-/// `-a`
-fn all_arg<'a>(alloc: Global) -> Arg<'a>
-    ensures rule { rule_of result ≡ all_rule }
+/// The argument of an option.
+fn option_arg<'a>(alloc: Global, row: &Row) -> Arg<'a>
+    ensures rule { rule_of result ≡ rule_of_row row.now }
     ensures local { result.global ≡ false }
 {
-    Arg::new(alloc, "all").short('a').action(ArgAction::SetTrue)
+    let (name, letter, takes, _) = *row;
+    let arg = called(alloc, name, letter);
+    match takes {
+        Takes::Nothing => arg.action(ArgAction::SetTrue),
+        Takes::Number(least, most) => numbered(arg, least, most),
+        Takes::Defaulted(least, most, _) => numbered(arg, least, most),
+    }
 }
 
-/// `-n NUMBER`
-fn limit_arg<'a>(alloc: Global) -> Arg<'a>
-    ensures rule { rule_of result ≡ limit_rule }
+/// An argument that is called by a letter, if it has one, or else by its name.
+fn called<'a>(alloc: Global, name: &'static str, letter: Option<char>) -> Arg<'a>
+    ensures rule { rule_of result
+        ≡ record (new_rule name.now) { short = letter; long = word_of name.now letter } }
+    ensures plain { result.value_parser ≡ None }
     ensures local { result.global ≡ false }
 {
-    Arg::new(alloc, "limit")
-        .short('n')
-        .action(ArgAction::Set)
-        .value_parser(ValueParser::Unsigned(0, u32::MAX as u64))
+    let arg = Arg::new(alloc, name);
+    match letter {
+        Some(letter) => arg.short(letter),
+        None => arg.long(name),
+    }
 }
 
-/// `-p NUMBER`
-fn workers_arg<'a>(alloc: Global) -> Arg<'a>
-    ensures rule { rule_of result ≡ workers_rule }
-    ensures local { result.global ≡ false }
+/// An argument that takes a number within these bounds.
+fn numbered<'a>(arg: Arg<'a>, least: u64, most: u64) -> Arg<'a>
+    ensures rule { rule_of result
+        ≡ record (rule_of arg.entry) { action = Some Set; parser = Some (Unsigned least most) } }
+    ensures local { result.global ≡ arg.entry.global }
 {
-    Arg::new(alloc, "workers")
-        .short('p')
-        .action(ArgAction::Set)
-        .value_parser(ValueParser::Unsigned(WORKERS_LEAST as u64, WORKERS_MOST as u64))
-}
-
-/// `--NAME NUMBER`, the number within these bounds.
-fn number_arg<'a>(alloc: Global, name: &'a str, least: u64, most: u64) -> Arg<'a>
-    ensures rule { rule_of result ≡ number_rule name.now least most }
-    ensures local { result.global ≡ false }
-{
-    Arg::new(alloc, name)
-        .long(name)
-        .action(ArgAction::Set)
+    arg.action(ArgAction::Set)
         .value_parser(ValueParser::Unsigned(least, most))
-}
-
-/// `-s`
-fn stats_arg<'a>(alloc: Global) -> Arg<'a>
-    ensures rule { rule_of result ≡ stats_rule }
-    ensures local { result.global ≡ false }
-{
-    Arg::new(alloc, "stats")
-        .short('s')
-        .action(ArgAction::SetTrue)
-}
-
-/// `--NAME`
-fn flag_arg<'a>(alloc: Global, name: &'a str) -> Arg<'a>
-    ensures rule { rule_of result ≡ flag_rule name.now }
-    ensures local { result.global ≡ false }
-{
-    Arg::new(alloc, name).long(name).action(ArgAction::SetTrue)
 }
 
 /// FILE
@@ -88,42 +66,27 @@ fn plain<'a>(alloc: Global) -> Command<'a>
         .disable_help_flag(true)
 }
 
+/// The command of all options, and FILE.
 fn command<'a>(alloc: Global) -> Result<Command<'a>, AllocError>
     ensures { IfOk result (λ c. app_of c ≡ fzn_app) }
 {
-    let all = all_arg(alloc);
-    let with_all = plain(alloc).arg(all)?;
-    let limit = limit_arg(alloc);
-    let with_limit = with_all.arg(limit)?;
-    let distinct = flag_arg(alloc, "distinct");
-    let with_distinct = with_limit.arg(distinct)?;
-    let workers = workers_arg(alloc);
-    let with_workers = with_distinct.arg(workers)?;
-    let distance = number_arg(
-        alloc,
-        "commit-distance",
-        COMMIT_DISTANCE_LEAST as u64,
-        COMMIT_DISTANCE_MOST as u64,
-    );
-    let with_distance = with_workers.arg(distance)?;
-    let adaptive = number_arg(
-        alloc,
-        "adaptive-distance",
-        ADAPTIVE_DISTANCE_LEAST as u64,
-        ADAPTIVE_DISTANCE_MOST as u64,
-    );
-    let with_adaptive = with_distance.arg(adaptive)?;
-    let interleave = number_arg(alloc, "interleave", 0, u64::MAX);
-    let with_interleave = with_adaptive.arg(interleave)?;
-    let stats = stats_arg(alloc);
-    let with_stats = with_interleave.arg(stats)?;
-    let certificate = flag_arg(alloc, "certificate");
-    let with_certificate = with_stats.arg(certificate)?;
-    let generate = number_arg(alloc, "generate", ITEMS_LEAST as u64, ITEMS_MOST as u64);
-    let with_generate = with_certificate.arg(generate)?;
-    let file = file_arg(alloc);
-    let with_file = with_generate.arg(file)?;
-    Ok(with_file)
+    with_options(alloc, plain(alloc), &OPTIONS)?.arg(file_arg(alloc))
+}
+
+/// A command with these options more.
+fn with_options<'a>(
+    alloc: Global,
+    command: Command<'a>,
+    rows: &[Row],
+) -> Result<Command<'a>, AllocError>
+    ensures { IfOk result (λ c. app_of c
+        ≡ fold with_rule (app_of command.entry) (map rule_of_row rows.now)) }
+{
+    let mut command = command;
+    for i in 0..rows.len() {
+        command = command.arg(option_arg(alloc, &rows[i]))?;
+    }
+    Ok(command)
 }
 
 /// What clap makes of the words.

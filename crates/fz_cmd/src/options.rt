@@ -3,28 +3,107 @@ ghost use Rattle.std.specs.Prelude.{◌≡◌};
 ghost use Rattle.fz_cmd.specs.Meaning.{HasRanges};
 
 use crate::name::Name;
+use fz_gen::text::{ITEMS_LEAST, ITEMS_MOST};
 use std::marker::Model;
 
-/// The least and the greatest number of workers, and the one where none is given.
-pub const WORKERS_LEAST: u32 = 1;
+/// What an option takes.
+#[derive(Clone, Copy)]
+pub enum Takes {
+    /// Nothing: it is given or not.
+    Nothing,
+    /// A number from the first to the second.
+    Number(u64, u64),
+    /// A number from the first to the second; the third if it isn't given.
+    Defaulted(u64, u64, u64),
+}
 
-pub const WORKERS_MOST: u32 = 64;
+/// An option: its name, by which it is read, and which is its word unless it has a letter; its letter; what it takes; and its line of
+/// the usage.
+pub type Row = (&'static str, Option<char>, Takes, &'static str);
 
-pub const WORKERS: u32 = 1;
+pub const ALL: Row = (
+    "all",
+    Some('a'),
+    Takes::Nothing,
+    "-a                     all solutions; of a model with a goal, each better than the one before it",
+);
 
-/// The least and the greatest commit distance, and the one where none is given.
-pub const COMMIT_DISTANCE_LEAST: u32 = 1;
+pub const LIMIT: Row = (
+    "limit",
+    Some('n'),
+    Takes::Number(0, 4_294_967_295),
+    "-n N                   N solutions, 0 for all: 0 to 4294967295, else one, or all with -a",
+);
 
-pub const COMMIT_DISTANCE_MOST: u32 = 1_000_000;
+pub const DISTINCT: Row = (
+    "distinct",
+    None,
+    Takes::Nothing,
+    "--distinct             of solutions of which the same is printed, one",
+);
 
-pub const COMMIT_DISTANCE: u32 = 8;
+pub const WORKERS: Row = (
+    "workers",
+    Some('p'),
+    Takes::Defaulted(1, 64, 1),
+    "-p N                   N workers, each in a thread: 1 to 64, else 1",
+);
 
-/// The least and the greatest adaptive distance, and the one where none is given.
-pub const ADAPTIVE_DISTANCE_LEAST: u32 = 1;
+pub const STATS: Row = (
+    "stats",
+    Some('s'),
+    Takes::Nothing,
+    "-s                     statistics after all else",
+);
 
-pub const ADAPTIVE_DISTANCE_MOST: u32 = 1_000_000;
+pub const CERTIFICATE: Row = (
+    "certificate",
+    None,
+    Takes::Nothing,
+    "--certificate          a proof after a best solution, or that there is none; not with -a, -n, -s, --distinct, --generate",
+);
 
-pub const ADAPTIVE_DISTANCE: u32 = 2;
+pub const COMMIT_DISTANCE: Row = (
+    "commit-distance",
+    None,
+    Takes::Defaulted(1, 1_000_000, 8),
+    "--commit-distance N    a copy of a node is kept at each Nth edge: 1 to 1000000, else 8",
+);
+
+pub const ADAPTIVE_DISTANCE: Row = (
+    "adaptive-distance",
+    None,
+    Takes::Defaulted(1, 1_000_000, 2),
+    "--adaptive-distance N  a copy is kept in the middle of a way of N edges: 1 to 1000000, else 2",
+);
+
+pub const INTERLEAVE: Row = (
+    "interleave",
+    None,
+    Takes::Number(0, 18_446_744_073_709_551_615),
+    "--interleave N         workers take turns, by a schedule that N begins: 0 to 18446744073709551615",
+);
+
+pub const GENERATE: Row = (
+    "generate",
+    None,
+    Takes::Number(ITEMS_LEAST as u64, ITEMS_MOST as u64),
+    "--generate N           a knapsack of N items is solved, and no text is read: 1 to 1000",
+);
+
+/// All options, in the order of the usage.
+pub const OPTIONS: [Row; 10] = [
+    ALL,
+    LIMIT,
+    DISTINCT,
+    WORKERS,
+    STATS,
+    CERTIFICATE,
+    COMMIT_DISTANCE,
+    ADAPTIVE_DISTANCE,
+    INTERLEAVE,
+    GENERATE,
+];
 
 /// What is asked for.
 #[derive(Drop)]

@@ -2,7 +2,9 @@
 ghost use Rattle.std.specs.Prelude.{◌≡◌, ◌≤◌, IfSome, option_map};
 ghost use Rattle.clap.specs.Words.{rows_of, found_of, first_of};
 ghost use Rattle.fz_cmd.specs.Meaning as meaning;
+ghost use Rattle.fz_cmd.specs.Meaning.{HasDefault, IsTakenBy};
 
+use crate::options::{Row, Takes};
 use clap::ArgMatches;
 
 /// The text of an argument.
@@ -22,31 +24,27 @@ pub(crate) fn is_on(matches: &ArgMatches<'_>, id: &str) -> bool
     }
 }
 
-/// The number of an option: none of its own where it isn't given, and no answer where its text is no number within the bounds.
-pub(crate) fn number(
-    matches: &ArgMatches<'_>,
-    id: &str,
-    least: u32,
-    most: u32,
-) -> Option<Option<u32>>
-    ensures is { result ≡ meaning.number_at (rows_of (found_of matches.now)) id.now least most }
-    ensures within { IfSome result (λ n. IfSome n (λ k. (least ≤ k) × (k ≤ most))) }
+/// The number of an option: its own, its default if it has one, or none; and no answer if its text is no number within the bounds.
+pub(crate) fn number(matches: &ArgMatches<'_>, row: &Row) -> Option<Option<u64>>
+    requires default { HasDefault row.now.2 }
+    ensures is { result
+        ≡ meaning.number_at (rows_of (found_of matches.now)) row.now.0.now row.now.2 }
+    ensures within { IfSome result (λ n. IfSome n (IsTakenBy row.now.2)) }
 {
-    match long_number(matches, id, least as u64, most as u64) {
-        Some(Some(number)) => Some(Some(number as u32)),
-        Some(None) => Some(None),
-        None => None,
+    let (name, _, takes, _) = *row;
+    match takes {
+        Takes::Nothing => Some(None),
+        Takes::Number(least, most) => given(matches, name, least, most),
+        Takes::Defaulted(least, most, default) => {
+            let number = given(matches, name, least, most)?;
+            Some(Some(number.unwrap_or(default)))
+        }
     }
 }
 
-/// The number of an option whose bounds may take 64 bits: none of its own where it isn't given, and no answer where its text is no number within the bounds.
-pub(crate) fn long_number(
-    matches: &ArgMatches<'_>,
-    id: &str,
-    least: u64,
-    most: u64,
-) -> Option<Option<u64>>
-    ensures is { result ≡ meaning.number_at (rows_of (found_of matches.now)) id.now least most }
+/// The number of an option that is given: none if it isn't, and no answer if its text is no number within the bounds.
+fn given(matches: &ArgMatches<'_>, id: &str, least: u64, most: u64) -> Option<Option<u64>>
+    ensures is { result ≡ meaning.given_in least most (first_of id.now (rows_of (found_of matches.now))) }
     ensures within { IfSome result (λ n. IfSome n (λ k. (least ≤ k) × (k ≤ most))) }
 {
     match text(matches, id) {

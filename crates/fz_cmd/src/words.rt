@@ -1,5 +1,5 @@
 //! The words.
-ghost use Rattle.std.specs.Prelude.{◌≡◌, IfOk, IfSome, map, option_map, string_bytes};
+ghost use Rattle.std.specs.Prelude.{◌≡◌, ◌≤◌, IfOk, IfSome, map, option_map, unwrap_or, string_bytes};
 ghost use Rattle.clap.specs.Words.{rows_of, found_of};
 ghost use Rattle.fz_cmd.specs.Meaning as meaning;
 ghost use Rattle.fz_cmd.specs.Meaning.{AreInRange};
@@ -7,13 +7,12 @@ ghost use Rattle.fz_cmd.specs.Meaning.{AreInRange};
 use crate::command::parse;
 use crate::name::Name;
 use crate::options::{
-    ADAPTIVE_DISTANCE, ADAPTIVE_DISTANCE_LEAST, ADAPTIVE_DISTANCE_MOST, COMMIT_DISTANCE,
-    COMMIT_DISTANCE_LEAST, COMMIT_DISTANCE_MOST, Options, WORKERS, WORKERS_LEAST, WORKERS_MOST,
+    ADAPTIVE_DISTANCE, ALL, CERTIFICATE, COMMIT_DISTANCE, DISTINCT, GENERATE, INTERLEAVE, LIMIT,
+    Options, STATS, WORKERS,
 };
-use crate::reading::{is_on, long_number, number, text};
+use crate::reading::{is_on, number, text};
 use clap::ArgMatches;
 use clap::error::ErrorKind;
-use fz_gen::text::{ITEMS_LEAST, ITEMS_MOST};
 use std::alloc::{AllocError, Global};
 
 /// The numbers of the options.
@@ -67,7 +66,7 @@ fn with_file(
     ensures { IfOk result (λ r. r ≡ meaning.with_file (rows_of (found_of matches.now)) numbers
         (option_map (λ s. s.now) file.entry)) }
 {
-    let certificate = is_on(matches, "certificate");
+    let certificate = is_on(matches, CERTIFICATE.0);
     if numbers.generate.is_some() && file.is_some()
         || certificate && suits_no_certificate(matches, numbers)
     {
@@ -75,14 +74,14 @@ fn with_file(
     }
     let file = Name::new(alloc, file.unwrap_or("-"))?;
     Ok(Some(Options {
-        all: is_on(matches, "all"),
+        all: is_on(matches, ALL.0),
         limit: numbers.limit,
-        distinct: is_on(matches, "distinct"),
+        distinct: is_on(matches, DISTINCT.0),
         workers: numbers.workers,
         commit_distance: numbers.commit_distance,
         adaptive_distance: numbers.adaptive_distance,
         interleave: numbers.interleave,
-        stats: is_on(matches, "stats"),
+        stats: is_on(matches, STATS.0),
         certificate,
         generate: numbers.generate,
         file,
@@ -93,10 +92,10 @@ fn with_file(
 fn suits_no_certificate(matches: &ArgMatches<'_>, numbers: Numbers) -> bool
     ensures { result ≡ meaning.suits_no_certificate (rows_of (found_of matches.now)) numbers }
 {
-    is_on(matches, "all")
+    is_on(matches, ALL.0)
         || numbers.limit.is_some()
-        || is_on(matches, "distinct")
-        || is_on(matches, "stats")
+        || is_on(matches, DISTINCT.0)
+        || is_on(matches, STATS.0)
         || numbers.generate.is_some()
 }
 
@@ -106,28 +105,40 @@ fn numbers_of(matches: &ArgMatches<'_>) -> Option<Numbers>
     ensures within { IfSome result (λ n. AreInRange n.workers n.commit_distance
         n.adaptive_distance n.generate) }
 {
-    let limit = number(matches, "limit", 0, u32::MAX)?;
-    let workers = number(matches, "workers", WORKERS_LEAST, WORKERS_MOST)?;
-    let distance = number(
-        matches,
-        "commit-distance",
-        COMMIT_DISTANCE_LEAST,
-        COMMIT_DISTANCE_MOST,
-    )?;
-    let adaptive = number(
-        matches,
-        "adaptive-distance",
-        ADAPTIVE_DISTANCE_LEAST,
-        ADAPTIVE_DISTANCE_MOST,
-    )?;
-    let interleave = long_number(matches, "interleave", 0, u64::MAX)?;
-    let generate = number(matches, "generate", ITEMS_LEAST, ITEMS_MOST)?;
+    let limit = number(matches, &LIMIT)?;
+    let workers = number(matches, &WORKERS)?;
+    let distance = number(matches, &COMMIT_DISTANCE)?;
+    let adaptive = number(matches, &ADAPTIVE_DISTANCE)?;
+    let interleave = number(matches, &INTERLEAVE)?;
+    let generate = number(matches, &GENERATE)?;
     Some(Numbers {
-        limit,
-        workers: workers.unwrap_or(WORKERS),
-        commit_distance: distance.unwrap_or(COMMIT_DISTANCE),
-        adaptive_distance: adaptive.unwrap_or(ADAPTIVE_DISTANCE),
+        limit: short(limit),
+        workers: defaulted(workers),
+        commit_distance: defaulted(distance),
+        adaptive_distance: defaulted(adaptive),
         interleave,
-        generate,
+        generate: short(generate),
     })
+}
+
+/// A number that takes at most 32 bits, if there is one.
+fn short(number: Option<u64>) -> Option<u32>
+    requires { IfSome number (λ n. n ≤ 4294967295) }
+    ensures { result ≡ number }
+{
+    match number {
+        Some(number) => Some(number as u32),
+        None => None,
+    }
+}
+
+/// A number that takes at most 32 bits, which an option with a default always has.
+fn defaulted(number: Option<u64>) -> u32
+    requires { IfSome number (λ n. n ≤ 4294967295) }
+    ensures { result ≡ unwrap_or number 0 }
+{
+    match number {
+        Some(number) => number as u32,
+        None => 0,
+    }
 }

@@ -1,8 +1,9 @@
 -- What the program says on standard error (fzn's own texts): a line for each answer but Done.
-use Rattle.std.specs.Prelude.{ℕ, Option, Some, None, List, [], ◌++◌, codes, decimal, bytes_eq, slice_get, unwrap_or, map, if◌then◌else◌}
+use Rattle.std.specs.Prelude.{ℕ, Option, Some, None, List, [], ◌++◌, codes, decimal, fold, bytes_eq, slice_get, unwrap_or, map, if◌then◌else◌}
 use Rattle.fz_cmd.specs.Meaning.{Options, options_of}
+use Rattle.fz_cmd.specs.declared.options.TheConstants.{OPTIONS}
 use Rattle.fz_print.specs.declared.refusal.Refusal.{Refusal}
-use Rattle.fzn.specs.declared.complaint.TheConstants.{FAULTS, USAGE}
+use Rattle.fzn.specs.declared.complaint.TheConstants.{FAULTS}
 use Rattle.fzn.specs.declared.status.Status.{Status}
 use Rattle.fzn.specs.declared.status.Status.TheVariants.{Done, Refused, Usage, SourceFault, SinkFault, NoMemory}
 
@@ -22,10 +23,17 @@ fault_text code = unwrap_or (slice_get (map (λ text. text.now) FAULTS) code) []
 abbrev pub refusal_line : List ℕ → Refusal → List ℕ
 refusal_line name r = name ++ codes ":" ++ decimal r.line ++ codes ":" ++ decimal r.column ++ codes ": " ++ fault_text r.code
 
+abbrev pub with_usage : List ℕ → List ℕ → List ℕ
+with_usage text line = ((text ++ codes "  ") ++ line) ++ codes "\n"
+
+-- how the program is called: a line for each option, in the order of the table
+abbrev pub usage : List ℕ
+usage = fold with_usage (codes "usage: fzn [options] [FILE]\n") (map (λ r. r.3.now) OPTIONS) ++ codes "  FILE                   the text; - is standard input, as is no FILE"
+
 abbrev pub complaint_text : List ℕ → Status → Option (List ℕ)
 complaint_text name Done = None
 complaint_text name (Refused r) = Some (refusal_line name r)
-complaint_text name Usage = Some USAGE.now
+complaint_text name Usage = Some usage
 complaint_text name SourceFault = Some (name ++ codes ": cannot be opened or read")
 complaint_text name SinkFault = Some (codes "standard output: a write failed")
 complaint_text name NoMemory = Some (codes "fzn: out of memory")

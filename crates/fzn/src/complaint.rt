@@ -1,11 +1,12 @@
 //! What the program says on standard error.
-ghost use Rattle.std.specs.Prelude.{◌≡◌, None, Ok, IfOk, map, option_map, option_copied, string_bytes};
+ghost use Rattle.std.specs.Prelude.{◌≡◌, None, Ok, IfOk, fold, map, option_map, option_copied, string_bytes};
 ghost use Rattle.fz_cmd.specs.Meaning.{options_of};
 ghost use Rattle.fzn.specs.Complaints as complaints;
 ghost use Rattle.fzn.specs.declared.status.Status.TheVariants.{Done};
 
 use crate::status::Status;
 use fz_cmd::Options;
+use fz_cmd::options::{OPTIONS, Row};
 use fz_cmd::words::options;
 use fz_print::refusal::Refusal;
 use itoa::Buffer;
@@ -26,20 +27,6 @@ pub const FAULTS: [&str; 12] = [
     "the lengths do not fit",
     "over a limit",
 ];
-
-/// How the program is called: each option with its range, and what is done without it.
-pub const USAGE: &str = "usage: fzn [options] [FILE]
-  -a                     all solutions; of a model with a goal, each better than the one before it
-  -n N                   N solutions, 0 for all: 0 to 4294967295, else one, or all with -a
-  --distinct             of solutions of which the same is printed, one
-  -p N                   N workers, each in a thread: 1 to 64, else 1
-  -s                     statistics behind all else
-  --certificate          a proof behind a best solution, or behind none; not with -a, -n, -s, --distinct, --generate
-  --commit-distance N    a copy of a node is kept at each Nth edge: 1 to 1000000, else 8
-  --adaptive-distance N  a copy is kept in the middle of a way of N edges: 1 to 1000000, else 2
-  --interleave N         workers take turns, by a schedule that N begins: 0 to 18446744073709551615
-  --generate N           a knapsack of N items is solved, and no text is read: 1 to 1000
-  FILE                   the text; - is standard input, as is no FILE";
 
 /// The line for standard error after a run of these words. Where it is done there is none, and no memory is asked for.
 pub fn complaint_of(
@@ -66,12 +53,35 @@ fn complaint_about(alloc: Global, name: &str, status: &Status) -> Result<Option<
     let line = match status {
         Status::Done => return Ok(None),
         Status::Refused(refusal) => refusal_line(alloc, name, refusal)?,
-        Status::Usage => String::from_str(alloc, USAGE)?,
+        Status::Usage => usage(alloc)?,
         Status::SourceFault => format!(in alloc; "{name}: cannot be opened or read")?,
         Status::SinkFault => String::from_str(alloc, "standard output: a write failed")?,
         Status::NoMemory => String::from_str(alloc, "fzn: out of memory")?,
     };
     Ok(Some(line))
+}
+
+/// How the program is called: a line for each option, with its range, and what is done without it.
+fn usage(alloc: Global) -> Result<String, AllocError>
+    ensures { IfOk result (λ text. string_bytes text ≡ complaints.usage) }
+{
+    let mut text = with_usages(alloc, "usage: fzn [options] [FILE]\n", &OPTIONS)?;
+    text.push_str("  FILE                   the text; - is standard input, as is no FILE")?;
+    Ok(text)
+}
+
+/// A heading, and a line for each of these options.
+fn with_usages(alloc: Global, heading: &str, rows: &[Row]) -> Result<String, AllocError>
+    ensures { IfOk result (λ text. string_bytes text
+        ≡ fold complaints.with_usage heading.now (map (λ r. r.3.now) rows.now)) }
+{
+    let mut text = String::from_str(alloc, heading)?;
+    for i in 0..rows.len() {
+        text.push_str("  ")?;
+        text.push_str(rows[i].3)?;
+        text.push_str("\n")?;
+    }
+    Ok(text)
 }
 
 /// The name of the text that the options name.
