@@ -1,7 +1,7 @@
 -- One step behind the waking of those that wait for what a store lists.
 use Rattle.std.proofs.Common.{◌≡◌, ◌∙◌, ℕ, ◌+◌, ◌*◌, ◌<◌, ◌≤◌, List, ap, subst, arith, length}
 use Rattle.std.specs.Prelude.{ℤ}
-use Rattle.fz_spec.specs.Constraints.{Constraint}
+use Rattle.fz_spec.specs.Instance.{Instance}
 use Rattle.fz_strength.specs.Domains.{room}
 use Rattle.fz_prop.specs.Stores.{Stored}
 use Rattle.fz_agenda.specs.Queues.{Lineup, queued}
@@ -19,10 +19,10 @@ drained_work w s t l m draining =
     let few : queued m.states ≤ length m.states = queued_few m.states in
     omega (arith, size, product, few)
 
-pub advanced : (w : Waking) (s t u : Stored) (l m : Lineup) (after : List ℕ) (cs : List Constraint) (p : Progress) → IsDraining w s l t m → IsProgress p cs t m.states u after → IsAdvance p cs s l.states u after
-advanced w s t u l m after cs Rested draining progress = (progress.0 ∙ draining.doms, progress.1)
-advanced w s t u l m after cs Failed draining never = subst (λ (ds : List (List (ℤ × ℤ))). AreNeverTrue cs ds) draining.doms never
-advanced w s t u l m after cs Going draining progress =
+pub advanced : (w : Waking) (s t u : Stored) (l m : Lineup) (after : List ℕ) (i : Instance) (p : Progress) → IsDraining w s l t m → IsProgress p i t m.states u after → IsAdvance p i s l.states u after
+advanced w s t u l m after i Rested draining progress = (progress.0 ∙ draining.doms, progress.1)
+advanced w s t u l m after i Failed draining never = subst (λ (ds : List (List (ℤ × ℤ))). AreNeverTrue i.constraints ds) draining.doms never
+advanced w s t u l m after i Going draining progress =
     let less : work u after < work t m.states = progress.1 in
     let most : work t m.states ≤ most_work s l.states = drained_work w s t l m draining in (
       progress.0,

@@ -3,4 +3,5 @@ mod Advancing
 mod Listing
 mod Watching
 mod Queuing
+mod Shapes
 pub mod Posting

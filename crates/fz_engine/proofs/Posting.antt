@@ -1,7 +1,9 @@
 -- Propagators of what the constraints of a model say.
-use Rattle.std.proofs.Common.{◌≡◌, inl, inr, ℕ, zero, suc, ◌+◌, ◌<◌, List, [], ◌∷◌, ◌++◌, ◌∙◌, refl, sym, ap, subst, arith, length, take, length-append, take_all}
+use Rattle.std.proofs.Common.{◌≡◌, inl, inr, ℕ, zero, suc, ◌+◌, ◌<◌, List, [], ◌∷◌, ◌++◌, ◌∙◌, refl, sym, ap, subst, arith, length, take, length-append, append_assoc, take_all}
+use Rattle.std.proofs.lemmas.Bool.{eqb-true}
+use Rattle.std.proofs.lemmas.Bool.Decides.{eqb_tells}
 use Rattle.std.proofs.lemmas.List.{length-map, length-take-le}
-use Rattle.std.specs.Prelude.{ℤ, Some, slice_get, ◌≤◌, ◌^◌}
+use Rattle.std.specs.Prelude.{ℤ, IsTrue, Option, Some, None, slice_get, nat_eq, not, ◌&&◌, ◌||◌, ◌⊎◌, Bool, true, false, if◌then◌else◌, ◌≤◌, ◌^◌}
 use Rattle.std.specs.List.{AllByRecursion}
 use Rattle.fz_sets.proofs.Lists.{all_at, all_left, all_right, all_both, some_is}
 use Rattle.fz_spec.specs.declared.term.Term.{Term}
@@ -21,9 +23,11 @@ use Rattle.fz_says.proofs.Fitting.{said_fits}
 use Rattle.fz_says.proofs.Suiting.{fit_suits}
 use Rattle.fz_spec.specs.declared.limits.TheConstants.{CONSTRAINT_LIMIT}
 use Rattle.fz_propagators.specs.declared.any.AnyPropagator.{AnyPropagator}
+use Rattle.fz_plain.specs.Plain.{IsPlainOf}
 use Rattle.fz_propagators.specs.Forms.{said_of}
 use Rattle.fz_agenda.specs.Wakes.{Waking}
-use Rattle.fz_engine.specs.Networks.{AreSaid, AreSaidOf, AreOf, IsListing, IsMoreOf, IsNetwork, IsSaidMore, sayings_of, stronger_of}
+use Rattle.fz_engine.specs.Networks.{AreSaid, AreSaidOf, AreOf, IsListing, IsNetwork, IsSaidPlain, and_more, sayings_of}
+use Rattle.fz_engine.specs.Stronger.{is_kept_whole, is_short, said_once_more, stronger_of}
 use Rattle.fz_engine.proofs.Listing.{at_end}
 
 -- ---- what is said
@@ -33,118 +37,135 @@ at_front [] ys i x is = absurd (cc (is))
 at_front (y ∷ xs) ys zero x is = is
 at_front (y ∷ xs) ys (suc i) x is = at_front xs ys i x is
 
-at_back : (xs : List Saying) (x : Saying) → slice_get (xs ++ x ∷ []) (length xs) ≡ Some x
-at_back [] x = refl
-at_back (y ∷ xs) x = at_back xs x
-
-abbrev AreTrue : List ℤ → List Constraint → Type 0
-AreTrue a cs = AllByRecursion (IsTrueOf a) cs
-
 abbrev Follow : List ℤ → List Saying → Type 0
 Follow a sayings = AllByRecursion (λ (saying : Saying). truth_of saying a) sayings
 
 -- ---- what is said once more
 
-same_terms : (s t : Saying) → stronger_of s ≡ Some t → said_terms t ≡ said_terms s
-same_terms (Differ xs) t is = ap said_terms (sym (some_is (DifferByBounds xs) t is))
-same_terms (Sum Equal ks ts c) t is = ap said_terms (sym (some_is (SumByNumbers ks ts c) t is))
-same_terms s t is = absurd (cc (is))
+-- a shape of what is said once more, and of nothing else
+data IsOnce (s t : Saying) : Type 0 where
+  once_differ : (xs : List Term) → s ≡ Differ xs → t ≡ DifferByBounds xs → IsOnce s t
+  once_sum : (ks : List ℤ) (ts : List Term) (c : ℤ) → s ≡ Sum Equal ks ts c → t ≡ SumByNumbers ks ts c → IsTrue (is_short ts) → IsOnce s t
 
-no_truths : (s t : Saying) → stronger_of s ≡ Some t → [] ≡ truths_of t
-no_truths (Differ xs) t is = ap truths_of (some_is (DifferByBounds xs) t is)
-no_truths (Sum Equal ks ts c) t is = ap truths_of (some_is (SumByNumbers ks ts c) t is)
-no_truths s t is = absurd (cc (is))
+if_some : (whole short kept : Bool) (u t : Saying) → (if whole && (short && not kept) then Some u else None) ≡ Some t → (u ≡ t) × IsTrue short
+if_some true true false u t is = (some_is u t is, refl)
+if_some false short kept u t is = absurd (cc (is))
+if_some true false kept u t is = absurd (cc (is))
+if_some true true true u t is = absurd (cc (is))
 
-more_true : (s t : Saying) (a : List ℤ) → stronger_of s ≡ Some t → truth_of s a → truth_of t a
-more_true (Differ xs) t a is h = subst (λ (u : Saying). truth_of u a) (some_is (DifferByBounds xs) t is) h
-more_true (Sum Equal ks ts c) t a is h = subst (λ (u : Saying). truth_of u a) (some_is (SumByNumbers ks ts c) t is) h
-more_true s t a is h = absurd (cc (is))
+once : (vs : List Variable) (whole : Bool) (s t : Saying) → said_once_more vs whole s ≡ Some t → IsOnce s t
+once vs whole (Differ xs) t is = once_differ xs refl (sym (some_is (DifferByBounds xs) t is))
+once vs whole (Sum Equal ks ts c) t is = let both = if_some whole (is_short ts) (is_kept_whole vs ks ts) (SumByNumbers ks ts c) t is in once_sum ks ts c refl (sym both.0) both.1
+once vs whole s t is = absurd (cc (is))
 
-pub more_fit : (vs : List Variable) (s t : Saying) → stronger_of s ≡ Some t → FitsSum t → IsFit vs s → IsFit vs t
-more_fit vs s t is sum fit = record {
-  terms = subst (AllByRecursion (IsKnown vs)) (sym (same_terms s t is)) fit.terms;
-  truths = subst (AllByRecursion (kept.IsTermOf vs kinds.Bool)) (no_truths s t is) tt;
-  sum = sum;
-}
+more_true : (s t : Saying) (a : List ℤ) → IsOnce s t → truth_of s a → truth_of t a
+more_true s t a (once_differ xs at_s at_t) h = rw at_t (rw at_s at h)
+more_true s t a (once_sum ks ts c at_s at_t short) h = rw at_t (rw at_s at h)
 
-holds_more : (c : Constraint) (t : Saying) (a : List ℤ) → stronger_of (saying_of c) ≡ Some t → IsTrueOf a c → truth_of t a
-holds_more c t a is holds = more_true (saying_of c) t a is ((says c a).0 holds)
+two_or_three : (n : ℕ) → IsTrue (nat_eq n 2 || nat_eq n 3) → (n ≡ 2) ⊎ (n ≡ 3)
+two_or_three n h = elim (eqb_tells n 2) [ inl two ↦ inl two.1 | inr other ↦ inr (eqb-true n 3 (rw other.0 at h)) ]
+
+once_fit : (vs : List Variable) (s t : Saying) → IsOnce s t → IsFit vs s → IsFit vs t
+once_fit vs s t (once_differ xs at_s at_t) fit = let f : IsFit vs (Differ xs) = rw at_s at fit in rw at_t (record { terms = f.terms; truths = tt; sum = tt })
+once_fit vs s t (once_sum ks ts c at_s at_t short) fit =
+    let f : IsFit vs (Sum Equal ks ts c) = rw at_s at fit in rw at_t (record { terms = f.terms; truths = tt; sum = (f.sum.1, two_or_three (length ts) short) })
+
+pub more_fit : (vs : List Variable) (whole : Bool) (s t : Saying) → said_once_more vs whole s ≡ Some t → IsFit vs s → IsFit vs t
+more_fit vs whole s t is fit = once_fit vs s t (once vs whole s t is) fit
+
+holds_more : (vs : List Variable) (c : Constraint) (t : Saying) (a : List ℤ) → stronger_of vs c ≡ Some t → IsTrueOf a c → truth_of t a
+holds_more vs c t a is holds = more_true (saying_of c) t a (once vs c.whole (saying_of c) t is) ((says c a).0 holds)
 
 pub said_none : (vs : List Variable) → AreSaidOf vs [] []
 said_none vs = record {
-  said = record { each = λ i c is. absurd (cc (is)); follow = λ a all. tt };
+  said = record { each = λ i c is. absurd (cc (is)); more = λ i c saying is stronger. absurd (cc (is)); follow = λ a all. tt };
   fit = tt;
   few = omega arith;
 }
 
--- What some constraints say is among these, all of which are true where all constraints of a longer list are, and there is room for
--- so many more.
-record AreSaidOn (vs : List Variable) (cs all : List Constraint) (sayings : List Saying) (left : ℕ) : Type 0 where
-  each : (i : ℕ) (c : Constraint) → slice_get cs i ≡ Some c → (j : ℕ) × (slice_get sayings j ≡ Some (saying_of c))
-  follow : (a : List ℤ) → AreTrue a all → Follow a sayings
-  fit : AllByRecursion (IsFit vs) sayings
-  few : length sayings + left ≤ length all + length all + length all
+-- Of one constraint: what it says is among these, and what is said once more of it; all fit, and are true where it is.
+record IsSaidBy (vs : List Variable) (c : Constraint) (block : List Saying) (most : ℕ) : Type 0 where
+  own : (j : ℕ) × (slice_get block j ≡ Some (saying_of c))
+  more : (saying : Saying) → stronger_of vs c ≡ Some saying → (j : ℕ) × (slice_get block j ≡ Some saying)
+  follow : (a : List ℤ) → IsTrueOf a c → Follow a block
+  fit : AllByRecursion (IsFit vs) block
+  few : length block ≤ most
 
-said_on : (vs : List Variable) (cs : List Constraint) (c : Constraint) (sayings : List Saying) → AreSaidOf vs cs sayings → AreSaidOn vs cs (cs ++ c ∷ []) sayings 3
-said_on vs cs c sayings so_far =
-    let size_of_cs = length-append cs (c ∷ []) in
-    let few = so_far.few in
+none_more : (vs : List Variable) (c : Constraint) → IsFit vs (saying_of c) → stronger_of vs c ≡ None → IsSaidBy vs c (saying_of c ∷ []) 2
+none_more vs c fit none = record {
+  own = (0, refl);
+  more = λ saying stronger. absurd (cc (none, stronger));
+  follow = λ a holds. ((says c a).0 holds, tt);
+  fit = (fit, tt);
+  few = omega arith;
+}
+
+one_more : (vs : List Variable) (c : Constraint) (t : Saying) → IsFit vs (saying_of c) → stronger_of vs c ≡ Some t → IsSaidBy vs c (saying_of c ∷ t ∷ []) 2
+one_more vs c t fit is = record {
+  own = (0, refl);
+  more = λ saying stronger. (1, sym is ∙ stronger);
+  follow = λ a holds. ((says c a).0 holds, (holds_more vs c t a is holds, tt));
+  fit = (fit, (more_fit vs c.whole (saying_of c) t is fit, tt));
+  few = omega arith;
+}
+
+said_by_option : (vs : List Variable) (c : Constraint) (o : Option Saying) → IsFit vs (saying_of c) → stronger_of vs c ≡ o → IsSaidBy vs c (and_more (saying_of c) o) 2
+said_by_option vs c None fit is = none_more vs c fit is
+said_by_option vs c (Some t) fit is = one_more vs c t fit is
+
+behind_plain : (vs : List Variable) (c : Constraint) (p : Saying) (block : List Saying) → IsFit vs (saying_of c) → IsPlainOf (saying_of c) p → IsSaidBy vs c block 2 → IsSaidBy vs c (p ∷ block) 3
+behind_plain vs c p block fit plain said =
+    let few = said.few in
     record {
-      each = so_far.said.each;
-      follow = λ a all. so_far.said.follow a (all_left (IsTrueOf a) cs (c ∷ []) all);
-      fit = so_far.fit;
-      few = omega (arith, size_of_cs, few);
+      own = (suc said.own.0, said.own.1);
+      more = λ saying stronger. (let at = said.more saying stronger in (suc at.0, at.1));
+      follow = λ a holds. ((plain.same a).0 ((says c a).0 holds), said.follow a holds);
+      fit = (plain.fits vs fit, said.fit);
+      few = omega (arith, few);
     }
 
-said_last : (vs : List Variable) (cs : List Constraint) (c : Constraint) (sayings : List Saying) (left : ℕ) → AreSaidOn vs cs (cs ++ c ∷ []) sayings (suc left) → IsFit vs (saying_of c)
-    → AreSaidOn vs (cs ++ c ∷ []) (cs ++ c ∷ []) (sayings ++ saying_of c ∷ []) left
-said_last vs cs c sayings left so_far fit =
-    let size = length-append sayings (saying_of c ∷ []) in
-    let few = so_far.few in
-    record {
-      each = λ i d is. elim (at_end cs c d i is) [
-        | inl there ↦ let p = so_far.each i d there in (p.0, at_front sayings (saying_of c ∷ []) p.0 (saying_of d) p.1)
-        | inr last ↦ (length sayings, subst (λ (x : Constraint). slice_get (sayings ++ saying_of c ∷ []) (length sayings) ≡ Some (saying_of x)) last.1 (at_back sayings (saying_of c)))
-      ];
-      follow = λ a all.
-          all_both (λ (s : Saying). truth_of s a) sayings (saying_of c ∷ []) (so_far.follow a all) ((says c a).0 (all_right (IsTrueOf a) cs (c ∷ []) all).0, tt);
-      fit = all_both (IsFit vs) sayings (saying_of c ∷ []) so_far.fit (fit, tt);
-      few = omega (arith, size, few);
-    }
-
-is_more_fit : (vs : List Variable) (s t : Saying) → IsMoreOf s t → IsFit vs s → IsFit vs t
-is_more_fit vs s t (inl stronger) fit = more_fit vs s t stronger.0 stronger.1 fit
-is_more_fit vs s t (inr plain) fit = plain.fits vs fit
-
-more_holds : (c : Constraint) (t : Saying) (a : List ℤ) → IsMoreOf (saying_of c) t → IsTrueOf a c → truth_of t a
-more_holds c t a (inl stronger) holds = holds_more c t a stronger.0 holds
-more_holds c t a (inr plain) holds = (plain.same a).0 ((says c a).0 holds)
-
--- maybe something beside what the last one says
-said_and_more : (vs : List Variable) (ds cs : List Constraint) (c : Constraint) (before after : List Saying) (left : ℕ) → AreSaidOn vs ds (cs ++ c ∷ []) before (suc left) → IsFit vs (saying_of c)
-    → IsSaidMore (saying_of c) before after → AreSaidOn vs ds (cs ++ c ∷ []) after left
-said_and_more vs ds cs c before after left so_far fit (inl same) =
-    let few = so_far.few in
-    subst (λ (l : List Saying). AreSaidOn vs ds (cs ++ c ∷ []) l left) (sym same) (record { each = so_far.each; follow = so_far.follow; fit = so_far.fit; few = omega (arith, few) })
-said_and_more vs ds cs c before after left so_far fit (inr more) =
-    let t = more.0 in
-    let size = length-append before (t ∷ []) in
-    let few = so_far.few in
-    subst (λ (l : List Saying). AreSaidOn vs ds (cs ++ c ∷ []) l left) (sym more.2) (record {
-      each = λ i d is. let p = so_far.each i d is in (p.0, at_front before (t ∷ []) p.0 (saying_of d) p.1);
-      follow = λ a all. all_both (λ (s : Saying). truth_of s a) before (t ∷ []) (so_far.follow a all) (more_holds c t a more.1 (all_right (IsTrueOf a) cs (c ∷ []) all).0, tt);
-      fit = all_both (IsFit vs) before (t ∷ []) so_far.fit (is_more_fit vs (saying_of c) t more.1 fit, tt);
-      few = omega (arith, size, few);
-    })
+at_behind : (xs ys : List Saying) (j : ℕ) (x : Saying) → slice_get ys j ≡ Some x → (i : ℕ) × (slice_get (xs ++ ys) i ≡ Some x)
+at_behind [] ys j x is = (j, is)
+at_behind (y ∷ xs) ys j x is = let there = at_behind xs ys j x is in (suc there.0, there.1)
 
 -- one constraint more
-said_more_of : (vs : List Variable) (cs : List Constraint) (c : Constraint) (sayings plain after : List Saying) → AreSaidOf vs cs sayings → IsFit vs (saying_of c)
-    → IsSaidMore (saying_of c) sayings plain → IsSaidMore (saying_of c) (plain ++ saying_of c ∷ []) after → AreSaidOf vs (cs ++ c ∷ []) after
-said_more_of vs cs c sayings plain after so_far fit one other =
-    let before = said_and_more vs cs cs c sayings plain 2 (said_on vs cs c sayings so_far) fit one in
-    let all = said_and_more vs (cs ++ c ∷ []) cs c (plain ++ saying_of c ∷ []) after 0 (said_last vs cs c plain 1 before fit) fit other in
-    let few = all.few in
-    record { said = record { each = all.each; follow = all.follow }; fit = all.fit; few = omega (arith, few) }
+with_block : (vs : List Variable) (cs : List Constraint) (c : Constraint) (sayings block : List Saying) → AreSaidOf vs cs sayings → IsSaidBy vs c block 3 → AreSaidOf vs (cs ++ c ∷ []) (sayings ++ block)
+with_block vs cs c sayings block so_far said =
+    let size = length-append sayings block in
+    let size_of_cs = length-append cs (c ∷ []) in
+    let few = so_far.few in
+    let three = said.few in
+    record {
+      said = record {
+        each = λ i d is. elim (at_end cs c d i is) [
+          | inl there ↦ let p = so_far.said.each i d there in (p.0, at_front sayings block p.0 (saying_of d) p.1)
+          | inr last ↦ at_behind sayings block said.own.0 (saying_of d) (subst (λ (x : Constraint). slice_get block said.own.0 ≡ Some (saying_of x)) last.1 said.own.1)
+        ];
+        more = λ i d saying is stronger. elim (at_end cs c d i is) [
+          | inl there ↦ let p = so_far.said.more i d saying there stronger in (p.0, at_front sayings block p.0 saying p.1)
+          | inr last ↦ let at = said.more saying (subst (λ (x : Constraint). stronger_of vs x ≡ Some saying) (sym last.1) stronger) in at_behind sayings block at.0 saying at.1
+        ];
+        follow = λ a all.
+            all_both (λ (s : Saying). truth_of s a) sayings block (so_far.said.follow a (all_left (IsTrueOf a) cs (c ∷ []) all)) (said.follow a (all_right (IsTrueOf a) cs (c ∷ []) all).0);
+      };
+      fit = all_both (IsFit vs) sayings block so_far.fit said.fit;
+      few = omega (arith, size, size_of_cs, few, three);
+    }
+
+three_at_most : (vs : List Variable) (c : Constraint) (block : List Saying) → IsSaidBy vs c block 2 → IsSaidBy vs c block 3
+three_at_most vs c block said = let few = said.few in record { own = said.own; more = said.more; follow = said.follow; fit = said.fit; few = omega (arith, few) }
+
+said_more_of : (vs : List Variable) (cs : List Constraint) (c : Constraint) (sayings plain : List Saying) → AreSaidOf vs cs sayings → IsFit vs (saying_of c)
+    → IsSaidPlain (saying_of c) sayings plain → AreSaidOf vs (cs ++ c ∷ []) (plain ++ and_more (saying_of c) (stronger_of vs c))
+said_more_of vs cs c sayings plain so_far fit (inl same) =
+    let block = and_more (saying_of c) (stronger_of vs c) in
+    subst (λ (l : List Saying). AreSaidOf vs (cs ++ c ∷ []) (l ++ block)) (sym same)
+    (with_block vs cs c sayings block so_far (three_at_most vs c block (said_by_option vs c (stronger_of vs c) fit refl)))
+said_more_of vs cs c sayings plain so_far fit (inr more) =
+    let block = and_more (saying_of c) (stronger_of vs c) in
+    let p = more.0 in
+    subst (λ (l : List Saying). AreSaidOf vs (cs ++ c ∷ []) l) (sym (append_assoc sayings (p ∷ []) block) ∙ ap (λ (l : List Saying). l ++ block) (sym more.2))
+    (with_block vs cs c sayings (p ∷ block) so_far (behind_plain vs c p block fit more.1 (said_by_option vs c (stronger_of vs c) fit refl)))
 
 -- ---- what fits the model
 
@@ -198,11 +219,12 @@ taken_after [] i c is = absurd (cc (is))
 taken_after (b ∷ cs) zero c is = ap (λ (x : Constraint). x ∷ []) (sym (some_is b c is))
 taken_after (b ∷ cs) (suc i) c is = ap (λ (l : List Constraint). b ∷ l) (taken_after cs i c is)
 
-pub said_next : (vs : List Variable) (cs : List Constraint) (i : ℕ) (c : Constraint) (sayings plain after : List Saying) → slice_get cs i ≡ Some c → AreSaidOf vs (take i cs) sayings → IsFit vs (saying_of c)
-    → IsSaidMore (saying_of c) sayings plain → IsSaidMore (saying_of c) (plain ++ saying_of c ∷ []) after → AreSaidOf vs (take (i + 1) cs) after
-said_next vs cs i c sayings plain after is so_far fit one other =
+pub said_next : (vs : List Variable) (cs : List Constraint) (i : ℕ) (c : Constraint) (sayings plain : List Saying) → slice_get cs i ≡ Some c → AreSaidOf vs (take i cs) sayings → IsFit vs (saying_of c)
+    → IsSaidPlain (saying_of c) sayings plain → AreSaidOf vs (take (i + 1) cs) (plain ++ and_more (saying_of c) (stronger_of vs c))
+said_next vs cs i c sayings plain is so_far fit one =
     let next : suc i ≡ i + 1 = omega arith in
-    subst (λ (l : List Constraint). AreSaidOf vs l after) (taken_after cs i c is ∙ ap (λ (k : ℕ). take k cs) next) (said_more_of vs (take i cs) c sayings plain after so_far fit one other)
+    let after = plain ++ and_more (saying_of c) (stronger_of vs c) in
+    subst (λ (l : List Constraint). AreSaidOf vs l after) (taken_after cs i c is ∙ ap (λ (k : ℕ). take k cs) next) (said_more_of vs (take i cs) c sayings plain so_far fit one)
 
 pub said_all : (vs : List Variable) (cs : List Constraint) (i : ℕ) (sayings : List Saying) → length cs ≤ i → AreSaidOf vs (take i cs) sayings → AreSaidOf vs cs sayings
 said_all vs cs i sayings past said = subst (λ (l : List Constraint). AreSaidOf vs l sayings) (take_all i cs past) said
@@ -216,7 +238,7 @@ few_so_far vs ps cs i said within few =
     omega (arith, size, some, taken, within, few)
 
 -- and for one more behind what was maybe said
-pub few_after : (ps qs : List AnyPropagator) (saying : Saying) → length ps + 2 < 2 ^ 32 → IsSaidMore saying (sayings_of ps) (sayings_of qs) → length qs + 1 < 2 ^ 32
+pub few_after : (ps qs : List AnyPropagator) (saying : Saying) → length ps + 2 < 2 ^ 32 → IsSaidPlain saying (sayings_of ps) (sayings_of qs) → length qs + 1 < 2 ^ 32
 few_after ps qs saying few (inl same) =
     let size = length-map ps said_of in
     let more = sym (length-map qs said_of) ∙ ap (λ (l : List Saying). length l) same in

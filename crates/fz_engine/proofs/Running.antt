@@ -131,10 +131,14 @@ answered (Ok Failed) n place saying s t network is answer = never_true n s.doms 
 pub never_before : (n : Networked) (s t : Stored) (after : List ℕ) → IsRun n s t after → AreNeverTrue n.model.constraints t.doms → AreNeverTrue n.model.constraints s.doms
 never_before n s t after run never = λ a all within. never a all (run.correct a all within)
 
-pub all_rest : (n : Networked) (states : List ℕ) (s : Stored) → IsNetwork n → IsStore s → IsDrained s → IsAtRest states → IsAlive n states s → AllRest n.model.constraints s.doms
+pub all_rest : (n : Networked) (states : List ℕ) (s : Stored) → IsNetwork n → IsStore s → IsDrained s → IsAtRest states → IsAlive n states s → AllRest n.model s.doms
 all_rest n states s network store drained rest alive = λ i c is.
+    let lines = all_rest_at_rest n.sayings states s store drained.unmarked rest alive.settled in
     let there = network.said.each i c is in
-    all_rest_at_rest n.sayings states s store drained.unmarked rest alive.settled there.0 (saying_of c) there.1
+    record {
+      first = lines there.0 (saying_of c) there.1;
+      more = λ saying stronger. (let also = network.said.more i c saying is stronger in lines also.0 saying also.1);
+    }
 
 -- ---- the measure
 

@@ -1,3 +1,4 @@
+pub mod Stronger
 pub mod Networks
 pub mod Runs
 pub mod Steps

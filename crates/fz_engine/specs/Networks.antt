@@ -6,15 +6,15 @@ use Rattle.fz_spec.specs.Instance.{Instance, Variable}
 use Rattle.fz_strength.specs.declared.cost.Cost.{Cost}
 use Rattle.fz_strength.specs.Costs.{cost_of}
 use Rattle.fz_strength.specs.Promises.{Suits}
-use Rattle.fz_strength.specs.declared.relation.Relation.TheVariants.{Equal}
-use Rattle.fz_strength.specs.Sayings.{Saying, Differ, DifferByBounds, Sum, SumByNumbers, said_terms, saying_of, truth_of}
+use Rattle.fz_strength.specs.Sayings.{Saying, said_terms, saying_of, truth_of}
 use Rattle.fz_prop.specs.Stores.{IsTermOf, declared_sets}
 use Rattle.fz_agenda.specs.Queues.{Lineup, queue_at, class_of, cost_at}
 use Rattle.fz_agenda.specs.Wakes.{Waking, IsIndexOf, HaveSize}
-use Rattle.fz_says.specs.Fits.{FitsSum, IsFit}
+use Rattle.fz_says.specs.Fits.{IsFit}
 use Rattle.fz_plain.specs.Plain.{IsPlainOf}
 use Rattle.fz_propagators.specs.declared.any.AnyPropagator.{AnyPropagator}
 use Rattle.fz_propagators.specs.Forms.{said_of}
+use Rattle.fz_engine.specs.Stronger.{stronger_of}
 
 -- a model, what each propagator says, and who waits for which change
 pub record Networked : Type 0 where
@@ -25,29 +25,24 @@ pub record Networked : Type 0 where
 abbrev pub sayings_of : List AnyPropagator → List Saying
 sayings_of propagators = map said_of propagators
 
--- what each constraint says is among these, and all of these are true where all constraints are
-pub record AreSaid (cs : List Constraint) (sayings : List Saying) : Type 0 where
+-- What each constraint says is among these, and what is said once more of it, and all of these are true where all constraints are.
+pub record AreSaid (vs : List Variable) (cs : List Constraint) (sayings : List Saying) : Type 0 where
   pub each : (i : ℕ) (c : Constraint) → slice_get cs i ≡ Some c → (j : ℕ) × (slice_get sayings j ≡ Some (saying_of c))
+  pub more : (i : ℕ) (c : Constraint) (saying : Saying) → slice_get cs i ≡ Some c → stronger_of vs c ≡ Some saying → (j : ℕ) × (slice_get sayings j ≡ Some saying)
   pub follow : (a : List ℤ) → AllByRecursion (IsTrueOf a) cs → AllByRecursion (λ (saying : Saying). truth_of saying a) sayings
 
--- what is said once more, to a propagator that looks at more: that terms differ, by their bounds, and that a sum is a number, by the
--- numbers of its terms
-abbrev pub stronger_of : Saying → Option Saying
-stronger_of (Differ xs) = Some (DifferByBounds xs)
-stronger_of (Sum Equal ks ts c) = Some (SumByNumbers ks ts c)
-stronger_of saying = None
+-- what was said, and maybe a plainer form of something
+abbrev pub IsSaidPlain : Saying → List Saying → List Saying → Type 0
+IsSaidPlain saying before after = (after ≡ before) ⊎ ((plain : Saying) × IsPlainOf saying plain × (after ≡ before ++ plain ∷ []))
 
--- what may be said beside something: to a propagator that looks at more, or in a plainer form
-abbrev pub IsMoreOf : Saying → Saying → Type 0
-IsMoreOf saying more = ((stronger_of saying ≡ Some more) × FitsSum more) ⊎ IsPlainOf saying more
-
--- what was said, and maybe what is said beside something
-abbrev pub IsSaidMore : Saying → List Saying → List Saying → Type 0
-IsSaidMore saying before after = (after ≡ before) ⊎ ((more : Saying) × IsMoreOf saying more × (after ≡ before ++ more ∷ []))
+-- something, and what is said once more, if there is such
+abbrev pub and_more : Saying → Option Saying → List Saying
+and_more saying None = saying ∷ []
+and_more saying (Some more) = saying ∷ more ∷ []
 
 -- What constraints of these variables say fits the model, and is at most three times as much.
 pub record AreSaidOf (vs : List Variable) (cs : List Constraint) (sayings : List Saying) : Type 0 where
-  pub said : AreSaid cs sayings
+  pub said : AreSaid vs cs sayings
   pub fit : AllByRecursion (IsFit vs) sayings
   pub few : length sayings ≤ length cs + length cs + length cs
 
@@ -61,9 +56,9 @@ pub record IsListing (sayings : List Saying) (w : Waking) (n : ℕ) : Type 0 whe
 abbrev pub AreOf : List Saying → List (List (ℤ × ℤ)) → Type 0
 AreOf sayings ds = (i : ℕ) (saying : Saying) → slice_get sayings i ≡ Some saying → AllByRecursion (IsTermOf (length ds)) (said_terms saying) × Suits saying ds
 
--- propagators of a model: of each constraint at least one
+-- propagators of a model: of each constraint at least one, and one more of what is said once more
 pub record IsNetwork (n : Networked) : Type 0 where
-  pub said : AreSaid n.model.constraints n.sayings
+  pub said : AreSaid n.model.variables n.model.constraints n.sayings
   pub listing : IsListing n.sayings n.wakes (length n.model.variables)
   pub terms : AreOf n.sayings (declared_sets n.model.variables)
   pub few : length n.sayings ≤ 2 ^ 32

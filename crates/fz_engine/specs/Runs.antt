@@ -2,12 +2,14 @@
 use Rattle.std.specs.Prelude.{◌≡◌, ◌⊎◌, ℕ, ◌+◌, ◌*◌, ◌<◌, ℤ, List, length, slice_get, Some}
 use Rattle.std.specs.List.{AllByRecursion}
 use Rattle.fz_spec.specs.Constraints.{Constraint, IsTrueOf}
+use Rattle.fz_spec.specs.Instance.{Instance, Variable}
 use Rattle.fz_strength.specs.Domains.{Within, IsNarrower, room}
-use Rattle.fz_strength.specs.Sayings.{Rests}
+use Rattle.fz_strength.specs.Sayings.{Saying, Rests, line_of}
 use Rattle.fz_prop.specs.Stores.{Stored, IsStore}
 use Rattle.fz_agenda.specs.Agendas.{IsSettled}
 use Rattle.fz_agenda.specs.Queues.{queued}
 use Rattle.fz_engine.specs.Networks.{Networked, AreOf}
+use Rattle.fz_engine.specs.Stronger.{stronger_of}
 
 -- a domain for each variable, to which what is said fits, and propagators that are settled
 pub record IsAlive (n : Networked) (states : List ℕ) (s : Stored) : Type 0 where
@@ -26,9 +28,14 @@ pub record IsRun (n : Networked) (s t : Stored) (after : List ℕ) : Type 0 wher
 abbrev pub AreNeverTrue : List Constraint → List (List (ℤ × ℤ)) → Type 0
 AreNeverTrue cs ds = (a : List ℤ) → AllByRecursion (IsTrueOf a) cs → Within ds a → ⊥
 
--- the line of each constraint holds
-abbrev pub AllRest : List Constraint → List (List (ℤ × ℤ)) → Type 0
-AllRest cs ds = (i : ℕ) (c : Constraint) → slice_get cs i ≡ Some c → Rests c ds
+-- the line of a constraint holds, and that of what is said once more of it
+pub record RestsWhole (vs : List Variable) (c : Constraint) (ds : List (List (ℤ × ℤ))) : Type 0 where
+  pub first : Rests c ds
+  pub more : (saying : Saying) → stronger_of vs c ≡ Some saying → line_of saying ds
+
+-- so it is for each constraint of a model
+abbrev pub AllRest : Instance → List (List (ℤ × ℤ)) → Type 0
+AllRest m ds = (i : ℕ) (c : Constraint) → slice_get m.constraints i ≡ Some c → RestsWhole m.variables c ds
 
 -- a number left a domain, or one propagator less is queued
 abbrev pub HasMoved : Stored → List ℕ → Stored → List ℕ → Type 0

@@ -1,6 +1,6 @@
 -- What a step of propagation answers.
 use Rattle.std.specs.Prelude.{◌≡◌, ℕ, ◌+◌, ◌*◌, ◌<◌, List, length, slice_get, Some}
-use Rattle.fz_spec.specs.Constraints.{Constraint}
+use Rattle.fz_spec.specs.Instance.{Instance}
 use Rattle.fz_strength.specs.Domains.{room}
 use Rattle.fz_strength.specs.Promises.{RestsForGood}
 use Rattle.fz_strength.specs.Sayings.{Saying, line_of}
@@ -20,17 +20,17 @@ IsAnswerAt NoFix n place s t = room t.doms < room s.doms
 IsAnswerAt Subsumed n place s t = (saying : Saying) × (slice_get n.sayings place ≡ Some saying) × RestsForGood saying t.doms
 IsAnswerAt Fails n place s t = AreNeverTrue n.model.constraints s.doms
 
-abbrev pub IsProgress : Progress → List Constraint → Stored → List ℕ → Stored → List ℕ → Type 0
-IsProgress Rested cs s states t after = (t.doms ≡ s.doms) × AllRest cs t.doms
-IsProgress Failed cs s states t after = AreNeverTrue cs s.doms
-IsProgress Going cs s states t after = IsDrained t × (work t after < work s states)
+abbrev pub IsProgress : Progress → Instance → Stored → List ℕ → Stored → List ℕ → Type 0
+IsProgress Rested m s states t after = (t.doms ≡ s.doms) × AllRest m t.doms
+IsProgress Failed m s states t after = AreNeverTrue m.constraints s.doms
+IsProgress Going m s states t after = IsDrained t × (work t after < work s states)
 
 -- how much may still happen where a store may list changes, which may queue every propagator
 abbrev pub most_work : Stored → List ℕ → ℕ
 most_work s states = room s.doms * (length states + 1) + length states
 
 -- a step behind the waking of those that wait for what the store lists, from there
-abbrev pub IsAdvance : Progress → List Constraint → Stored → List ℕ → Stored → List ℕ → Type 0
-IsAdvance Rested cs s states t after = (t.doms ≡ s.doms) × AllRest cs t.doms
-IsAdvance Failed cs s states t after = AreNeverTrue cs s.doms
-IsAdvance Going cs s states t after = IsDrained t × (work t after < most_work s states) × (IsDrained s → work t after < work s states)
+abbrev pub IsAdvance : Progress → Instance → Stored → List ℕ → Stored → List ℕ → Type 0
+IsAdvance Rested m s states t after = (t.doms ≡ s.doms) × AllRest m t.doms
+IsAdvance Failed m s states t after = AreNeverTrue m.constraints s.doms
+IsAdvance Going m s states t after = IsDrained t × (work t after < most_work s states) × (IsDrained s → work t after < work s states)

@@ -39,7 +39,7 @@ pub fn settle(
     ensures run { IsRun network.now store.old store.new agenda.new.states }
     ensures told { AreTold network.now.sayings kept.new store.new.doms }
     ensures rests { IfOk result
-        (λ b. b ≡ true → AllRest network.now.model.constraints store.new.doms) }
+        (λ b. b ≡ true → AllRest network.now.model store.new.doms) }
     ensures failed { IfOk result
         (λ b. b ≡ false → AreNeverTrue network.now.model.constraints store.old.doms) }
 {
@@ -62,7 +62,7 @@ pub fn advance(
     requires told { AreTold network.now.sayings kept.old store.old.doms }
     ensures run { IsRun network.now store.old store.new agenda.new.states }
     ensures told { AreTold network.now.sayings kept.new store.new.doms }
-    ensures progress { IfOk result (λ p. IsAdvance p network.now.model.constraints
+    ensures progress { IfOk result (λ p. IsAdvance p network.now.model
         store.old agenda.old.states store.new agenda.new.states) }
 {
     let _ = store.doms();
@@ -83,7 +83,7 @@ fn run_all(
     ensures run { IsRun network.now store.old store.new agenda.new.states }
     ensures told { AreTold network.now.sayings kept.new store.new.doms }
     ensures rests { IfOk result
-        (λ b. b ≡ true → AllRest network.now.model.constraints store.new.doms) }
+        (λ b. b ≡ true → AllRest network.now.model store.new.doms) }
     ensures failed { IfOk result
         (λ b. b ≡ false → AreNeverTrue network.now.model.constraints store.old.doms) }
 {
@@ -110,7 +110,7 @@ fn step(
     requires drained { IsDrained store.old }
     ensures run { IsRun network.now store.old store.new agenda.new.states }
     ensures told { AreTold network.now.sayings kept.new store.new.doms }
-    ensures progress { IfOk result (λ p. IsProgress p network.now.model.constraints
+    ensures progress { IfOk result (λ p. IsProgress p network.now.model
         store.old agenda.old.states store.new agenda.new.states) }
 {
     let _ = store.doms();
@@ -137,7 +137,7 @@ fn run_next(
     requires drained { IsDrained store.old }
     ensures run { IsRun network.now store.old store.new agenda.new.states }
     ensures told { AreTold network.now.sayings kept.new store.new.doms }
-    ensures progress { IfOk result (λ p. IsProgress p network.now.model.constraints
+    ensures progress { IfOk result (λ p. IsProgress p network.now.model
         store.old agenda.old.states store.new agenda.new.states) }
 {
     match run(network, place, store, kept, agenda)? {

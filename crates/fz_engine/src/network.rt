@@ -18,9 +18,10 @@ ghost use Rattle.fz_says.specs.Said.{said_by, waits_in};
 ghost use Rattle.fz_propagators.specs.Forms.{said_of};
 ghost use Rattle.fz_agenda.specs.Agendas.{IsSettled};
 ghost use Rattle.fz_agenda.specs.Wakes.{waiting_at, watch, IsIndexedAt, IsListedAt, IsWatch, HaveSize, Extends};
-ghost use Rattle.fz_engine.specs.Networks.{AreSaidOf, IsFull, IsListing, IsNetwork, IsSaidMore, sayings_of};
+ghost use Rattle.fz_engine.specs.Networks.{AreSaidOf, IsFull, IsListing, IsNetwork, IsSaidPlain, and_more, sayings_of};
+ghost use Rattle.fz_engine.specs.Stronger as stronger;
 
-use crate::stronger::stronger_of;
+use crate::stronger::said_once_more;
 use fz_agenda::{Agenda, Wakes, Watch};
 use fz_kept::Kept;
 use fz_model::{ConstraintAt, Variable};
@@ -180,10 +181,8 @@ fn post_all(alloc: Global, model: &fz_model::Model) -> Result<Posted, AllocError
         let saying = saying_of(constraint);
         // It runs first.
         post_plain(alloc, &mut posted, &saying, model.variables())?;
-        post(alloc, &mut posted, &saying)?;
-        if let Some(more) = stronger_of(&saying, constraint.is_whole(), model.variables()) {
-            post(alloc, &mut posted, &more)?;
-        }
+        let whole = constraint.is_whole();
+        post_said(alloc, &mut posted, &saying, whole, model.variables())?;
     }
     Ok(posted)
 }
@@ -219,6 +218,32 @@ fn post(alloc: Global, posted: &mut Posted, saying: &Saying) -> Result<(), Alloc
     Ok(())
 }
 
+/// Adds a propagator of what is said, and one of what is said once more, if there is such.
+fn post_said(
+    alloc: Global,
+    posted: &mut Posted,
+    saying: &Saying,
+    whole: bool,
+    variables: &[Variable],
+) -> Result<(), AllocError>
+    requires fit { IsFit variables.now (said_by saying.now) }
+    requires size { length posted.old.wakes.any ≡ length variables.now }
+    requires few { length posted.old.propagators.items + 1 < 2 ^ 32 }
+    requires listing { IsListing (sayings_of posted.old.propagators.items) posted.old.wakes
+        (length posted.old.wakes.any) }
+    ensures said { OnOk result (sayings_of posted.new.propagators.items
+        ≡ sayings_of posted.old.propagators.items ++ and_more (said_by saying.now)
+        (stronger.said_once_more variables.now whole (said_by saying.now))) }
+    ensures listing { OnOk result (IsListing (sayings_of posted.new.propagators.items)
+        posted.new.wakes (length posted.old.wakes.any)) }
+{
+    post(alloc, posted, saying)?;
+    match said_once_more(saying, whole, variables) {
+        Some(more) => post(alloc, posted, &more),
+        None => Ok(()),
+    }
+}
+
 /// Adds a propagator of the plainer form of what is said, if there is one.
 fn post_plain(
     alloc: Global,
@@ -231,7 +256,7 @@ fn post_plain(
     requires few { length posted.old.propagators.items < 2 ^ 32 }
     requires listing { IsListing (sayings_of posted.old.propagators.items) posted.old.wakes
         (length posted.old.wakes.any) }
-    ensures said { OnOk result (IsSaidMore (said_by saying.now)
+    ensures said { OnOk result (IsSaidPlain (said_by saying.now)
         (sayings_of posted.old.propagators.items) (sayings_of posted.new.propagators.items)) }
     ensures listing { OnOk result (IsListing (sayings_of posted.new.propagators.items)
         posted.new.wakes (length posted.old.wakes.any)) }

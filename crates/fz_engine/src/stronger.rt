@@ -1,28 +1,26 @@
 //! What is said once more, to a propagator that looks at more.
-ghost use Rattle.std.specs.Prelude.{◌≡◌, ◌≢◌, ◌⊎◌, Some, pos, ℤ, length, IfSome, IsTrue};
-ghost use Rattle.std.specs.List.{AllByRecursion};
+ghost use Rattle.std.specs.Prelude.{◌≡◌, ◌<◌, ◌∷◌, ◌&&◌, [], get_or, MatchOption, None, Some, length, negsuc, pos};
+ghost use Rattle.fz_spec.specs.declared.term.Term.TheVariants.{Num};
 ghost use Rattle.fz_strength.specs.Sums.{left_factors, left_terms};
-ghost use Rattle.fz_says.specs.Fits.{FitsSum};
 ghost use Rattle.fz_says.specs.Said.{said_by};
-ghost use Rattle.fz_engine.specs.Networks.{stronger_of};
+ghost use Rattle.fz_engine.specs.Stronger as stronger;
 
 use fz_model::Variable;
 use fz_says::Saying;
-use fz_shift::{difference_of, plane_of};
 use fz_spec::term::Term;
 use fz_strength::relation::Relation;
 
 /// What is said once more: that terms differ, by their bounds, and a sum of two or three terms, by their numbers, where the constraint asks
 /// for whole domains and the sum's own propagator doesn't keep them.
-pub fn stronger_of<'m>(
+pub fn said_once_more<'m>(
     saying: &Saying<'m>,
     whole: bool,
     variables: &[Variable],
 ) -> Option<Saying<'m>>
-    requires { FitsSum (said_by saying.now) }
-    ensures stronger { IfSome result
-        (λ more. stronger_of (said_by saying.now) ≡ Some (said_by more)) }
-    ensures sum { IfSome result (λ more. FitsSum (said_by more)) }
+    ensures { MatchOption result
+        (stronger.said_once_more variables.now whole (said_by saying.now) ≡ None)
+        (λ more. stronger.said_once_more variables.now whole (said_by saying.now)
+        ≡ Some (said_by more)) }
 {
     match saying {
         Saying::Differ(terms) => Some(Saying::DifferByBounds(terms)),
@@ -39,8 +37,7 @@ pub fn stronger_of<'m>(
 
 /// Whether a sum has two or three terms, a variable that it is being one of them.
 fn is_short(terms: &[Term], last: Term) -> bool
-    ensures { IsTrue result → (length (left_terms terms.now last) ≡ 2)
-        ⊎ (length (left_terms terms.now last) ≡ 3) }
+    ensures { result ≡ stronger.is_short (left_terms terms.now last) }
 {
     match last {
         Term::Num(_) => terms.len() == 2 || terms.len() == 3,
@@ -48,35 +45,135 @@ fn is_short(terms: &[Term], last: Term) -> bool
     }
 }
 
-/// Whether the propagator of an equation keeps whole domains anyway. This is a hint: where it is wrong, more or less is kept.
-fn is_kept_whole(factors: &[i32], terms: &[Term], last: Term, variables: &[Variable]) -> bool {
-    match (last, factors, terms) {
-        (Term::Num(number), _, _) => is_near_shape(factors, terms, number, variables),
-        (Term::Var(_), [k], [s]) => is_near_shape(&[-1, *k], &[last, *s], 0, variables),
-        (Term::Var(_), [k, l], [s, t]) => {
-            is_near_shape(&[-1, *k, *l], &[last, *s, *t], 0, variables)
-        }
-        _ => false,
+/// Whether the propagator of an equation keeps whole domains anyway.
+fn is_kept_whole(factors: &[i32], terms: &[Term], last: Term, variables: &[Variable]) -> bool
+    ensures { result ≡ stronger.is_kept_whole variables.now (left_factors factors.now last)
+        (left_terms terms.now last) }
+{
+    match last {
+        Term::Num(_) => is_whole_of(factors, terms, variables),
+        Term::Var(_) => is_whole_beside(last, factors, terms, variables),
     }
 }
 
-/// Whether a sum is a difference of two variables, or three lie on a plane where two of them, the one across among these, are at most 64
-/// wide.
-fn is_near_shape(factors: &[i32], terms: &[Term], number: i32, variables: &[Variable]) -> bool {
-    if difference_of(factors, terms, number).is_some() {
-        return true;
+/// The same, of a sum that is a number.
+fn is_whole_of(factors: &[i32], terms: &[Term], variables: &[Variable]) -> bool
+    ensures { result ≡ stronger.is_kept_whole variables.now factors.now terms.now }
+{
+    if factors.len() == 2 && terms.len() == 2 {
+        return is_difference(factors[0], terms[0], factors[1], terms[1]);
     }
-    match plane_of(factors, terms, number) {
-        Some(plane) => {
-            is_near(variables, plane.across)
-                && (is_near(variables, plane.first) || is_near(variables, plane.second))
-        }
-        None => false,
+    if factors.len() == 3 && terms.len() == 3 {
+        let first = product_at(factors, terms, 0);
+        let second = product_at(factors, terms, 1);
+        let third = product_at(factors, terms, 2);
+        return is_plane(first, second, third, variables);
+    }
+    false
+}
+
+/// The same, of a sum that is a variable.
+fn is_whole_beside(last: Term, factors: &[i32], terms: &[Term], variables: &[Variable]) -> bool
+    ensures { result ≡ stronger.is_kept_whole variables.now (negsuc 0 ∷ factors.now)
+        (last ∷ terms.now) }
+{
+    if factors.len() == 1 && terms.len() == 1 {
+        return is_difference(-1, last, factors[0], terms[0]);
+    }
+    if factors.len() == 2 && terms.len() == 2 {
+        let first = Product {
+            factor: -1,
+            term: last,
+        };
+        let second = product_at(factors, terms, 0);
+        let third = product_at(factors, terms, 1);
+        return is_plane(first, second, third, variables);
+    }
+    false
+}
+
+/// A factor and its term.
+#[derive(Clone, Copy)]
+struct Product {
+    factor: i32,
+    term: Term,
+}
+
+/// The product at a place of a sum.
+fn product_at(factors: &[i32], terms: &[Term], place: usize) -> Product
+    requires factors { place < length factors.now }
+    requires terms { place < length terms.now }
+    ensures factor { result.factor ≡ get_or factors.now place (pos 0) }
+    ensures term { result.term ≡ get_or terms.now place (Num (pos 0)) }
+{
+    Product {
+        factor: factors[place],
+        term: terms[place],
     }
 }
 
-/// Whether a variable is declared with a set that is at most 64 wide.
-fn is_near(variables: &[Variable], place: u32) -> bool {
+/// Whether a sum of two terms is a difference of two variables.
+fn is_difference(first: i32, one: Term, second: i32, other: Term) -> bool
+    ensures { result ≡ (stronger.are_opposite first second
+        && (stronger.is_variable one && stronger.is_variable other)) }
+{
+    are_opposite(first, second) && is_variable(one) && is_variable(other)
+}
+
+/// Whether of three terms the difference of two variables is a multiple of the third, where whole domains are kept.
+fn is_plane(first: Product, second: Product, third: Product, variables: &[Variable]) -> bool
+    ensures { result ≡ stronger.is_kept_whole variables.now
+        (first.factor ∷ second.factor ∷ third.factor ∷ [])
+        (first.term ∷ second.term ∷ third.term ∷ []) }
+{
+    is_near_plane(first, second, third, variables)
+        || is_near_plane(second, first, third, variables)
+        || is_near_plane(third, first, second, variables)
+}
+
+/// Whether the difference of two variables is a multiple of a third one, where that one and one of the two are narrow.
+fn is_near_plane(across: Product, first: Product, second: Product, variables: &[Variable]) -> bool
+    ensures { result ≡ stronger.is_near_plane variables.now across.factor across.term
+        first.factor first.term second.factor second.term }
+{
+    if !is_steep(across.factor) || !are_opposite(first.factor, second.factor) {
+        return false;
+    }
+    is_narrow(variables, across.term)
+        && (is_narrow(variables, first.term) && is_variable(second.term)
+            || is_variable(first.term) && is_narrow(variables, second.term))
+}
+
+/// Whether two factors are 1 and -1, in this order or the other.
+fn are_opposite(first: i32, second: i32) -> bool
+    ensures { result ≡ stronger.are_opposite first second }
+{
+    first == 1 && second == -1 || first == -1 && second == 1
+}
+
+/// Whether a factor is farther from 0 than 1, and not too far.
+fn is_steep(factor: i32) -> bool
+    ensures { result ≡ stronger.is_steep factor }
+{
+    2 <= factor && factor <= 255 || -255 <= factor && factor <= -2
+}
+
+fn is_variable(term: Term) -> bool
+    ensures { result ≡ stronger.is_variable term }
+{
+    match term {
+        Term::Num(_) => false,
+        Term::Var(_) => true,
+    }
+}
+
+/// Whether a term is a variable that is declared with a set that is at most 64 wide.
+fn is_narrow(variables: &[Variable], term: Term) -> bool
+    ensures { result ≡ stronger.is_narrow variables.now term }
+{
+    let Term::Var(place) = term else {
+        return false;
+    };
     match variables.get(place as usize) {
         Some(variable) => variable.set().window(0).is_some(),
         None => false,

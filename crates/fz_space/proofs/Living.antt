@@ -20,7 +20,7 @@ use Rattle.fz_search_space.specs.declared.space.Status.{Status}
 use Rattle.fz_search_space.specs.declared.space.Status.TheVariants as status
 use Rattle.fz_engine.specs.Networks.{Networked, AreOf, IsNetwork}
 use Rattle.fz_engine.specs.Runs.{IsAlive, IsRun, AreNeverTrue, AllRest}
-use Rattle.fz_space.specs.Alive.{spaced, IsLeft}
+use Rattle.fz_space.specs.Alive.{spaced, HaveLines, IsLeft}
 use Rattle.fz_engine.proofs.Posting.{declared_length}
 
 -- ---- the root
@@ -109,21 +109,26 @@ alone_of ds a all within = record {
   alone = λ v h. alone_in (dom_at ds v) (number_at a v) (all v h).0 (all v h).1 (within.members v h);
 }
 
-pub solved : (n : Networked) (after : List ℕ) (t : Stored) → IsNetwork n → IsAlive n after t → AllRest n.model.constraints t.doms → AllSingle t.doms → IsStatus status.Solved (spaced n.model t false)
+pub solved : (n : Networked) (after : List ℕ) (t : Stored) → IsNetwork n → IsAlive n after t → AllRest n.model t.doms → AllSingle t.doms → IsStatus status.Solved (spaced n.model t false)
 solved n after t network alive rests all = (
   refl,
   λ a within.
       let alone : Alone t.doms a = alone_of t.doms a all within in (
         alone,
         all_of (IsTrueOf a) n.model.constraints
-            (λ i c is. (let there = network.said.each i c is in true_where_alone c t.doms a (below (length t.doms) (saying_of c) (alive.terms there.0 (saying_of c) there.1).0) alone (rests i c is))),
+            (λ i c is. (let there = network.said.each i c is in true_where_alone c t.doms a (below (length t.doms) (saying_of c) (alive.terms there.0 (saying_of c) there.1).0) alone (rests i c is).first)),
       ),
 )
 
-pub left_is : (n : Networked) (after : List ℕ) (t : Stored) (r : Status) → IsNetwork n → IsAlive n after t → AllRest n.model.constraints t.doms → IsLeft r t.doms → IsStatus r (spaced n.model t false)
+pub left_is : (n : Networked) (after : List ℕ) (t : Stored) (r : Status) → IsNetwork n → IsAlive n after t → AllRest n.model t.doms → IsLeft r t.doms → IsStatus r (spaced n.model t false)
 left_is n after t status.Failed network alive rests left = absurd left
 left_is n after t status.Solved network alive rests left = solved n after t network alive rests left
 left_is n after t status.Branch network alive rests left = (refl, left)
+
+pub lines_at : (r : Status) (m : Instance) (ds : List (List (ℤ × ℤ))) → AllRest m ds → HaveLines r m ds
+lines_at status.Failed m ds rests = tt
+lines_at status.Solved m ds rests = tt
+lines_at status.Branch m ds rests = rests
 
 -- domains of which those before a place have one number each
 pub single_more : (ds : List (List (ℤ × ℤ))) (n : ℕ) (d : List (ℤ × ℤ)) (x : ℤ) → d ≡ dom_at ds n → d ≡ (x, x) ∷ [] → ((v : ℕ) → v < n → (y : ℤ) × (dom_at ds v ≡ (y, y) ∷ [])) → (v : ℕ) → v < n + 1

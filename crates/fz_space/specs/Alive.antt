@@ -10,7 +10,6 @@ use Rattle.fz_prop.specs.Stores.{Stored}
 use Rattle.fz_search_space.specs.Spaces.{Spaced, IsUndecided}
 use Rattle.fz_search_space.specs.declared.space.Status.{Status}
 use Rattle.fz_search_space.specs.declared.space.Status.TheVariants as status
-use Rattle.fz_spec.specs.Constraints.{Constraint}
 use Rattle.fz_engine.specs.Runs.{AllRest}
 
 abbrev pub spaced : Instance → Stored → Bool → Spaced
@@ -44,12 +43,12 @@ IsLeft status.Failed ds = ⊥
 IsLeft status.Solved ds = (v : ℕ) → v < length ds → (x : ℤ) × (dom_at ds v ≡ (x, x) ∷ [])
 IsLeft status.Branch ds = IsUndecided ds
 
--- where some variable has more than one number left, the line of each constraint holds
-abbrev pub HaveLines : Status → List Constraint → List (List (ℤ × ℤ)) → Type 0
-HaveLines status.Branch cs ds = AllRest cs ds
-HaveLines other cs ds = Unit {0}
+-- where some variable has more than one number left, the line of each constraint holds, and that of what is said once more of it
+abbrev pub HaveLines : Status → Instance → List (List (ℤ × ℤ)) → Type 0
+HaveLines status.Branch m ds = AllRest m ds
+HaveLines other m ds = Unit {0}
 
--- whether a propagator ran: none runs in a space that has failed, and where none runs the line of each constraint holds
+-- whether a propagator ran: none runs in a space that has failed, and where none runs all lines hold
 abbrev pub HasRun : Bool → Spaced → Spaced → Type 0
 HasRun true old new = old.failed ≡ false
-HasRun false old new = (new ≡ old) × (new.failed ≡ false → AllRest new.model.constraints new.doms)
+HasRun false old new = (new ≡ old) × (new.failed ≡ false → AllRest new.model new.doms)

@@ -151,7 +151,7 @@ impl fz_search_space::SearchSpace for Contents {
             → Covers known ds self.old → Covers known ds self.new }
         ensures answer { IfOk result (λ status. IsStatus status self.new) }
         ensures lines { IfOk result
-            (λ status. HaveLines status self.new.model.constraints self.new.doms) }
+            (λ status. HaveLines status self.new.model self.new.doms) }
         ensures narrower { OnOk result (IsNarrower self.new self.old) }
         ensures stays { self.old.failed ≡ true → self.new.failed ≡ true }
     {

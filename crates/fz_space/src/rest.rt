@@ -44,7 +44,7 @@ pub fn rest(
         (spaced network.now.model store.new failed.new)
         (spaced network.now.model store.old failed.old)) }
     ensures answer { IfOk result (λ r. IsStatus r (spaced network.now.model store.new failed.new)) }
-    ensures lines { IfOk result (λ r. HaveLines r network.now.model.constraints store.new.doms) }
+    ensures lines { IfOk result (λ r. HaveLines r network.now.model store.new.doms) }
     ensures stays { failed.old ≡ true → failed.new ≡ true }
 {
     if *failed {

@@ -40,10 +40,10 @@ returns-clause-run c =
 
 pub returns-clause-progress : goal.returns-clause-progress
 returns-clause-progress c =
-    let cs = c.args.network.now.model.constraints in
+    let m = c.args.network.now.model in
     let after = c.step.new.agenda.states in
     IfOk-weaker c.step.result
-    (λ (p : Progress). IsProgress p cs c.drain.new.store c.drain.new.agenda.states c.step.new.store after)
-    (λ (p : Progress). IsAdvance p cs c.args.store.now c.args.agenda.now.states c.step.new.store after)
-    (λ (p : Progress). advanced c.wakes.result.now c.args.store.now c.drain.new.store c.step.new.store c.args.agenda.now c.drain.new.agenda after cs p c.drain.ensures.draining)
+    (λ (p : Progress). IsProgress p m c.drain.new.store c.drain.new.agenda.states c.step.new.store after)
+    (λ (p : Progress). IsAdvance p m c.args.store.now c.args.agenda.now.states c.step.new.store after)
+    (λ (p : Progress). advanced c.wakes.result.now c.args.store.now c.drain.new.store c.step.new.store c.args.agenda.now c.drain.new.agenda after m p c.drain.ensures.draining)
     c.step.ensures.progress

@@ -24,4 +24,4 @@ post-requires-clause-inside c = rw c.requires.size (waits_below c.args.variables
 pub returns-in-Some-clause-said : goal.returns-in-Some-clause-said
 returns-in-Some-clause-said c =
     let plain : IsPlainOf (said_by c.args.saying.now) (plain_said c.in-Some.plain) = search rules in
-    on_ok_weaker c.post.result (λ is. inr (plain_said c.in-Some.plain, inr plain, rw c.saying.ensures at is)) c.post.ensures.said
+    on_ok_weaker c.post.result (λ is. inr (plain_said c.in-Some.plain, plain, rw c.saying.ensures at is)) c.post.ensures.said

@@ -3,7 +3,7 @@ use Rattle.std.specs.Prelude.{ℤ}
 use Rattle.fz_search_space.specs.Spaces.{IsStatus}
 use Rattle.fz_space.specs.Alive.{spaced, FrontFixed, IsLeft}
 use Rattle.fz_space.proofs.Fronts.{front_lasts}
-use Rattle.fz_space.proofs.Living.{left_is}
+use Rattle.fz_space.proofs.Living.{left_is, lines_at}
 use Rattle.fz_space.proofs.rest.rest.Goals as goal
 
 pub returns-clause-answer : goal.returns-clause-answer
@@ -14,6 +14,9 @@ returns-clause-answer c =
     subst (λ (failed : Bool). IsStatus status (spaced n.model store failed)) (sym c.if-failed.false)
     (left_is n c.settle.new.agenda.states store status c.model.ensures.network c.settle.ensures.run.alive (c.in_ok-rests.ensures.rests c.if-not-rests.false)
     (subst (λ (ds : List (List (ℤ × ℤ))). IsLeft status ds) c.doms-3.ensures.doms c.status_at.ensures))
+
+pub returns-clause-lines : goal.returns-clause-lines
+returns-clause-lines c = lines_at c.status_at.result c.args.network.now.model c.settle.new.store.doms (c.in_ok-rests.ensures.rests c.if-not-rests.false)
 
 pub returns-in_err-rests-clause-front : goal.returns-in_err-rests-clause-front
 returns-in_err-rests-clause-front c = λ _.
