@@ -118,7 +118,7 @@ is_more_fit vs s t (inr plain) fit = plain.fits vs fit
 
 more_holds : (c : Constraint) (t : Saying) (a : List ℤ) → IsMoreOf (saying_of c) t → IsTrueOf a c → truth_of t a
 more_holds c t a (inl stronger) holds = holds_more c t a stronger.0 holds
-more_holds c t a (inr plain) holds = (plain.same a).0 ((says c a).0 holds)
+more_holds c t a (inr plain) holds = plain.follows a ((says c a).0 holds)
 
 -- maybe something beside what the last one says
 said_and_more : (vs : List Variable) (ds cs : List Constraint) (c : Constraint) (before after : List Saying) (left : ℕ) → AreSaidOn vs ds (cs ++ c ∷ []) before (suc left) → IsFit vs (saying_of c)
