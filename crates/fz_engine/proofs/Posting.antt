@@ -119,7 +119,7 @@ behind_plain vs c p block fit plain said =
     record {
       own = (suc said.own.0, said.own.1);
       more = λ saying stronger. (let at = said.more saying stronger in (suc at.0, at.1));
-      follow = λ a holds. ((plain.same a).0 ((says c a).0 holds), said.follow a holds);
+      follow = λ a holds. (plain.follows a ((says c a).0 holds), said.follow a holds);
       fit = (plain.fits vs fit, said.fit);
       few = omega (arith, few);
     }

@@ -11,7 +11,7 @@ use Rattle.fz_spec.specs.Constraints.{term_values}
 use Rattle.fz_strength.specs.declared.relation.Relation.{Relation}
 use Rattle.fz_strength.specs.Relations.{Relates}
 use Rattle.fz_plain.specs.Plain.{IsDecided, IsMultipleOf, SumRelates}
-use Rattle.fz_plain.proofs.Gathering.{spread, num_up, num_down, minus_one}
+use Rattle.fz_plain.proofs.Spread.{spread, num_up, num_down, minus_one}
 
 -- no multiple lies between a multiple and the next one
 pub none_between : (q m : ℤ) (d : ℕ) → (q *ℤ pos d) <ℤ (m *ℤ pos d) → (m *ℤ pos d) <ℤ ((q *ℤ pos d) +ℤ pos d) → ⊥
@@ -45,7 +45,7 @@ spread_less k l x =
     let whole = sym (spread (k -ℤ l) l x) ∙ ap (λ (m : ℤ). m *ℤ x) back in
     omega (arith, ints, whole)
 
-regroup : (q d x : ℤ) → ((q *ℤ d) *ℤ x) ≡ ((q *ℤ x) *ℤ d)
+pub regroup : (q d x : ℤ) → ((q *ℤ d) *ℤ x) ≡ ((q *ℤ x) *ℤ d)
 regroup (pos zero) d x = ap (λ (m : ℤ). m *ℤ x) (zero-*ℤ d) ∙ zero-*ℤ x ∙ sym (ap (λ (m : ℤ). m *ℤ d) (zero-*ℤ x) ∙ zero-*ℤ d)
 regroup (pos (suc n)) d x =
     let left = ap (λ (m : ℤ). m *ℤ x) (up n d) ∙ spread (pos n *ℤ d) d x in

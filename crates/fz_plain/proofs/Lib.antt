@@ -1,3 +1,9 @@
-pub mod Gathering
+pub mod Spread
 pub mod Deciding
+pub mod Divisors
 pub mod Plainness
+pub mod Merging
+pub mod Twice
+pub mod Gathered
+pub mod Told
+pub mod Results

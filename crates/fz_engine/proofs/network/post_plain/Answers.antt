@@ -1,6 +1,6 @@
 use Rattle.std.proofs.Common.{inr, rules}
 use Rattle.std.proofs.lemmas.Result.{on_ok_weaker}
-use Rattle.fz_plain.specs.Plain.{IsPlainOf, plain_said}
+use Rattle.fz_plain.specs.Plain.{IsPlainForm, plain_said}
 use Rattle.fz_says.specs.Fits.{IsFit}
 use Rattle.fz_says.specs.Said.{said_by}
 use Rattle.fz_engine.proofs.Posting.{limits_of, waits_below}
@@ -9,8 +9,8 @@ use Rattle.fz_engine.proofs.network.post_plain.Goals as goal
 
 plain_fit : (c : After-post-arg-in-Some-1) → IsFit c.args.variables.now (said_by c.saying.result)
 plain_fit c =
-    let plain : IsPlainOf (said_by c.args.saying.now) (plain_said c.in-Some.plain) = search rules in
-    rw c.saying.ensures (plain.fits c.args.variables.now c.requires.fit)
+    let is : IsPlainForm (said_by c.args.saying.now) (plain_said c.in-Some.plain) = search rules in
+    rw c.saying.ensures (is.form.fits c.args.variables.now c.requires.fit)
 
 pub post-requires-clause-fits : goal.post-requires-clause-fits
 post-requires-clause-fits c = limits_of c.args.variables.now (said_by c.saying.result) (plain_fit c)
@@ -23,5 +23,5 @@ post-requires-clause-inside c = rw c.requires.size (waits_below c.args.variables
 
 pub returns-in-Some-clause-said : goal.returns-in-Some-clause-said
 returns-in-Some-clause-said c =
-    let plain : IsPlainOf (said_by c.args.saying.now) (plain_said c.in-Some.plain) = search rules in
-    on_ok_weaker c.post.result (λ is. inr (plain_said c.in-Some.plain, plain, rw c.saying.ensures at is)) c.post.ensures.said
+    let is : IsPlainForm (said_by c.args.saying.now) (plain_said c.in-Some.plain) = search rules in
+    on_ok_weaker c.post.result (λ posted. inr (plain_said c.in-Some.plain, is.form, rw c.saying.ensures at posted)) c.post.ensures.said

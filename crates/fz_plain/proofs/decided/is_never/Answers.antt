@@ -1,10 +1,14 @@
-use Rattle.std.proofs.Common.{◌≡◌, rules, to_z, of_z, w32}
-use Rattle.fz_plain.specs.Plain.{IsDecided, SumRelates}
-use Rattle.fz_plain.proofs.Plainness.{never_of}
+use Rattle.std.proofs.Common.{false, Bool, rules}
+use Rattle.fz_plain.specs.Plain.{IsToldByDivisor}
+use Rattle.fz_plain.proofs.Told.{told_never}
 use Rattle.fz_plain.proofs.decided.is_never.Goals as goal
 
 pub returns-in-Some : goal.returns-in-Some
 returns-in-Some c =
-    let read : to_z w32 (of_z w32 c.args.number) ≡ c.args.number = search rules in
-    let told : IsDecided c.in-Some.truth (SumRelates c.args.relation c.args.factors.now c.args.terms.now c.args.number) = search rules in
-    λ is. never_of c.in-Some.truth (SumRelates c.args.relation c.args.factors.now c.args.terms.now c.args.number) told is
+    let told : IsToldByDivisor c.in-Some.truth c.args.relation c.args.factors.now c.args.number = search rules in
+    record { told = told_never c.in-Some.truth c.args.relation c.args.factors.now c.args.number told }
+
+pub returns-in-None : goal.returns-in-None
+returns-in-None c =
+    let none : (b : Bool) → IsToldByDivisor b c.args.relation c.args.factors.now c.args.number → ⊥ = search rules in
+    record { told = ((λ h. absurd (cc h)), (λ h. absurd (none false h))) }

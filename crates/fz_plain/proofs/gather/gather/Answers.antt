@@ -1,9 +1,24 @@
-use Rattle.fz_plain.proofs.Gathering.{same_twice}
-use Rattle.fz_plain.proofs.gather.gather.Goals.{then-before-next, else-before-next}
+use Rattle.std.proofs.Common.{◌≡◌, ◌≤◌, rules, sum_by}
+use Rattle.fz_strength.specs.Sums.{left_terms}
+use Rattle.fz_plain.specs.Entries.{AreAddedUp, AreNumbersAdded, size_of}
+use Rattle.fz_plain.specs.Plain.{HasTwice}
+use Rattle.fz_plain.proofs.Gathered.{sum_large, sum_gathered}
 use Rattle.fz_plain.proofs.gather.gather.Goals as goal
 
-pub loop-next-preserved : goal.loop-next-preserved
-loop-next-preserved c = elim c.if-before-next.branch [
-  | then-before-next w ↦ rw w.sums-is (same_twice c.args.factors.now c.loop-next.sums.items w.add_to.new.factors.items c.args.terms.now c.loop-next.invariant w.add_to.ensures)
-  | else-before-next w ↦ rw w.sums-is c.loop-next.invariant
-]
+pub returns-in_default : goal.returns-in_default
+returns-in_default c = λ two.
+    let es = c.in_ok-entries.entries.items in
+    let here : c.deref.result.now ≡ es = search rules in
+    let large : 2147483648 ≤ sum_by size_of c.deref.result.now = search rules in
+    sum_large c.args.factors.now c.args.terms.now c.args.last es c.in_ok-entries.ensures.permutation (rw here at large)
+
+pub returns : goal.returns
+returns c =
+    let es = c.in_ok-entries.entries.items in
+    let here : c.deref.result.now ≡ es = search rules in
+    let ls = c.in-Some.sum.factors.items in
+    let us = c.in-Some.sum.terms.items in
+    let added : AreAddedUp ls us c.deref.result.now = search rules in
+    let numbers : AreNumbersAdded c.args.factors.now c.args.terms.now ls us c.add_numbers.new.sum.factors.items c.add_numbers.new.sum.terms.items = search rules in
+    let two : HasTwice (left_terms c.args.terms.now c.args.last) = search rules in
+    sum_gathered c.args.factors.now c.args.terms.now c.args.last es ls us c.add_numbers.new.sum.factors.items c.add_numbers.new.sum.terms.items c.requires c.in_ok-entries.ensures.permutation (rw here at added) numbers two
