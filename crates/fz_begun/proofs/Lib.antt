@@ -4,3 +4,4 @@ pub mod Certifying
 pub mod Endings
 pub mod Recorded
 pub mod Whole
+pub mod Blocks

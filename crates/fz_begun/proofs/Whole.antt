@@ -1,5 +1,5 @@
 -- What the text of a whole run says of the model.
-use Rattle.std.proofs.Common.{◌≡◌, ◌≢◌, ◌∙◌, ◌+◌, ◌≤◌, ◌⊎◌, inl, inr, ℕ, zero, suc, List, [], ◌∷◌, ◌++◌, length, refl, sym, ap, subst, arith, Bool, true, false, Option, Some, None}
+use Rattle.std.proofs.Common.{◌≡◌, ◌≢◌, ◌∙◌, ◌≤◌, ◌⊎◌, inl, inr, ℕ, zero, suc, List, [], ◌∷◌, ◌++◌, length, refl, sym, ap, subst, arith, Bool, true, false, Option, Some, None}
 use Rattle.std.specs.Prelude.{ℤ, count_by}
 use Rattle.std.specs.List.{AllByRecursion}
 use Rattle.fz_spec.specs.declared.goal.Goal.{Goal}
@@ -12,7 +12,7 @@ use Rattle.fz_tree.specs.Account.{times_found}
 use Rattle.fz_tree.proofs.Counts.{one_if, count_cons}
 use Rattle.fz_tree.proofs.Same.{alike, same_means, found_both}
 use Rattle.fz_cmd.specs.Meaning.{Options}
-use Rattle.fz_runs.specs.Runs.{AreBest, ListsEach, EndsBest, PrintsWanted, PrintsGoal, PrintsFor, IsRunText, times_listed, wanted, wanted_of}
+use Rattle.fz_runs.specs.Runs.{ListsEach, EndsBest, PrintsWanted, PrintsGoal, PrintsFor, IsRunText, times_listed, wanted, wanted_of}
 use Rattle.fz_runs.specs.Modes.{mode_of}
 use Rattle.fz_runs.proofs.Times.{times_are}
 

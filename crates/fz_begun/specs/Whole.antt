@@ -1,8 +1,10 @@
 -- What the text of a whole run says of the model, whoever printed it: laws over its definition.
-use Rattle.std.specs.Prelude.{◌≡◌, ◌≢◌, ◌↔◌, ℕ, ℤ, Option, Some, None, List, [], ◌∷◌, ◌++◌}
+use Rattle.std.specs.Prelude.{◌≡◌, ◌≢◌, ◌↔◌, ℕ, ℤ, None, List, [], ◌∷◌, ◌++◌}
 use Rattle.fz_spec.specs.declared.goal.Goal.TheVariants.{Satisfy}
-use Rattle.fz_spec.specs.Instance.{Instance, Satisfies, IsBest}
-use Rattle.fz_tree.specs.Rows.{key}
+use Rattle.fz_spec.specs.Instance.{Instance, AreDeclared, Satisfies, IsBest}
+use Rattle.fz_spec.specs.Run.{block}
+use Rattle.fz_model.specs.Kept.{IsModel}
+use Rattle.fz_tree.specs.Rows.{key, row_of}
 use Rattle.fz_cmd.specs.Meaning.{Options}
 use Rattle.fz_runs.specs.Modes.{mode_of}
 use Rattle.fz_runs.specs.Runs.{IsRunText, times_listed, wanted}
@@ -31,3 +33,8 @@ BlocksSatisfy = (m : Instance) (o : Options) (before after : List (List ℤ)) (a
 abbrev pub LastIsBest : Type 0
 LastIsBest = (m : Instance) (o : Options) (before : List (List ℤ)) (a : List ℤ) (printed : List ℕ) → m.goal ≢ Satisfy
     → IsRunText m o (before ++ a ∷ []) printed → IsBest m a
+
+-- Of a model two declared assignments print the same block exactly where their rows are equal.
+abbrev pub BlocksAreRows : Type 0
+BlocksAreRows = (m : Instance) (a b : List ℤ) → IsModel m → AreDeclared m.variables a → AreDeclared m.variables b
+    → (block m a ≡ block m b) ↔ (row_of m a ≡ row_of m b)

@@ -1,6 +1,6 @@
 //! What is begun can be ended, and what the text of a whole run says of the model.
 ghost use Rattle.fz_begun.specs.Begun.{BegunCanEnd};
-ghost use Rattle.fz_begun.specs.Whole.{NothingExactly, AllAreOne, BlocksDiffer, BlocksSatisfy, LastIsBest};
+ghost use Rattle.fz_begun.specs.Whole.{NothingExactly, AllAreOne, BlocksDiffer, BlocksSatisfy, LastIsBest, BlocksAreRows};
 
 /// Behind the blocks of solutions that a run has begun with, bytes can follow that make the text of a whole run of it.
 pub fn begun_can_end()
@@ -30,4 +30,9 @@ pub fn blocks_satisfy()
 /// The last block of a run with a goal is of a best assignment.
 pub fn last_is_best()
     ensures { LastIsBest }
+{}
+
+/// Two assignments of a model print the same block exactly where their rows are equal.
+pub fn blocks_are_rows()
+    ensures { BlocksAreRows }
 {}

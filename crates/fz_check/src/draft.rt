@@ -180,6 +180,7 @@ impl<'a> Draft<'a> {
         item: &Item<'a>,
         array: &ArrayItem<'a>,
     ) -> Result<Option<Fault>, AllocError>
+        requires counted { (n : Counts) × IsCounted self.old n }
         requires fits { ArrayFits (trees.array_item_of array.now) }
         requires item { trees.item_of item.now ≡ lang.Array (trees.array_item_of array.now) }
         ensures { (n : Counts) → IsCounted self.old n
@@ -190,6 +191,7 @@ impl<'a> Draft<'a> {
         let fault = array_fault(&self.names, array, &shape, place_of(&entry));
         match room_behind(fault, self.room, item) {
             Ok(room) => {
+                let Ok(entry) = entry else { unreachable!() };
                 self.declare_array(alloc, array, entry, shape)?;
                 self.room = room;
                 Ok(None)
@@ -203,20 +205,18 @@ impl<'a> Draft<'a> {
         &mut self,
         alloc: Global,
         item: &ArrayItem<'a>,
-        entry: Result<Entry, u32>,
+        entry: Entry,
         shape: Option<Vec<(i32, i32)>>,
     ) -> Result<(), AllocError>
         requires fits { TypeFits (trees.type_of item.now.value_type) }
         requires shape { option_map (λ ranges. ranges.items) shape
             ≡ shape_among (trees.annotations_of item.now.annotations.items) }
         ensures { let a = trees.array_item_of item.now in
-            OnOk result (IsArrayEntry (environment_of self.old.names) a entry
+            OnOk result (meant entry
+            ≡ models.array_entry (environment_of self.old.names) a a.variable a.value_type
             → (a.variable ≡ false → shape_among a.annotations ≡ None)
             → Adds self.old self.new (scope_of self.old) (lang.Array a)) }
     {
-        let Ok(entry) = entry else {
-            return Err(AllocError);
-        };
         push_bounds(alloc, &mut self.constraints, item, &entry)?;
         push_array(alloc, &mut self.outputs, item, &entry, shape)?;
         self.names.declare(item.name, entry)?;

@@ -6,3 +6,4 @@ pub mod Learns
 pub mod Tasks
 pub mod Commits
 pub mod Below
+pub mod Reports

@@ -98,8 +98,8 @@ module _ {X : Type 0} (items : X → List Edge) where
   other_tail ps tail new n old front = record { whole = old.whole; few = old.few; settled = old.settled; front = front }
 
   -- copies of the pieces, and another tail
-  pub copied_pieces : (ps zs : List X) (tail new : List Edge) (n : ℕ) → AllZip (λ p z. items z ≡ items p) ps zs → ArePieces items ps tail n → AreSettledTo n new → ArePieces items zs new n
-  copied_pieces ps zs tail new n same old front = record {
+  pub copied_pieces : (ps zs : List X) (tail new : List Edge) (n k : ℕ) → AllZip (λ p z. items z ≡ items p) ps zs → ArePieces items ps tail n → AreSettledTo k new → ArePieces items zs new k
+  copied_pieces ps zs tail new n k same old front = record {
     whole = whole_copied ps zs same old.whole;
     few = omega (arith, length_copied ps zs same, old.few);
     settled = ap (list_any edge_has_rest) (all_copied ps zs same) ∙ old.settled;

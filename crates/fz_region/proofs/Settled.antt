@@ -1,12 +1,13 @@
 -- Edges without open alternatives, above others: what moving and cutting make of all of them.
-use Rattle.std.proofs.Common.{◌≡◌, ◌∙◌, ◌+◌, ℕ, zero, suc, List, [], ◌∷◌, ◌++◌, Bool, true, false, ◌||◌, length, take, drop, ap, sym, subst, refl, arith, length-append}
+use Rattle.std.proofs.Common.{◌≡◌, ◌∙◌, ◌+◌, ℕ, zero, suc, List, [], ◌∷◌, ◌++◌, Bool, true, false, ◌||◌, length, take, drop, ap, ap₂, map, sym, subst, refl, arith, length-append, take_all}
 use Rattle.std.specs.Bool.{OnTrue, OnFalse}
 use Rattle.std.specs.List.{list_any}
-use Rattle.std.proofs.lemmas.Bool.{or_parts, or_from, cond-true, cond-false}
+use Rattle.std.proofs.lemmas.Bool.{or_parts, or_from, cond-true, cond-false, ltb-false}
 use Rattle.std.proofs.lemmas.List.{get_or-append-add}
 use Rattle.std.proofs.Math.Seq.{take-append-add}
 use Rattle.std.proofs.lemmas.List.Folds.{list_any-append}
-use Rattle.fz_tree.specs.Frontier.{Edge, edge_has_rest, next_edges, cut_part, cut_rest, cut_edge, kept_edge}
+use Rattle.fz_tree.specs.Frontier.{Edge, AreEdges, edge_has_rest, next_edges, cut_part, cut_rest, cut_edge, kept_edge, settled_edge}
+use Rattle.fz_tree.proofs.Nodes.{none_settled}
 use Rattle.fz_region.specs.Places.{IsTopmost, next_edge}
 use Rattle.fz_region.specs.Pieces.{AreSettled, AreSettledTo}
 
@@ -61,6 +62,22 @@ topmost_past es fs i h top = record {
 
 pub topmost_at : (es fs : List Edge) (i place : ℕ) → AreSettled es → place ≡ length es + i → IsTopmost fs i → IsTopmost (es ++ fs) place
 topmost_at es fs i place h is top = subst (IsTopmost (es ++ fs)) (sym is) (topmost_past es fs i h top)
+
+-- with nothing open after the taken alternative they stay as they are
+pub closed_past : (es fs : List Edge) → AreEdges (es ++ fs) → AreSettled es → map settled_edge (es ++ fs) ≡ es ++ map settled_edge fs
+closed_past [] fs edges h = refl
+closed_past (e ∷ es) fs edges h =
+    let both = or_parts (edge_has_rest e) (list_any edge_has_rest es) h in
+    let last : e.taken ≡ e.last = omega (arith, edges.0.taken_to_last, ltb-false e.taken e.last both.0) in
+    let here : settled_edge e ≡ e = ap (λ (n : ℕ). record { choice = e.choice; taken = e.taken; last = n }) last in
+    ap₂ (λ (x : Edge) (l : List Edge). x ∷ l) here (closed_past es fs edges.1 both.1)
+
+-- then all of them are settled
+pub all_closed : (es fs : List Edge) (n : ℕ) → fs ≡ map settled_edge es → n ≡ length fs → AreSettledTo n fs
+all_closed es fs n is size = record {
+  within = omega (arith, size);
+  settled = ap (list_any edge_has_rest) (ap (λ (k : ℕ). take k fs) size ∙ take_all (length fs) fs (omega arith) ∙ is) ∙ none_settled es;
+}
 
 -- ---- the first ones that are settled
 

@@ -1,14 +1,16 @@
 //! Lists of edges.
-ghost use Rattle.std.specs.Prelude.{◌≡◌, ◌<◌, ◌-◌, ◌++◌, ◌∷◌, [], ◌↔◌, false, is_some, IsTrue, length, slice_index_or, option_copied, MatchOption, IfOk, IfSome, OnOk, OnErr};
+ghost use Rattle.std.specs.Prelude.{◌≡◌, ◌<◌, ◌-◌, ◌++◌, ◌∷◌, [], ◌↔◌, false, is_some, IsTrue, length, map, slice_index_or, option_copied, MatchOption, IfOk, IfSome, OnOk, OnErr};
 ghost use Rattle.std.specs.Bool.{OnTrue, OnFalse};
 ghost use Rattle.std.specs.List.{slice_get, list_any};
-ghost use Rattle.fz_tree.specs.Frontier.{edge_has_rest, next_edges, cut_part, cut_rest};
+ghost use Rattle.fz_tree.specs.Frontier.{AreEdges, edge_has_rest, next_edges, settled_edge, cut_part, cut_rest};
 ghost use Rattle.fz_region.specs.Places.{IsTopmost};
 
 use crate::edge::Edge;
 use crate::pieces::{PIECE, edge_at, same_pieces, share};
 use crate::places::{deepest, topmost};
-use crate::tail::{copies_of, cut_part_of, drop_cut_in, same_edges, settled_from, take_next_in};
+use crate::tail::{
+    copies_of, cut_part_of, drop_cut_in, same_edges, settled_from, settled_of, take_next_in,
+};
 use std::alloc::{AllocError, Global};
 use std::marker::Model;
 use std::sync::ArcSlice;
@@ -168,6 +170,24 @@ impl Edges {
             pieces,
             tail,
             settled: self.settled,
+        })
+    }
+
+    /// The same edges, with nothing open on any of them.
+    ///
+    /// # Errors
+    /// `AllocError` where there is no memory.
+    pub fn settled(&self) -> Result<Edges, AllocError>
+        requires { AreEdges self.now }
+        ensures { IfOk result (λ es. es ≡ map settled_edge self.now) }
+    {
+        let pieces = Vec::from_clones(self.allocator(), &self.pieces)?;
+        let tail = settled_of(self.allocator(), &self.tail)?;
+        let settled = tail.len();
+        Ok(Edges {
+            pieces,
+            tail,
+            settled,
         })
     }
 

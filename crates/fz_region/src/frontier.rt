@@ -174,11 +174,8 @@ impl Frontier {
     pub fn node(&self) -> Result<Frontier, AllocError>
         ensures { IfOk result (λ f. f ≡ node_below self.now) }
     {
-        let mut edges = Edges::new(self.allocator());
-        for place in 0..self.edges.len() {
-            let edge = self.edges.edge(place).settled()?;
-            edges.push(edge)?;
-        }
+        let _ = self.allocator();
+        let edges = self.edges.settled()?;
         Ok(Frontier {
             edges,
             current_open: true,

@@ -1,8 +1,8 @@
 //! The end of a list of edges, where the open alternatives are.
-ghost use Rattle.std.specs.Prelude.{◌≡◌, ◌+◌, ◌^◌, ◌≤◌, ◌↔◌, is_some, length, IsTrue, IfOk, IfSome};
+ghost use Rattle.std.specs.Prelude.{◌≡◌, ◌+◌, ◌^◌, ◌≤◌, ◌↔◌, is_some, length, map, IsTrue, IfOk, IfSome};
 ghost use Rattle.std.specs.Bool.{OnTrue, OnFalse};
 ghost use Rattle.std.specs.List.{list_any};
-ghost use Rattle.fz_tree.specs.Frontier.{edge_has_rest, next_edges, cut_part, cut_rest};
+ghost use Rattle.fz_tree.specs.Frontier.{edge_has_rest, next_edges, settled_edge, cut_part, cut_rest};
 ghost use Rattle.fz_region.specs.Pieces.{AreSettledTo};
 
 use crate::edge::Edge;
@@ -75,6 +75,20 @@ pub fn copies_of(alloc: Global, edges: &[Edge], room: usize) -> Result<Vec<Edge>
         copies.push(edge.copy()?)?;
     }
     Ok(copies)
+}
+
+/// The same edges, with nothing open on any of them.
+///
+/// # Errors
+/// `AllocError` where there is no memory.
+pub fn settled_of(alloc: Global, edges: &[Edge]) -> Result<Vec<Edge>, AllocError>
+    ensures { IfOk result (λ v. v.items ≡ map settled_edge edges.now) }
+{
+    let mut settled = Vec::with_capacity(alloc, edges.len())?;
+    for edge in edges {
+        settled.push(edge.settled()?)?;
+    }
+    Ok(settled)
 }
 
 /// Whether the two are the same.

@@ -77,19 +77,9 @@ fn is_reached<S: SearchSpace>(path: &Path<S>, halt: Halt, step: Step) -> bool
     let _ = path.model();
     match (step, halt) {
         (Step::Found, Halt::Each) => true,
-        (Step::Found, Halt::Batch(wanted)) => is_batch(path, wanted),
+        (Step::Found, Halt::Batch(wanted)) => is_report_due(path, 0, wanted),
         _ => false,
     }
-}
-
-/// Whether as many are found as are wanted, or as pay for a report.
-fn is_batch<S: SearchSpace>(path: &Path<S>, wanted: Option<u64>) -> bool {
-    if let Some(count) = wanted
-        && count <= path.found_count()
-    {
-        return true;
-    }
-    is_report_due(path, 0)
 }
 
 /// Why the stretch ends where the sink is to hand on: what is found is to be told, too, if that pays.

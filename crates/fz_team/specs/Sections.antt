@@ -1,5 +1,5 @@
 -- What critical sections make of the values behind the locks that they hold.
-use Rattle.std.specs.Prelude.{◌≡◌, false, Option, Some, None, IfSome}
+use Rattle.std.specs.Prelude.{◌≡◌, false, Option, Some, None, IfOk}
 use Rattle.fz_tree.specs.Account.{Account}
 use Rattle.fz_tree.specs.Book.{Book, Takes, IsOpen}
 use Rattle.fz_book.specs.Outcomes.{IsOwn}
@@ -26,7 +26,7 @@ pub record HasReported {T : Type 0} (reported : Reported T) (path : Pathed) (boo
   pub holds : path.held ≡ Some account
   pub path_is : path' ≡ with_held path (held_behind account)
   pub hands : HandsIn reported.handed account book book'
-  pub copied : IfSome reported.copy (λ c. c ≡ account)
+  pub copied : IfOk reported.copy (λ c. c ≡ account)
 
 abbrev pub Reports : {T : Type 0} → Option (Reported T) → Pathed → Book → Pathed → Book → Type 0
 Reports (Some reported) path book path' book' = HasReported reported path book path' book'
@@ -39,7 +39,7 @@ pub record HasCut {S T : Type 0} (off : CutOff S T) (path : Walked) (book : Book
   pub task_is : off.task ≡ cut.task
   pub path_is : path' ≡ with_held (bare path) (held_behind_cut is_cut.account)
   pub hands : HandsIn off.handed cut.account book book'
-  pub copied : IfSome off.copy (λ c. c ≡ cut.account)
+  pub copied : IfOk off.copy (λ c. c ≡ cut.account)
 
 abbrev pub Cuts : {S T : Type 0} → Option (CutOff S T) → Walked → Book → Pathed → Book → Type 0
 Cuts (Some off) path book path' book' = HasCut off path book path' book'

@@ -1,6 +1,7 @@
 //! One event of one worker: the lock, the call, the gate.
-ghost use Rattle.std.specs.Prelude.{length, ◌≡◌, ◌<◌, IfOk, IfSome, OnOk, OnErr};
+ghost use Rattle.std.specs.Prelude.{length, ◌≡◌, ◌≤◌, ◌<◌, IfOk, IfSome, OnOk, OnErr};
 ghost use Rattle.fz_team.specs.Members.{IsMember, IsTaskOf};
+ghost use Rattle.fz_team.specs.Shares.{IsShare};
 
 use crate::crew::Crew;
 use crate::member::Member;
@@ -32,7 +33,9 @@ fn next_of<S: SearchSpace, G: Gate, T: Subject>(
     crew: &Crew<S, G, T>,
     path: &Path<S>,
     heard: u64,
-) -> Next {
+) -> Next
+    requires { 1 ≤ length crew.now.paths.now }
+{
     if path.is_idle() {
         return Next::Gain;
     }
@@ -42,16 +45,33 @@ fn next_of<S: SearchSpace, G: Gate, T: Subject>(
     Next::Step
 }
 
-/// Whether what a path found is to be reported: at once where so many are enough, else in batches, or where it has waited.
+/// Whether what a path found is to be reported: in batches, of at most its share of what is still wanted, or where it has waited.
 fn is_to_tell<S: SearchSpace, G: Gate, T: Subject>(
     crew: &Crew<S, G, T>,
     path: &Path<S>,
     heard: u64,
-) -> bool {
-    if path.found_count() == 0 {
-        return false;
-    }
-    crew.enough.is_some() || is_report_due(path, crew.outbox.asks().saturating_sub(heard))
+) -> bool
+    requires { 1 ≤ length crew.now.paths.now }
+{
+    let waited = crew.outbox.asks().saturating_sub(heard);
+    is_report_due(path, waited, wanted_of_each(crew))
+}
+
+/// How many are still wanted of each worker, if a number is.
+fn wanted_of_each<S: SearchSpace, G: Gate, T: Subject>(crew: &Crew<S, G, T>) -> Option<u64>
+    requires { 1 ≤ length crew.now.paths.now }
+{
+    let enough = crew.enough? as u64;
+    let recorded = crew.recorded.load(Ordering::SeqCst);
+    Some(share(enough, recorded, crew.paths.len() as u64))
+}
+
+/// The least number of which, found by each of so many workers, would be enough beside those that are recorded.
+fn share(enough: u64, recorded: u64, workers: u64) -> u64
+    requires { 1 ≤ workers }
+    ensures { IsShare enough recorded workers result }
+{
+    enough.saturating_sub(recorded).div_ceil(workers)
 }
 
 /// What a worker is to do first: in a later round its path may hold something.
@@ -208,14 +228,13 @@ fn tell_account<R: Wait, S: SearchSpace, G: Gate, T: Subject>(
     rt: &R,
     crew: &Crew<S, G, T>,
     book: &mut OwnBook<T>,
-    copy: Option<OwnAccount<T>>,
+    copy: Result<OwnAccount<T>, AllocError>,
 ) -> Result<(), AllocError>
     ensures { book.new.book ≡ book.old.book }
 {
-    let Some(account) = copy else {
-        return Err(AllocError);
-    };
-    crew.outbox.tell(rt, Told::Taken(account))?;
+    let recorded = book.book().recorded_count() as u64;
+    crew.recorded.store(recorded, Ordering::SeqCst);
+    crew.outbox.tell(rt, Told::Taken(copy?))?;
     if crew.outbox.is_read() {
         book.keep_last();
     }

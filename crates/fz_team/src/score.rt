@@ -2,22 +2,20 @@
 ghost use Rattle.std.specs.Prelude.{◌≡◌, ◌<◌, ◌^◌, nat_abs};
 ghost use Rattle.fz_spec.specs.Instance.{Satisfies, score};
 
-use fz_model::{Assignment, Goal, Model, value_of};
+use fz_model::{Assignment, Goal, Model};
 
 /// More than the score of any satisfying assignment.
 pub const NO_SCORE: u64 = 1 << 32;
 
-#[tactic(auto, using(fz_core::proofs::Scores::is_score))]
+#[tactic(auto, using(fz_tree::proofs::Orders::declared_length))]
 /// How far the goal's value is above the least number where it is to be as little as it may, or below the greatest.
 pub fn score_of(model: &Model, assignment: &Assignment) -> u64
     requires { Satisfies model.now assignment.now }
     ensures score { result ≡ nat_abs (score model.now assignment.now) }
     ensures small { result < 2 ^ 32 }
 {
-    let values = assignment.values();
     match model.goal() {
         Goal::Satisfy => 0,
-        Goal::Minimize(term) => (value_of(*term, values) as i64 + 2147483646) as u64,
-        Goal::Maximize(term) => (2147483646 - value_of(*term, values) as i64) as u64,
+        Goal::Minimize(_) | Goal::Maximize(_) => model.score(assignment),
     }
 }

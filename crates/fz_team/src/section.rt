@@ -25,7 +25,7 @@ pub enum Handed {
 #[derive(Drop)]
 pub struct Reported<T: Subject> {
     pub handed: Handed,
-    pub copy: Option<OwnAccount<T>>,
+    pub copy: Result<OwnAccount<T>, AllocError>,
 }
 
 /// A part that was cut off, what became of the account that names it, and a copy of that.
@@ -33,7 +33,7 @@ pub struct Reported<T: Subject> {
 pub struct CutOff<S: SearchSpace, T: Subject> {
     pub task: Task<S>,
     pub handed: Handed,
-    pub copy: Option<OwnAccount<T>>,
+    pub copy: Result<OwnAccount<T>, AllocError>,
 }
 
 /// Makes room for what a path found and knows, and for one part that it gives.
@@ -61,16 +61,6 @@ fn hand_in<T: Subject>(book: &mut OwnBook<T>, account: OwnAccount<T>) -> Handed
     }
 }
 
-/// A copy of an account, where there is memory for one.
-fn copy_of<T: Subject>(account: &OwnAccount<T>) -> Option<OwnAccount<T>>
-    ensures { IfSome result (λ c. c ≡ account.now) }
-{
-    match account.copy() {
-        Ok(copy) => Some(copy),
-        Err(_) => None,
-    }
-}
-
 /// The book takes the account of what the path holds, and the path goes on with what is left. `None` where it held nothing.
 ///
 /// # Errors
@@ -89,7 +79,7 @@ pub fn report<S: SearchSpace, T: Subject>(
     let Some(account) = path.report()? else {
         return Ok(None);
     };
-    let copy = copy_of(&account);
+    let copy = account.copy();
     Ok(Some(Reported {
         handed: hand_in(book, account),
         copy,
@@ -116,7 +106,7 @@ pub fn cut<S: SearchSpace, T: Subject>(
     let Some(cut) = path.cut()? else {
         return Ok(None);
     };
-    let copy = copy_of(&cut.account);
+    let copy = cut.account.copy();
     let handed = hand_in(book, cut.account);
     Ok(Some(CutOff {
         task: cut.task,

@@ -21,7 +21,7 @@ use fz_model::Assignment;
 use fz_path::Path;
 use fz_search_space::SearchSpace;
 use std::alloc::{AllocError, Global};
-use std::sync::atomic::AtomicBool;
+use std::sync::atomic::{AtomicBool, AtomicU64};
 use std::sync::{Mutex, Wait};
 use std::thread;
 use std::thread::Threads;
@@ -271,6 +271,7 @@ fn round<R: Threads + Wait + Sync, S: SearchSpace + Send, G: Gate + Sync, T: Sub
     ensures all { IfSome result.1 (λ v. All (IsMember T.model bound.now (length paths.now)) v.items) }
     ensures len { IfSome result.1 (λ v. length v.items ≡ length members.items) }
 {
+    let recorded = AtomicU64::new(book.book().recorded_count() as u64);
     let book = Mutex::new(book);
     let stop = AtomicBool::new(false);
     let crew = Crew {
@@ -281,6 +282,7 @@ fn round<R: Threads + Wait + Sync, S: SearchSpace + Send, G: Gate + Sync, T: Sub
         gate,
         outbox,
         enough,
+        recorded: &recorded,
     };
     let after = in_threads(rt, &crew, members);
     let book = book.into_inner();

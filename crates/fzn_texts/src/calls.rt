@@ -2,7 +2,7 @@
 use crate::answer::Answer;
 use crate::case::Case;
 use crate::models::{divide, generated, truth};
-use crate::runs::{check, run, run_meeting, run_showing, words_of};
+use crate::runs::{check, run, run_learning, run_meeting, run_showing, words_of};
 use crate::{books, collecting, domains, frontiers, machines, paths, seeds, spaces, words};
 use std::alloc::{AllocError, Global};
 use std::sync::Wait;
@@ -111,6 +111,7 @@ fn answer_of<R: Threads + Wait + Sync>(
         b"fzn" => run(rt, alloc, case, &words)?,
         b"fzcheck" => check(alloc, case, &words)?,
         b"meeting" => run_meeting(rt, alloc, case, &words)?,
+        b"learning" => run_learning(rt, alloc, case, &words)?,
         b"showing" => run_showing(rt, alloc, case, &words)?,
         b"words" => words::read(alloc, &words)?,
         b"divide" => divide(alloc, &case.text)?,

@@ -10,6 +10,7 @@ mod case;
 mod collecting;
 mod domains;
 mod frontiers;
+mod learning;
 mod machines;
 mod meeting;
 mod models;

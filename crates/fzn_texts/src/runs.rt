@@ -4,6 +4,7 @@ ghost use Rattle.fz_io.specs.Memory.{sink_faults, source_faults};
 
 use crate::answer::Answer;
 use crate::case::{Case, Faults};
+use crate::learning::Learning;
 use crate::meeting::Meeting;
 use crate::watching::{ShowingSink, Watching};
 use fz_io::gate::{Gate, NoGate};
@@ -143,6 +144,21 @@ pub fn run_meeting<R: Threads + Wait + Sync>(
     let have_met = !meeting.is_missed() && 17 <= meeting.steps();
     Ok(Answer {
         is_sound: answer.is_sound && have_met,
+        ..answer
+    })
+}
+
+/// A run of `fzn` by two workers, of which the second learns what the first found.
+pub fn run_learning<R: Threads + Wait + Sync>(
+    rt: &R,
+    alloc: Global,
+    case: &Case,
+    words: &[String],
+) -> Result<Answer, AllocError> {
+    let learning = Learning::new();
+    let answer = run_watched(rt, alloc, case, words, &learning)?;
+    Ok(Answer {
+        is_sound: answer.is_sound && learning.has_learned(),
         ..answer
     })
 }

@@ -1,9 +1,7 @@
-use Rattle.std.proofs.Common.{◌≡◌, ◌∙◌, sym, ap, subst, length, append-nil}
+use Rattle.std.proofs.Common.{◌∙◌, sym, ap, length, append-nil}
 use Rattle.fz_language.specs.Entries.{Environment, with_entry}
-use Rattle.fz_language.specs.Models as models
 use Rattle.fz_syntax.specs.Trees as trees
-use Rattle.fz_resolve.specs.Meant.{environment_of, meant}
-use Rattle.fz_check.specs.Entered.{IsArrayEntry}
+use Rattle.fz_resolve.specs.Meant.{environment_of}
 use Rattle.fz_check.specs.Parts.{scope}
 use Rattle.fz_check.proofs.draft.Draft.declare_array.Goals as goal
 
@@ -11,9 +9,7 @@ pub returns : goal.returns
 returns c =
     let env = environment_of c.args.self.now.names in
     let a = trees.array_item_of c.args.item.now in
-    λ e placed.
-    let is : meant c.in-Ok.entry ≡ models.array_entry env a a.variable a.value_type = (subst (λ made. IsArrayEntry env a made) c.in-Ok.is e).1 in
-    record {
+    λ is placed. record {
       scope = ap (λ (x : Environment). scope x (length c.args.self.now.variables.items)) (c.in_ok-declare.ensures ∙ ap (λ x. with_entry a.name.bytes x env) is);
       variables = sym (append-nil c.args.self.now.variables.items);
       constraints = c.in_ok-push_bounds.ensures env is;

@@ -9,7 +9,7 @@ pub invariant_of-result : goal.invariant_of-result
 invariant_of-result c =
     let old = c.self.inside.pieces.items in
     let new = c.in_ok-pieces.pieces.items in
-    copied_pieces arc_slice_items old new c.self.inside.tail.items c.in_ok-tail.tail.items c.self.inside.settled (copied_from arc_slice_items old c.deref.result.now new c.deref.ensures.value c.in_ok-pieces.ensures.items) c.self.invariant
+    copied_pieces arc_slice_items old new c.self.inside.tail.items c.in_ok-tail.tail.items c.self.inside.settled c.self.inside.settled (copied_from arc_slice_items old c.deref.result.now new c.deref.ensures.value c.in_ok-pieces.ensures.items) c.self.invariant
     (subst (AreSettledTo c.self.inside.settled) (sym (c.in_ok-tail.ensures ∙ c.deref-2.ensures.value)) c.self.invariant.front)
 
 pub returns : goal.returns

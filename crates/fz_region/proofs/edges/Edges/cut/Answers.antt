@@ -13,7 +13,7 @@ invariant_of-result c =
     let old = c.self.inside.pieces.items in
     let new = c.in_ok-pieces.pieces.items in
     let part : c.in-Some.tail.items ≡ cut_part c.deref.result.now = subst (λ o. IfSome o (λ v. v.items ≡ cut_part c.deref.result.now)) c.in-Some.is c.in_ok-tail.ensures.part in
-    copied_pieces arc_slice_items old new c.self.inside.tail.items c.in-Some.tail.items c.self.inside.settled (copied_from arc_slice_items old c.deref-2.result.now new c.deref-2.ensures.value c.in_ok-pieces.ensures.items) c.self.invariant
+    copied_pieces arc_slice_items old new c.self.inside.tail.items c.in-Some.tail.items c.self.inside.settled c.self.inside.settled (copied_from arc_slice_items old c.deref-2.result.now new c.deref-2.ensures.value c.in_ok-pieces.ensures.items) c.self.invariant
     (subst (AreSettledTo c.self.inside.settled) (sym (part ∙ ap cut_part c.deref.ensures.value)) (settled_part c.self.inside.settled c.self.inside.tail.items c.self.invariant.front))
 
 pub returns-clause-part : goal.returns-clause-part
