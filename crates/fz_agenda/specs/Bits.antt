@@ -23,7 +23,7 @@ state_at alive queued i = if nat_eq (bit_of alive i) 1 then bit_of queued i else
 unfoldable pub states_of : List ℕ → List ℕ → ℕ → List ℕ
 states_of alive queued count = map (state_at alive queued) (range_with_len 0 count)
 
--- a word for each of so many
+-- a word for each of that many
 pub record HaveWords (living waiting : List ℕ) (count : ℕ) : Type 0 where
   pub alive : length living ≡ words_for count
   pub queued : length waiting ≡ words_for count

@@ -57,11 +57,11 @@ pub record IsIndexedAt (w : Waking) (i : ℕ) (saying : Saying) : Type 0 where
 abbrev pub IsIndexOf : List Saying → Waking → Type 0
 IsIndexOf sayings w = (i : ℕ) (saying : Saying) → slice_get sayings i ≡ Some saying → IsIndexedAt w i saying
 
--- the terms of these are of so many variables
+-- the terms of these are of that many variables
 abbrev pub AreWatchesOf : ℕ → List Watch → Type 0
 AreWatchesOf n es = AllByRecursion (λ (e : Watch). IsTermOf n e.term) es
 
--- lists for so many variables
+-- lists for that many variables
 pub record HaveSize (w : Waking) (n : ℕ) : Type 0 where
   pub any : length w.any ≡ n
   pub bound : length w.bound ≡ n

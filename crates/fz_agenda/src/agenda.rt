@@ -31,7 +31,7 @@ impl Model for Agenda {
 }
 
 impl Agenda {
-    /// An agenda of so many propagators, none of them queued.
+    /// An agenda of that many propagators, none of them queued.
     ///
     /// # Errors
     /// `AllocError` where there is no memory.

@@ -27,7 +27,7 @@ impl Model for States {
 }
 
 impl States {
-    /// So many propagators, each of them idle.
+    /// That many propagators, each of them idle.
     ///
     /// # Errors
     /// `AllocError` where there is no memory.

@@ -98,7 +98,7 @@ impl Model for Wakes {
 }
 
 impl Wakes {
-    /// Lists for so many variables, in which nothing stands.
+    /// Lists for that many variables, in which nothing stands.
     ///
     /// # Errors
     /// `AllocError` where there is no memory.
@@ -259,7 +259,7 @@ impl Wakes {
     }
 }
 
-/// Lists for so many variables, in which nothing stands.
+/// Lists for that many variables, in which nothing stands.
 fn empty_lists(alloc: Global, count: usize) -> Result<Vec<Waiters>, AllocError>
     ensures { IfOk result (λ v. length v.items ≡ count) }
 {
@@ -270,7 +270,7 @@ fn empty_lists(alloc: Global, count: usize) -> Result<Vec<Waiters>, AllocError>
     Ok(lists)
 }
 
-/// Lists for so many variables, of none that looks at one for a while.
+/// Lists for that many variables, of none that looks at one for a while.
 fn no_watchers(alloc: Global, count: usize) -> Result<Vec<Watchers>, AllocError>
     ensures { IfOk result (λ v. v.items ≡ replicate count []) }
 {

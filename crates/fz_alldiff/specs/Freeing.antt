@@ -28,7 +28,7 @@ pub record AreFree (xs : List Term) (ds : List (List (ℤ × ℤ))) (free : ℤ 
 abbrev pub AreFixedButOne : List Term → List (List (ℤ × ℤ)) → Type 0
 AreFixedButOne xs ds = (i j : ℕ) (x y : Term) → i ≢ j → slice_get xs i ≡ Some x → slice_get xs j ≡ Some y → IsFixedIn ds x ⊎ IsFixedIn ds y
 
--- so many places aren't fixed: none, one or more
+-- that many places aren't fixed: none, one or more
 pub record AreOpen (xs : List Term) (ds : List (List (ℤ × ℤ))) (unfixed : ℕ) : Type 0 where
   pub none : unfixed ≡ 0 → AllFixed ds xs
   pub one : unfixed ≤ 1 → AreFixedButOne xs ds

@@ -44,7 +44,7 @@ impl AllDifferent {
     }
 }
 
-/// Narrows a store so that terms are all different, where of so many at each end none has a number in common with another. The ends
+/// Narrows a store so that terms are all different, where of that many at each end none has a number in common with another. The ends
 /// move where the line of all holds, which says that the number of each fixed term has left the others.
 fn keep_between(
     alloc: Global,
@@ -67,7 +67,7 @@ fn keep_between(
     Ok(answer)
 }
 
-/// Narrows a store so that terms are all different, by those between both ends: of so many at each none has a number in common with
+/// Narrows a store so that terms are all different, by those between both ends: of that many at each none has a number in common with
 /// another.
 fn keep_part(
     alloc: Global,

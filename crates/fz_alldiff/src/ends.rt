@@ -18,7 +18,7 @@ pub fn is_long(terms: &[Term]) -> bool
     terms.len() > 4
 }
 
-/// The terms behind so many and before so many.
+/// The terms after that many and before that many.
 pub fn terms_between(terms: &[Term], front: u32, back: u32) -> &[Term]
     ensures { IsBetween terms.now front back result.now }
 {
@@ -44,7 +44,7 @@ pub fn move_ends(store: &Store, terms: &[Term], kept: &mut Kept)
     kept.back = back;
 }
 
-/// How many terms at the front have no number in common with another, where so many haven't and the others may be fixed.
+/// How many terms at the front have no number in common with another, where that many haven't and the others may be fixed.
 fn front_from(store: &Store, terms: &[Term], front: u32) -> u32
     requires terms { AllByRecursion (IsTermOf (length store.now.doms)) terms.now }
     requires apart { AreApart terms.now store.now.doms }
@@ -61,7 +61,7 @@ fn front_from(store: &Store, terms: &[Term], front: u32) -> u32
     front.max(count)
 }
 
-/// How many terms at the back have no number in common with another, where so many haven't and the others may be fixed.
+/// How many terms at the back have no number in common with another, where that many haven't and the others may be fixed.
 fn back_from(store: &Store, terms: &[Term], back: u32) -> u32
     requires terms { AllByRecursion (IsTermOf (length store.now.doms)) terms.now }
     requires apart { AreApart terms.now store.now.doms }

@@ -59,7 +59,7 @@ pub record IsOut (operation : Operation) (ds : List (List (ℤ × ℤ))) (z t : 
   pub of : IsTermOf (length ds) t
   pub beaten : IsBeaten operation ds z t
 
--- the terms before and behind a part are beaten
+-- the terms before and after a part are beaten
 pub record IsPart (operation : Operation) (ds : List (List (ℤ × ℤ))) (z : Term) (xs mid : List Term) : Type 0 where
   pub ahead : List Term
   pub behind : List Term

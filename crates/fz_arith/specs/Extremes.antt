@@ -17,6 +17,6 @@ IsExtreme Min = Unit {0}
 IsExtreme Max = Unit {0}
 IsExtreme operation = ⊥
 
--- of so many terms at each end none is the least, or the greatest
+-- of that many terms at each end none is the least, or the greatest
 abbrev pub AreEndsBeaten : Operation → List Term → Term → ℕ → ℕ → List (List (ℤ × ℤ)) → Type 0
 AreEndsBeaten operation xs z front back ds = AreEndsDone (λ i t. IsBeaten operation ds z t) xs front back

@@ -22,7 +22,7 @@ pub fn is_long(operands: &[Term]) -> bool
     operands.len() > 4
 }
 
-/// Narrows a store as `keep_equation` does, where of so many operands at each end none is the least, or the greatest; more of these are
+/// Narrows a store as `keep_equation` does, where of that many operands at each end none is the least, or the greatest; more of these are
 /// found first.
 pub fn keep_between_ends(
     store: &mut Store,
@@ -72,7 +72,7 @@ fn has_ends(operation: Operation, operands: &[Term]) -> bool
     }
 }
 
-/// Narrows a store as `keep_equation` does, without so many operands at each end of which none is the least, or the greatest.
+/// Narrows a store as `keep_equation` does, without that many operands at each end of which none is the least, or the greatest.
 fn keep_part(
     store: &mut Store,
     operation: Operation,
@@ -122,7 +122,7 @@ fn is_beaten(store: &Store, operation: Operation, operand: Term, value: Term) ->
     }
 }
 
-/// Of how many operands at the front none is the least, or the greatest, where it is none of so many.
+/// Of how many operands at the front none is the least, or the greatest, where it is none of that many.
 fn front_from(
     store: &Store,
     operation: Operation,
@@ -146,7 +146,7 @@ fn front_from(
     front.max(count)
 }
 
-/// Of how many operands at the back none is the least, or the greatest, where it is none of so many.
+/// Of how many operands at the back none is the least, or the greatest, where it is none of that many.
 fn back_from(store: &Store, operation: Operation, operands: &[Term], value: Term, back: u32) -> u32
     requires value { IsTermOf (length store.now.doms) value }
     requires operands { AllByRecursion (IsTermOf (length store.now.doms)) operands.now }

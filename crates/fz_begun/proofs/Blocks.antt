@@ -22,7 +22,7 @@ use Rattle.fz_spec.specs.Run.{value_text, comma_separated, shape_text, values_te
 use Rattle.fz_model.specs.Kept.{IsModel, IsVariable, IsOutput, HasSetOf, IsTermOf, IsNumberOf, kind_at}
 use Rattle.fz_tree.specs.Rows.{row_of}
 
--- ---- the bytes of a value, and what stands behind one: a comma, a semicolon or a bracket
+-- ---- the bytes of a value, and what stands after one: a comma, a semicolon or a bracket
 
 abbrev Inner : ℕ → Type 0
 Inner c = (c ≢ 44) × (c ≢ 59) × (c ≢ 93)
@@ -156,7 +156,7 @@ module _ (vs : List Variable) (a b : List ℤ) (sets : AllByRecursion IsVariable
       let rest = values_split k (u ∷ ts) r s all.1 stops ends (ap (drop 2) both.1) in
       (ap₂ (λ (x : ℤ) (l : List ℤ). x ∷ l) (term_same k t all.0 both.0) rest.0, rest.1)
 
-  -- behind equal bytes
+  -- after equal bytes
   behind : (l r s : List ℕ) → l ++ r ≡ l ++ s → r ≡ s
   behind [] r s e = e
   behind (c ∷ l) r s e = behind l r s (ap (drop 1) e)

@@ -57,7 +57,7 @@ blocks_some m (suc n) (a ∷ l) within some = let h = block_some m a in omega (a
 
 -- ---- whole runs
 
--- what is shown, and the bytes of it that stand behind the first blocks
+-- what is shown, and the bytes of it that stand after the first blocks
 record Shows (o : Options) (m : Instance) (goal : Goal) (l : List (List ℤ)) : Type 0 where
   listed : List (List ℤ)
   rest : List ℕ

@@ -39,7 +39,7 @@ AreBegun Satisfy o m l = AreFound o.distinct m (wanted o) l
 AreBegun (Minimize term) o m l = AreBettered o m l
 AreBegun (Maximize term) o m l = AreBettered o m l
 
--- whether something is still to be printed behind these: where as many as are asked for are shown, maybe nothing
+-- whether something is still to be printed after these: where as many as are asked for are shown, maybe nothing
 abbrev pub IsShort : Goal → Options → ℕ → Type 0
 IsShort Satisfy o count = IsBelow (wanted o) count
 IsShort (Minimize term) o count = Unit {0}

@@ -2,7 +2,7 @@
 ghost use Rattle.fz_begun.specs.Begun.{BegunCanEnd};
 ghost use Rattle.fz_begun.specs.Whole.{NothingExactly, AllAreOne, BlocksDiffer, BlocksSatisfy, LastIsBest, BlocksAreRows};
 
-/// Behind the blocks of solutions that a run has begun with, bytes can follow that make the text of a whole run of it.
+/// After the blocks of solutions that a run has begun with, bytes can follow that make the text of a whole run of it.
 pub fn begun_can_end()
     ensures { BegunCanEnd }
 {}

@@ -1,7 +1,7 @@
 -- What is recorded, and how many of the first were let go of.
 use Rattle.std.specs.Prelude.{◌≡◌, ℕ, ℤ, ◌-◌, ◌<◌, ◌≤◌, ◌^◌, List, ◌++◌, length}
 
--- with room for so many more without taking memory
+-- with room for that many more without taking memory
 pub record Recorded : Type 0 where
   pub items : List (List ℤ)
   pub gone : ℕ

@@ -208,7 +208,7 @@ impl Book {
         Ok(Some(frontier))
     }
 
-    /// Makes room for at least so many more assignments that are found, and frontiers that were given.
+    /// Makes room for at least that many more assignments that are found, and frontiers that were given.
     ///
     /// # Errors
     /// `AllocError` where there is no memory; the book is as before, but for its room.

@@ -25,7 +25,7 @@ impl Past {
         Past {}
     }
 
-    /// These behind those.
+    /// These after those.
     pub(crate) fn with(&self, _more: &Vec<Assignment>) -> Past
         ensures { result.items ≡ self.now.items ++ _more.now.items }
     {

@@ -8,7 +8,7 @@ use fz_model::Assignment;
 use std::alloc::{AllocError, AllocFailed, Global};
 use std::marker::Model;
 
-/// So many assignments can be let go of, and no more.
+/// That many assignments can be let go of, and no more.
 const MOST_GONE: usize = 1 << 63;
 
 /// What is recorded, in order. The first of it may be let go of: then only contracts see them.
@@ -87,7 +87,7 @@ impl Record {
         self.kept.last()
     }
 
-    /// Makes room for at least so many more.
+    /// Makes room for at least that many more.
     ///
     /// # Errors
     /// `AllocError` where there is no memory.

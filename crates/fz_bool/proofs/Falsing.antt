@@ -20,7 +20,7 @@ use Rattle.fz_bool.specs.Clausal.{AreMadeFalse, AreFalseIn}
 use Rattle.fz_bool.proofs.Looks.{inside_of, split}
 use Rattle.fz_bool.proofs.Within.{makes_false, all_false_still}
 
--- the first so many are false, and no assignment that makes all false is lost
+-- the first that many are false, and no assignment that makes all false is lost
 pub record FalseSoFar (r s : Stored) (ls : List Literal) (n : ℕ) : Type 0 where
   pub store : IsStore s
   pub shrinks : Shrinks r s

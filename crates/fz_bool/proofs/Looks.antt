@@ -42,7 +42,7 @@ none_of P [] each some = some
 none_of P (x ∷ xs) each (inl here) = each 0 x refl here
 none_of P (x ∷ xs) each (inr there) = none_of P xs (λ i y at. each (suc i) y at) there
 
--- ---- the first so many
+-- ---- the first that many
 
 -- one is open, and the others are untrue
 pub record IsLastBelow (ds : List (List (ℤ × ℤ))) (ls : List Literal) (n : ℕ) (l : Literal) : Type 0 where

@@ -48,7 +48,7 @@ odd_suc a (u ∷ us) (suc n) t at =
 pub odd_more : (a : List ℤ) (ts : List Term) (n : ℕ) (t : Term) → slice_get ts n ≡ Some t → is_odd (term_values a (take (n + 1) ts)) ≡ flip (is_one (term_value a t)) (is_odd (term_values a (take n ts)))
 odd_more a ts n t at = rw add-one (odd_suc a ts n t at)
 
--- ---- the first so many
+-- ---- the first that many
 
 abbrev pub last_one : List ℤ → Option Term → Bool
 last_one a None = false

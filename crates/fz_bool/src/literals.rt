@@ -53,7 +53,7 @@ pub fn is_long(literals: &[Literal]) -> bool
     literals.len() > 8
 }
 
-/// What is left of literals of which one is to be true, where of so many at each end none may still get true; more of these are
+/// What is left of literals of which one is to be true, where of that many at each end none may still get true; more of these are
 /// found first.
 pub fn left_between(store: &Store, literals: &[Literal], kept: &mut Kept) -> Left
     requires terms { AreTermsOf store.now.doms literals.now }
@@ -71,7 +71,7 @@ pub fn left_between(store: &Store, literals: &[Literal], kept: &mut Kept) -> Lef
     left_at(store, literals, front as usize, back as usize)
 }
 
-/// Of how many literals at the front none may still get true, where it is none of so many.
+/// Of how many literals at the front none may still get true, where it is none of that many.
 fn front_from(store: &Store, literals: &[Literal], front: u32) -> u32
     requires terms { AreTermsOf store.now.doms literals.now }
     requires told { AreUntrueBelow store.now.doms literals.now front }
@@ -87,7 +87,7 @@ fn front_from(store: &Store, literals: &[Literal], front: u32) -> u32
     front.max(count)
 }
 
-/// Of how many literals at the back none may still get true, where it is none of so many.
+/// Of how many literals at the back none may still get true, where it is none of that many.
 fn back_from(store: &Store, literals: &[Literal], back: u32) -> u32
     requires terms { AreTermsOf store.now.doms literals.now }
     requires told { AreUntrueBehind store.now.doms literals.now back }
@@ -103,7 +103,7 @@ fn back_from(store: &Store, literals: &[Literal], back: u32) -> u32
     back.max(count)
 }
 
-/// What is left of literals of which one is to be true, where of so many at each end none may still get true.
+/// What is left of literals of which one is to be true, where of that many at each end none may still get true.
 fn left_at(store: &Store, literals: &[Literal], front: usize, back: usize) -> Left
     requires terms { AreTermsOf store.now.doms literals.now }
     requires told { AreEndsUntrue literals.now front back store.now.doms }

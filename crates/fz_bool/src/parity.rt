@@ -101,7 +101,7 @@ fn is_long(terms: &[Term]) -> bool
     terms.len() > 4
 }
 
-/// What is left of terms, where so many at each end are fixed; more of these are found first.
+/// What is left of terms, where that many at each end are fixed; more of these are found first.
 fn seen_between(store: &Store, terms: &[Term], kept: &mut Kept) -> Seen
     requires terms { AllByRecursion (IsTermOf (length store.now.doms)) terms.now }
     requires told { AreEndsOdd terms.now kept.old.front kept.old.back kept.old.number
@@ -186,7 +186,7 @@ fn turned(ends: Kept) -> Kept
     }
 }
 
-/// What is left of terms, where so many at each end are fixed, and the ones between which these stand are open or not known to be.
+/// What is left of terms, where that many at each end are fixed, and the ones between which these stand are open or not known to be.
 fn seen_at(store: &Store, terms: &[Term], ends: Kept, first: bool, last: bool) -> Seen
     requires terms { AllByRecursion (IsTermOf (length store.now.doms)) terms.now }
     requires told { AreEndsOdd terms.now ends.front ends.back ends.number store.now.doms }

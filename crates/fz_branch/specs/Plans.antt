@@ -15,7 +15,7 @@ use Rattle.fz_branch.specs.Values.{choice_of}
 abbrev pub declared_part : Instance → SearchPart
 declared_part m = record { variables = range_with_len 0 (length m.variables); pick = InputOrder; value = IndomainMin }
 
--- the search parts, and behind them all variables
+-- the search parts, and after them all variables
 abbrev pub plan_of : Instance → List SearchPart
 plan_of m = m.search ++ declared_part m ∷ []
 
@@ -24,7 +24,7 @@ plan_of m = m.search ++ declared_part m ∷ []
 abbrev pub only_shown : Instance → SearchPart → SearchPart
 only_shown m p = record { variables = filter (is_shown m) p.variables; pick = p.pick; value = p.value }
 
--- the search parts cut down to the variables of the output, and behind them all of these
+-- the search parts cut down to the variables of the output, and after them all of these
 abbrev pub plan_rows : Instance → List SearchPart
 plan_rows m = map (only_shown m) m.search ++ only_shown m (declared_part m) ∷ []
 

@@ -31,7 +31,7 @@ impl Model for Plan {
 }
 
 impl Plan {
-    /// The plan of a model: its search parts, and behind them all variables.
+    /// The plan of a model: its search parts, and after them all variables.
     ///
     /// # Errors
     /// `AllocError` where there is no memory.
@@ -47,7 +47,7 @@ impl Plan {
         })
     }
 
-    /// The plan of a model whose rows are sought: its search parts cut down to the variables of the output, and behind them all of
+    /// The plan of a model whose rows are sought: its search parts cut down to the variables of the output, and after them all of
     /// these.
     ///
     /// # Errors

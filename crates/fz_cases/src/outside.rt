@@ -189,7 +189,7 @@ fn standard_output_takes_a_piece(rt: HostRuntime) -> Result<(), Fail> {
     Ok(())
 }
 
-/// So many bytes.
+/// That many bytes.
 fn many(alloc: Global, count: usize) -> Result<Vec<u8>, AllocError> {
     vec![in alloc; b'x'; count]
 }

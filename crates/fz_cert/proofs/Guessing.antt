@@ -18,7 +18,7 @@ use Rattle.fz_cert.specs.Guesses.{EndsWord, IsInWord, HasWords, IsGuessed}
 use Rattle.fz_cert.proofs.Wording.{decimal_word, signed_word, word_fits}
 use Rattle.fz_refutes.proofs.Within.{word_limits}
 
--- ---- what stands behind a piece
+-- ---- what stands after a piece
 
 abbrev pub IsNoFront : List ℕ → List ℕ → Type 0
 IsNoFront text piece = (rest : List ℕ) → text ≡ piece ++ rest → ⊥
@@ -119,7 +119,7 @@ second_number text blank_behind word later n rest read small ends is at splits r
     let there : blank_behind ≡ signed_decimal n ++ rest = ap (drop 1) (sym at ∙ is) in
     reads n small (splits (signed_decimal n) rest (signed_word n small) ends there).0
 
--- a value and what stands behind it
+-- a value and what stands after it
 pub value_of : (text blank_behind word later : List ℕ) (n : ℤ) (rest : List ℕ) (read : Option ℤ) → IsWithinLimits n → EndsWord rest → text ≡ 32 ∷ (signed_decimal n ++ rest) → text ≡ 32 ∷ blank_behind → SplitsWord blank_behind word later
     → ((k : ℤ) → IsWord k → word ≡ signed_decimal k → read ≡ Some k) → (read ≡ Some n) × (later ≡ rest)
 value_of text blank_behind word later n rest read limits ends is at splits reads =

@@ -79,7 +79,7 @@ pub values_read : (count : ℕ) (text left : List ℕ) (found : List ℤ) (i : �
     → text ≡ values_text values ++ 10 ∷ rest → found ≡ values
 values_read count text left found i so_far is values rest counts are at = (so_far.read values rest counts are at).0 ∙ take_all values i (counts ∙ sym is)
 
--- ---- a certificate has no z behind its first line
+-- ---- a certificate has no z after its first line
 
 low_number : (bytes : List ℕ) → AllByRecursion IsOfNumber bytes → AreBeforeZ bytes
 low_number bytes are = all_weaker IsOfNumber (λ (byte : ℕ). byte < 122) bytes (λ byte is. let high = is.1 in omega (arith, high)) are
@@ -140,7 +140,7 @@ declared_numbers (v ∷ vs) (x ∷ xs) fits are = (set_limits v.kind v.set x fit
 
 -- ---- the head of an output that proves
 
--- a certificate from behind its z
+-- a certificate from after its z
 abbrev pub behind_z : Option (List ℤ) → List Line → List ℕ
 behind_z head lines = codes "cert 1\n" ++ (comment (head_text head) ++ (lines_text lines ++ comment (codes "end")))
 

@@ -7,7 +7,7 @@ use Rattle.fz_spec.specs.declared.term.Term.TheVariants.{Num}
 use Rattle.fz_refutes.specs.Boxes.{set_of}
 use Rattle.fz_refutes.specs.Refuted.{least_product, greatest_product, least_sum, greatest_sum}
 
--- a sum of so many products, and what is left of the whole
+-- a sum of that many products, and what is left of the whole
 pub record IsSummed (sum rest whole : ℤ) (n : ℕ) : Type 0 where
   pub is : (sum +ℤ rest) ≡ whole
   pub near : unsigned_abs sum ≤ n * 2 ^ 62

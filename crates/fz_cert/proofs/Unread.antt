@@ -81,7 +81,7 @@ none_taken m head old new text step taken is some tree guesses takes not =
     let same = guesses found.line (lines_text found.lines ++ last_line) found.words found.is in
     subst (λ (t : Bool). IsTaken m head step t old new) not takes found.lines (subst (λ (line : Line). AreRefutedBy m head old (line ∷ found.lines)) (sym same) found.refuted)
 
--- what is behind it refutes the boxes that are left then
+-- what is after it refutes the boxes that are left then
 pub rest_of_tree : (m : Instance) (head : Option (List ℤ)) (old new : List (List (List (ℤ × ℤ)))) (text piece rest : List ℕ) (step : Step) → IsModel m → (old ≡ [] → ⊥) → IsTreeText m head old text → Guesses (Some step) text
     → piece ≡ comment (line_text (line_of step)) → text ≡ piece ++ rest → ((lines : List Line) → AreRefutedBy m head old (line_of step ∷ lines) ↔ AreRefutedBy m head new lines) → IsTreeText m head new rest
 rest_of_tree m head old new text piece rest step is some tree guesses printed at taken =

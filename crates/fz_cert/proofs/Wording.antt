@@ -14,7 +14,7 @@ use Rattle.fz_sets.proofs.Lists.{all_both}
 use Rattle.fz_refutes.specs.Boxes.{IsWord}
 use Rattle.fz_cert.specs.Guesses.{EndsWord, IsInWord}
 
--- the first byte that ends a word stands behind the word
+-- the first byte that ends a word stands after the word
 pub ends_here : (text front rest : List ℕ) (i d : ℕ) → AllByRecursion IsInWord front → EndsWord rest → text ≡ front ++ rest → AllByRecursion IsInWord (take i text) → i < length text → get_or text i d ≤ 32
     → i ≡ length front
 ends_here text front rest i d all ends is before within here =

@@ -8,7 +8,7 @@ use Rattle.fz_refutes.specs.Boxes.{low_half, high_half}
 abbrev pub whole_of : List (List (ℤ × ℤ)) → Turn → List (List (ℤ × ℤ))
 whole_of box turn = slice_set box turn.variable turn.whole
 
--- the boxes behind a box
+-- the boxes after a box
 abbrev pub boxes_behind : List (List (ℤ × ℤ)) → List Turn → List (List (List (ℤ × ℤ)))
 boxes_behind box [] = []
 boxes_behind box (turn ∷ turns) = cond turn.is_high (boxes_behind (whole_of box turn) turns)

@@ -58,7 +58,7 @@ fn product_ends(area: &Area, factor: i32, term: Term) -> (i64, i64)
     }
 }
 
-/// A sum of so many products, and one more.
+/// A sum of that many products, and one more.
 fn add(sum: i128, product: i64, count: usize) -> i128
     requires near { unsigned_abs sum ≤ count * 2 ^ 62 }
     requires small { unsigned_abs product ≤ 2 ^ 62 }

@@ -78,7 +78,7 @@ pub fn head(alloc: Global, model: &Model, output: &[u8]) -> Result<Option<Assign
     Ok(Some(Assignment::new(alloc, &values)?))
 }
 
-/// What stands behind the last z, which a certificate has in its first line alone.
+/// What stands after the last z, which a certificate has in its first line alone.
 fn behind_z(output: &[u8]) -> &[u8]
     ensures { (front rest : List ℕ) → AreBeforeZ rest → output.now ≡ front ++ 122 ∷ rest → result.now ≡ rest }
 {
@@ -91,7 +91,7 @@ fn behind_z(output: &[u8]) -> &[u8]
     rest
 }
 
-/// So many values, a blank before each.
+/// That many values, a blank before each.
 fn values(alloc: Global, count: usize, text: &[u8]) -> Result<Vec<i32>, AllocError>
     ensures numbers { IfOk result (λ v. AreNumbers v.items) }
     ensures values { IfOk result (λ v. (values : List ℤ) (rest : List ℕ)
@@ -108,7 +108,7 @@ fn values(alloc: Global, count: usize, text: &[u8]) -> Result<Vec<i32>, AllocErr
     Ok(values)
 }
 
-/// The value behind a blank, within the limits of the language, and what stands behind it.
+/// The value after a blank, within the limits of the language, and what stands after it.
 fn next_value(text: &[u8]) -> (i32, &[u8])
     ensures within { IsWithinLimits result.0 }
     ensures value { (n : ℤ) (rest : List ℕ) → IsWithinLimits n → EndsWord rest

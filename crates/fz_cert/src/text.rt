@@ -81,7 +81,7 @@ fn push_value(text: &mut Vec<u8>, value: i32) -> Result<(), AllocError>
     Ok(())
 }
 
-/// What is behind a piece that a text begins with.
+/// What is after a piece that a text begins with.
 pub fn behind<'a>(text: &'a [u8], piece: &[u8]) -> Option<&'a [u8]>
     ensures some { IfSome result (λ rest. text.now ≡ piece.now ++ rest.now) }
     ensures none { IfNone result ((rest : List ℕ) → text.now ≡ piece.now ++ rest → ⊥) }

@@ -27,7 +27,7 @@ impl Turn {
     }
 }
 
-/// The box that is to be refuted next, and the splits above it. The boxes behind it are the high halves of those splits that it lies
+/// The box that is to be refuted next, and the splits above it. The boxes after it are the high halves of those splits that it lies
 /// in the low half of.
 #[derive(Drop)]
 pub struct Walk {
@@ -101,7 +101,7 @@ impl Walk {
     }
 }
 
-/// Goes on to the box behind this one: the high half of the lowest split that the box lies in the low half of. Whether there is
+/// Goes on to the box after this one: the high half of the lowest split that the box lies in the low half of. Whether there is
 /// none.
 fn next_box(alloc: Global, area: &mut Area, turns: &mut Vec<Turn>) -> Result<bool, AllocError>
     requires { AreTurns (length area.old) (reverse turns.old.items) }

@@ -10,7 +10,7 @@ pub record TakesOne (P : List ℕ → Type 0) (before after : Option (List ℕ))
   pub is : P text
   pub taken : after ≡ with_more before text
 
--- a front of a text with a property, which lacks one byte at least
+-- a prefix of a text with a property, which lacks one byte at least
 pub record TakesFrontOfOne (P : List ℕ → Type 0) (before after : Option (List ℕ)) : Type 0 where
   pub text : List ℕ
   pub is : P text

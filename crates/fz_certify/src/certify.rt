@@ -17,7 +17,7 @@ use std::alloc::Global;
 /// Prints the certificate of a model whose assignment is best, or that none satisfies. Each line is one piece.
 ///
 /// # Errors
-/// `Stop` where the sink failed, or there was no memory; then it took a front of the certificate.
+/// `Stop` where the sink failed, or there was no memory; then it took a prefix of the certificate.
 pub fn print_certificate<S: Sink>(
     alloc: Global,
     sink: &mut S,

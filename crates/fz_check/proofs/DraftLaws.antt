@@ -88,7 +88,7 @@ grown old new n item c keep fits room adds = record {
   adds = adds;
 }
 
--- what the room behind an item says of it
+-- what the room after an item says of it
 abbrev pub Kept : Draft → Draft → Counts → Item → Item → Type 0
 Kept old new n item it = (item_faults (environment_of old.names) it ≡ []) × (over n (additions item) ≡ []) × IsRoom new.room (all_counted n (additions item))
 

@@ -4,7 +4,7 @@ use Rattle.std.specs.Prelude.{Some, None, slice_get}
 use Rattle.fz_language.specs.declared.fault.RuleFault.{RuleFault}
 use Rattle.fz_language.specs.Rules.{at_places}
 
--- at the front of both, or behind an empty front
+-- at the front of both, or after an empty prefix
 pub first_front : {X : Type 0} (xs ys : List X) (x : X) → slice_get xs 0 ≡ Some x → slice_get (xs ++ ys) 0 ≡ Some x
 first_front [] ys x e = cc
 first_front (y ∷ xs) ys x e = e

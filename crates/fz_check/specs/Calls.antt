@@ -17,7 +17,7 @@ use Rattle.fz_check.specs.Parts.{scope}
 abbrev pub IsCall : Environment → ConstraintItem → Result meaning.Constraint found.Fault → Type 0
 IsCall env c made = MatchResult made (λ m. (call_faults env c ≡ []) × (call_constraints (scope env 0) c ≡ m ∷ [])) (IsFirstFault (call_faults env c))
 
--- the same behind other faults, of a row with this signature
+-- the same after other faults, of a row with this signature
 abbrev pub IsSigned : List Fault → Environment → ConstraintItem → signatures.Row → List Asked → Result meaning.Constraint found.Fault → Type 0
 IsSigned others env c row signature made =
     MatchResult made (λ m. (others ++ signature_faults env c row (Some signature) ≡ []) × (m ≡ record { name = row.builtin; arguments = arguments_in env signature c.arguments; whole = asks_whole c.annotations }))

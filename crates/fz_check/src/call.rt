@@ -101,7 +101,7 @@ fn call_of_row<'a>(
     }
 }
 
-/// Of the signatures of a constraint, that of so many arguments.
+/// Of the signatures of a constraint, that of that many arguments.
 fn signature_of(signatures: Signatures, arity: usize) -> Option<&'static [Asked]>
     ensures { option_map (λ s. s.now) result
         ≡ find (λ (asked : List Asked). length asked == arity) (map (λ s. s.now) signatures.now) }

@@ -34,7 +34,7 @@ pub(crate) fn or_else(first: Option<Fault>, second: Option<Fault>) -> Option<Fau
     }
 }
 
-/// The first of faults, or else one that comes behind them.
+/// The first of faults, or else one that comes after them.
 pub(crate) fn or_this(first: Option<Fault>, second: Fault) -> Fault
     ensures { (xs ys : List rules.Fault) → IsFirstOf xs first → IsFirstFault ys second
         → IsFirstFault (xs ++ ys) result }
@@ -45,7 +45,7 @@ pub(crate) fn or_this(first: Option<Fault>, second: Fault) -> Fault
     }
 }
 
-/// The room behind an item, or the first rule that it breaks: that of `fault`, and the limits last.
+/// The room after an item, or the first rule that it breaks: that of `fault`, and the limits last.
 pub(crate) fn room_behind(fault: Option<Fault>, room: Room, item: &Item<'_>) -> Result<Room, Fault>
     ensures { (faults : List rules.Fault) (n : Counts) → IsFirstOf faults fault → IsRoom room n
         → MatchResult result
@@ -59,7 +59,7 @@ pub(crate) fn room_behind(fault: Option<Fault>, room: Room, item: &Item<'_>) -> 
     }
 }
 
-/// The room behind an item that breaks no other rule, or the limit that it goes over.
+/// The room after an item that breaks no other rule, or the limit that it goes over.
 fn room_left(room: Room, item: &Item<'_>) -> Result<Room, Fault>
     ensures { (n : Counts) → IsRoom room n → MatchResult result
         (λ left. (over n (additions (item_of item.now)) ≡ [])

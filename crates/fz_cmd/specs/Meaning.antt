@@ -90,7 +90,7 @@ numbers_of rows =
     (number_at rows WORKERS.0.now WORKERS.2))
     (number_at rows LIMIT.0.now LIMIT.2)
 
--- A certificate is of one best solution of a model that is read, or of none, and nothing else is printed behind it.
+-- A certificate is of one best solution of a model that is read, or of none, and nothing else is printed after it.
 abbrev pub suits_no_certificate : List Row → Numbers → Bool
 suits_no_certificate rows n = is_on ALL.0.now rows || is_some n.limit || is_on DISTINCT.0.now rows || is_on STATS.0.now rows || is_some n.generate
 

@@ -141,7 +141,7 @@ impl Options {
         self.all
     }
 
-    /// The number of `-n`: so many solutions, and all where it is 0.
+    /// The number of `-n`: that many solutions, and all where it is 0.
     pub fn limit(&self) -> Option<u32>
         ensures { result ≡ self.now.limit }
     {
@@ -186,21 +186,21 @@ impl Options {
         self.interleave
     }
 
-    /// Whether `-s` was given: statistics behind all else.
+    /// Whether `-s` was given: statistics after all else.
     pub fn stats(&self) -> bool
         ensures { result ≡ self.now.stats }
     {
         self.stats
     }
 
-    /// Whether `--certificate` was given: a certificate behind a best solution, or behind the line that says that there is none.
+    /// Whether `--certificate` was given: a certificate after a best solution, or after the line that says that there is none.
     pub fn certificate(&self) -> bool
         ensures { result ≡ self.now.certificate }
     {
         self.certificate
     }
 
-    /// The number of `--generate`: no text is read, but a model of so many items generated.
+    /// The number of `--generate`: no text is read, but a model of that many items generated.
     pub fn generate(&self) -> Option<u32>
         ensures generate { result ≡ self.now.generate }
         ensures kept { HasRanges self.now }

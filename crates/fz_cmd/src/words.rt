@@ -26,7 +26,7 @@ pub(crate) struct Numbers {
     pub generate: Option<u32>,
 }
 
-/// The options that the words of a command line give, those behind the name of the program; `None` where they are refused.
+/// The options that the words of a command line give, those after the name of the program; `None` where they are refused.
 ///
 /// # Errors
 /// `AllocError` where there is no memory.

@@ -49,7 +49,7 @@ fn take_turns<R: Wait, K, T: Subject, C: Collect<K>>(
     unreachable!()
 }
 
-/// Takes in what is told, and rests where that is nothing. Workers are asked for what they found where that is due, and behind each
+/// Takes in what is told, and rests where that is nothing. Workers are asked for what they found where that is due, and after each
 /// rest. It says whether more may come.
 fn turn<R: Wait, K, T: Subject, C: Collect<K>>(
     rt: &R,
@@ -87,7 +87,7 @@ fn rest<R: Wait, T: Subject>(rt: &R, outbox: &Outbox<T>, is_idle: bool, has_ende
     true
 }
 
-/// Has the collector take in what was told, and look up behind it. It says whether it takes in more.
+/// Has the collector take in what was told, and look up after it. It says whether it takes in more.
 fn take_all<K, T: Subject, C: Collect<K>>(
     alloc: Global,
     collector: &mut C,

@@ -100,7 +100,7 @@ part_before xs ys s n inside =
 part_behind : (xs ys : List ℕ) (s n : ℕ) → length xs ≡ s → length ys ≡ n → slice_range (xs ++ ys) s (s + n) ≡ ys
 part_behind xs ys s n first size = ap (take (s + n - s)) (drop_at xs ys s first) ∙ take_all (s + n - s) ys (omega (arith, size))
 
--- a number more, whose words stand behind the others
+-- a number more, whose words stand after the others
 pub record IsPushed (old new : Packed) (x : Numbered) (rows : List ℕ) : Type 0 where
   pub numbers : new.numbers.items ≡ old.numbers.items ++ x ∷ []
   pub words : new.words.items ≡ old.words.items ++ rows
@@ -382,7 +382,7 @@ width_all column width place end h s at = let inside = slice_get_within column a
 pub whole_none : (packed : Packed) → packed.numbers.items ≡ [] → IsWhole packed
 whole_none packed none k x at = let below = slice_get_within packed.numbers.items k x at in let size = ap length none in absurd (omega (arith, below, size))
 
--- the end of a number lies behind its place
+-- the end of a number lies after its place
 pub end_further : (column : List Support) (place end : ℕ) (x : Support) → slice_get column place ≡ Some x → IsEnd column place x.number end → place < end
 end_further column place end x at to = elim (cases_lt place end) [ inl before ↦ before | inr past ↦ let above = to.beyond place x past at in absurd (omega (arith, ints, above)) ]
 

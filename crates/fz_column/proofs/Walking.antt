@@ -163,7 +163,7 @@ up_to_none column place value inside = record {
   within = λ k s past under. absurd (omega (arith, past, under));
 }
 
--- up to a place behind it all have its number
+-- up to a place after it all have its number
 pub up_to_more : (column : List Support) (place : ℕ) (value : ℤ) (end new : ℕ) (x : Support) → slice_get column end ≡ Some x → x.number ≤ℤ value → end < new → new ≤ length column
     → ((j : ℕ) (t : Support) → slice_get column j ≡ Some t → end ≤ j → j < new → t.number ≡ x.number) → AreUpTo column place value end → AreUpTo column place value new
 up_to_more column place value end new x at low further inside same h =

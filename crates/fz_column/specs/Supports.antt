@@ -12,7 +12,7 @@ IsIn s column = (k : ℕ) × (slice_get column k ≡ Some s)
 abbrev pub HasNumber : List Support → ℤ → ℕ → Type 0
 HasNumber column n i = (s : Support) × IsIn s column × (s.number ≡ n) × IsOneOf s.rows i
 
--- each of its words is one of so many
+-- each of its words is one of that many
 abbrev pub AreSized : List Support → ℕ → Type 0
 AreSized column size = (s : Support) → IsIn s column → s.rows.word < size
 

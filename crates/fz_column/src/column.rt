@@ -54,7 +54,7 @@ impl Model for Column {
 }
 
 impl Column {
-    /// The column of the supports of so many rows.
+    /// The column of the supports of that many rows.
     ///
     /// # Errors
     /// `AllocError` where there is no memory.

@@ -27,10 +27,10 @@ pub struct Dense {
 /// A table of so few rows has none.
 const FEW: usize = 9;
 
-/// A support may take so many words, or a row one.
+/// A support may take that many words, or a row one.
 const WORDS_A_SUPPORT: usize = 4;
 
-/// The rows of each number of the supports of so many rows; `None` where the numbers are too far apart, or the rows are few for
+/// The rows of each number of the supports of that many rows; `None` where the numbers are too far apart, or the rows are few for
 /// the words.
 ///
 /// # Errors
@@ -62,7 +62,7 @@ pub fn dense_of(
     Ok(Some(Box::new(alloc, Dense { base, grid })?))
 }
 
-/// The first and the last number of the supports of so many rows, unless these are few.
+/// The first and the last number of the supports of that many rows, unless these are few.
 fn ends_of(supports: &[Support], rows: usize) -> Option<(i32, i32)> {
     if rows <= FEW {
         return None;
@@ -72,8 +72,8 @@ fn ends_of(supports: &[Support], rows: usize) -> Option<(i32, i32)> {
     Some((first.number, last.number))
 }
 
-/// How many words a line takes for the numbers from a base to a last one, if these are at most 64, and so many supports are worth
-/// the words of so many lines.
+/// How many words a line takes for the numbers from a base to a last one, if these are at most 64, and that many supports are worth
+/// the words of that many lines.
 fn size_of(base: i32, last: i32, lines: usize, supports: usize) -> Option<usize> {
     let size = place_of(last, base)? as usize + 1;
     let words = size.checked_mul(lines)?;

@@ -24,10 +24,10 @@ pub struct Index {
 /// So few supports of a short table are looked at one after the other.
 const FEW: usize = 10;
 
-/// So many rows has a short table, at most.
+/// That many rows has a short table, at most.
 const SHORT: usize = 63;
 
-/// What the numbers of the supports of so many rows are found by, if these are more than a few.
+/// What the numbers of the supports of that many rows are found by, if these are more than a few.
 ///
 /// # Errors
 /// `AllocError` where there is no memory.

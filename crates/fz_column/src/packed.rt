@@ -21,7 +21,7 @@ pub struct Numbered {
     pub first: usize,
 }
 
-/// The numbers of a column, and for each so many words of rows.
+/// The numbers of a column, and for each that many words of rows.
 #[derive(Drop)]
 pub struct Packed {
     pub numbers: Vec<Numbered>,
@@ -29,7 +29,7 @@ pub struct Packed {
     pub width: usize,
 }
 
-/// A chunk may take so many words, at most.
+/// A chunk may take that many words, at most.
 const WORDS_A_CHUNK: usize = 2;
 
 /// The numbers and rows of supports, where the rows take more than one word and most words have some.
@@ -59,7 +59,7 @@ pub fn packed_of(alloc: Global, supports: &[Support]) -> Result<Option<Packed>, 
     }
 }
 
-/// How many words the rows of supports take; `None` where no set of rows has so many.
+/// How many words the rows of supports take; `None` where no set of rows has that many.
 fn width_of(supports: &[Support]) -> Option<usize>
     ensures sized { IfSome result (λ w. AreSized supports.now w) }
     ensures least { IfSome result (λ w. (size : ℕ) → AreSized supports.now size → w ≤ size) }

@@ -63,7 +63,7 @@ impl Spans {
         self.push(number)
     }
 
-    /// Gives back the room behind the last range.
+    /// Gives back the room after the last range.
     pub fn shrink(&mut self)
         ensures { self.new ≡ self.old }
     {

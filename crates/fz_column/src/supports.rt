@@ -7,7 +7,7 @@ ghost use Rattle.fz_column.specs.Supports.{IsIn, AreInOrder, IsRising, HasNumber
 use fz_bits::Chunk;
 use std::alloc::{AllocError, Global};
 
-/// Room for so many supports is taken at once, at most.
+/// Room for that many supports is taken at once, at most.
 const AT_ONCE: usize = 16;
 
 /// A number and some rows that have it.

@@ -64,7 +64,7 @@ pub fn first_from(supports: &[Support], ends: &[usize], place: usize, value: i32
     far
 }
 
-/// Puts the rows of the supports from a place up to a number into a set, and gives the place behind them.
+/// Puts the rows of the supports from a place up to a number into a set, and gives the place after them.
 pub fn join_to(supports: &[Support], place: usize, high: i32, rows: &mut [u64]) -> usize
     requires order { AreInOrder supports.now }
     requires sized { AreSized supports.now (length rows.old) }
@@ -83,7 +83,7 @@ pub fn join_to(supports: &[Support], place: usize, high: i32, rows: &mut [u64]) 
     supports.len()
 }
 
-/// Adds the numbers of the supports from a place up to a number that have some rows, and gives the place behind them.
+/// Adds the numbers of the supports from a place up to a number that have some rows, and gives the place after them.
 ///
 /// # Errors
 /// `AllocError` where there is no memory.

@@ -147,7 +147,7 @@ taken_adds old i w c taken b law at holds before t g =
     let parts : b.parts ≡ parts_after old.book.parts t.place taken = ap (λ (x : Book). x.parts) t.is in
     ap (λ (ps : List Part). sum_by (claimed_adds g) ps + g taken.before) parts ∙ claimed_after g old.book.parts t.place taken t.open_at (taken_claimed old i w c taken b law at holds before t)
 
--- what is held behind an account counts as what is left of it
+-- what is held after an account counts as what is left of it
 behind_at : (g : Frontier → ℕ) (c : Account) (b : Bool) → path_adds g (if b then Some (rest_begun c) else None) ≡ cond b (g c.after) 0
 behind_at g c true = refl
 behind_at g c false = refl

@@ -23,7 +23,7 @@ pub record Core : Type 0 where
 abbrev pub idle : Instance → Mode → ℕ → ℕ → Worker
 idle m mode commit adaptive = record { path = idle_path m mode commit adaptive; hand = None }
 
--- so many such workers, and a book of the whole tree
+-- that many such workers, and a book of the whole tree
 abbrev pub starting : Instance → Mode → ℕ → ℕ → ℕ → Core
 starting m mode n commit adaptive = record { workers = replicate n (idle m mode commit adaptive); book = opening m mode }
 

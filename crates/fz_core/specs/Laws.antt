@@ -15,7 +15,7 @@ use Rattle.fz_core.specs.declared.event.Event.{Event}
 use Rattle.fz_core.specs.Cores.{Worker, Core, CoreLaw, starting, hand_adds}
 use Rattle.fz_core.specs.Runs.{Runs}
 
--- what becomes of so many workers on a model by some list of calls
+-- what becomes of that many workers on a model by some list of calls
 pub record Reaches (s : Core) : Type 0 where
   pub model : Instance
   pub mode : Mode

@@ -40,7 +40,7 @@ below_product (pos m) (pos n) (pos p) (pos q) from to from_x to_y =
     let h = products_below m n p q (omega (arith, ints, to)) (omega (arith, ints, to_y)) in
     rw (pos-*ℤ-pos m p, pos-*ℤ-pos n q) (omega (arith, ints, h))
 
--- ---- what tasks use at so many times from one on
+-- ---- what tasks use at that many times from one on
 
 abbrev used : ℕ → ℤ → Task → ℤ
 used zero since task = pos 0

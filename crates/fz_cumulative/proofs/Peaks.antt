@@ -53,7 +53,7 @@ peak_of (task ∷ tasks) time = elim (cases_part task time) [
   ]
 ]
 
--- a task that is in its part at a time is so at an earlier one behind its latest start
+-- a task that is in its part at a time is so at an earlier one after its latest start
 still_in : (task : OpenTask) (time earlier : ℤ) → earlier ≤ℤ time → task.latest ≤ℤ earlier → IsInPart task time → IsInPart task earlier
 still_in task time earlier before begun h = record { begun = begun; lasting = let l = h.lasting in omega (arith, ints, l, before) }
 

@@ -104,7 +104,7 @@ fn use_in(window: Window, task: OpenTask) -> i128
     use_of(task.usage, least_overlap(window, task))
 }
 
-/// What so many tasks use, and one more.
+/// What that many tasks use, and one more.
 fn add(total: i128, more: i128, count: usize) -> i128
     requires few { count ≤ 2 ^ 20 }
     requires total { unsigned_abs total ≤ count * 2 ^ 66 }

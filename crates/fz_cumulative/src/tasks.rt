@@ -91,7 +91,7 @@ pub fn part_at(task: OpenTask, time: i32) -> i32
     }
 }
 
-/// What so many tasks use, and one more.
+/// What that many tasks use, and one more.
 fn add(load: i128, part: i32, count: usize) -> i128
     requires { unsigned_abs load ≤ count * 2 ^ 32 }
     ensures sum { result ≡ load +ℤ part }

@@ -89,7 +89,7 @@ behind_before jobs index me at = λ start h.
     (all_each (λ (job : Job). IsStarted start job × IsOrApart start me job) (λ (job : Job). takes (Before me) job ≡ true → HasEnded start (start me) job) jobs
     (λ job known taken. before_me start me job mine known.0 known.1 taken) (all_beside start jobs index me h at))
 
--- the least end of what it is behind, from a time on that is no later than its start
+-- the least end of what it is after, from a time on that is no later than its start
 pub earliest_behind : (jobs : List Job) (index : ℕ) (me : Job) (choice : Choice) (floor end : ℤ) → IsEarliest jobs floor me → IsBehind jobs choice me → IsSoonestEnd jobs choice floor end → IsEarliest jobs end me
 earliest_behind jobs index me choice floor end low behind soonest = λ start h. soonest start (start me) h (low start h) (behind start h)
 

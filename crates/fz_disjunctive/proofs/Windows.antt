@@ -27,7 +27,7 @@ part_sound s d a b sound =
     (λ behind. rw (part_behind s d a b behind) (omega (arith, ints)))
     (λ ends. rw (part_in s d a b begins ends) sound))
 
--- a job that is apart from one within the window lies before or behind that one
+-- a job that is apart from one within the window lies before or after that one
 part_split : (s d t e a b : ℤ) → pos 0 <ℤ e → ((s +ℤ d) ≤ℤ t) ⊎ ((t +ℤ e) ≤ℤ s)
     → part t e a b ≤ℤ (part t e a s +ℤ part t e (s +ℤ d) b)
 part_split s d t e a b lasts apart =

@@ -189,7 +189,7 @@ fn last_start(time: i64, duration: i32) -> i128
     0 - i128::from(time) - i128::from(duration)
 }
 
-/// Keeps a start to where the task begins at a time or behind it, if the time is one that can be compared with starts.
+/// Keeps a start to where the task begins at a time or after it, if the time is one that can be compared with starts.
 fn keep_start(
     store: &mut Store,
     start: Term,

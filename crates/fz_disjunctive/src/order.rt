@@ -6,7 +6,7 @@ ghost use Rattle.fz_disjunctive.specs.Schedules.{IsSoonestEnd, IsBehind, IsEarli
 use crate::job::{Choice, Job};
 use std::alloc::{AllocError, Global};
 
-/// What so many jobs need, and one more.
+/// What that many jobs need, and one more.
 fn add(total: i128, duration: i32, count: usize) -> i128
     requires { unsigned_abs total ≤ count * 2 ^ 32 }
     ensures sum { result ≡ total +ℤ duration }

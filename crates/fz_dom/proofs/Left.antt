@@ -29,7 +29,7 @@ head_none l h b n bits z e = grind (arith, nat_tests)
 pub left_none : (h : Head) → h.bits ≡ 0 → h.size ≡ 0 → [] ≡ head_set h
 left_none h z n = head_none h.low h.high h.base h.size h.bits z n
 
--- the first run, and what is left behind it
+-- the first run, and what is left after it
 pub left_run : (base a b : ℤ) (word rest first last : ℕ) (rs : List (ℤ × ℤ)) → first ≤ last → last < 64 → ((i : ℕ) → first ≤ i → i ≤ last → bit_at word i ≡ 1)
     → ((i : ℕ) → i < first → bit_at word i ≡ 0) → bit_at word (last + 1) ≡ 0
     → ((i : ℕ) → i < 64 → (bit_at rest i ≡ 1) ↔ ((bit_at word i ≡ 1) × (last < i))) → a ≡ (base +ℤ pos first) → b ≡ (base +ℤ pos last)

@@ -291,7 +291,7 @@ ends_alike (a, b) (c, d) es ds e le p (inl f) = by_lt_z c a
     (λ lt. inr (let g = ap set_size f in omega (arith, ints)))
     (λ ge. let g : a ≡ c = omega (arith, ints) in inl cc)
 
--- what is left of a range behind a number
+-- what is left of a range after a number
 behind : (b : ℤ) (q : ℤ × ℤ) (ds : List (ℤ × ℤ)) → AreRanges (q ∷ ds) → b <ℤ q.1 → q.0 ≤ℤ b
     → (ts : List (ℤ × ℤ)) × AreRanges ts × ((x : ℤ) → (b +ℤ pos 1) <ℤ x → IsInSet (q ∷ ds) x → IsInSet ts x) × (pos (set_size ts) ≤ℤ ((q.1 -ℤ b) -ℤ pos 1 +ℤ pos (set_size ds)))
 behind b q ds h lt le = by_lt_z (b +ℤ pos 1) q.1

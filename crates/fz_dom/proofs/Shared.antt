@@ -10,7 +10,7 @@ use Rattle.fz_dom.proofs.Ranges.{AreRanges-head, AreRanges-tail, above_gap}
 use Rattle.fz_dom.proofs.Lists.{prepend, part_within}
 use Rattle.fz_dom.proofs.Merging.{interval_ranges}
 
--- ---- lists one behind the other
+-- ---- lists one after the other
 
 append_in : (xs ys : List (ℤ × ℤ)) (x : ℤ) → IsInSet (xs ++ ys) x → IsInSet xs x ⊎ IsInSet ys x
 append_in [] ys x i = inr i
@@ -95,7 +95,7 @@ sharing_start c ms ts h w k = record {
   from = λ x i. inr i;
 }
 
--- exactly what both ranges share comes behind what was gathered
+-- exactly what both ranges share comes after what was gathered
 record IsGathered (c : ℤ) (a b : ℤ × ℤ) (kept more : List (ℤ × ℤ)) : Type 0 where
   ranges : AreRanges more
   to : (x : ℤ) → IsInSet more x → IsInSet kept x ⊎ (IsInRange a x × IsInRange b (x -ℤ c))

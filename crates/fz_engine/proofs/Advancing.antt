@@ -1,4 +1,4 @@
--- One step behind the waking of those that wait for what a store lists.
+-- One step after the waking of those that wait for what a store lists.
 use Rattle.std.proofs.Common.{◌≡◌, ◌∙◌, ℕ, ◌+◌, ◌*◌, ◌<◌, ◌≤◌, List, ap, subst, arith, length}
 use Rattle.std.specs.Prelude.{ℤ}
 use Rattle.fz_spec.specs.Instance.{Instance}

@@ -33,7 +33,7 @@ pub still_listed : (w u : Waking) (i : ℕ) (ws : List Wait) → Extends w u →
 still_listed w u i [] extends listed = tt
 still_listed w u i (x ∷ ws) extends listed = (extends.listed x.event x.variable i listed.0, still_listed w u i ws extends listed.1)
 
--- lists for so many variables have one for each that is waited for
+-- lists for that many variables have one for each that is waited for
 pub has_variable : (w : Waking) (n : ℕ) (waits : List code.Wait) (i : ℕ) (x : code.Wait) → HaveSize w n → AreBelow (waits_in waits) n → i < length waits → HasVariable w (slice_index_or waits i x).variable
 has_variable w n [] i x size below within = absurd (omega (arith, within))
 has_variable w n (y ∷ waits) zero x size below within =

@@ -237,7 +237,7 @@ few_so_far vs ps cs i said within few =
     let taken = length-take-le i cs within in
     omega (arith, size, some, taken, within, few)
 
--- and for one more behind what was maybe said
+-- and for one more after what was maybe said
 pub few_after : (ps qs : List AnyPropagator) (saying : Saying) → length ps + 2 < 2 ^ 32 → IsSaidPlain saying (sayings_of ps) (sayings_of qs) → length qs + 1 < 2 ^ 32
 few_after ps qs saying few (inl same) =
     let size = length-map ps said_of in

@@ -41,7 +41,7 @@ queued_more costs l m o n cost below is ok other =
       ];
     }
 
--- what stands at a place, whatever would stand behind the end
+-- what stands at a place, whatever would stand after the end
 pub same_at : (costs : List Cost) (i : ℕ) (d e : Cost) → i < length costs → slice_index_or costs i d ≡ slice_index_or costs i e
 same_at [] i d e within = absurd (omega (arith, within))
 same_at (c ∷ costs) zero d e within = refl

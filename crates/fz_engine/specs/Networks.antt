@@ -46,7 +46,7 @@ pub record AreSaidOf (vs : List Variable) (cs : List Constraint) (sayings : List
   pub fit : AllByRecursion (IsFit vs) sayings
   pub few : length sayings ≤ length cs + length cs + length cs
 
--- over so many variables, each is listed at all changes that it waits for, and the class of its cost is known
+-- over that many variables, each is listed at all changes that it waits for, and the class of its cost is known
 pub record IsListing (sayings : List Saying) (w : Waking) (n : ℕ) : Type 0 where
   pub index : IsIndexOf sayings w
   pub costs : w.costs ≡ map cost_of sayings
@@ -63,7 +63,7 @@ pub record IsNetwork (n : Networked) : Type 0 where
   pub terms : AreOf n.sayings (declared_sets n.model.variables)
   pub few : length n.sayings ≤ 2 ^ 32
 
--- all of so many are queued, each with those of its class
+-- all of that many are queued, each with those of its class
 pub record IsFull (costs : List Cost) (l : Lineup) : Type 0 where
   pub states : l.states ≡ replicate (length costs) 1
   pub classes : (class : ℕ) → AllByRecursion (λ (i : ℕ). class_of (cost_at costs i) ≡ class) (queue_at l class)

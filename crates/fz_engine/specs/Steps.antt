@@ -29,7 +29,7 @@ IsProgress Going m s states t after = IsDrained t × (work t after < work s stat
 abbrev pub most_work : Stored → List ℕ → ℕ
 most_work s states = room s.doms * (length states + 1) + length states
 
--- a step behind the waking of those that wait for what the store lists, from there
+-- a step after the waking of those that wait for what the store lists, from there
 abbrev pub IsAdvance : Progress → Instance → Stored → List ℕ → Stored → List ℕ → Type 0
 IsAdvance Rested m s states t after = (t.doms ≡ s.doms) × AllRest m t.doms
 IsAdvance Failed m s states t after = AreNeverTrue m.constraints s.doms

@@ -28,7 +28,7 @@ declared [] v kind e = cc
 declared (u ∷ vs) zero kind e = omega arith
 declared (u ∷ vs) (suc v) kind e = omega (arith, declared vs v kind e)
 
--- at most so many, each of the model
+-- at most that many, each of the model
 abbrev Variables : List Variable → ℕ → List ℕ → Type 0
 Variables vs n numbers = (length numbers ≤ n) × AllByRecursion (λ v. v < length vs) numbers
 
@@ -110,7 +110,7 @@ variables_fit vs env (Call name arguments) numbers s few e = cc
 
 -- ---- parts
 
--- at most so many, each over variables of the model
+-- at most that many, each over variables of the model
 abbrev Parts : List Variable → ℕ → List SearchPart → Type 0
 Parts vs n parts = (length parts ≤ n) × AllByRecursion (IsSearchPart vs) parts
 

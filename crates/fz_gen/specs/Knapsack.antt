@@ -37,7 +37,7 @@ choices_text n = flat_map (λ i. codes "var 0..1: x" ++ decimal i ++ codes ";\n"
 abbrev pub goal_text : ℕ → List ℕ
 goal_text n = codes "var 0.." ++ decimal (total Value n) ++ codes ": z :: output_var;\n"
 
--- the weights or the values of all items, and behind what stands between them their names
+-- the weights or the values of all items, and after what stands between them their names
 abbrev pub lists_text : Measure → List ℕ → ℕ → List ℕ
 lists_text measure between n = list_text (Number measure) n ++ (between ++ list_text Name n)
 

@@ -1,4 +1,4 @@
-//! A model that is generated: a knapsack of so many items.
+//! A model that is generated: a knapsack of that many items.
 #![tactic(auto)]
 
 pub mod text;

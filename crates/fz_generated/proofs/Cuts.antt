@@ -1,4 +1,4 @@
--- Where a lexeme can't go on: a byte behind its own with which no longer lexeme goes on.
+-- Where a lexeme can't go on: a byte after its own with which no longer lexeme goes on.
 use Rattle.std.proofs.Common.{◌≡◌, ℕ, ℤ, ◌<◌, ◌⊎◌, inl, inr, ◌==◌, ◌||◌, Bool, true, false, cond, List, [], ◌∷◌, ◌++◌, codes, if◌then◌else◌, refl, sym, ap, ◌∙◌, subst, arith, eqb-true}
 use Rattle.std.specs.List.{list_all}
 use Rattle.std.specs.Char.{is_ascii_digit, is_ascii_hexdigit, is_ascii_alphanumeric}
@@ -21,7 +21,7 @@ abbrev BeginsDigit : List ℕ → Type 0
 BeginsDigit [] = ⊥
 BeginsDigit (b ∷ bs) = is_ascii_digit b ≡ true
 
--- and a digit stands behind each point
+-- and a digit stands after each point
 abbrev Goes : List ℕ → Type 0
 Goes [] = Unit {0}
 Goes (b ∷ bs) = ((is_plain b ≡ true) ⊎ ((b ≡ 46) × BeginsDigit bs)) × Goes bs
@@ -172,7 +172,7 @@ class_is (Punct s) b bs h = of_sign s b bs h
 
 -- ---- where no lexeme goes on
 
--- behind these bytes none goes on with the first of those
+-- after these bytes none goes on with the first of those
 abbrev pub Stops : List ℕ → List ℕ → Type 0
 Stops bs rest = (x : Lexeme) (c : ℕ) (more behind : List ℕ) → rest ≡ c ∷ (more ++ behind) → IsSpelt x (bs ++ c ∷ more) → ⊥
 
@@ -233,7 +233,7 @@ number_stops_at_points b bs cs e x d more behind r h =
       | inr p ↦ no_two_points more behind cs (tails 46 d (46 ∷ cs) (more ++ behind) r) p.1
     ]
 
--- the sign alone, where a colon has a space behind it
+-- the sign alone, where a colon has a space after it
 abbrev pub stands_alone : Sign → ℕ → Bool
 stands_alone Semicolon c = true
 stands_alone Colon c = c == 32
@@ -255,7 +255,7 @@ IsNoSign bs = (s : Sign) → bs ≡ sign_bytes s → ⊥
 no_sign : (bs : List ℕ) → sign_of bs ≡ DoubleDot → (bs ≡ codes ".." → ⊥) → IsNoSign bs
 no_sign bs e n s h = n (h ∙ ap sign_bytes (sym (sign_back s) ∙ ap sign_of (sym h) ∙ e))
 
--- nor has those of two points with more behind them
+-- nor has those of two points with more after them
 no_points : (b : ℕ) (bs : List ℕ) → (b ≡ 46 → ⊥) → b ∷ bs ≡ codes ".." → ⊥
 no_points b bs n e = n (heads b 46 bs (46 ∷ []) e)
 

@@ -20,7 +20,7 @@ use Rattle.fz_generated.proofs.Trees.{basic, further_basics, basics}
 
 -- ---- names
 
--- what the names of so many choices stand for
+-- what the names of that many choices stand for
 abbrev pub env : ℕ → Environment
 env zero = nothing_declared
 env (suc i) = with_entry (name_of (suc i)) (entries.Variable kinds.Int i) (env i)
@@ -35,7 +35,7 @@ other_name i j a b n = by_no (bytes_eq (name_of i) (name_of j)) (bytes_eq-Decide
 same_name : (name : List ℕ) → bytes_eq name name ≡ true
 same_name name = (bytes_eq-Decides name name).1 refl
 
--- the entry of a name behind another one
+-- the entry of a name after another one
 pub passes : (declared name : List ℕ) (entry : entries.Entry) (others : Environment) → bytes_eq declared name ≡ false → with_entry declared entry others name ≡ others name
 passes declared name entry others e = ap (λ (b : Bool). cond b (Some entry) (others name)) e
 
@@ -59,7 +59,7 @@ pub no_goal : (j : ℕ) → env j goal_name ≡ None
 no_goal zero = refl
 no_goal (suc j) = no_goal j
 
--- and behind the goal's variable
+-- and after the goal's variable
 abbrev pub whole_env : ℕ → Environment
 whole_env n = with_entry goal_name (entries.Variable kinds.Int n) (env n)
 

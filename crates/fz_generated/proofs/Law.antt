@@ -24,7 +24,7 @@ use Rattle.fz_generated.proofs.Spelt.{spells}
 use Rattle.fz_generated.proofs.Kept.{env, whole_env, AllFit, FitsIn, basics_are, unknown, known, no_goal}
 use Rattle.fz_generated.proofs.Faultless.{choice_keeps, goal_keeps, counts, sum_counted, at_most_keeps, equal_keeps, right}
 
--- ---- behind so many choices
+-- ---- after that many choices
 
 abbrev scope : ℕ → Scope
 scope j = record { entries = env j; variables = j }

@@ -138,7 +138,7 @@ stops_by (Punct s) bs rest g e = subst (λ (xs : List ℕ). Stops xs rest) (sym 
 part_from : (pre ys : List ℕ) (end : ℕ) → slice_range (pre ++ ys) (length pre) end ≡ take (end - length pre) ys
 part_from pre ys end = ap (take (end - length pre)) (drop-append_seam pre ys)
 
--- the bytes behind, of which there are so many
+-- the bytes after them, of which there are that many
 record Behind (rest : List ℕ) (k : ℕ) : Type 0 where
   first : ℕ
   more : List ℕ

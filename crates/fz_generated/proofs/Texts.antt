@@ -81,7 +81,7 @@ name_of i = codes "x" ++ decimal i
 abbrev pub choice : ℕ → List Piece → List Piece
 choice i ps = word keyword.Var ∷ space ∷ entry nought ∷ sign DoubleDot ∷ entry one ∷ sign Colon ∷ space ∷ identifier (name_of i) ∷ sign Semicolon ∷ line ∷ ps
 
--- so many of them, from a number on
+-- that many of them, from a number on
 abbrev pub choices : ℕ → ℕ → List Piece → List Piece
 choices i zero ps = ps
 choices i (suc k) ps = choice i (choices (i + 1) k ps)

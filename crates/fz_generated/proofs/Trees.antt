@@ -10,7 +10,7 @@ abbrev pub basic : ℕ → Entry → Basic
 basic at (Written value digits) = Numeral (Whole (record { value = value; at = at }))
 basic at (Known name) = Named (record { bytes = name; at = at })
 
--- the elements of a list from the second on, and the place of the bracket behind them
+-- the elements of a list from the second on, and the place of the bracket after them
 abbrev pub further_basics : ℕ → List Entry → List Basic
 further_basics at [] = []
 further_basics at (e ∷ es) = basic (at + 1) e ∷ further_basics (at + 1 + length (bytes_in e)) es
@@ -35,7 +35,7 @@ list at es = Listed (record { at = at; elements = basics at es })
 abbrev pub up_to : ℕ → ℕ → ℕ → SetLiteral
 up_to most a b = Range (Whole (record { value = pos 0; at = a })) (Whole (record { value = pos most; at = b }))
 
--- `var 0..1: x1;` at a place, and the place behind it
+-- `var 0..1: x1;` at a place, and the place after it
 abbrev pub choice_at : ℕ → ℕ
 choice_at at = at + 3 + 1 + 1 + 2 + 1 + 1 + 1
 
@@ -50,7 +50,7 @@ choice_item at i = Variable (record {
 abbrev pub choice_end : ℕ → ℕ → ℕ
 choice_end at i = choice_at at + length (name_of i) + 1 + 1
 
--- so many of them, from a number on, before other items
+-- that many of them, from a number on, before other items
 abbrev pub choice_items : ℕ → ℕ → ℕ → List Item → List Item
 choice_items at i zero more = more
 choice_items at i (suc k) more = choice_item at i ∷ choice_items (choice_end at i) (i + 1) k more

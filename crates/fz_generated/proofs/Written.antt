@@ -31,7 +31,7 @@ same_texts : (f : ℕ → Entry) (xs : List ℕ) → map bytes_in (map f xs) ≡
 same_texts f [] = refl
 same_texts f (x ∷ xs) = ap (λ (ts : List (List ℕ)). bytes_in (f x) ∷ ts) (same_texts f xs)
 
--- one more text behind some
+-- one more text after some
 one_more : (t : List ℕ) (ts : List (List ℕ)) (u : List ℕ) → separated ((t ∷ ts) ++ u ∷ []) ≡ separated (t ∷ ts) ++ (44 ∷ u)
 one_more t ts u =
     ap (λ (xs : List ℕ). t ++ xs) (flat_map-append with_comma ts (u ∷ []) ∙ ap (λ (xs : List ℕ). flat_map with_comma ts ++ (44 ∷ xs)) (append-nil u))

@@ -7,7 +7,7 @@ use Rattle.fz_language.specs.Reads.{Reads, Accepted}
 use Rattle.fz_gen.specs.Knapsack.{knapsack}
 use Rattle.fz_gen.specs.declared.text.TheConstants.{ITEMS_LEAST, ITEMS_MOST}
 
--- a text is read as a model with so many variables before its last one, which is to be as great as can be
+-- a text is read as a model with that many variables before its last one, which is to be as great as can be
 pub record IsMaximized (text : List ℕ) (before : ℕ) : Type 0 where
   pub model : Instance
   pub accepted : Reads text (Accepted model)

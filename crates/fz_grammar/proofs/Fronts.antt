@@ -6,12 +6,12 @@ use Rattle.fz_grammar.specs.Tables.{Tables, followed, have_examples, last, are_l
 use Rattle.fz_grammar.proofs.Sets.{and_left, and_right}
 use Rattle.fz_grammar.proofs.Laws.{body_examples, chosen_among, out, complete, pinned, none_goes_on}
 
--- the same kind comes behind the same tokens
+-- the same kind comes after the same tokens
 head_behind : (G : Grammar) (ts new others : List G.Token) → head G others ≡ head G new → head G (ts ++ others) ≡ head G (ts ++ new)
 head_behind G [] new others e = e
 head_behind G (t ∷ ts) new others e = refl
 
--- what was read, and that it's read so whatever comes behind a token of the same kind
+-- what was read, and that it's read so whatever comes after a token of the same kind
 pub record IsRead (G : Grammar) (ss : List (Symbol G.Name)) (old new : List G.Token) (v : Trees G ss) : Type 0 where
   pub between : List G.Token
   pub are : old ≡ between ++ new
@@ -192,7 +192,7 @@ module _ (G : Grammar) (F : Tables G) (fine : (n : G.Name) → is_fine G F n ≡
       let i = is_stopped IsOther 0 (Rule start ∷ []) ts new s refl in
       (i.between, record { are = i.are; front = stuck_front start ts new i; breaks = no_tree start f ts new i })
 
-  -- and where a tree is read, and a token comes behind it
+  -- and where a tree is read, and a token comes after it
   pub breaks_behind : (start : G.Name) → followed G F (Rule start ∷ []) (0 ∷ []) ≡ true → (ts : List G.Token) (t : G.Token) (new : List G.Token) (p : G.Tree start) → Reads G (Rule start ∷ []) ts (t ∷ new) (p, tt) → (before : List G.Token) × BreaksBehind G start ts before (t ∷ new)
   breaks_behind start f ts t new p s =
       let i = is_read G (Rule start ∷ []) ts (t ∷ new) (p, tt) s in (

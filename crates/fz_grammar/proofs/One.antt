@@ -28,7 +28,7 @@ cut {T} (t ∷ a) b (u ∷ c) d e =
     longer q (inr (inl h)) = inr (inl (record { next = h.next; rest = h.rest; is = λ i. sym q i ∷ h.is i; behind = h.behind }))
     longer q (inr (inr h)) = inr (inr (record { next = h.next; rest = h.rest; is = λ i. q i ∷ h.is i; behind = h.behind }))
 
--- a front of a front is one
+-- a prefix of a front is one
 shorter_front : (G : Grammar) (start : G.Name) (a b : List G.Token) → IsFront G start (a ++ b) → IsFront G start a
 shorter_front G start a b h = record { more = b ++ h.more; tree = h.tree; spelt = subst (λ (us : List G.Token). IsSpelt G start us h.tree) (append_assoc a b h.more) h.spelt }
 

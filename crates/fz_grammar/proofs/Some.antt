@@ -83,7 +83,7 @@ module _ (G : Grammar) (L : Lefts G) (limit : ℕ) (finite : (n : G.Name) → ar
   abbrev Below : ℕ → Type 0
   Below size = (us : List G.Token) → length us < size → (l : ℕ) → l ≤ limit → (ss : List (Symbol G.Name)) → no_end G ss ≡ true → Outcome G L limit l ss us
 
-  -- so many tokens, and rules of which something holds
+  -- that many tokens, and rules of which something holds
   abbrev RuleRead : ℕ → (G.Name → Type 0) → Type 0
   RuleRead size may = (n : G.Name) → may n → (us : List G.Token) → length us ≤ size → (l : ℕ) → l ≤ limit → Outcome G L limit l (Rule n ∷ []) us
 

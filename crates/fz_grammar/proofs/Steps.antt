@@ -1,4 +1,4 @@
--- Steps of reading, one behind another.
+-- Steps of reading, one after another.
 use Rattle.std.proofs.Common.{ℕ, List, [], ◌∷◌, ◌++◌}
 use Rattle.fz_grammar.specs.Grammar.{Symbol, Leaf, Rule, Grammar, Trees}
 use Rattle.fz_grammar.specs.Levels.{levels}

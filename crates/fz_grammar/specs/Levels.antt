@@ -1,9 +1,9 @@
--- The level behind the symbols of a body.
+-- The level after the symbols of a body.
 use Rattle.std.specs.Prelude.{◌≡◌, ℕ, List, [], ◌∷◌}
 use Rattle.fz_grammar.specs.Grammar.{Symbol, Leaf, Rule, Choice, Only, When, Grammar}
 use Rattle.fz_grammar.specs.Reading.{level}
 
--- the level behind symbols
+-- the level after symbols
 abbrev pub levels : (G : Grammar) → List (Symbol G.Name) → ℕ → ℕ
 levels G [] l = l
 levels G (Leaf k ∷ ss) l = levels G ss (level G k l)

@@ -27,7 +27,7 @@ abbrev pub down : ℕ → ℕ
 down zero = zero
 down (suc l) = l
 
--- the level of brackets behind a token of this kind
+-- the level of brackets after a token of this kind
 abbrev pub level : (G : Grammar) → ℕ → ℕ → ℕ
 level G k l = if G.opens k then suc l else if G.closes k then down l else l
 

@@ -11,7 +11,7 @@ abbrev pub apart : List ℕ → List ℕ → Bool
 apart [] ys = true
 apart (x ∷ xs) ys = not (has ys x) && apart xs ys
 
--- for each rule the kinds that may come where it is awaited, and behind it; and tokens to complete a text with
+-- for each rule the kinds that may come where it is awaited, and after it; and tokens to complete a text with
 pub record Tables (G : Grammar) : Type 0 where
   pub begins : G.Name → List ℕ
   pub follow : G.Name → List ℕ

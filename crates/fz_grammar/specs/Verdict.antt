@@ -3,7 +3,7 @@ use Rattle.std.specs.Prelude.{◌≡◌, ℕ, List, [], ◌∷◌, ◌++◌, tru
 use Rattle.fz_grammar.specs.Grammar.{Grammar, IsSpelt, IsFront, BreaksBehind}
 use Rattle.fz_grammar.specs.Reading.{level, allowed}
 
--- the level of brackets behind tokens
+-- the level of brackets after tokens
 abbrev pub depth : (G : Grammar) → ℕ → List G.Token → ℕ
 depth G l [] = l
 depth G l (t ∷ ts) = depth G (level G (G.kind t) l) ts

@@ -18,7 +18,7 @@ pub struct Grid {
 }
 
 impl Grid {
-    /// So many lines with words for so many numbers, which no row has.
+    /// That many lines with words for that many numbers, which no row has.
     ///
     /// # Errors
     /// `AllocError` where there is no memory.

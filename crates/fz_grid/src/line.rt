@@ -22,7 +22,7 @@ impl Model for Line {
 }
 
 impl Line {
-    /// Words for so many numbers, which no row has.
+    /// Words for that many numbers, which no row has.
     ///
     /// # Errors
     /// `AllocError` where there is no memory.

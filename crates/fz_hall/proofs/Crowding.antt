@@ -37,7 +37,7 @@ pub bit_le : (b c : Bool) → (b ≡ true → c ≡ true) → bit b ≤ bit c
 bit_le true c h = rw (h refl) (omega arith)
 bit_le false c h = omega arith
 
--- ---- at most so many
+-- ---- at most that many
 
 unlike : (n v : ℤ) → n ≢ v → int_eq n v ≡ false
 unlike n v apart = not_true (int_eq n v) (λ e. apart ((Decides-int_eq n v).0 e))

@@ -21,7 +21,7 @@ use Rattle.fz_hall.proofs.Confining.{value_from, value_to, confined_is, still_co
 
 -- ---- one term
 
--- with its least number in the interval, and its greatest behind it
+-- with its least number in the interval, and its greatest after it
 pub stands_behind : (ds : List (List (ℤ × ℤ))) (a : List ℤ) (low high : ℤ) (t : Term) → IsTermOf (length ds) t → AreDomains ds → low ≤ℤ least (term_set ds t) → high <ℤ greatest (term_set ds t)
     → Within ds a → IsKeptOut ds t low high a → (high +ℤ pos 1) ≤ℤ term_value a t
 stands_behind ds a low high t is domains since behind within out =

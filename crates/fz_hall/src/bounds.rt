@@ -143,7 +143,7 @@ impl Sweep {
     }
 }
 
-/// The least numbers of terms and those behind the greatest ones, by rising numbers, each once, with one below and one above all.
+/// The least numbers of terms and those after the greatest ones, by rising numbers, each once, with one below and one above all.
 fn bounds_of(alloc: Global, ends: &[Interval]) -> Result<Vec<i64>, AllocError> {
     let mut bounds = Vec::new(alloc);
     bounds.push(i64::MIN / 4)?;

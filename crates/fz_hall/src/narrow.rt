@@ -134,7 +134,7 @@ fn keep_others(store: &mut Store, terms: &[Term], interval: Interval) -> Result<
     }
 }
 
-/// The number behind a number.
+/// The number after a number.
 fn next(number: i32) -> i32
     requires { number <ℤ pos 2147483647 }
     ensures { result ≡ number +ℤ pos 1 }

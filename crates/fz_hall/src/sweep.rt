@@ -29,7 +29,7 @@ pub fn may_fill(store: &Store, terms: &[Term], span: Span) -> bool
     }
 }
 
-/// How many terms that aren't fixed have so many free numbers between their ends, of each such number, where all lies within 64.
+/// How many terms that aren't fixed have that many free numbers between their ends, of each such number, where all lies within 64.
 fn count_widths(store: &Store, terms: &[Term], span: Span) -> [u8; 65]
     requires { AllByRecursion (IsTermOf (length store.now.doms)) terms.now }
 {

@@ -24,7 +24,7 @@ empty_of_length : (xs : List ℕ) → length xs ≡ 0 → xs ≡ []
 empty_of_length [] h = refl
 empty_of_length (x ∷ xs) h = absurd (omega arith)
 
--- the end of what was left was reached behind these bytes
+-- the end of what was left was reached after these bytes
 pub read_end : (limit : ℕ) (left after : Option (List ℕ)) (got buffer : List ℕ) → length got ≤ limit
     → IfSome left (λ b. b ≡ got ++ drop (length got) b) → Reads 0 (without left (length got)) after buffer → AllRead limit got left after
 read_end limit None after got buffer small front r = record { within = small; all = tt; none = tt; untold = r }

@@ -1,4 +1,4 @@
--- What a sink with a buffer has taken: what the other sink took, and behind it what is kept.
+-- What a sink with a buffer has taken: what the other sink took, and after it what is kept.
 use Rattle.std.specs.Prelude.{ℕ, ◌+◌, Bool, Option, List}
 use Rattle.fz_io.specs.Outside.{with_more}
 use Rattle.fz_io.specs.declared.buffered.BufferedSink.{BufferedSink}

@@ -22,7 +22,7 @@ abbrev pub Reads : ℕ → Option (List ℕ) → Option (List ℕ) → List ℕ 
 Reads n None after buffer = after ≡ None
 Reads n (Some left) after buffer = Moves n left buffer after
 
--- the bytes taken, with these behind them
+-- the bytes taken, with these after them
 abbrev pub with_more : Option (List ℕ) → List ℕ → Option (List ℕ)
 with_more taken more = option_map (λ t. t ++ more) taken
 
@@ -48,7 +48,7 @@ pub with_more-none : (taken : Option (List ℕ)) → with_more taken [] ≡ take
 with_more-none None = refl
 with_more-none (Some t) = ap Some (append-nil t)
 
--- what is flushed is within what was taken, also with bytes behind it
+-- what is flushed is within what was taken, also with bytes after it
 pub flushed_before : (taken : Option (List ℕ)) (n : ℕ) (more : List ℕ) → FlushedWithin taken n → FlushedWithin (with_more taken more) n
 flushed_before None n more h = tt
 flushed_before (Some t) n more h = omega (arith, length-append t more)

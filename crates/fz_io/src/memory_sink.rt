@@ -35,7 +35,7 @@ impl MemSink {
         }
     }
 
-    /// The same sink, which takes at most so many bytes a write; at least one, also where 0 is asked for.
+    /// The same sink, which takes at most that many bytes a write; at least one, also where 0 is asked for.
     pub fn with_step(self, step: usize) -> MemSink
         ensures taken { sink_taken result ≡ sink_taken self }
         ensures flushed { sink_flushed result ≡ sink_flushed self }

@@ -38,7 +38,7 @@ impl MemSource {
         }
     }
 
-    /// The same source, which gives at most so many bytes a read; at least one, also where 0 is asked for.
+    /// The same source, which gives at most that many bytes a read; at least one, also where 0 is asked for.
     pub fn with_step(self, step: usize) -> MemSource
         ensures texts { source_texts result ≡ source_texts self }
         ensures left { source_left result ≡ source_left self }

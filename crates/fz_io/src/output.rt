@@ -21,7 +21,7 @@ pub struct OutSink<W: Write + Drop> {
     faults: u64,
 }
 
-/// Writes a front of the piece, and tries again where a signal interrupts.
+/// Writes a prefix of the piece, and tries again where a signal interrupts.
 fn write_again<W: Write>(writer: &mut W, piece: &[u8]) -> io::Result<usize>
     ensures within { WritesAtMost result piece.now }
     ensures bytes { WriteAppends (W.contents writer.old) (W.contents writer.new) result piece.now }

@@ -97,7 +97,7 @@ impl Texts {
         &text[at..]
     }
 
-    /// Moves the first bytes left into the front of the buffer, as many as have room and at most so many, and says how many.
+    /// Moves the first bytes left into the front of the buffer, as many as have room and at most that many, and says how many.
     pub(crate) fn read(&mut self, buffer: &mut [u8], most: usize) -> usize
         requires room { 0 < length buffer.old }
         requires some { 0 < most }

@@ -20,7 +20,7 @@ pub enum Whole {
 /// How many bytes are asked for at once.
 const PIECE: usize = 64 * 1024;
 
-/// Reads to the end of the selected text, or to `limit + 1` bytes. After want of memory, as after a fault, the bytes
+/// Reads to the end of the selected text, or to `limit + 1` bytes. After being out of memory, as after a fault, the bytes
 /// that were read are gone from the bytes left.
 pub fn read_all<R: Source>(alloc: Global, source: &mut R, limit: usize) -> Result<Whole, AllocError>
     requires { R.faults source.old < 2 ^ 64 - 1 }

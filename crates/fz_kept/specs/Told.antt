@@ -20,14 +20,14 @@ nothing = record { owner = 0; number = pos 0; front = 0; back = 0 }
 abbrev pub owned : ℕ → Kept → Kept
 owned i kept = record { owner = i; number = kept.number; front = kept.front; back = kept.back }
 
--- So many terms at the front are fixed, and with their factors they add up to a number.
+-- That many terms at the front are fixed, and with their factors they add up to a number.
 abbrev pub IsToldSum : List ℤ → List Term → ℕ → ℤ → List (List (ℤ × ℤ)) → Type 0
 IsToldSum ks ts zero n ds = n ≡ pos 0
 IsToldSum [] ts (suc front) n ds = ⊥
 IsToldSum (k ∷ ks) [] (suc front) n ds = ⊥
 IsToldSum (k ∷ ks) (t ∷ ts) (suc front) n ds = (x : ℤ) × IsOnly (term_set ds t) x × IsToldSum ks ts front (n -ℤ (k *ℤ x)) ds
 
--- So many items at the front of a list are done; and so many at its back.
+-- That many items at the front of a list are done; and that many at its back.
 abbrev pub AreDoneBelow : {T : Type 0} → (ℕ → T → Type 0) → List T → ℕ → Type 0
 AreDoneBelow {T} IsDone items n = (i : ℕ) (item : T) → i < n → slice_get items i ≡ Some item → IsDone i item
 
@@ -38,7 +38,7 @@ pub record AreEndsDone {T : Type 0} (IsDone : ℕ → T → Type 0) (items : Lis
   pub before : AreDoneBelow IsDone items front
   pub behind : AreDoneBehind IsDone items back
 
--- Of so many literals at the front none may still get true; and of so many at the back.
+-- Of that many literals at the front none may still get true; and of that many at the back.
 abbrev pub AreUntrueBelow : List (List (ℤ × ℤ)) → List Literal → ℕ → Type 0
 AreUntrueBelow ds ls n = AreDoneBelow (λ j l. IsUntrueIn ds l) ls n
 
@@ -58,7 +58,7 @@ IsBeaten Min ds z t = (m n : ℤ) → IsInSet (term_set ds z) m → IsInSet (ter
 IsBeaten Max ds z t = (m n : ℤ) → IsInSet (term_set ds z) m → IsInSet (term_set ds t) n → n <ℤ m
 IsBeaten operation ds z t = ⊥
 
--- How many of so many terms at the front and at the back are 1 is odd where the number is 1, else even, whatever else is still chosen.
+-- How many of that many terms at the front and at the back are 1 is odd where the number is 1, else even, whatever else is still chosen.
 pub record AreEndsOdd (ts : List Term) (front back : ℕ) (number : ℤ) (ds : List (List (ℤ × ℤ))) : Type 0 where
   pub inside : front + back ≤ length ts
   pub odd : (a : List ℤ) → Within ds a → pos ((count_by is_one (term_values a (take front ts)) + count_by is_one (term_values a (drop (length ts - back) ts))) % 2) ≡ number
@@ -79,7 +79,7 @@ IsTold says kept ds = Unit {0}
 abbrev pub AreTold : List Saying → List Kept → List (List (ℤ × ℤ)) → Type 0
 AreTold sayings kept ds = (k : ℕ) (s : Saying) → slice_get sayings (slice_index_or kept k nothing).owner ≡ Some s → IsTold s (slice_index_or kept k nothing) ds
 
--- It has so many terms or literals that it serves to keep something.
+-- It has that many terms or literals that it serves to keep something.
 abbrev pub IsLong : Saying → Type 0
 IsLong (Sum relation ks ts c) = 4 < length ts
 IsLong (SumIf relation ks ts c r) = 4 < length ts

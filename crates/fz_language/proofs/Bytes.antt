@@ -74,7 +74,7 @@ head_of text start stop x xs w e = elim (cases_lt start stop) [
 pub cons_from : (text : List ℕ) (start stop x : ℕ) (xs : List ℕ) → start < stop → stop ≤ length text → slice_index text start ≡ x → slice_range text (start + 1) stop ≡ xs → slice_range text start stop ≡ x ∷ xs
 cons_from text start stop x xs l w b o = slice_cons text start stop l w ∙ (λ i. b i ∷ o i)
 
--- two parts, one behind the other
+-- two parts, one after the other
 pub record Split (text : List ℕ) (start stop : ℕ) (xs ys : List ℕ) : Type 0 where
   pub mid : ℕ
   pub low : start ≤ mid

@@ -44,7 +44,7 @@ same_byte a b = from_test _ (Decides-eqb a b)
 abbrev same_bytes : (xs ys : List ℕ) → Decided (xs ≡ ys)
 same_bytes xs ys = from_test _ (bytes_eq-Decides xs ys)
 
--- behind certain bytes stand bytes of which something holds
+-- after certain bytes stand bytes of which something holds
 abbrev Behind : List ℕ → (List ℕ → Type 0) → List ℕ → Type 0
 Behind front P bs = (rest : List ℕ) × (bs ≡ front ++ rest) × P rest
 

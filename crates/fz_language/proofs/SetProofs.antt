@@ -27,7 +27,7 @@ rising b [] a = tt
 rising b (r ∷ []) a = a.1
 rising b (r ∷ s ∷ rs) a = (a.1, a.2.0, rising (r.1 +ℤ pos 1) (s ∷ rs) a.2)
 
--- ---- joining a range to those behind it
+-- ---- joining a range to those after it
 
 apart : (x y : ℤ) → x <ℤ y → (y ≡ x +ℤ pos 1 → ⊥) → (x +ℤ pos 1) <ℤ y
 apart x y h n = grind (arith, ints)

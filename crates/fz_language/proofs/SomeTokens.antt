@@ -127,7 +127,7 @@ comment text start w p =
     let c = comment_end text start (start + 1) (suc (length text)) (omega (arith, w)) (omega arith) in
     (c.stop, record { some = omega (arith, c.ahead); within = c.within; first = p; inside = λ k a b. c.inside k (omega (arith, a)) b; ends = c.ends })
 
--- the blanks from a place on, behind which no blank stands
+-- the blanks from a place on, after which no blank stands
 record Gap (text : List ℕ) (from : ℕ) : Type 0 where
   stop : ℕ
   ahead : from ≤ stop
@@ -162,7 +162,7 @@ gap text from (suc fuel) w f = elim (cases_lt from (length text)) [
 
 -- ---- the whole text
 
--- tokens from a place on, and what stands behind them
+-- tokens from a place on, and what stands after them
 abbrev Leads : List ℕ → ℕ → Type 0
 Leads text from = (ts : List Token) × (ending : Ending) × LeadsTo text from ts ending
 

@@ -73,7 +73,7 @@ begins (More Expressions) = map number (kind.Sign Comma ∷ kind.Sign RightParen
 begins (Listed Arguments) = map number (kind.Identifier ∷ kind.Integer ∷ kind.Float ∷ kind.Text ∷ kind.Sign RightParenthesis ∷ kind.Sign LeftBracket ∷ kind.Sign RightBracket ∷ kind.Sign LeftBrace ∷ kind.Keyword keyword.False ∷ kind.Keyword keyword.True ∷ [])
 begins (More Arguments) = map number (kind.Sign Comma ∷ kind.Sign RightParenthesis ∷ kind.Sign RightBracket ∷ [])
 
--- what may come behind it
+-- what may come after it
 abbrev follow : Part → List ℕ
 follow WholeProgram = map number (kind.End ∷ [])
 follow Items = map number (kind.Keyword keyword.Solve ∷ [])

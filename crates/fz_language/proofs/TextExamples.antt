@@ -12,7 +12,7 @@ use Rattle.fz_language.proofs.LexemeProofs.{begins_visible}
 use Rattle.fz_grammar.proofs.Lists.{none_is_no_cons}
 use Rattle.fz_language.proofs.Decisions.{is_no, refuted, lexeme, lexeme_of, spelt_of}
 
--- so many ends behind a place, at which no lexeme from another place on ends
+-- that many ends after a place, at which no lexeme from another place on ends
 abbrev none_behind : List ℕ → ℕ → ℕ → ℕ → Bool
 none_behind text at stop zero = true
 none_behind text at stop (suc k) = is_no (lexeme (slice_range text at (stop + suc k))) && none_behind text at stop k

@@ -49,7 +49,7 @@ fault rule at = record { rule = rule; at = at }
 abbrev pub ArityBeforeNames : Type 0
 ArityBeforeNames = program_faults (program (call (name (codes "int_ne") 11) (Scalar (named (codes "x") 18) ∷ []) ∷ [])) ≡ fault WrongArity 11 ∷ fault UnknownName 18 ∷ []
 
--- `constraint int_ne(true,x);`: the unknown name comes before the Boolean, though it stands behind it
+-- `constraint int_ne(true,x);`: the unknown name comes before the Boolean, though it stands after it
 abbrev pub NamesBeforeTypes : Type 0
 NamesBeforeTypes = program_faults (program (call (name (codes "int_ne") 11) (Scalar (Truth true 18) ∷ Scalar (named (codes "x") 23) ∷ []) ∷ [])) ≡ fault UnknownName 23 ∷ fault WrongType 18 ∷ fault WrongType 23 ∷ []
 
@@ -69,7 +69,7 @@ FloatsBeforeConstraints = program_faults (program (call (name (codes "foo") 11) 
 abbrev pub UnsupportedConstraint : Type 0
 UnsupportedConstraint = program_faults (program (call (name (codes "set_union") 11) [] ∷ call (name (codes "int_le_imp") 40) [] ∷ [])) ≡ fault Unsupported 11 ∷ fault Unsupported 40 ∷ []
 
--- `array [2..3] of int: x = [1,2];` behind `var 1..2: x;`: the index set comes before the name that is declared twice
+-- `array [2..3] of int: x = [1,2];` after `var 1..2: x;`: the index set comes before the name that is declared twice
 abbrev pub LengthsBeforeTwice : Type 0
 LengthsBeforeTwice =
     program_faults
@@ -94,11 +94,11 @@ unequal bound = call (name (codes "int_lin_le") 11) (list 22 (numeral (pos 1) 23
 abbrev pub TypesBeforeLengths : Type 0
 TypesBeforeLengths = program_faults (program (unequal (Truth true 32) ∷ [])) ≡ fault WrongType 32 ∷ fault WrongLengths 11 ∷ []
 
--- `constraint int_lin_le([1,2],[3],4);` behind a million constraints: the lists come before the limit
+-- `constraint int_lin_le([1,2],[3],4);` after a million constraints: the lists come before the limit
 abbrev pub LengthsBeforeLimits : Type 0
 LengthsBeforeLimits = faults_of nothing_declared (record { variables = 0; constraints = 1000000; elements = 0 }) (unequal (numeral (pos 4) 32)) ≡ fault WrongLengths 11 ∷ fault OverLimit 11 ∷ []
 
--- `var 1..2: x;` behind a million variables: the limit, at the name
+-- `var 1..2: x;` after a million variables: the limit, at the name
 abbrev pub MillionthAndOne : Type 0
 MillionthAndOne = faults_of nothing_declared (record { variables = 1000000; constraints = 0; elements = 0 }) (one_or_two 4 (name (codes "x") 10)) ≡ fault OverLimit 10 ∷ []
 

@@ -61,7 +61,7 @@ abbrev pub declare : List ℕ → Option Entry → Environment → Environment
 declare name (Some entry) env = with_entry name entry env
 declare name None env = env
 
--- what stands behind an item
+-- what stands after an item
 abbrev pub behind : Scope → Item → Scope
 behind s (Variable v) = record { entries = with_entry v.name.bytes (entries.Variable (kind_of v.value_type) s.variables) s.entries; variables = s.variables + 1 }
 behind s (Parameter p) = record s { entries = declare p.name.bytes (parameter_entry s.entries p.value_type p.value) s.entries }

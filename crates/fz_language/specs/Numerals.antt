@@ -14,7 +14,7 @@ all_of [] = Some []
 all_of (Some x ∷ xs) = option_map (λ ys. x ∷ ys) (all_of xs)
 all_of (None ∷ xs) = None
 
--- rising ranges behind a range that is below them, joined to the first where the two touch
+-- rising ranges after a range that is below them, joined to the first where the two touch
 abbrev pub behind : ℤ × ℤ → List (ℤ × ℤ) → List (ℤ × ℤ)
 behind r [] = r ∷ []
 behind r (s ∷ rs) = cond (int_eq s.0 (r.1 +ℤ pos 1)) ((r.0, s.1) ∷ rs) (r ∷ s ∷ rs)

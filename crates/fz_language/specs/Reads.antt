@@ -40,7 +40,7 @@ rule_code rule.OverLimit = code.OverLimit
 
 -- ---- the rules that a program breaks
 
--- those of items behind a scope and so many additions, and then those of the solve item
+-- those of items after a scope and that many additions, and then those of the solve item
 abbrev pub faults_from : Scope → Counts → List Item → SolveItem → List Fault
 faults_from s n [] solve = solve_faults s.entries solve
 faults_from s n (item ∷ items) solve = faults_of s.entries n item ++ faults_from (behind s item) (all_counted n (additions item)) items solve

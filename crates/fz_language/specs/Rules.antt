@@ -256,7 +256,7 @@ is_over n (AVariable at) = cond (nat_lt n.variables VARIABLE_LIMIT) [] (at ∷ [
 is_over n (AConstraint at) = cond (nat_lt n.constraints CONSTRAINT_LIMIT) [] (at ∷ [])
 is_over n (AnElement at) = cond (nat_lt n.elements ELEMENT_LIMIT) [] (at ∷ [])
 
--- those over a limit, behind so many
+-- those over a limit, after that many
 abbrev pub over : Counts → List Addition → List ℕ
 over n [] = []
 over n (a ∷ more) = is_over n a ++ over (counted n a) more
@@ -285,7 +285,7 @@ row_faults env c (Some row) = signature_faults env c row (signature_of row (leng
 abbrev pub call_faults : Environment → ConstraintItem → List Fault
 call_faults env c = at_places Unsupported (named_unsupported c.name ++ flat_map floats_of c.arguments) ++ row_faults env c (row_named c.name.bytes)
 
--- The rules that an item breaks behind an environment, in the order of the rules, each at its places in the order of the text.
+-- The rules that an item breaks after an environment, in the order of the rules, each at its places in the order of the text.
 abbrev pub item_faults : Environment → Item → List Fault
 item_faults env (Predicate p) = []
 item_faults env (Variable v) =

@@ -84,7 +84,7 @@ part_in env arguments = []
 abbrev pub is_basic_search : List ℕ → Bool
 is_basic_search word = cond (bytes_eq word (codes "int_search")) true (bytes_eq word (codes "bool_search"))
 
--- the parts of a search annotation among arguments, those of `seq_search([..])` one behind another
+-- the parts of a search annotation among arguments, those of `seq_search([..])` one after another
 abbrev mutual
   pub parts_in : Environment → Argument → List SearchPart
   parts_in env (Call name arguments) =

@@ -193,7 +193,7 @@ IsFine Float = Unit {0}
 IsFine Text = Unit {0}
 IsFine (Punct s) = Unit {0}
 
--- what stands behind tokens: the text's end, or a fault
+-- what stands after tokens: the text's end, or a fault
 pub data Ending : Type 0 where
   End : Ending
   Fault : (fault : TokenFault) (at : ℕ) → Ending
@@ -211,6 +211,6 @@ LeadsTo text from (t ∷ ts) ending = (stop : ℕ) × IsGap text from t.at × Is
 abbrev pub AreTokensOf : List ℕ → List Token → Type 0
 AreTokensOf text ts = LeadsTo text 0 ts End
 
--- the first fault of a text, which stands behind tokens alone
+-- the first fault of a text, which stands after tokens alone
 abbrev pub HasFault : List ℕ → TokenFault → ℕ → Type 0
 HasFault text fault at = (ts : List Token) × LeadsTo text 0 ts (Fault fault at)

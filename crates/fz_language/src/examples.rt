@@ -7,7 +7,7 @@ pub fn arity_before_names()
     ensures { ArityBeforeNames }
 {}
 
-/// An unknown name comes before an argument of a wrong type, also where it stands behind it.
+/// An unknown name comes before an argument of a wrong type, also where it stands after it.
 pub fn names_before_types()
     ensures { NamesBeforeTypes }
 {}
@@ -47,7 +47,7 @@ pub fn lengths_before_limits()
     ensures { LengthsBeforeLimits }
 {}
 
-/// A variable behind a million of them is over the limit, at its name.
+/// A variable after a million of them is over the limit, at its name.
 pub fn millionth_and_one()
     ensures { MillionthAndOne }
 {}

@@ -1,8 +1,8 @@
--- Blanks one behind another.
+-- Blanks one after another.
 use Rattle.std.proofs.Common.{◌≡◌, ℕ, ◌+◌, ◌<◌, ◌≤◌, Bool, true, false, List, length, slice_index, refl, inl, inr, arith, ◌||◌, ◌==◌, eqb-true}
 use Rattle.fz_language.specs.Tokens.{is_space, is_blank, IsComment, IsBlank, IsGap, Ends, Skips}
 
--- one more blank behind a gap
+-- one more blank after a gap
 pub gap_more : (text : List ℕ) (start at next : ℕ) → IsGap text start at → IsBlank text at next → next ≤ length text → IsGap text start next
 gap_more text start at next (Ends _ w) b o = Skips start next next b (Ends next o)
 gap_more text start at next (Skips _ mid _ c g) b o = Skips start mid next c (gap_more text mid at next g b o)

@@ -22,7 +22,7 @@ natural_first n text from end w b = elim b [
   ]
 ]
 
--- the digits of a float, and what stands behind them
+-- the digits of a float, and what stands after them
 record FloatAt (text : List ℕ) (from end : ℕ) : Type 0 where
   mid : ℕ
   low : from < mid
@@ -114,7 +114,7 @@ number_parts v text at from end w start x =
 pub float_parts : (text : List ℕ) (at from end : ℕ) → end ≤ length text → IsNumberStart text at from → IsFloat (slice_range text at end) → IsPlainFloat (slice_range text from end)
 float_parts text at from end w start x = behind_minus IsPlainFloat text at from end (λ a p. float_first text a end w p) w start x
 
--- where a tail stands behind the digits, the float is the longest
+-- where a tail stands after the digits, the float is the longest
 pub float_longest : (text : List ℕ) (from whole stop end : ℕ) → IsRun is_ascii_digit text from whole → IsLongest IsTail text whole stop → end ≤ length text → Parts text from end → end ≤ stop
 float_longest text from whole stop end r t w x =
     let f = tail_first text whole stop t.within t.is in

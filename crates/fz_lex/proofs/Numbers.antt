@@ -62,7 +62,7 @@ exponent_at text at end w x = elim x.4 [
   ]
 ]
 
--- its digits begin behind the sign, if there is one
+-- its digits begin after the sign, if there is one
 same_start : (text : List ℕ) (at from end : ℕ) → IsBehindSign text at from → (x : ExponentAt text at end) → x.from ≡ from
 same_start text at from end b x = elim b [
   | inl s ↦ elim x.sign [
@@ -113,7 +113,7 @@ longest_exponent text at from stop l b t r =
           run_bound end r e (subst (λ (n : ℕ). list_all is_ascii_digit (slice_range text n end) ≡ true) (same_start text at from end b y) y.digits.1);
     }
 
--- what stands behind the digits of a float
+-- what stands after the digits of a float
 
 -- a point with its digits, at a place
 record PointAt (text : List ℕ) (at end : ℕ) : Type 0 where

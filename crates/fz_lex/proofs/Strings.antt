@@ -6,7 +6,7 @@ use Rattle.fz_language.proofs.Bytes.{head_of, cons_from, slice_none, slice_cons}
 use Rattle.fz_lex.specs.Steps.{HasNone, StepsInside}
 use Rattle.fz_lex.proofs.Runs.{two}
 
--- how a string goes on behind its quote
+-- how a string goes on after its quote
 abbrev Went : ℕ → List ℕ → Type 0
 Went b bs = ((b ≡ 34) × (bs ≡ [])) ⊎ (((b ≢ 34) × (b ≢ 92) × (b ≢ 10) × IsInside bs) ⊎ ((b ≡ 92) × ((c : ℕ) × (cs : List ℕ) × (bs ≡ c ∷ cs) × (c ≢ 10) × IsInside cs)))
 
@@ -69,7 +69,7 @@ plain_step text at l q n b = record {
       subst IsInside (sym (slice_cons text at end (omega (arith, h.0)) w)) (Goes (slice_index text at) (slice_range text (at + 1) end) q b n i);
 }
 
--- behind a backslash
+-- after a backslash
 pub taken : (text : List ℕ) (at end : ℕ) → end ≤ length text → slice_index text at ≡ 92 → slice_index text at ≢ 34 → IsInside (slice_range text at end)
     → (at + 1 < end) × (slice_index text (at + 1) ≢ 10) × IsInside (slice_range text (at + 2) end)
 taken text at end w b q i =

@@ -4,7 +4,7 @@ use Rattle.fz_language.specs.declared.token_kind.TokenKind.{TokenKind}
 use Rattle.fz_language.specs.Tokens.{Token, Lexeme, Ending, End, Fault}
 use Rattle.fz_language.specs.Kinds.{number, kind_of}
 
--- a text, and what stands behind its tokens
+-- a text, and what stands after its tokens
 pub record Source : Type 0 where
   pub text : List ℕ
   pub ending : Ending
@@ -32,7 +32,7 @@ abbrev pub end_place : List ℕ → Ending → ℕ
 end_place text End = length text
 end_place text (Fault fault at) = at
 
--- the place of the first of these tokens, or of what stands behind them
+-- the place of the first of these tokens, or of what stands after them
 abbrev pub place_of : Source → List Token → ℕ
 place_of source [] = end_place source.text source.ending
 place_of source (t ∷ ts) = t.at

@@ -10,7 +10,7 @@ use Rattle.fz_lex.specs.declared.lexer.Head.TheVariants as head
 use Rattle.fz_lex.specs.Ahead.{Ahead}
 use Rattle.fz_lex.specs.Steps.{IsFoundAt}
 
--- what is ahead of a place of the text; of a place behind the text, nothing
+-- what is ahead of a place of the text; of a place after the text, nothing
 unfoldable pub ahead_from : (text : List ℕ) (at : ℕ) → (length text < at) ⊎ (at ≤ length text) → Ahead
 ahead_from text at (inl over) = record { source = record { text = text; ending = End }; tokens = [] }
 ahead_from text at (inr within) = let l = leads_from text at within in record { source = record { text = text; ending = l.1 }; tokens = l.0 }

@@ -47,7 +47,7 @@ pub record IsLongest (P : List ℕ → Type 0) (text : List ℕ) (at stop : ℕ)
 abbrev pub HasNone : (List ℕ → Type 0) → List ℕ → ℕ → Type 0
 HasNone P text at = (end : ℕ) → end ≤ length text → P (slice_range text at end) → ⊥
 
--- behind the byte at a place, and behind the sign that may follow
+-- after the byte at a place, and after the sign that may follow
 abbrev pub IsBehindSign : List ℕ → ℕ → ℕ → Type 0
 IsBehindSign text at from = (((slice_index text (at + 1) ≡ 43) ⊎ (slice_index text (at + 1) ≡ 45)) × (from ≡ at + 2))
     ⊎ ((slice_index text (at + 1) ≢ 43) × (slice_index text (at + 1) ≢ 45) × (from ≡ at + 1))
@@ -82,7 +82,7 @@ abbrev pub signed_of : Bool → ℕ → ℤ
 signed_of true n = pos 0 -ℤ pos n
 signed_of false n = pos n
 
--- no point with a digit behind it
+-- no point with a digit after it
 abbrev pub HasNoPoint : List ℕ → ℕ → Type 0
 HasNoPoint text at = slice_index text at ≡ 46 → is_ascii_digit (slice_index text (at + 1)) ≡ false
 
@@ -122,7 +122,7 @@ pub record FitsSign (s : Sign) (first second : ℕ) : Type 0 where
   pub goes_on : 1 < length (sign_bytes s) → second ≡ slice_index (sign_bytes s) 1
   pub alone : s ≡ Colon → second ≢ 58
 
--- the bytes that begin a sign whatever stands behind them
+-- the bytes that begin a sign whatever stands after them
 abbrev pub begins_sign : ℕ → Bool
 begins_sign b =
     (b == 59) || (b == 58) || (b == 44) || (b == 40) || (b == 41) || (b == 91) || (b == 93) || (b == 123) || (b == 125) || (b == 61)

@@ -4,7 +4,7 @@ ghost use Rattle.fz_language.specs.Tokens.{IsGap, IsComment};
 ghost use Rattle.fz_language.specs.Tokens as spec;
 ghost use Rattle.fz_lex.specs.Steps.{EndsGap};
 
-/// Behind the white space and the comments that stand from a place on.
+/// After the white space and the comments that stand from a place on.
 pub(crate) fn skip_blanks(text: &[u8], from: usize) -> usize
     requires within { from ≤ length text.now }
     ensures gap { IsGap text.now from result }

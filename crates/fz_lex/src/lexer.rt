@@ -34,7 +34,7 @@ pub(crate) enum Head {
     Fault(TokenFault),
 }
 
-/// A text, and a place in it that the tokens before it end at: what is ahead is the tokens from there on, and behind them the
+/// A text, and a place in it that the tokens before it end at: what is ahead is the tokens from there on, and after them the
 /// text's end or its first fault. No token is kept but the next, and no text is copied.
 #[derive(Drop)]
 pub struct Lexer<'a> {
@@ -77,7 +77,7 @@ impl<'a> Lexer<'a> {
         }
     }
 
-    /// The place of the next token, or of what stands behind the last.
+    /// The place of the next token, or of what stands after the last.
     pub fn place(&self) -> u32
         ensures { result ≡ place_ahead self.now }
     {

@@ -67,7 +67,7 @@ fn some_digits(text: &[u8], at: usize, radix: Radix) -> Option<DigitRun>
     Some(digits(text, at, radix))
 }
 
-/// The end of what stands behind the digits of a float, if they end here and it is one.
+/// The end of what stands after the digits of a float, if they end here and it is one.
 fn float_end(text: &[u8], whole: usize) -> Option<usize>
     requires within { whole ≤ length text.now }
     ensures { MatchOption result (HasNone IsTail text.now whole) (IsLongest IsTail text.now whole) }

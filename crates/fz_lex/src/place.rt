@@ -17,7 +17,7 @@ impl Place {
         Place { line: 1, column: 1 }
     }
 
-    /// The place of the byte behind one, whose place this is.
+    /// The place of the byte after one, whose place this is.
     fn next(self, text: &[u8], at: usize) -> Place
         requires within { at < length text.now }
         requires near { at < 2 ^ 31 }
@@ -38,7 +38,7 @@ impl Place {
     }
 }
 
-/// The place of the byte that has so many before it, or of the text's end where there are fewer. It takes the time of going there.
+/// The place of the byte that has that many before it, or of the text's end where there are fewer. It takes the time of going there.
 pub fn place_of(text: &[u8], at: usize) -> Place
     requires near { length text.now < 2 ^ 31 }
     ensures { IsPlaceOf text.now at result.line result.column }

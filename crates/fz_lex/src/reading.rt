@@ -75,7 +75,7 @@ fn text_at(text: &[u8], at: usize) -> Result<Found, TokenFault>
     Err(TokenFault::UnknownByte)
 }
 
-/// Behind the next byte of a string, and behind the byte that a backslash takes with it. A line end ends the string.
+/// After the next byte of a string, and after the byte that a backslash takes with it. A line end ends the string.
 fn step_inside(text: &[u8], at: usize) -> Option<usize>
     requires within { at < length text.now }
     requires inside { slice_index text.now at ≢ 34 }

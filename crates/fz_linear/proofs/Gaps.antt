@@ -94,7 +94,7 @@ term_there [] i within = absurd (omega (arith, within))
 term_there (t ∷ ts) zero within = (t, refl, refl)
 term_there (t ∷ ts) (suc i) within = term_there ts i (omega (arith, within))
 
--- the first that isn't fixed, and the first behind it
+-- the first that isn't fixed, and the first after it
 pub two_unfixed : (ts behind : List Term) (i j : ℕ) (ds : List (List (ℤ × ℤ))) → behind ≡ drop (suc i) ts → i ≤ length ts → (i ≡ length ts → ⊥)
     → ((t : Term) → slice_get ts i ≡ Some t → IsFixedIn ds t → ⊥) → j ≤ length behind → (j ≡ length behind → ⊥)
     → ((t : Term) → slice_get behind j ≡ Some t → IsFixedIn ds t → ⊥) → AllButOneFixed ds ts → ⊥

@@ -9,7 +9,7 @@ use Rattle.fz_strength.specs.Domains.{term_set}
 use Rattle.fz_strength.specs.Sums.{least_product, greatest_product, least_sum, greatest_sum, AreNear}
 use Rattle.fz_linear.proofs.Slacks.{IsAt, near_from}
 
--- a sum of so many products, and what is left of the whole
+-- a sum of that many products, and what is left of the whole
 pub record IsSummed (sum rest whole : ℤ) (n : ℕ) : Type 0 where
   pub is : (sum +ℤ rest) ≡ whole
   pub near : unsigned_abs sum ≤ n * 2 ^ 63

@@ -1,4 +1,4 @@
--- Sums of which so many terms at the front are fixed: the rest is related to what is left of the number.
+-- Sums of which that many terms at the front are fixed: the rest is related to what is left of the number.
 use Rattle.std.proofs.Common.{◌≡◌, ℕ, zero, suc, ◌≤◌, List, [], ◌∷◌, refl, sym, ap, subst, arith, length, drop, inl, inr}
 use Rattle.std.specs.Prelude.{ℤ, pos, negsuc, neg_ℤ, ◌+ℤ◌, ◌-ℤ◌, ◌*ℤ◌, ◌≤ℤ◌, ◌↔◌, sum_by, unsigned_abs}
 use Rattle.std.specs.List.{AllByRecursion}

@@ -66,7 +66,7 @@ pub fn relate_rest(
     )
 }
 
-/// Narrows a store by how a sum relates to a number, where so many terms at its front are fixed and add up to a number.
+/// Narrows a store by how a sum relates to a number, where that many terms at its front are fixed and add up to a number.
 fn relate_behind(
     store: &mut Store,
     sum: &Weighted<'_>,
@@ -101,7 +101,7 @@ fn relate_behind(
     answer
 }
 
-/// The factors behind so many.
+/// The factors after that many.
 pub fn factors_behind(factors: &[i32], front: usize) -> &[i32]
     requires { front ≤ length factors.now }
     ensures { result.now ≡ drop front factors.now }
@@ -109,7 +109,7 @@ pub fn factors_behind(factors: &[i32], front: usize) -> &[i32]
     &factors[front..]
 }
 
-/// The terms behind so many.
+/// The terms after that many.
 pub fn terms_behind(terms: &[Term], front: usize) -> &[Term]
     requires { front ≤ length terms.now }
     ensures { result.now ≡ drop front terms.now }

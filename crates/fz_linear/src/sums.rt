@@ -34,7 +34,7 @@ pub fn product_ends(store: &Store, factor: i32, term: Term) -> (i64, i64)
     }
 }
 
-/// A sum of so many products, and one more.
+/// A sum of that many products, and one more.
 fn add(sum: i128, product: i64, count: usize) -> i128
     requires near { unsigned_abs sum ≤ count * 2 ^ 63 }
     requires few { count ≤ ELEMENT_LIMIT }

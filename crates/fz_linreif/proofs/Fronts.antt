@@ -1,4 +1,4 @@
--- A sum and a Boolean, where so many terms at the front of the sum are fixed.
+-- A sum and a Boolean, where that many terms at the front of the sum are fixed.
 use Rattle.std.proofs.Common.{◌≡◌, ℕ, ◌+◌, List, refl, sym, subst, arith, length, drop}
 use Rattle.std.specs.Prelude.{ℤ, pos, neg_ℤ, ◌+ℤ◌, ◌-ℤ◌, ◌≤ℤ◌, ◌↔◌}
 use Rattle.std.proofs.lemmas.Int.{ints}

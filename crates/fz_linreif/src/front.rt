@@ -66,7 +66,7 @@ pub fn keep_rest(
     )
 }
 
-/// The same, where so many terms at the front of the sum are fixed and add up to a number.
+/// The same, where that many terms at the front of the sum are fixed and add up to a number.
 #[inline(never)]
 fn keep_behind(
     store: &mut Store,

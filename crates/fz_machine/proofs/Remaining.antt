@@ -215,7 +215,7 @@ spent_at : (m : Instance) (c : Account) (b : Bool) → b ≡ false → path_left
 spent_at m c true is = absurd (cc is)
 spent_at m c false is = omega arith
 
--- what is left behind a report is less where something was found or nothing is left
+-- what is left after a report is less where something was found or nothing is left
 behind_less : (m : Instance) (c : Account) → (0 < length c.found) ⊎ (has_rest c.after ≡ false) → path_left m (held_behind c) < path_left m (Some c)
 behind_less m c (inl some) = omega (arith, some, behind_at m c (has_rest c.after))
 behind_less m c (inr none) = spent_at m c (has_rest c.after) none

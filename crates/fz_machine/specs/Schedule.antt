@@ -18,7 +18,7 @@ use Rattle.fz_core.specs.Events.{Happens, Refuses}
 abbrev pub next_number : ℕ → ℕ
 next_number x = (x * MULTIPLIER + INCREMENT) % 2 ^ 64
 
--- the worker that such a number picks, of so many
+-- the worker that such a number picks, of that many
 abbrev pub picked : ℕ → ℕ → ℕ
 picked x workers = (x / 2 ^ 33) % workers
 

@@ -40,7 +40,7 @@ impl<S: SearchSpace> Model for Machine<S> {
 }
 
 impl<S: SearchSpace> Machine<S> {
-    /// So many idle workers, and a book of which the whole tree is open and unclaimed.
+    /// That many idle workers, and a book of which the whole tree is open and unclaimed.
     ///
     /// # Errors
     /// `AllocFailed` with the model, where there is no memory.

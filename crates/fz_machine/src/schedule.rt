@@ -15,7 +15,7 @@ pub fn next_number(number: u64) -> u64
     number.wrapping_mul(MULTIPLIER).wrapping_add(INCREMENT)
 }
 
-/// The worker that a number picks, of so many.
+/// The worker that a number picks, of that many.
 pub fn picked(number: u64, workers: u32) -> u32
     requires { 0 < workers }
     ensures picked { result ≡ schedule.picked number workers }

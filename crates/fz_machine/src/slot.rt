@@ -139,7 +139,7 @@ impl<S: SearchSpace> Slot<S> {
     }
 }
 
-/// So many idle workers.
+/// That many idle workers.
 ///
 /// # Errors
 /// `AllocError` where there is no memory.

@@ -11,7 +11,7 @@ use fz_cert::walk::Walk;
 use fz_model::{Assignment, Model};
 use std::alloc::{AllocError, Global};
 
-/// The line of the box that is next. The walk goes on behind it.
+/// The line of the box that is next. The walk goes on after it.
 pub fn make(
     alloc: Global,
     model: &Model,
@@ -32,7 +32,7 @@ pub fn make(
     Ok(step)
 }
 
-/// Goes on behind a line of the box that is next.
+/// Goes on after a line of the box that is next.
 fn go_on(alloc: Global, walk: &mut Walk, step: Step) -> Result<(), AllocError>
     requires some { 0 < length walk.old }
     requires place { CanGoOn (line_of step) walk.old }

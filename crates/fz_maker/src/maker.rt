@@ -79,7 +79,7 @@ impl<'a> Maker<'a> {
         let _ = self.model.variables();
     }
 
-    /// The next line of the certificate, and nothing behind its last one.
+    /// The next line of the certificate, and nothing after its last one.
     ///
     /// # Errors
     /// `AllocError` where there is no memory, and at each later call.

@@ -1,4 +1,4 @@
--- The constraints of a model, as they are kept: written ones, and behind them those of the elements of an array.
+-- The constraints of a model, as they are kept: written ones, and after them those of the elements of an array.
 use Rattle.std.specs.Prelude.{◌≡◌, ◌<◌, ◌≤◌, ◌+◌, ◌^◌, ℕ, ℤ, List, [], ◌∷◌, ◌++◌, map, length, slice_index_or, false}
 use Rattle.fz_spec.specs.declared.builtin.Builtin.TheVariants.{SetIn}
 use Rattle.fz_spec.specs.declared.term.Term.{Term}
@@ -14,7 +14,7 @@ abbrev pub constraint_at : ConstraintAt → meaning.Constraint
 constraint_at (Written constraint) = constraint.now
 constraint_at (Element term set) = within set.now.value term
 
--- written constraints, and behind them those of the elements of one array; how many constraints there are up to the last of these
+-- written constraints, and after them those of the elements of one array; how many constraints there are up to the last of these
 pub record Group : Type 0 where
   pub written : List meaning.Constraint
   pub terms : List Term
@@ -29,7 +29,7 @@ abbrev pub AreEnds : ℕ → List Group → ℕ → Type 0
 AreEnds before [] all = before ≡ all
 AreEnds before (g ∷ gs) all = (g.end ≡ before + length (items_in g)) × AreEnds g.end gs all
 
--- so many stand in groups, and so many behind them
+-- that many stand in groups, and that many after them
 pub record IsNumbered (groups : List Group) (grouped behind : ℕ) : Type 0 where
   pub ends : AreEnds 0 groups grouped
   pub few : grouped + behind < 2 ^ 64

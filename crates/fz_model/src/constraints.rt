@@ -66,7 +66,7 @@ fn is_within(constraint: &Constraint, term: Term, set: &Dom) -> bool
     }
 }
 
-/// Written constraints, and behind them those of the elements of one array, which share its list and the set of its type.
+/// Written constraints, and after them those of the elements of one array, which share its list and the set of its type.
 #[derive(Drop)]
 pub struct Group {
     written: Vec<Constraint>,
@@ -96,7 +96,7 @@ impl Group {
         self.end
     }
 
-    /// The constraint that stands so many places before the end, 1 for the last.
+    /// The constraint that stands that many places before the end, 1 for the last.
     fn before_end(&self, places: usize) -> ConstraintAt<'_>
         requires some { 0 < places }
         requires few { places ≤ length (items_in self.now) }
@@ -137,7 +137,7 @@ pub struct Constraints {
     groups: Vec<Group>,
     /// How many constraints the groups have.
     grouped: usize,
-    /// The written constraints behind the groups.
+    /// The written constraints after the groups.
     written: Vec<Constraint>,
 }
 
@@ -238,7 +238,7 @@ impl Part for Constraints {
     }
 }
 
-/// The place of the group that has the constraint of this number, of groups with so many.
+/// The place of the group that has the constraint of this number, of groups with that many.
 fn place_of(groups: &[Group], all: usize, number: usize) -> usize
     requires ends { AreEnds 0 groups.now all }
     requires inside { number < all }

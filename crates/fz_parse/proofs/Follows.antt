@@ -30,7 +30,7 @@ halts_in (stop.Fault TooDeep) l s ss old new h = stops_before flatzinc level_lim
 pub here : {l : ℕ} {s : Symbol Part} {ss : List (Symbol Part)} {old new : List Token} {why : Stop} → Halts l (s ∷ []) old new why → Halts l (s ∷ ss) old new why
 here {l} {s} {ss} {old} {new} {why} h = record { is = halts_in why l s ss old new h.is }
 
--- or behind it
+-- or after it
 halts_leaf : (why : Stop) (l k : ℕ) (ss : List (Symbol Part)) (t : Token) (old mid new : List Token) → Read l (Leaf k ∷ []) (t, tt) old mid → HaltsAt why (level flatzinc k l) ss mid new → HaltsAt why l (Leaf k ∷ ss) old new
 halts_leaf stop.Memory l k ss t old mid new r h = tt
 halts_leaf (stop.Fault Unexpected) l k ss t old mid new r h = stops_behind flatzinc level_limit IsOther l (Leaf k ∷ []) ss old mid new (t, tt) r h

@@ -25,7 +25,7 @@ pub record Goes (l : ℕ) (n : Part) (old : List Token) (m : Part) (mid : List T
   pub reads : (new : List Token) (w : Tree m) → Read l (Rule m ∷ []) (w, tt) mid new → Read l (Rule n ∷ []) (f w, tt) old new
   pub stops : (why : Stop) (new : List Token) → Halts l (Rule m ∷ []) mid new why → Halts l (Rule n ∷ []) old new why
 
--- elements that stand behind others, with a comma before each
+-- elements that stand after others, with a comma before each
 pub record GoesOn (e : Element) (l : ℕ) (n : Part) (old mid : List Token) (f : TreesOf e → Tree n) (xs : List (Tree (part_of e))) : Type 0 where
   pub goes : Goes l n old (More e) mid (λ w. f (glued e xs w))
 
@@ -98,7 +98,7 @@ first_pushed f ys zs x e p = sym (ap (map f) (p ∙ ap (λ (us : List _). us ++ 
 pub pushed : {A B : Type 0} (f : A → B) (ys xs : List A) (x : A) → ys ≡ xs ++ x ∷ [] → map f xs ++ f x ∷ [] ≡ map f ys
 pushed f ys xs x p = sym (ap (map f) p ∙ map-append f xs (x ∷ []))
 
--- items, and annotations, one behind another
+-- items, and annotations, one after another
 
 pub items_next : {old mid next : List Token} {f : List trees.Item → List trees.Item} {x : trees.Item} {b : Bool}
     → Goes 0 Items old Items mid f → b ≡ has (front (rules Items)).begins (head flatzinc mid) → b ≡ true → Read 0 (Rule OneItem ∷ []) (x, tt) mid next

@@ -1,4 +1,4 @@
--- Arguments of an annotation that are put behind others.
+-- Arguments of an annotation that are put after others.
 use Rattle.std.proofs.Common.{◌≡◌, ℕ, ◌+◌, ◌≤◌, List, [], ◌∷◌, ◌++◌, take, drop, length, refl, sym, ap, ap₂, ◌∙◌, append_assoc, append-nil, arith}
 use Rattle.std.proofs.Math.Seq.{take-append_seam, drop-append_seam, set-append_seam}
 use Rattle.std.proofs.lemmas.List.{length-append, length-drop}
@@ -42,7 +42,7 @@ text_added old new at e = are_added old (argument.Text at ∷ []) new e (λ behi
 pub text_is : (old new : List Argument) (at : ℕ) → new ≡ old ++ argument.Text at ∷ [] → first_in (trees_of (added old new)) ≡ trees.Text at
 text_is old new at e = ap (λ ys. first_in (trees_of ys)) (added_is old (argument.Text at ∷ []) new e)
 
--- one that has those that were put behind it
+-- one that has those that were put after it
 
 put_all : (a : Argument) (inside behind : List trees.Argument) → count_of a ≡ length inside → put a (inside ++ behind) ≡ with_inside a inside ∷ behind
 put_all a inside behind e =
@@ -66,7 +66,7 @@ pub inside_is : {count : ℕ} (old from mid : List Argument) (x a : Argument) (p
 inside_is old from mid x a place e m p n =
     ap (λ ys. first_in (trees_of ys)) (added_is old (a ∷ added from mid) (slice_set mid place a) (placed old from mid x a place e m p)) ∙ ap first_in (with_before from mid a m n [])
 
--- others, and one behind them
+-- others, and one after them
 
 before_both : (xs ys : List Argument) (behind : List trees.Argument) → before (xs ++ ys) behind ≡ before xs (before ys behind)
 before_both [] ys behind = refl
@@ -103,7 +103,7 @@ next_is old mid new a b =
     ap (λ ys. trees_of (added old mid) ++ ys) (first_is mid new b) ∙ sym (both_trees old mid new a b)
     ∙ sym (ap trees_of (added_is old (added old mid ++ added mid new) new (both_kept old mid new a b)))
 
--- one that is alone, though others might have stood behind it
+-- one that is alone, though others might have stood after it
 
 pub alone_added : (old from mid : List Argument) (basic : Basic) → from ≡ old ++ argument.Simple basic ∷ [] → AreAdded 0 from mid → AreAdded 1 old mid
 alone_added old from mid basic e b = both_added old from mid (simple_added old from basic e) b

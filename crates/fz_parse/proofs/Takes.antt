@@ -60,7 +60,7 @@ took_mark k source (t ∷ ts) new at h e s p n l a =
 pub took_next : (k l : ℕ) (t : Token) (old new : List Token) → old ≡ t ∷ drop 1 old → new ≡ drop 1 old → number (kind_of t.lexeme) ≡ k → allowed flatzinc level_limit k l ≡ true → Read l (Leaf k ∷ []) (t, tt) old new
 took_next k l t old new e n f a = took k l t old new (e ∙ ap (λ (us : List Token). t ∷ us) (sym n)) f a
 
--- fewer tokens are ahead behind one that was passed
+-- fewer tokens are ahead after one that was passed
 pub fewer : (ts new : List Token) → 0 < head flatzinc ts → new ≡ drop 1 ts → length new < length ts
 fewer [] new s n = absurd (omega (arith, s))
 fewer (t ∷ ts) new s n = let e : length new ≡ length ts = ap length n in omega (arith, e)

@@ -1,10 +1,10 @@
--- Arguments of an annotation that were put behind others.
+-- Arguments of an annotation that were put after others.
 use Rattle.std.specs.Prelude.{◌≡◌, ℕ, List, [], ◌∷◌, ◌++◌, Option, Some, None, drop, length}
 use Rattle.fz_language.specs.Trees as trees
 use Rattle.fz_syntax.specs.declared.annotation.Argument.{Argument}
 use Rattle.fz_syntax.specs.Trees.{before, trees_of, arguments_of}
 
--- what stands behind what stood there
+-- what stands after what stood there
 abbrev pub added : List Argument → List Argument → List Argument
 added old new = drop (length old) new
 
@@ -22,7 +22,7 @@ abbrev pub count_in : Option ℕ → ℕ
 count_in (Some count) = count
 count_in None = 0
 
--- so many arguments were added, each whole: none of those behind them stands inside one
+-- that many arguments were added, each whole: none of those after them stands inside one
 pub record AreAdded (count : ℕ) (old new : List Argument) : Type 0 where
   pub kept : new ≡ old ++ added old new
   pub whole : (behind : List trees.Argument) → before (added old new) behind ≡ trees_of (added old new) ++ behind

@@ -19,7 +19,7 @@ abbrev pub Blames : List Token → Stop → List Token → Type 0
 Blames ts stop.Memory behind = Unit {0}
 Blames ts (stop.Fault cause) behind = IsAtFault ts cause behind
 
--- the fault of a text's tokens, at the place of the first token behind it, or of the text's end
+-- the fault of a text's tokens, at the place of the first token after it, or of the text's end
 pub record HasSyntaxFault (text : List ℕ) (fault : ParseFault) : Type 0 where
   pub tokens : List Token
   pub lexed : AreTokensOf text tokens

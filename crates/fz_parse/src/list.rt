@@ -29,7 +29,7 @@ fn integer_in(basic: &Basic<'_>) -> Option<Integer>
     }
 }
 
-/// The list of one element, with room for so many.
+/// The list of one element, with room for that many.
 pub(crate) fn begun<'a>(
     alloc: Global,
     first: Basic<'a>,
@@ -51,7 +51,7 @@ pub(crate) fn begun<'a>(
     }
 }
 
-/// Puts one element behind the others.
+/// Puts one element after the others.
 pub(crate) fn push<'a>(
     alloc: Global,
     elements: &mut Elements<'a>,
@@ -74,7 +74,7 @@ pub(crate) fn push<'a>(
     Ok(())
 }
 
-/// Integers as expressions, with room for so many.
+/// Integers as expressions, with room for that many.
 fn basics_of<'a>(
     alloc: Global,
     integers: &[Integer],

@@ -32,7 +32,7 @@ pub fn is_report_due<S: SearchSpace>(path: &Path<S>, waited: u64, wanted: Option
     (0 < waited || BATCH <= found) && pays_report(path, waited)
 }
 
-/// Whether something is found, and the path has no more edges than its numbers pay for, and so many times that they waited.
+/// Whether something is found, and the path has no more edges than its numbers pay for, and that many times that they waited.
 pub fn pays_report<S: SearchSpace>(path: &Path<S>, waited: u64) -> bool {
     let numbers = path
         .found_count()

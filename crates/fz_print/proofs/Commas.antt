@@ -17,7 +17,7 @@ first_and_rest (x ∷ xs) d h = refl
 whole : {X : Type 0} (xs : List X) → take (length xs - 1) (drop 1 xs) ≡ drop 1 xs
 whole xs = take_all (length xs - 1) (drop 1 xs) (let l = length-drop 1 xs in omega (arith, l))
 
--- the same of the first of a list, and those behind it as a slice
+-- the same of the first of a list, and those after it as a slice
 pub comma_pieces : {X : Type 0} (g : X → List ℕ) (xs : List X) (d : X) (old mid new : List ℕ) → 0 < length xs → mid ≡ old ++ g (get_or xs 0 d) → new ≡ mid ++ flat_map (λ t. codes ", " ++ g t) (take (length xs - 1) (drop 1 xs))
     → new ≡ old ++ comma_separated (map g xs)
 comma_pieces {X} g xs d old mid new h e f =

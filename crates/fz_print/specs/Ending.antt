@@ -1,10 +1,10 @@
--- What stands behind the blocks, or in their place.
+-- What stands after the blocks, or in their place.
 use Rattle.std.specs.Prelude.{ℕ, ℤ, List, [], ◌++◌, Option, Some, None, codes, decimal}
 use Rattle.std.specs.Fmt.{signed_decimal}
 use Rattle.fz_print.specs.declared.ending.Ending.{Ending}
 use Rattle.fz_print.specs.declared.ending.Ending.TheVariants.{Complete, Unsatisfiable, Plain}
 
--- the line behind the blocks
+-- the line after the blocks
 abbrev pub ending_text : Ending → List ℕ
 ending_text Complete = codes "==========\n"
 ending_text Unsatisfiable = codes "=====UNSATISFIABLE=====\n"

@@ -8,7 +8,7 @@ use crate::refusal::Refusal;
 use itoa::Buffer;
 use std::alloc::{AllocError, Global};
 
-/// The line behind the blocks of a search that ends so, and behind it, where it is given, how many solutions were printed: the lines
+/// The line after the blocks of a search that ends so, and after it, where it is given, how many solutions were printed: the lines
 /// `%%%mznStat: nSolutions=1` and `%%%mznStatEnd`.
 pub fn trailer(alloc: Global, ending: Ending, solutions: Option<u64>) -> Result<Vec<u8>, AllocError>
     ensures { IfOk result (λ text. text.items ≡ ending_text ending ++ statistics_text solutions) }
@@ -20,7 +20,7 @@ pub fn trailer(alloc: Global, ending: Ending, solutions: Option<u64>) -> Result<
     Ok(text)
 }
 
-/// The line behind the blocks.
+/// The line after the blocks.
 fn line_of(alloc: Global, ending: Ending) -> Result<Vec<u8>, AllocError>
     ensures { IfOk result (λ text. text.items ≡ ending_text ending) }
 {
@@ -41,7 +41,7 @@ fn statistics(alloc: Global, count: u64) -> Result<Vec<u8>, AllocError>
     Ok(text)
 }
 
-/// The line that a generated model of so many items has in place of blocks: `items=4 best=17`, with the value of a best choice.
+/// The line that a generated model of that many items has in place of blocks: `items=4 best=17`, with the value of a best choice.
 pub fn summary(alloc: Global, items: u32, best: i32) -> Result<Vec<u8>, AllocError>
     ensures { IfOk result (λ text. text.items ≡ summary_text items best) }
 {

@@ -1,4 +1,4 @@
--- Blocks of a book that are printed one behind another.
+-- Blocks of a book that are printed one after another.
 use Rattle.std.proofs.Common.{◌≡◌, ◌∙◌, ◌≤◌, ◌+◌, ◌-◌, ◌⊎◌, inl, inr, ℕ, zero, suc, List, [], ◌∷◌, ◌++◌, length, take, drop, Option, Some, None, refl, sym, ap, subst, arith, Bool, true, false, append-nil, length-append}
 use Rattle.std.specs.Prelude.{ℤ, slice_range}
 use Rattle.std.specs.List.{AllByRecursion}
@@ -47,7 +47,7 @@ none_taken m l a taken =
     let e : a - a ≡ 0 = omega arith in
     sym (with_more-none taken) ∙ ap (λ n. with_more taken (blocks m (take n (drop a l)))) (sym e)
 
--- more than was due is due behind an account
+-- more than was due is due after an account
 pub due_grows : (found : Bool) (wanted : Option ℕ) (m n : ℕ) → m ≤ n → due_among found wanted m ≤ due_among found wanted n
 due_grows false wanted m n h = omega arith
 due_grows true None m n h = h
@@ -58,7 +58,7 @@ within_recorded false wanted n = omega arith
 within_recorded true None n = omega arith
 within_recorded true (Some k) n = omega arith
 
--- what a book takes stands behind what it had
+-- what a book takes stands after what it had
 pub takes_more : (b new : Book) (c : Account) → Takes b c new → KeepsBook b new
 takes_more b new c takes = record {
   model = ap (λ (x : Book). x.model) takes.is;
@@ -121,7 +121,7 @@ within_due old new before after g ready now = by new.stopped refl
         let due = still_due old new g.keeps g.book ready in
         omega (arith, same, due)
 
--- what a printer has printed, behind a call more
+-- what a printer has printed, after a call more
 pub printed_on : (old new : Printer) (before middle after : Option (List ℕ)) → Grew old new middle after → old.stopped ≡ None → IsReady old → IsBelow old.wanted old.printed → HasPrinted old before middle → HasPrinted new before after
 printed_on old new before middle after g none ready below was =
     let here : middle ≡ with_more before (blocks old.book.book.model (take old.printed old.book.book.recorded)) = subst (λ (s : Option Stop). HasPrintedAt s old before middle) none was in
@@ -179,7 +179,7 @@ printed_more old new before after m l book keeps model recorded more none is = r
   took = subst (λ (s : Option Stop). Took s old new before after) (sym none) (is ∙ (λ i. with_more before (blocks (model i) (slice_range (recorded i) old.printed new.printed))));
 }
 
--- those from the first that isn't printed on, as many as are due behind it
+-- those from the first that isn't printed on, as many as are due after it
 pub printed_due : (old new : Printer) (before after : Option (List ℕ)) (m : Instance) (rest found : List (List ℤ)) (count : ℕ) → new.book.book ≡ old.book.book → KeepsPrinting old new → m ≡ old.book.book.model → rest ≡ drop old.printed old.book.book.recorded
     → found ≡ take (count - old.printed) rest → old.printed ≤ count → new.printed ≡ count → new.stopped ≡ None → after ≡ with_more before (blocks m found) → Grew old new before after
 printed_due old new before after m rest found count book keeps model is_rest is_found more printed none is =

@@ -1,4 +1,4 @@
--- That taking in nothing gathers, and one call behind another.
+-- That taking in nothing gathers, and one call after another.
 use Rattle.std.specs.Prelude.{◌≡◌, ℕ, List, Option, None}
 use Rattle.std.proofs.Common.{◌∙◌, refl, sym, subst, arith}
 use Rattle.fz_printing.specs.declared.printer.Stop.{Stop}
@@ -30,7 +30,7 @@ gathers_none p taken n none ready = record {
   cause = none_counts (stopped_of p) n none;
 }
 
--- one behind another
+-- one after another
 pub gathers_both : (old p new : Printer) (taken middle after : Option (List ℕ)) (n j k : ℕ) → Gathers old taken n p middle j → stopped_of p ≡ None → Gathers p middle j new after k → Gathers old taken n new after k
 gathers_both old p new taken middle after n j k first none second = record {
   keeps = both_keep old p new first.keeps second.keeps;

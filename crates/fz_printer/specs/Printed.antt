@@ -29,7 +29,7 @@ printed_of p = p.printed
 abbrev pub stopped_of : Printer → Option Stop
 stopped_of p = p.stopped
 
--- how many of so many recorded ones are to be printed
+-- how many of that many recorded ones are to be printed
 abbrev pub due_among : Bool → Option ℕ → ℕ → ℕ
 due_among false wanted count = 0
 due_among true None count = count
@@ -56,7 +56,7 @@ pub record KeepsBook (old new : Book) : Type 0 where
   pub added : List (List ℤ)
   pub recorded : new.recorded ≡ old.recorded ++ added
 
--- The sink took the blocks of those printed since, in the order in which they are recorded; where printing stopped it took a front
+-- The sink took the blocks of those printed since, in the order in which they are recorded; where printing stopped it took a prefix
 -- of the blocks that were due.
 abbrev pub Took : Option Stop → Printer → Printer → Option (List ℕ) → Option (List ℕ) → Type 0
 Took None old new before after = after ≡ with_more before (blocks new.book.book.model (slice_range new.book.book.recorded old.printed new.printed))
@@ -100,7 +100,7 @@ abbrev pub IsBelow : Option ℕ → ℕ → Type 0
 IsBelow None count = Unit {0}
 IsBelow (Some n) count = count < n
 
--- Since it was begun the sink took the blocks of those printed; where it stopped, these or a front of the blocks that were due.
+-- Since it was begun the sink took the blocks of those printed; where it stopped, these or a prefix of the blocks that were due.
 abbrev pub HasPrintedAt : Option Stop → Printer → Option (List ℕ) → Option (List ℕ) → Type 0
 HasPrintedAt None p before after = after ≡ with_more before (blocks p.book.book.model (take p.printed p.book.book.recorded))
 HasPrintedAt (Some stop) p before after =

@@ -169,7 +169,7 @@ impl Printer {
         }
     }
 
-    /// So many are printed now. Where these are all that is recorded, its book lets go of them.
+    /// That many are printed now. Where these are all that is recorded, its book lets go of them.
     fn mark_printed(&mut self, count: usize)
         requires more { printed_of self.old ≤ count }
         ensures book { book_of self.new ≡ book_of self.old }

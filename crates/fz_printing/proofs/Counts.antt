@@ -1,4 +1,4 @@
--- What stands behind so many solutions.
+-- What stands after that many solutions.
 use Rattle.std.proofs.Common.{◌≡◌, ◌∙◌, ℕ, List, [], ◌∷◌, length, Bool, true, false, Option, Some, None, ap, refl}
 use Rattle.std.specs.Prelude.{ℤ, if◌then◌else◌}
 use Rattle.fz_spec.specs.Run.{closing}

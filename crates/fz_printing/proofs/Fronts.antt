@@ -22,7 +22,7 @@ pub front_of_nothing : (whole : List ℕ) (before after : Option (List ℕ)) →
 front_of_nothing whole None after h t = record { printed = []; more = whole; some = h; front = refl; taken = t }
 front_of_nothing whole (Some b) after h t = record { printed = []; more = whole; some = h; front = refl; taken = t ∙ ap Some (sym (append-nil b)) }
 
--- a front of the first part, and one behind it
+-- a prefix of the first part, and one after it
 pub front_more : (first second : List ℕ) (before after : Option (List ℕ)) → TakesFront first before after → TakesFront (first ++ second) before after
 front_more first second before after f = record {
   printed = f.printed;
@@ -49,7 +49,7 @@ some_behind front end h = omega (arith, h, length-append front end)
 cut : {X : Type 0} (xs : List X) (i : ℕ) (x : X) → i < length xs → x ≡ get_or xs i x → xs ≡ take i xs ++ x ∷ drop (suc i) xs
 cut xs i x h e = sym (take-append-drop i xs) ∙ ap (λ u. take i xs ++ u) (drop-cons xs i x h ∙ ap (λ y. y ∷ drop (suc i) xs) (sym e))
 
--- a front of the text of an element behind those of the elements before it
+-- a prefix of the text of an element after those of the elements before it
 pub front_within : {X : Type 0} (f : X → List ℕ) (xs : List X) (i : ℕ) (x : X) (before middle after : Option (List ℕ)) → i < length xs → x ≡ get_or xs i x
     → middle ≡ with_more before (flat_map f (take i xs)) → TakesFront (f x) middle after → TakesFront (flat_map f xs) before after
 front_within f xs i x before middle after h e m t =

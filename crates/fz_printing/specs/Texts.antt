@@ -12,7 +12,7 @@ use Rattle.fz_io.specs.Outside.{with_more}
 use Rattle.fz_printing.specs.declared.printer.Stop.{Stop}
 use Rattle.fz_printing.specs.declared.printer.Stop.TheVariants.{Memory, Fault}
 
--- the sink took a front of this text, which lacks one byte at least
+-- the sink took a prefix of this text, which lacks one byte at least
 pub record TakesFront (whole : List ℕ) (before after : Option (List ℕ)) : Type 0 where
   pub printed : List ℕ
   pub more : List ℕ
@@ -32,7 +32,7 @@ HasStopCause before after result = MatchResult result (λ _. after ≡ before) (
 abbrev pub ending : Bool → List (List ℤ) → List ℕ
 ending complete l = if complete then closing l else []
 
--- the same of so many, whichever they are
+-- the same of that many, whichever they are
 abbrev pub closing_after : ℕ → List ℕ
 closing_after zero = closing []
 closing_after (suc n) = closing ([] ∷ [])
@@ -44,7 +44,7 @@ abbrev pub count_if : Bool → ℕ → Option ℕ
 count_if true n = Some n
 count_if false n = None
 
--- what stands behind the blocks of all that is listed
+-- what stands after the blocks of all that is listed
 abbrev pub end_text : Options → List (List ℤ) → Bool → List ℕ
 end_text o l complete = ending complete l ++ statistics_text (counted o.stats l)
 
@@ -61,6 +61,6 @@ shown_text Satisfy generate m l complete = listing_text m l complete
 shown_text (Minimize goal) generate m l complete = best_text generate goal m l complete
 shown_text (Maximize goal) generate m l complete = best_text generate goal m l complete
 
--- and behind it the statistics
+-- and after it the statistics
 abbrev pub run_text : Options → Instance → List (List ℤ) → Bool → List ℕ
 run_text o m l complete = shown_text m.goal o.generate m l complete ++ statistics_text (counted o.stats l)

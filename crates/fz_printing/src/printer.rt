@@ -29,7 +29,7 @@ pub enum Stop {
     Fault,
 }
 
-/// Prints what is shown of a search, and behind it the statistics where they are asked for.
+/// Prints what is shown of a search, and after it the statistics where they are asked for.
 pub fn print_run<S: Sink>(
     alloc: Global,
     sink: &mut S,
@@ -51,7 +51,7 @@ pub fn print_run<S: Sink>(
     put_statistics(alloc, sink, options.stats(), found.len() as u64)
 }
 
-/// Prints what stands behind the blocks of all that is listed, which are so many: the closing line where there is one, and the
+/// Prints what stands after the blocks of all that is listed, which are that many: the closing line where there is one, and the
 /// statistics where they are asked for.
 pub fn print_end<S: Sink>(
     alloc: Global,
@@ -186,7 +186,7 @@ fn print_listing<S: Sink>(
     put_ending(alloc, sink, found.len() as u64, complete)
 }
 
-/// Prints the closing line behind so many solutions, where there is one.
+/// Prints the closing line after that many solutions, where there is one.
 fn put_ending<S: Sink>(alloc: Global, sink: &mut S, count: u64, complete: bool) -> Result<(), Stop>
     requires { S.faults sink.old < 2 ^ 64 - 1 }
     ensures taken { OnOk result

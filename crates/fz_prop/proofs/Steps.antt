@@ -115,7 +115,7 @@ taken_store s v rest is list =
       few = few_listed rest (length s.doms) once.1 inside.1;
     }
 
--- ---- the step of a store that is kept as lists, with the changed variables behind a place
+-- ---- the step of a store that is kept as lists, with the changed variables after a place
 
 record IsKeptStep (ds es : List (List (ℤ × ℤ))) (ms ns cs gs : List ℕ) (h v : ℕ) (P : ℤ → Type 0) : Type 0 where
   step : IsStep (record { doms = ds; marks = ms; changed = drop h cs }) v P (record { doms = es; marks = ns; changed = drop h gs })

@@ -20,7 +20,7 @@ pub fn first_index(store: &Store, index: Term) -> i32
     least_of(store, index).max(1)
 }
 
-/// What is above each index of a list of so many that is left of a term.
+/// What is above each index of a list of that many that is left of a term.
 pub fn index_end(store: &Store, index: Term, count: usize) -> i32
     requires index { IsTermOf (length store.now.doms) index }
     requires fits { FitsTerm index }
@@ -40,7 +40,7 @@ fn above(value: i32) -> i32
     value + 1
 }
 
-/// The last index of a list of so many, or the greatest `i32` where the list is longer.
+/// The last index of a list of that many, or the greatest `i32` where the list is longer.
 pub fn last_index(count: usize) -> i32
     ensures last { result ≡ int_min (pos count) (pos 2147483647) }
     ensures above { (k : ℤ) → k ≤ℤ pos 2147483647 → k ≤ℤ pos count → k ≤ℤ result }

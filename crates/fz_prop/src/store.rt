@@ -379,7 +379,7 @@ fn list(changed: &mut Vec<u32>, variable: u32)
     }
 }
 
-/// Those that were taken leave a list of changed variables once none is left behind them, or they are as many as there are variables.
+/// Those that were taken leave a list of changed variables once none is left after them, or they are as many as there are variables.
 /// It tells how many are still there.
 #[inline(always)]
 fn close_up(changed: &mut Vec<u32>, taken: usize, variables: usize) -> usize
@@ -399,7 +399,7 @@ fn close_up(changed: &mut Vec<u32>, taken: usize, variables: usize) -> usize
     0
 }
 
-/// The first so many leave a list.
+/// The first that many leave a list.
 #[inline(never)]
 fn move_up(list: &mut Vec<u32>, count: usize)
     requires { count ≤ length list.old.items }

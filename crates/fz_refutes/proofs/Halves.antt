@@ -25,7 +25,7 @@ joined l u rs are gap =
     (λ lt. subst (λ (is : List (ℤ × ℤ)). AreRanges (is ++ rs)) (sym (none l u lt)) are)
     (λ le. subst (λ (is : List (ℤ × ℤ)). AreRanges (is ++ rs)) (sym (whole l u le)) (before l u rs le are gap))
 
--- what is in an interval and in ranges behind it
+-- what is in an interval and in ranges after it
 pub in_joined : (l u : ℤ) (rs : List (ℤ × ℤ)) (x : ℤ) → IsInSet (interval l u ++ rs) x → ((l ≤ℤ x) × (x ≤ℤ u)) ⊎ IsInSet rs x
 in_joined l u rs x i =
     by_lt_z u l

@@ -30,7 +30,7 @@ pub record IsFirst (m : Instance) (head : Option (List ℤ)) (box : List (List (
   pub shorter : length rest < length lines
   pub is : lines ≡ lines_of tree ++ rest
 
--- by the length of the lines, since the later tree of a split is behind the earlier one
+-- by the length of the lines, since the later tree of a split is after the earlier one
 first : (fuel : ℕ) (m : Instance) (head : Option (List ℤ)) (box : List (List (ℤ × ℤ))) (boxes : List (List (List (ℤ × ℤ)))) (lines : List Line)
     → length lines < fuel → AreRefutedBy m head (box ∷ boxes) lines → IsFirst m head box boxes lines
 first zero m head box boxes lines short out = absurd (omega (arith, short))

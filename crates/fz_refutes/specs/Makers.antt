@@ -26,18 +26,18 @@ IsFirstFit m head box (Fails c) = IsFailing m box c
 IsFirstFit m head box IsBehind = IsHopeless m head box
 IsFirstFit m head box (Splits v n) = IsSplit m head box v n
 
--- the boxes that are left behind a line of the first of them
+-- the boxes that are left after a line of the first of them
 abbrev pub boxes_after : Line → List (List (ℤ × ℤ)) → List (List (List (ℤ × ℤ))) → List (List (List (ℤ × ℤ)))
 boxes_after (Splits v n) box boxes = low_half v n box ∷ high_half v n box ∷ boxes
 boxes_after line box boxes = boxes
 
--- lines begin with those of the tree of a box, and these are behind it
+-- lines begin with those of the tree of a box, and these are after it
 pub record BeginsWithTree (m : Instance) (head : Option (List ℤ)) (box : List (List (ℤ × ℤ))) (lines rest : List Line) : Type 0 where
   pub tree : Tree
   pub is_tree : IsTreeOf m head box tree
   pub is : lines ≡ lines_of tree ++ rest
 
--- lines are those of the trees of boxes, one tree behind another
+-- lines are those of the trees of boxes, one tree after another
 abbrev pub AreTreesOf : Instance → Option (List ℤ) → List (List (List (ℤ × ℤ))) → List Line → Type 0
 AreTreesOf m head [] lines = lines ≡ []
 AreTreesOf m head (box ∷ boxes) lines = (rest : List Line) × BeginsWithTree m head box lines rest × AreTreesOf m head boxes rest
@@ -69,7 +69,7 @@ abbrev pub FitsBefore : Type 0
 FitsBefore = (m : Instance) (head : Option (List ℤ)) (box : List (List (ℤ × ℤ))) (boxes : List (List (List (ℤ × ℤ)))) (line : Line) (lines : List Line)
     → IsFirstFit m head box line → AreTreesOf m head (boxes_after line box boxes) lines → AreTreesOf m head (box ∷ boxes) (line ∷ lines)
 
--- Behind it fewer lines can come.
+-- After it fewer lines can come.
 abbrev pub FitsShorten : Type 0
 FitsShorten = (m : Instance) (head : Option (List ℤ)) (box : List (List (ℤ × ℤ))) (boxes : List (List (List (ℤ × ℤ)))) (line : Line)
     → AreSets box → IsFirstFit m head box line → most_lines_of (boxes_after line box boxes) < most_lines_of (box ∷ boxes)

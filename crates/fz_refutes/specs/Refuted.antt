@@ -75,7 +75,7 @@ abbrev pub IsEmptyAmong : List (List (ℤ × ℤ)) → List ℕ → Type 0
 IsEmptyAmong box [] = ⊥
 IsEmptyAmong box (v ∷ vs) = (set_at box v ≡ []) ⊎ IsEmptyAmong box vs
 
--- a variable behind others, where more than one number is left of it and it isn't among them
+-- a variable after others, where more than one number is left of it and it isn't among them
 abbrev pub with_open : List (List (ℤ × ℤ)) → List ℕ → ℕ → List ℕ
 with_open box found v = if nat_lt 1 (set_size (set_at box v)) then (if list_any (λ w. w == v) found then found else found ++ v ∷ []) else found
 

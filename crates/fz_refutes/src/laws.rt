@@ -52,7 +52,7 @@ pub fn fits_before()
     ensures { FitsBefore }
 {}
 
-/// Behind a line that fits fewer lines can come.
+/// After a line that fits fewer lines can come.
 pub fn fits_shorten()
     ensures { FitsShorten }
 {}

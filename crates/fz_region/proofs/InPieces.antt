@@ -184,7 +184,7 @@ module _ {X : Type 0} (items : X → List Edge) where
       ∙ append_assoc (flat_map items ps) (flat_map items more) (drop n tail)
       ∙ ap (λ (l : List Edge). flat_map items ps ++ l) (ap (λ (l : List Edge). l ++ drop n tail) is ∙ take-append-drop n tail)
 
-  -- the pieces and the tail behind them, as they stand then
+  -- the pieces and the tail after them, as they stand then
   pub shared_pieces : (ps more : List X) (tail : List Edge) (n : ℕ) → ArePieces items ps tail n → flat_map items more ≡ take (n / PIECE * PIECE) tail → Whole more → length ps + n / PIECE ≤ PIECES_MOST
       → ArePieces items (ps ++ more) (drop (n / PIECE * PIECE) tail) (n % PIECE)
   shared_pieces ps more tail n old is w few =

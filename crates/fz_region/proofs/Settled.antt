@@ -26,7 +26,7 @@ settled_all es fs h k = list_any-append edge_has_rest es fs ∙ or_from (list_an
 pub any_past : (es fs : List Edge) → AreSettled es → list_any edge_has_rest (es ++ fs) ≡ list_any edge_has_rest fs
 any_past es fs h = list_any-append edge_has_rest es fs ∙ or_behind (list_any edge_has_rest es) (list_any edge_has_rest fs) h
 
--- ---- behind settled ones
+-- ---- after settled ones
 
 pub next_past : (es fs : List Edge) → list_any edge_has_rest fs ≡ true → next_edges (es ++ fs) ≡ es ++ next_edges fs
 next_past [] fs some = refl

@@ -21,7 +21,7 @@ use std::sync::ArcSlice;
 pub struct Edges {
     pieces: Vec<ArcSlice<Edge>>,
     tail: Vec<Edge>,
-    /// So many of the tail's first edges are known to be settled.
+    /// That many of the tail's first edges are known to be settled.
     settled: usize,
 }
 

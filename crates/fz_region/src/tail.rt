@@ -9,7 +9,7 @@ use crate::edge::Edge;
 use crate::places::{deepest, topmost};
 use std::alloc::{AllocError, Global};
 
-/// How many of the first edges are settled, where so many are.
+/// How many of the first edges are settled, where that many are.
 pub fn settled_from(tail: &[Edge], from: usize) -> usize
     requires { AreSettledTo from tail.now }
     ensures { AreSettledTo result tail.now }

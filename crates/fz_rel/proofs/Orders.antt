@@ -30,7 +30,7 @@ pub line : (strict : Bool) (d e : List (ℤ × ℤ)) → IsOrdered strict (least
 line true d e low high = (from_order true (least d) (least e) low, from_order true (greatest d) (greatest e) high)
 line false d e low high = (from_order false (least d) (least e) low, from_order false (greatest d) (greatest e) high)
 
--- ---- numbers before the greatest of the other, and behind the least
+-- ---- numbers before the greatest of the other, and after the least
 
 pub before_greatest : (strict : Bool) (x y u w : ℤ) → Relates (order_of strict) x y → y ≤ℤ u → w ≡ u -ℤ gap_of strict → x ≤ℤ w
 before_greatest strict x y u w h up is = let o = to_order strict x y h in omega (arith, ints, o, up, is)
@@ -53,7 +53,7 @@ failed_high strict x y u w r s is_x is_y upper is h a within holds =
     none_kept x (λ z. z ≤ℤ w) r s h (term_value a x) (term_within r.doms a x is_x within)
     (before_greatest strict (term_value a x) (term_value a y) u w holds (upper (term_value a y) (term_within r.doms a y is_y within)) is)
 
--- y keeps the numbers from w on, where w is behind the least of x
+-- y keeps the numbers from w on, where w is after the least of x
 pub correct_low : (strict : Bool) (change : Change) (x y : Term) (u w : ℤ) (r s : Stored) → IsTermOf (length r.doms) x
     → ((z : ℤ) → IsInSet (term_set r.doms x) z → u ≤ℤ z) → w ≡ u +ℤ gap_of strict
     → IsTermChange change y (λ z. w ≤ℤ z) r s → Shrinks r s → IsCorrectOf (TruthOf (order_of strict) x y) r.doms s.doms

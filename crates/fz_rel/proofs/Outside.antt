@@ -76,7 +76,7 @@ high_within rs i r h inside is = rw is ((ends_within rs i (pos 0, pos 0) h insid
 
 -- ---- step by step
 
--- the gaps before a number, behind the first ranges of a set
+-- the gaps before a number, after the first ranges of a set
 pub record AreGaps (set gaps : List (ℤ × ℤ)) (i : ℕ) (from : ℤ) : Type 0 where
   pub within : AreWithinLimits gaps
   pub least : LEAST ≤ℤ from
@@ -147,7 +147,7 @@ gaps_more set gaps i from low next r rising limits inside is low_is next_is g = 
 pub gaps_within : (set gaps : List (ℤ × ℤ)) (i : ℕ) (from : ℤ) → AreGaps set gaps i from → AreWithinLimits (gaps ++ gap from (pos 2147483647))
 gaps_within set gaps i from g = within_both gaps (gap from (pos 2147483647)) g.within (within_gap from (pos 2147483647) g.least (omega (arith, ints)))
 
--- with the gap behind the last range these are the numbers outside the set
+-- with the gap after the last range these are the numbers outside the set
 pub gaps_all : (set gaps d : List (ℤ × ℤ)) (i : ℕ) (from : ℤ) → length set ≤ i → AreGaps set gaps i from → AreOneSet d (gaps ++ gap from (pos 2147483647)) → AreOthers set d
 gaps_all set gaps d i from past g same x =
     let most = g.most in

@@ -96,7 +96,7 @@ fn lowest_behind(store: &Store, strict: bool, x: Term) -> i32
     behind(least_of(store, x), strict)
 }
 
-/// The greatest number in order with one behind it.
+/// The greatest number in order with one after it.
 fn before(value: i32, strict: bool) -> i32
     requires { IsWithinLimits value }
     ensures { result ≡ value -ℤ gap_of strict }

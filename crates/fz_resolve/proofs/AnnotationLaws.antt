@@ -1,4 +1,4 @@
--- Arguments of annotations, as a list and one behind another; the elements of an array of index ranges.
+-- Arguments of annotations, as a list and one after another; the elements of an array of index ranges.
 use Rattle.std.proofs.Common.{◌≡◌, ℕ, ℤ, ◌+◌, ◌*◌, ◌<◌, ◌≤◌, zero, suc, List, [], ◌∷◌, take, length, get_or, refl, sym, ap, ap₂, ◌∙◌, arith, add-one}
 use Rattle.std.specs.Prelude.{Bool, true, false, min, nat_lt}
 use Rattle.std.specs.Bool.{Decides}

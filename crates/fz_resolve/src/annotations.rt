@@ -224,7 +224,7 @@ pub fn output_shape(
     }
 }
 
-/// The argument behind so many others.
+/// The argument after that many others.
 fn argument_at<'i, 'a>(arguments: &'i [Argument<'a>], place: u32) -> Option<Nested<'i, 'a>>
     ensures { option_map trees.nested_of result ≡ slice_get (trees.trees_of arguments.now) place }
 {

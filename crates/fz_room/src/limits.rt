@@ -34,7 +34,7 @@ impl Room {
         }
     }
 
-    /// The room behind an item, or the place of the first that it adds over a limit. Additions come in the order of the text.
+    /// The room after an item, or the place of the first that it adds over a limit. Additions come in the order of the text.
     pub fn behind(self, item: &Item<'_>) -> Result<Room, u32>
         ensures { (n : Counts) → IsRoom self n → IsBehind n
             (rules.additions (trees.item_of item.now)) result }
@@ -254,7 +254,7 @@ impl Room {
         }
     }
 
-    /// The first over the limit is the one behind as many as there is room for.
+    /// The first over the limit is the one after as many as there is room for.
     fn behind_integers(self, integers: &[Integer]) -> Result<Room, u32>
         ensures { (n : Counts) → IsRoom self n → IsBehind n
             (flat_map rules.element_additions (map trees.integer_basic_of integers.now)) result }
@@ -311,7 +311,7 @@ impl Room {
         }
     }
 
-    /// Behind elements that each add a constraint too.
+    /// After elements that each add a constraint too.
     fn behind_bound_elements(self, elements: &Elements<'_>) -> Result<Room, u32>
         ensures { (n : Counts) → IsRoom self n → IsBehind n
             (flat_map (rules.array_element_additions true)
@@ -377,7 +377,7 @@ impl Room {
         }
     }
 
-    /// Behind the constraint that a value or an element adds.
+    /// After the constraint that a value or an element adds.
     fn behind_value(self, basic: &Basic<'_>) -> Result<Room, u32>
         ensures { (n : Counts) → IsRoom self n → IsBehind n
             (AConstraint (basic_at (trees.basic_of basic.now)) ∷ []) result }

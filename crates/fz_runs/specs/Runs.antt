@@ -33,7 +33,7 @@ abbrev pub ListsEach : Bool → Instance → List (List ℤ) → Type 0
 ListsEach false m l = Lists m l
 ListsEach true m l = ListsRows m l
 
--- so many satisfying assignments, no two of them the same, or with the same row
+-- that many satisfying assignments, no two of them the same, or with the same row
 pub record AreSome (distinct : Bool) (m : Instance) (n : ℕ) (l : List (List ℤ)) : Type 0 where
   pub sound : AllByRecursion (Satisfies m) l
   pub different : (a : List ℤ) → Satisfies m a → times_listed distinct m a l ≤ 1
@@ -44,7 +44,7 @@ pub record PrintsEach (distinct : Bool) (m : Instance) (l : List (List ℤ)) (pr
   pub lists : ListsEach distinct m l
   pub text : printed ≡ blocks m l ++ closing l
 
--- so many solutions, in the order of this list, and no closing line
+-- that many solutions, in the order of this list, and no closing line
 pub record PrintsSome (distinct : Bool) (m : Instance) (n : ℕ) (l : List (List ℤ)) (printed : List ℕ) : Type 0 where
   pub are : AreSome distinct m n l
   pub text : printed ≡ blocks m l
@@ -78,7 +78,7 @@ abbrev pub summary_of : ℕ → Term → List (List ℤ) → List ℕ
 summary_of items goal [] = closing []
 summary_of items goal (a ∷ l) = summary_text items (term_value a goal)
 
--- a best one of a generated model of so many items, summed up
+-- a best one of a generated model of that many items, summed up
 pub record PrintsSummary (items : ℕ) (goal : Term) (m : Instance) (l : List (List ℤ)) (printed : List ℕ) : Type 0 where
   pub are : AreBest false m l
   pub text : printed ≡ summary_of items goal l

@@ -28,7 +28,7 @@ impl<'m> Saying<'m> {
     }
 }
 
-/// The class of what is said of so many terms and a result.
+/// The class of what is said of that many terms and a result.
 fn cost_of_operands(count: usize) -> Cost
     ensures { result ≡ cost_of_operands count }
 {

@@ -35,7 +35,7 @@ use Rattle.fz_printer.specs.Gatherings.{gathers_both}
 use Rattle.fz_runs.proofs.Times.{times_are}
 use Rattle.fz_search.specs.Searched.{IsAlone, IsByTurns, IsPrinted, enough_for, first_shown, HasEnded, IsSearched, IsListing, IsShown, IsTally, shows_all, shows_found}
 
--- ---- the first so many of a list
+-- ---- the first that many of a list
 
 all_first : (P : List ℤ → Type 0) (l : List (List ℤ)) (n : ℕ) → AllByRecursion P l → AllByRecursion P (take n l)
 all_first P l zero all = tt
@@ -132,7 +132,7 @@ printed_alone m o mode old p q r shows w before after s opened own law as_found 
       ended = λ n. subst (λ (x : Option ℕ). HasEnded x (book_of p)) kept (filled_ended (wanted_of p) (book_of p) (ended n));
     }
 
--- by several, that printed on their way, and by one behind them
+-- by several, that printed on their way, and by one after them
 pub printed_together : (m : Instance) (o : Options) (mode : Mode) (old p : Printer) (shows : Bool) (w : Option ℕ) (before after : Option (List ℕ)) (n k : ℕ) → Gathers old before n p after k → book_of old ≡ opening m mode → mode ≡ mode_for m.goal o → BookLaw (book_of p)
     → as_found_of old ≡ shows → shows ≡ shows_found m.goal o → wanted_of old ≡ w → w ≡ enough_for m.goal o → printed_of old ≡ 0 → stopped_of old ≡ None
     → (stopped_of p ≡ None → IsFilled p ⊎ ((book_of p).parts ≡ [])) → IsPrinted m o p before after
@@ -149,7 +149,7 @@ printed_together m o mode old p shows w before after n k s opened own law as_fou
       ended = λ still. subst (λ (x : Option ℕ). HasEnded x (book_of p)) kept (filled_ended (wanted_of p) (book_of p) (ended still));
     }
 
--- one worker's search behind what was printed
+-- one worker's search after what was printed
 pub streamed_behind : (old p new : Printer) (q r : Pathed) (taken middle after : Option (List ℕ)) (n j k : ℕ) → Gathers old taken n p middle j → stopped_of p ≡ None → Streams p q middle new r after → (stopped_of new ≡ None → IsReady new) → CountsMark j k (stopped_of new) → Gathers old taken n new after k
 streamed_behind old p new q r taken middle after n j k first none second ready cause =
     gathers_both old p new taken middle after n j k first none (record { keeps = second.keeps; model = second.model; mode = second.mode; printed = second.printed; within = second.within; ready = ready; cause = cause })

@@ -95,7 +95,7 @@ IsShown Satisfy o m l complete = IsListing o.distinct m (wanted o) l complete
 IsShown (Minimize term) o m l complete = (complete ≡ true) × AreBest (shows_all o.generate o.all) m l
 IsShown (Maximize term) o m l complete = (complete ≡ true) × AreBest (shows_all o.generate o.all) m l
 
--- as many as are wanted, of so many that are recorded; or all, where these are fewer
+-- as many as are wanted, of that many that are recorded; or all, where these are fewer
 abbrev pub IsTally : Option ℕ → ℕ → ℕ → Bool → Type 0
 IsTally w recorded count true = (count ≡ recorded) × ((n : ℕ) → w ≡ Some n → recorded < n)
 IsTally w recorded count false = IsSomeAnd w (λ n. (n ≤ recorded) × (count ≡ n))

@@ -221,7 +221,7 @@ pub fn tally_of(book: &Book, options: &Options) -> Tally
     tally_among(book.recorded_count(), wanted)
 }
 
-/// As many as are wanted, where so many are recorded, or all.
+/// As many as are wanted, where that many are recorded, or all.
 fn tally_among(recorded: usize, wanted: Option<u32>) -> Tally
     ensures { IsTally wanted recorded result.count result.complete }
 {

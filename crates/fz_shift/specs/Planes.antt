@@ -30,7 +30,7 @@ pub record IsSmall (p : Plane) : Type 0 where
   pub most : p.factor ≤ℤ pos 255
   pub number : negsuc 2147483646 ≤ℤ p.number
 
--- its variables are among so many
+-- its variables are among that many
 pub record AreInside (size : ℕ) (p : Plane) : Type 0 where
   pub across : p.across < size
   pub first : p.first < size

@@ -1,6 +1,6 @@
 //! How often a search asks whether the sink is to hand on.
 
-/// So many steps go by between two times that the sink is asked, at most.
+/// That many steps go by between two times that the sink is asked, at most.
 const MOST: u32 = 16;
 
 /// How many steps go by until the sink is asked again: twice as many each time, so that it is asked late by no more than it waited,

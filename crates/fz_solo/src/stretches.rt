@@ -29,7 +29,7 @@ pub enum Pause {
 }
 
 /// Searches what the path holds, until nothing is left of it, as much is found as the halt says, or the sink is to hand on. What was
-/// found before has waited so many times.
+/// found before has waited that many times.
 ///
 /// # Errors
 /// `AllocError` where there is no memory.
@@ -67,7 +67,7 @@ pub fn stretch<S: SearchSpace, K: Sink>(
     }
 }
 
-/// Whether the stretch is to end behind a step that found something.
+/// Whether the stretch is to end after a step that found something.
 fn is_reached<S: SearchSpace>(path: &Path<S>, halt: Halt, step: Step) -> bool
     ensures found { IsTrue result → step ≡ Step.Found }
     ensures each { IsFalse result → step ≡ Step.Found → halt ≢ Halt.Each }

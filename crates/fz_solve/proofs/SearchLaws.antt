@@ -22,7 +22,7 @@ use Rattle.fz_solve.specs.declared.search.Words.{Words}
 abbrev pub with_left : List ℕ → Option (List (List ℕ)) → Option (List ℕ)
 with_left vs left = option_map (λ ls. vs ++ searches.joined ls) left
 
--- ---- calls one behind another
+-- ---- calls one after another
 
 pub calls_done : (env : Environment) (left : List Argument) (ps : List SearchPart) → left ≡ [] → ps ++ parts_of_all env (joined left) ≡ ps
 calls_done env left ps e = ap (λ us. ps ++ parts_of_all env (joined us)) e ∙ append-nil ps
@@ -164,7 +164,7 @@ new_word env words a seen k h =
 
 -- ---- all annotations
 
--- the parts of annotations behind others that have these names
+-- the parts of annotations after others that have these names
 abbrev pub parts_behind : Environment → List (List ℕ) → List Annotation → List SearchPart
 parts_behind env seen rest = flat_map (parts_in env) (flat_map as_argument (firsts seen rest))
 

@@ -21,7 +21,7 @@ struct Words {
     seq_search: bool,
 }
 
-/// The parts of the search, those of each annotation one behind another. An annotation of a name that stood before says nothing.
+/// The parts of the search, those of each annotation one after another. An annotation of a name that stood before says nothing.
 ///
 /// # Errors
 /// `AllocError` where there is no memory.

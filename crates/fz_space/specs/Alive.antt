@@ -15,7 +15,7 @@ use Rattle.fz_engine.specs.Runs.{AllRest}
 abbrev pub spaced : Instance → Stored → Bool → Spaced
 spaced m s failed = record { model = m; doms = s.doms; failed = failed }
 
--- of so many variables at the front one number is left each
+-- of that many variables at the front one number is left each
 pub record FrontFixed (n : ℕ) (ds : List (List (ℤ × ℤ))) : Type 0 where
   pub within : n ≤ length ds
   pub single : (v : ℕ) → v < n → (x : ℤ) × (dom_at ds v ≡ (x, x) ∷ [])

@@ -33,7 +33,7 @@ pub struct Contents {
     /// What propagators keep between runs.
     kept: Vec<Kept>,
     failed: bool,
-    /// Of so many variables at the front one number is left.
+    /// Of that many variables at the front one number is left.
     front: usize,
 }
 

@@ -1,4 +1,4 @@
--- What a run prints (MiniZinc Handbook, "Output": ten dashes behind a solution, ten equal signs behind a search that is complete).
+-- What a run prints (MiniZinc Handbook, "Output": ten dashes after a solution, ten equal signs after a search that is complete).
 use Rattle.std.specs.Prelude.{◌≡◌, ℕ, ℤ, pos, List, [], ◌∷◌, ◌++◌, codes, decimal, flat_map, length, map, if◌then◌else◌}
 use Rattle.std.specs.Fmt.{signed_decimal}
 use Rattle.std.specs.Ordering.{int_eq}
@@ -30,7 +30,7 @@ values_text a o = comma_separated (map (λ t. value_text o.kind (term_value a t)
 abbrev pub shape_text : List (ℤ × ℤ) → List ℕ
 shape_text shape = codes "array" ++ decimal (length shape) ++ codes "d(" ++ flat_map (λ r. range_text r ++ codes ", ") shape ++ codes "["
 
--- what stands behind the equal sign: the value, or the values of an array by its index ranges
+-- what stands after the equal sign: the value, or the values of an array by its index ranges
 abbrev pub output_text : List ℤ → Output → List ℕ
 output_text a o = if o.array then shape_text o.shape ++ values_text a o ++ codes "])" else values_text a o
 
@@ -45,7 +45,7 @@ block m a = flat_map (line a) m.outputs ++ codes "----------\n"
 abbrev pub blocks : Instance → List (List ℤ) → List ℕ
 blocks m l = flat_map (block m) l
 
--- the line behind the blocks of a search that is complete
+-- the line after the blocks of a search that is complete
 abbrev pub closing : List (List ℤ) → List ℕ
 closing [] = codes "=====UNSATISFIABLE=====\n"
 closing (a ∷ l) = codes "==========\n"

@@ -26,7 +26,7 @@ row_named name = find (λ (row : Row). bytes_eq name row.name) rows
 abbrev pub row_of : Builtin → Option Row
 row_of builtin = find (λ (row : Row). (equality.ghosts).eq builtin row.builtin) rows
 
--- of the signatures of a row, that of so many arguments
+-- of the signatures of a row, that of that many arguments
 abbrev pub signature_of : Row → ℕ → Option (List Asked)
 signature_of row arity = find (λ (asked : List Asked). length asked == arity) row.signatures
 

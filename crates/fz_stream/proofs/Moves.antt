@@ -93,7 +93,7 @@ behind i b p c q first d r (Steps e s step held h n steps) = Steps e s step held
 behind i b p c q first d r (Finds e new s held h steps told) = Finds e new s held (behind i b p c q first e s h) steps told
 behind i b p c q first d r (Reports e new s a h holds rest takes) = Reports e new s a (behind i b p c q first e s h) holds rest takes
 
--- one part of a search behind another
+-- one part of a search after another
 pub both_stream : (old p new : Printer) (at q r : Pathed) (taken middle after : Option (List ℕ)) → Streams old at taken p q middle → stopped_of p ≡ None → Streams p q middle new r after → Streams old at taken new r after
 both_stream old p new at q r taken middle after first none second = record {
   keeps = both_keep old p new first.keeps second.keeps;

@@ -174,7 +174,7 @@ fn advance<S: SearchSpace, K: Sink>(
     }
 }
 
-/// When a stretch is to end: where solutions are printed as they are found, at each better one, or at so many as are still wanted.
+/// When a stretch is to end: where solutions are printed as they are found, at each better one, or at that many as are still wanted.
 fn halt_of(printer: &Printer) -> Halt
     ensures each { result ≡ halts.Each → as_found_of printer.now ≡ true }
     ensures quiet { result ≢ halts.Each
@@ -199,7 +199,7 @@ fn still_wanted(printer: &Printer) -> Option<u64> {
     }
 }
 
-/// What the printer is to know behind a stretch: the better solution that was found, or an account of what was done.
+/// What the printer is to know after a stretch: the better solution that was found, or an account of what was done.
 fn message_of(halt: Halt, pause: Pause) -> Message
     ensures better { result ≡ Message.Better → (halt ≡ halts.Each) × (pause ≡ pauses.Found) }
     ensures told { result ≢ Message.Better → halt ≡ halts.Each → pause ≢ pauses.Found }

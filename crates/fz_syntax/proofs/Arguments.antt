@@ -1,4 +1,4 @@
--- Arguments in one list: those inside one, and those behind it.
+-- Arguments in one list: those inside one, and those after it.
 use Rattle.std.proofs.Common.{◌≡◌, ℕ, zero, suc, ◌+◌, ◌-◌, ◌<◌, ◌≤◌, List, [], ◌∷◌, take, drop, length, get_or, refl, sym, ap, ap₂, ◌∙◌, arith}
 use Rattle.std.proofs.lemmas.List.{drop-take, drop_more, length-drop}
 use Rattle.std.specs.Bool.{Decides}
@@ -32,13 +32,13 @@ take_put a n behind =
     let e : n + count_of a ≡ count_of a + n = omega arith in
     ap₂ (λ inside others. with_inside a inside ∷ others) (take_less n (count_of a) behind) (ap (λ k. drop (count_of a) (take k behind)) e ∙ drop-take (count_of a) n behind)
 
--- those within reach are so many
+-- those within reach are that many
 pub take_reached : (xs : List Argument) (n : ℕ) → trees_of (take (reached xs n) xs) ≡ take n (trees_of xs)
 take_reached [] n = sym (take_nil n)
 take_reached (a ∷ xs) zero = refl
 take_reached (a ∷ xs) (suc n) = ap (put a) (take_reached xs (n + count_of a)) ∙ take_put a n (trees_of xs)
 
--- and the others stand behind
+-- and the others stand after them
 pub drop_reached : (xs : List Argument) (n : ℕ) → trees_of (drop (reached xs n) xs) ≡ drop n (trees_of xs)
 drop_reached [] n = sym (drop_nil n)
 drop_reached (a ∷ xs) zero = refl
@@ -63,7 +63,7 @@ reached_left xs n k m h e = go (nat_lt n m) (Decides-ltb n m)
         let f : m ≤ n = omega (arith, not_from_Decides false d refl) in
         all_reached xs k (omega (arith, h, e, f)) ∙ sym (all_reached xs n (omega (arith, h, f)))
 
--- behind one more as many are left as it has, and one less
+-- after one more as many are left as it has, and one less
 pub reached_more : (xs : List Argument) (a : Argument) (i left next m : ℕ) → i < length xs → a ≡ get_or xs i a → left ≢ 0 → next ≡ min (left - 1 + count_of a) m → length xs ≤ m
     → i + reached (drop i xs) left ≡ i + 1 + reached (drop (i + 1) xs) next
 reached_more xs a i zero next m l is n e h = absurd (n refl)
@@ -73,11 +73,11 @@ reached_more xs a i (suc k) next m l is n e h =
     ∙ ap (λ r. i + suc r) (sym (reached_left (drop (i + 1) xs) (k + count_of a) next m (omega (arith, length-drop (i + 1) xs, h)) (e ∙ ap (λ j. min (j + count_of a) m) less)))
     ∙ omega arith
 
--- an argument, those inside it and those behind it
+-- an argument, those inside it and those after it
 pub parted : (a : Argument) (xs : List Argument) → trees_of (a ∷ xs) ≡ with_inside a (trees_of (take (reached xs (count_of a)) xs)) ∷ trees_of (drop (reached xs (count_of a)) xs)
 parted a xs = sym (ap₂ (λ inside others. with_inside a inside ∷ others) (take_reached xs (count_of a)) (drop_reached xs (count_of a)))
 
--- behind one at a place, and so many more
+-- after one at a place, and that many more
 behind_at : (xs rest : List Argument) (a : Argument) (place end : ℕ) → drop place xs ≡ a ∷ rest → drop end rest ≡ drop (place + 1 + end) xs
 behind_at xs rest a place end e =
     let is : end + 1 + place ≡ place + 1 + end = omega arith in

@@ -1,4 +1,4 @@
--- How many elements of a list so many arguments take.
+-- How many elements of a list that many arguments take.
 use Rattle.std.specs.Prelude.{ℕ, zero, suc, ◌+◌, List, [], ◌∷◌}
 use Rattle.fz_syntax.specs.declared.annotation.Argument.{Argument}
 use Rattle.fz_syntax.specs.Trees.{count_of}

@@ -86,7 +86,7 @@ expression_of (expression.Scalar basic) = trees.Scalar (basic_of basic)
 expression_of (expression.Integers at integers) = trees.Listed (record { at = at; elements = map integer_basic_of integers.items })
 expression_of (expression.Basics at basics) = trees.Listed (record { at = at; elements = map basic_of basics.items })
 
--- arguments one behind another
+-- arguments one after another
 abbrev pub joined : List trees.Argument → trees.Arguments
 joined [] = Nil
 joined (a ∷ rest) = More a (joined rest)
@@ -105,7 +105,7 @@ with_inside (argument.Text at) inside = trees.Text at
 with_inside (argument.Call at bytes count) inside = trees.Call (record { bytes = bytes.now; at = at }) (joined inside)
 with_inside (argument.Brackets at count) inside = trees.Brackets at (joined inside)
 
--- an argument before others, of which so many as it has stand inside it
+-- an argument before others, of which that many as it has stand inside it
 abbrev pub put : Argument → List trees.Argument → List trees.Argument
 put a behind = with_inside a (take (count_of a) behind) ∷ drop (count_of a) behind
 

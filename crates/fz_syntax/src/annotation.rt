@@ -8,7 +8,7 @@ use crate::expression::Basic;
 use crate::leaf::Name;
 
 /// Arguments of an annotation stand in one list, in the order of the text: an expression that is no list, a string at its place, the
-/// name of a call, or the bracket of a list. Behind a call and a bracket stand the arguments that it has, so many, each with its own.
+/// name of a call, or the bracket of a list. After a call and a bracket stand the arguments that it has, that many, each with its own.
 /// An annotation without arguments is an expression, its name.
 #[derive(Drop)]
 pub enum Argument<'a> {
@@ -56,7 +56,7 @@ pub enum Nested<'i, 'a> {
     },
 }
 
-/// How many elements of a list so many arguments take.
+/// How many elements of a list that many arguments take.
 fn reach(arguments: &[Argument<'_>], count: usize) -> usize
     ensures reached { result ≡ reached arguments.now count }
     ensures within { result ≤ length arguments.now }
@@ -72,7 +72,7 @@ fn reach(arguments: &[Argument<'_>], count: usize) -> usize
     end
 }
 
-/// The argument at a place of the list, and the place behind it and those inside it.
+/// The argument at a place of the list, and the place after it and those inside it.
 pub fn first_at<'i, 'a>(
     arguments: &'i [Argument<'a>],
     place: usize,
@@ -90,7 +90,7 @@ pub fn first_at<'i, 'a>(
     Some((whole(first, &rest[..end]), place + 1 + end))
 }
 
-/// The first of these arguments, and those behind it.
+/// The first of these arguments, and those after it.
 pub fn first_of<'i, 'a>(
     arguments: &'i [Argument<'a>],
 ) -> Option<(Nested<'i, 'a>, &'i [Argument<'a>])>

@@ -4,7 +4,7 @@ ghost use Rattle.fz_table.specs.Rows.{AreApart, IsNotBefore};
 
 use fz_spec::term::Term;
 
-/// So many terms are looked at, each beside all before it.
+/// That many terms are looked at, each beside all before it.
 const MOST: usize = 64;
 
 /// Whether no variable stands at two places. Of many terms it says no.

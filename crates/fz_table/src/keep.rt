@@ -17,7 +17,7 @@ use fz_prop::{Answer, Change, Store};
 use fz_spec::term::Term;
 use std::alloc::{AllocError, Global};
 
-/// Sets of rows of so many words stand on the stack.
+/// Sets of rows of that many words stand on the stack.
 const NEAR: usize = 16;
 
 /// Narrows a store so that the values of terms are a row of a table: each term keeps the numbers that stand at its place of a row

@@ -17,7 +17,7 @@ pub struct Pairs {
     pub words: Vec<u64>,
 }
 
-/// A row may take so many words, at most.
+/// A row may take that many words, at most.
 const WORDS_A_ROW: usize = 4;
 
 /// The pairs of a table whose rows have a width, if that is two, and the numbers at a place are near to one another.
@@ -54,7 +54,7 @@ fn pairs_of(alloc: Global, table: &[i32]) -> Result<Option<Pairs>, AllocError>
     Ok(Some(pairs))
 }
 
-/// How many words numbers from a first to a last one take, if these are at most 64 and so many rows are worth them.
+/// How many words numbers from a first to a last one take, if these are at most 64 and that many rows are worth them.
 fn words_for(first: i32, last: i32, rows: usize) -> Option<usize> {
     let last = place_of(last, first)? as usize;
     if last / WORDS_A_ROW < rows {

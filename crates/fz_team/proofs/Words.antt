@@ -83,7 +83,7 @@ round_back {S} m word n left before {V} items o after is team all len =
     came_back m word n left before (items after) team (subst (λ (p : Option V). IfSome p (λ (v : V). All (IsMember m word n) (items v))) is all)
     (subst (λ (p : Option V). IfSome p (λ (v : V). length (items v) ≡ length before)) is len)
 
--- an end that a book shows, or want of memory
+-- an end that a book shows, or being out of memory
 pub ends_again : (shown end : End) (enough : Option ℕ) (m : Instance) (mode : Mode) (b c : Book) → (shown ≡ end) ⊎ (shown ≡ Short) → c ≡ b → Ends end enough m mode b → Ends shown enough m mode c
 ends_again shown end enough m mode b c (inl same) is ends = subst (λ (e : End). Ends e enough m mode c) (sym same) (subst (λ (x : Book). Ends end enough m mode x) (sym is) ends)
 ends_again shown end enough m mode b c (inr short) is ends = subst (λ (e : End). Ends e enough m mode c) (sym short) tt

@@ -15,7 +15,7 @@ IsScoreOf m least (Some a) = Satisfies m a × (least ≡ nat_abs (score m a))
 abbrev pub IsTaskOf : Instance → Tasked → Type 0
 IsTaskOf m t = IfSome t.near (λ (n : Neared). n.space.model ≡ m)
 
--- a worker of so many, of this model and this word
+-- a worker of that many, of this model and this word
 pub record IsMember {S : Type 0} (m : Instance) (word : TableId) (workers : ℕ) (x : Member S) : Type 0 where
   pub numbered : x.worker < workers
   pub bound : x.seat.bound ≡ word

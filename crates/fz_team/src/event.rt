@@ -66,7 +66,7 @@ fn wanted_of_each<S: SearchSpace, G: Gate, T: Subject>(crew: &Crew<S, G, T>) -> 
     Some(share(enough, recorded, crew.paths.len() as u64))
 }
 
-/// The least number of which, found by each of so many workers, would be enough beside those that are recorded.
+/// The least number of which, found by each of that many workers, would be enough beside those that are recorded.
 fn share(enough: u64, recorded: u64, workers: u64) -> u64
     requires { 1 ≤ workers }
     ensures { IsShare enough recorded workers result }
@@ -241,7 +241,7 @@ fn tell_account<R: Wait, S: SearchSpace, G: Gate, T: Subject>(
     Ok(())
 }
 
-/// Where an account was dropped, the team ends as for want of memory: what it was of is open, and nobody holds it.
+/// Where an account was dropped, the team ends as for being out of memory: what it was of is open, and nobody holds it.
 fn taken(handed: Handed) -> Result<(), AllocError>
     ensures taken { OnOk result (handed ≡ Handed.Taken) }
     ensures dropped { OnErr result (handed ≡ Handed.Dropped) }
@@ -351,7 +351,7 @@ fn claim<R: Wait, S: SearchSpace, G: Gate, T: Subject>(
     Ok(Some(Task::of(frontier)))
 }
 
-/// Tries the paths behind the worker's own, around.
+/// Tries the paths after the worker's own, around.
 fn steal_any<R: Wait, S: SearchSpace, G: Gate, T: Subject>(
     rt: &R,
     crew: &Crew<S, G, T>,

@@ -205,7 +205,7 @@ impl<T: Subject> OwnBook<T> {
         self.book
     }
 
-    /// Makes room for at least so many more assignments that are found, and frontiers that were given.
+    /// Makes room for at least that many more assignments that are found, and frontiers that were given.
     ///
     /// # Errors
     /// `AllocError` where there is no memory; the book is as before, but for its room.

@@ -39,7 +39,7 @@ struct Team<S: SearchSpace, T: Subject> {
 /// Lets one worker for each path search what is open in a book, each in a thread where one can be made, until nothing is open or as
 /// many are recorded as are asked for. Each account that the book takes, and each better one that it records, is told, until nobody
 /// takes that any more. Whatever the threads did, the book keeps its law. Where a path is of another model or mode than the book,
-/// nothing is searched, and it ends as for want of memory.
+/// nothing is searched, and it ends as for being out of memory.
 pub fn run<
     R: Threads + Wait + Sync,
     S: SearchSpace + Send,
@@ -183,7 +183,7 @@ fn locked<S: SearchSpace, T: Subject>(
     Ok(locked)
 }
 
-/// So many workers, each with one part of the bound word.
+/// That many workers, each with one part of the bound word.
 fn members_of<S: SearchSpace, T: Subject>(
     alloc: Global,
     count: usize,

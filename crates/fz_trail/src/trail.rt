@@ -58,7 +58,7 @@ impl<S: SearchSpace> Trail<S> {
         }
     }
 
-    /// Forgets all but the root. The path that is begun has so many edges.
+    /// Forgets all but the root. The path that is begun has that many edges.
     pub fn clear(&mut self, edges: usize)
         ensures distances { (self.new.distance ≡ self.old.distance)
             × (self.new.adaptive ≡ self.old.adaptive) }
@@ -85,7 +85,7 @@ impl<S: SearchSpace> Trail<S> {
         Vec::with_capacity(*self.copies.allocator(), 1)
     }
 
-    /// Forgets all but the root and a space of a node of the path that is begun, which has so many edges.
+    /// Forgets all but the root and a space of a node of the path that is begun, which has that many edges.
     pub fn begin_near(&mut self, room: Vec<Kept<S>>, edges: usize, kept: Kept<S>)
         requires room { (room.items ≡ []) × (1 ≤ vec_capacity room) }
         ensures distances { (self.new.distance ≡ self.old.distance)
@@ -177,7 +177,7 @@ impl<S: SearchSpace> Trail<S> {
         self.back = Some(edges.len());
     }
 
-    /// The path is back at a node with so many edges above it, and no copy below it stands any more. Nothing is known of how near
+    /// The path is back at a node with that many edges above it, and no copy below it stands any more. Nothing is known of how near
     /// copies are above it.
     pub fn come_back(&mut self, edges: usize)
         ensures distances { (self.new.distance ≡ self.old.distance)
@@ -230,7 +230,7 @@ impl<S: SearchSpace> Trail<S> {
         self.remade(edges, steps)
     }
 
-    /// The space of a node, made anew from the nearest copy by the decisions behind it.
+    /// The space of a node, made anew from the nearest copy by the decisions after it.
     fn remade<L: Ledger>(&mut self, edges: &Edges, steps: &mut Steps<L>) -> Result<S, AllocError>
         requires edges { AreEdges edges.now }
         requires trail { (m : Instance) × (known : Option (List ℤ))
@@ -385,7 +385,7 @@ impl<S: SearchSpace> Trail<S> {
         Ok(Kept { depth, space })
     }
 
-    /// Puts a copy of the space at the node below so many edges behind the others.
+    /// Puts a copy of the space at the node below that many edges after the others.
     fn put(&mut self, depth: usize, space: &S) -> Result<(), AllocError>
         ensures distances { (self.new.distance ≡ self.old.distance)
             × (self.new.adaptive ≡ self.old.adaptive) }
@@ -480,7 +480,7 @@ impl<S: SearchSpace> Trail<S> {
         }
     }
 
-    /// Keeps a copy of the space at the node below so many edges, where one is due: where none is within the commit distance above
+    /// Keeps a copy of the space at the node below that many edges, where one is due: where none is within the commit distance above
     /// it, and where the path came back to it or close above it and none stands there.
     ///
     /// # Errors
@@ -537,7 +537,7 @@ impl<S: SearchSpace> Trail<S> {
         thin(&mut self.copies, &mut self.spare);
     }
 
-    /// Whether a copy is due at the node below so many edges.
+    /// Whether a copy is due at the node below that many edges.
     fn is_due(&self, depth: usize) -> bool
         ensures due { IsTrue result
             ↔ IsDue self.now.back self.now.distance self.now.copies.items depth }
@@ -554,7 +554,7 @@ impl<S: SearchSpace> Trail<S> {
         }
     }
 
-    /// Whether the path came back to the node below so many edges, or to one close above it.
+    /// Whether the path came back to the node below that many edges, or to one close above it.
     fn is_close(&self, depth: usize) -> bool
         ensures { IsTrue result ↔ IsClose self.now.back depth }
     {
@@ -674,7 +674,7 @@ fn copied<S: SearchSpace>(spare: &mut Vec<S>, space: &S) -> Result<S, AllocError
     }
 }
 
-/// A copy of a space, kept below so many edges.
+/// A copy of a space, kept below that many edges.
 fn copy_of<S: SearchSpace>(
     spare: &mut Vec<S>,
     depth: usize,

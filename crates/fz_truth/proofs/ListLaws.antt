@@ -45,7 +45,7 @@ different_mapped f [] (suc i) d = tt
 different_mapped f (x ∷ xs) zero d = d
 different_mapped f (x ∷ xs) (suc i) d = different_mapped f xs i d.1
 
--- the first of those from a place on, and those behind it
+-- the first of those from a place on, and those after it
 from_here : {X Y : Type 0} (f : X → Y) (xs : List X) (i : ℕ) (x : X) → i < length xs → map f (drop i xs) ≡ f (get_or xs i x) ∷ map f (drop (suc i) xs)
 from_here f [] i x h = absurd (omega (arith, h))
 from_here f (y ∷ xs) zero x h = refl
@@ -60,7 +60,7 @@ none_all : (v : ℤ) (xs : List ℤ) → (SomeByRecursion (λ x. x ≡ v) xs →
 none_all v [] n = tt
 none_all v (x ∷ xs) n = (λ e. n (inl (sym e)), none_all v xs (λ s. n (inr s)))
 
--- one that stands again behind its place
+-- one that stands again after its place
 pub twice : {X : Type 0} (f : X → ℤ) (xs : List X) (i : ℕ) (x : X) (v : ℤ) → i < length xs → v ≡ f (get_or xs i x) → SomeByRecursion (λ y. y ≡ v) (map f (drop (suc i) xs)) → AreDifferent (map f xs) → ⊥
 twice f xs i x v h is s d =
     let here = subst AreDifferent (from_here f xs i x h) (different_mapped f xs i d) in
@@ -82,7 +82,7 @@ pub along : {X : Type 0} (f : X → ℤ) (xs ys : List X) (u v : ℤ) → xs ≡
 along {X} f xs ys u v e h s =
     subst (λ (w : ℤ). SomeByRecursion (λ y. y ≡ w) (map f ys)) h (subst (λ (zs : List X). SomeByRecursion (λ y. y ≡ u) (map f zs)) e s)
 
--- those behind a place, as a slice of them
+-- those after a place, as a slice of them
 pub behind : {X : Type 0} (xs : List X) (i : ℕ) → take (length xs - (i + 1)) (drop (i + 1) xs) ≡ drop (suc i) xs
 behind xs i = rw add-one (take_all (length xs - suc i) (drop (suc i) xs) (let l = length-drop (suc i) xs in omega (arith, l)))
 

@@ -21,7 +21,7 @@ task_here f (x ∷ ss) (y ∷ ds) [] i s d u e h k l = absurd (omega (arith, l))
 task_here f (x ∷ ss) (y ∷ ds) (z ∷ us) zero s d u e h k l = refl
 task_here f (x ∷ ss) (y ∷ ds) (z ∷ us) (suc i) s d u e h k l = task_here f ss ds us i s d u e (omega (arith, h)) (omega (arith, k)) (omega (arith, l))
 
--- behind its end a task uses nothing
+-- after its end a task uses nothing
 pub ended : (task : Task) (time : ℤ) → (task.start +ℤ task.duration) ≤ℤ time → pos 0 ≡ usage_at time task
 ended task time h = grind (arith, ints)
 

@@ -27,7 +27,7 @@ use Rattle.fz_prop.proofs.TermChanges.{term_within, only_in, within_kept, kept_t
 use Rattle.fz_varelement.specs.Matching.{IsChosen, AreMatches, AreAllMatched, IsNeverChosen, IsNarrowed}
 use Rattle.fz_varelement.proofs.Matching.{stands_from, stands_to, stands_only, stands_of}
 
--- the terms are of a store with so many variables
+-- the terms are of a store with that many variables
 pub record AreTermsOf (n : ℕ) (xs : List Term) (k c : Term) : Type 0 where
   pub index : IsTermOf n k
   pub terms : AllByRecursion (IsTermOf n) xs

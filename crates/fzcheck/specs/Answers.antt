@@ -92,7 +92,7 @@ answer_text SinkFault = []
 answer_text (Refused r) = text_of r
 answer_text NoMemory = []
 
--- What the sink took in this call: the answer's text; where it failed, a front of the text of the answer that fits.
+-- What the sink took in this call: the answer's text; where it failed, a prefix of the text of the answer that fits.
 pub record TakesFront (model_file output_file before after : Option (List ℕ)) : Type 0 where
   pub meant : CheckStatus
   pub count : ℕ

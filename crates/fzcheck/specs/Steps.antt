@@ -25,7 +25,7 @@ HasSourceCause SinkFault a b = ⊥
 HasSourceCause (Refused r) a b = b ≡ a
 HasSourceCause NoMemory a b = b ≡ a
 
--- all was taken and flushed, and the answer is as it was to be; or the sink failed, and took a front
+-- all was taken and flushed, and the answer is as it was to be; or the sink failed, and took a prefix
 pub record IsPut (meant result : CheckStatus) (text : List ℕ) (before after : Option (List ℕ)) (flushed c d : ℕ) : Type 0 where
   pub status : result ≡ meant
   pub taken : after ≡ with_more before text

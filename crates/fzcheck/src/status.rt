@@ -15,7 +15,7 @@ pub enum CheckStatus {
     Usage,
     /// A call of the source failed. Nothing was printed.
     SourceFault,
-    /// A call of the sink failed. It took a front of what was to be printed.
+    /// A call of the sink failed. It took a prefix of what was to be printed.
     SinkFault,
     /// The model's text is refused, and that is printed.
     Refused(Refusal),

@@ -72,7 +72,7 @@ found_listed Satisfy o m l complete shows = refl
 found_listed (Minimize t) o m l complete shows = best_listed o.generate t m l complete (asks_all o.generate o.all shows).1
 found_listed (Maximize t) o m l complete shows = best_listed o.generate t m l complete (asks_all o.generate o.all shows).1
 
--- the text of the run is the blocks, and what stands behind them
+-- the text of the run is the blocks, and what stands after them
 run_parted : (o : Options) (m : Instance) (l : List (List ℤ)) (complete : Bool) → shows_found m.goal o ≡ true → run_text o m l complete ≡ blocks m l ++ end_text o l complete
 run_parted o m l complete shows =
     let behind = statistics_text (counted o.stats l) in ap (λ u. u ++ behind) (found_listed m.goal o m l complete shows) ∙ append_assoc (blocks m l) (ending complete l) behind
@@ -81,7 +81,7 @@ run_parted o m l complete shows =
 abbrev pub IsFirst : Options → Printer → List (List ℤ) → Type 0
 IsFirst o p l = shows_found (book_of p).model.goal o ≡ true → l ≡ take (due_among true (enough_for (book_of p).model.goal o) (length (book_of p).recorded)) (book_of p).recorded
 
--- what is listed is printed, and the text of the run is that and what stands behind it
+-- what is listed is printed, and the text of the run is that and what stands after it
 record Listed (o : Options) (p : Printer) (l : List (List ℤ)) (complete : Bool) (before middle : Option (List ℕ)) : Type 0 where
   printed : middle ≡ with_more before (blocks (book_of p).model l)
   parted : run_text o (book_of p).model l complete ≡ blocks (book_of p).model l ++ end_text o l complete
@@ -100,14 +100,14 @@ listed o p l complete before middle e is first h =
           }
     ]
 
--- the blocks and what stands behind them
+-- the blocks and what stands after them
 pub whole_behind : (o : Options) (p : Printer) (l : List (List ℤ)) (complete : Bool) (before middle after : Option (List ℕ)) → IsEnded o p → as_found_of p ≡ true → IsFirst o p l → HasPrinted p before middle
     → after ≡ with_more middle (end_text o l complete) → after ≡ with_more before (run_text o (book_of p).model l complete)
 whole_behind o p l complete before middle after e is first h taken =
     let k = listed o p l complete before middle e is first h in
     taken ∙ ap (λ (t : Option (List ℕ)). with_more t (end_text o l complete)) k.printed ∙ with_more-with_more before (blocks (book_of p).model l) (end_text o l complete) ∙ ap (with_more before) (sym k.parted)
 
--- and a front of that
+-- and a prefix of that
 pub front_behind : (o : Options) (p : Printer) (l : List (List ℤ)) (complete : Bool) (before middle after : Option (List ℕ)) → IsEnded o p → as_found_of p ≡ true → IsFirst o p l → HasPrinted p before middle
     → TakesFront (end_text o l complete) middle after → TakesFront (run_text o (book_of p).model l complete) before after
 front_behind o p l complete before middle after e is first h front =
@@ -123,7 +123,7 @@ untaken o p before middle e not h =
     let none : due_of p ≡ 0 = ap (λ f. due_among f (wanted_of p) (length b.recorded)) not in
     printed_whole o p before middle e h ∙ ap (λ n. with_more before (blocks b.model (take n b.recorded))) none ∙ with_more-none before
 
--- ---- the certificate behind it
+-- ---- the certificate after it
 
 run_is : (m : Instance) (o : Options) (l : List (List ℤ)) (complete : Bool) (text : List ℕ) → IsShown m.goal o m l complete → IsCertificate m (certified o.certificate m.goal l) text → IsRunText m o l (run_text o m l complete ++ text)
 run_is m o l complete text shown certifies =

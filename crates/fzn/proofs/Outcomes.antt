@@ -55,7 +55,7 @@ text_is r c e =
 pub at_status : (s t : Status) (text : List ℕ) (o : Options) (before after : Option (List ℕ)) → s ≡ t → PrintsOf t text o before after → PrintsOf s text o before after
 at_status s t text o before after e p = subst (λ (u : Status). PrintsOf u text o before after) (sym e) p
 
--- a front of a whole text, where a fault or want of memory is answered
+-- a prefix of a whole text, where a fault or being out of memory is answered
 stopped : (s : Status) (text whole : List ℕ) (o : Options) (before after : Option (List ℕ)) → (s ≡ SinkFault) ⊎ (s ≡ NoMemory) → TakesFront whole before after
     → ((printed : List ℕ) → whole ≡ printed → IsWholeRun text o printed) → PrintsOf s text o before after
 stopped s text whole o before after e f w = elim e [
@@ -82,7 +82,7 @@ prints_whole s text m o before after r shows e =
       | inr fault ↦ unflushed s text one.text o before after fault one.taken (λ u is. inl (run u is))
     ]
 
--- and a front of one, where a fault or want of memory is answered
+-- and a prefix of one, where a fault or being out of memory is answered
 pub prints_front : (s : Status) (text : List ℕ) (m : Instance) (o : Options) (before after : Option (List ℕ)) → Reads text (reads.Accepted m) → ShowsFront m o before after → (s ≡ SinkFault) ⊎ (s ≡ NoMemory) → PrintsOf s text o before after
 prints_front s text m o before after r shows e =
     let one = shows.1 in

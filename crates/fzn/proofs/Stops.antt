@@ -1,4 +1,4 @@
--- What a search has printed when it was stopped: a front of the text of a whole run.
+-- What a search has printed when it was stopped: a prefix of the text of a whole run.
 use Rattle.std.proofs.Common.{◌≡◌, ◌∙◌, ◌≤◌, ◌<◌, inl, inr, ℕ, List, [], ◌++◌, length, take, Option, None, Some, Bool, true, false, refl, sym, ap, subst, arith, append_assoc, length-append, length-take}
 use Rattle.std.specs.Prelude.{ℤ}
 use Rattle.fz_spec.specs.Instance.{Instance}
@@ -54,7 +54,7 @@ short_by Satisfy o n k h less = below (wanted o) n k h less
 short_by (Minimize t) o n k h less = tt
 short_by (Maximize t) o n k h less = tt
 
--- ---- fronts of a whole run
+-- ---- prefixes of a whole run
 
 run_of : (text whole : List ℕ) (o : Options) (m : Instance) (l : List (List ℤ)) → Reads text (Accepted m) → IsRunText m o l whole → IsWholeRun text o whole
 run_of text whole o m l reads run = inl (record { model = m; listed = l; accepted = reads; run = run })
@@ -65,7 +65,7 @@ whole_blocks : (text : List ℕ) (o : Options) (m : Instance) (l : List (List �
 whole_blocks text o m l before after reads kept begun short taken =
     let e = can_end o m l kept begun in (blocks m l, taken, inr (e.more, e.some short, run_of text (blocks m l ++ e.more) o m e.listed reads e.run))
 
--- a front of the blocks
+-- a prefix of the blocks
 front_of_blocks : (text : List ℕ) (o : Options) (m : Instance) (l : List (List ℤ)) (before after : Option (List ℕ)) → Reads text (Accepted m) → IsModel m → AreBegun m.goal o m l → TakesFront (blocks m l) before after
     → PrintsOf NoMemory text o before after
 front_of_blocks text o m l before after reads kept begun f =
@@ -130,13 +130,13 @@ by_asked true text o p stop before after is reads kept mode law asked within h =
       | inr shown ↦ found_stopped text o p stop before after reads kept (record { mode = mode; law = law; shows = sym shown.0 ∙ is; wants = shown.1; within = within }) h
     ]
 
--- what the sink took, of a search that was stopped, is a front that lacks something
+-- what the sink took, of a search that was stopped, is a prefix that lacks something
 pub stopped_short : (m : Instance) (o : Options) (p : Printer) (stop : Stop) (before after : Option (List ℕ)) → IsModel m → IsPrinted m o p before after → stopped_of p ≡ Some stop → PrintsModel NoMemory m o before after
 stopped_short m o p stop before after kept h is text reads =
     by_asked (as_found_of p) text o p stop before after refl (subst (λ (x : Instance). Reads text (Accepted x)) (sym h.model) reads) (subst IsModel (sym h.model) kept) (subst (λ (x : Instance). (book_of p).mode ≡ mode_for x.goal o) (sym h.model) h.mode) h.law (subst (λ (x : Instance). PrintsAsAsked x o p) (sym h.model) h.prints) h.within
     (subst (λ (s : Option Stop). HasPrintedAt s p before after) is h.printed)
 
--- and so it is a front, where the sink failed
+-- and so it is a prefix, where the sink failed
 fault_of_short : (text : List ℕ) (o : Options) (before after : Option (List ℕ)) → PrintsOf NoMemory text o before after → PrintsOf SinkFault text o before after
 fault_of_short text o before after p = (p.0, p.1, elim p.2 [ inl none ↦ inl none | inr more ↦ inr (more.0, more.2) ])
 

@@ -41,11 +41,11 @@ pub record IsRefusedRun (text : List ℕ) (r : Refusal) (printed : List ℕ) : T
 abbrev pub IsWholeRun : List ℕ → Options → List ℕ → Type 0
 IsWholeRun text o printed = IsRun text o printed ⊎ ((r : Refusal) × IsRefusedRun text r printed)
 
--- nothing, or a front of that
+-- nothing, or a prefix of that
 abbrev pub IsFront : List ℕ → Options → List ℕ → Type 0
 IsFront text o printed = (printed ≡ []) ⊎ ((more : List ℕ) × IsWholeRun text o (printed ++ more))
 
--- nothing, or a front of that which lacks one byte at least
+-- nothing, or a prefix of that which lacks one byte at least
 abbrev pub IsStrictFront : List ℕ → Options → List ℕ → Type 0
 IsStrictFront text o printed = (printed ≡ []) ⊎ ((more : List ℕ) × (0 < length more) × IsWholeRun text o (printed ++ more))
 

@@ -28,7 +28,7 @@ SelectsAtStop selected Fault = Unit {0}
 abbrev pub SelectsAt : {T : Type 0} → Result T Stop → Bool → Type 0
 SelectsAt result selected = MatchResult result (λ _. IsTrue selected) (SelectsAtStop selected)
 
--- nothing is left of a text of so many bytes, where that is within the limit
+-- nothing is left of a text of that many bytes, where that is within the limit
 abbrev pub LeavesNothing : ℕ → Option (List ℕ) → Type 0
 LeavesNothing count left = count ≤ TEXT_LIMIT → IfSome left (λ rest. rest ≡ [])
 
@@ -49,8 +49,8 @@ HasSinkCause SourceFault c d = ⊥
 HasSinkCause SinkFault c d = c < d
 HasSinkCause NoMemory c d = d ≡ c
 
--- The sink took all of this, and the answer is the one that goes with it unless the flush failed; or it took a front, and a fault or
--- want of memory is answered.
+-- The sink took all of this, and the answer is the one that goes with it unless the flush failed; or it took a prefix, and a fault or
+-- being out of memory is answered.
 abbrev pub Answers : Status → Status → List ℕ → Option (List ℕ) → Option (List ℕ) → Type 0
 Answers status whole_status whole before after =
     (((status ≡ whole_status) ⊎ (status ≡ SinkFault)) × (after ≡ with_more before whole)) ⊎ (((status ≡ SinkFault) ⊎ (status ≡ NoMemory)) × TakesFront whole before after)
@@ -76,7 +76,7 @@ pub record IsEnded (o : Options) (p : Printer) : Type 0 where
 abbrev pub ShowsWhole : Instance → Options → Option (List ℕ) → Option (List ℕ) → Type 0
 ShowsWhole m o before after = (l : List (List ℤ)) × TakesOne (IsRunText m o l) before after
 
--- or a front of one
+-- or a prefix of one
 abbrev pub ShowsFront : Instance → Options → Option (List ℕ) → Option (List ℕ) → Type 0
 ShowsFront m o before after = (l : List (List ℤ)) × TakesFrontOfOne (IsRunText m o l) before after
 

@@ -43,15 +43,15 @@ use std::thread::Threads;
 /// `words` are the arguments of the program: `-a` for all solutions, `-n N` for N of them (0 for all), one where neither is given;
 /// `--distinct` for one of those of which the same is printed, where the model has no goal;
 /// `--commit-distance N` for how often a copy of a node is kept, `--adaptive-distance N` for how long a way has a copy in its
-/// middle; `-p N` for a search by so many workers (1 where it isn't given); `--interleave SEED` for workers that take turns on one
+/// middle; `-p N` for a search by that many workers (1 where it isn't given); `--interleave SEED` for workers that take turns on one
 /// thread by a schedule which the seed begins; `-s` for statistics; `--certificate` for a certificate; `--generate N` for a model that is generated, a knapsack of N
 /// items, in place of one that is read; and FILE. The text is that of FILE; no FILE is `-`, standard input. A text may have
 /// 67,108,864 bytes. Printed is a block for each satisfying assignment, in any order, and
-/// `==========`; of `-n N` N blocks of different assignments alone, where so many satisfy; with
+/// `==========`; of `-n N` N blocks of different assignments alone, where that many satisfy; with
 /// `--distinct` each block of values once in place of each assignment; of a model with a goal the block of a best assignment
-/// and `==========`, with `-a` maybe behind others, each better than the one before it; of a generated model `items=N best=V` in
+/// and `==========`, with `-a` maybe after others, each better than the one before it; of a generated model `items=N best=V` in
 /// place of both; where none satisfies, `=====UNSATISFIABLE=====` alone; of a text that is refused, the place, the code and
-/// `=====ERROR=====`. Behind all but a refusal `-s` prints how many assignments were listed; behind `==========` of a model with a
+/// `=====ERROR=====`. After all but a refusal `-s` prints how many assignments were listed; after `==========` of a model with a
 /// goal, and where none satisfies, `--certificate` prints the certificate of that. Each block, each last line, the two lines of
 /// statistics, each line of a certificate and each refusal is one piece for the sink, and one flush comes last, whenever something was written.
 /// Each block is handed to the sink as the solution is found, and handed on where that is due; workers that take turns hand on theirs
@@ -245,7 +245,7 @@ fn run_options<F: Fn(Arc<Model>, &mut S) -> Result<Printer, AllocError>, R: Sour
     }
 }
 
-/// The run of a generated model of so many items.
+/// The run of a generated model of that many items.
 fn run_generated<F: Fn(Arc<Model>, &mut S) -> Result<Printer, AllocError>, S: Sink>(
     alloc: Global,
     search_by: &F,
@@ -446,7 +446,7 @@ fn conclude<S: Sink>(alloc: Global, printer: &Printer, options: &Options, sink: 
     }
 }
 
-/// Prints what isn't printed yet, and behind it the certificate where one is asked for.
+/// Prints what isn't printed yet, and after it the certificate where one is asked for.
 fn print_rest<S: Sink>(
     alloc: Global,
     printer: &Printer,
@@ -468,7 +468,7 @@ fn print_rest<S: Sink>(
     }
 }
 
-/// Prints what stands behind the blocks where these were printed as they were found.
+/// Prints what stands after the blocks where these were printed as they were found.
 fn print_behind<S: Sink>(
     alloc: Global,
     printer: &Printer,
@@ -517,7 +517,7 @@ fn print_all<S: Sink>(
     certify(alloc, sink, model, head)
 }
 
-/// What is certified, where that is asked for: that the last of so many is best, or that none satisfies.
+/// What is certified, where that is asked for: that the last of that many is best, or that none satisfies.
 fn to_certify<'a>(
     options: &Options,
     goal: &Goal,

@@ -15,9 +15,9 @@ pub enum Status {
     Usage,
     /// A call of the source failed. Nothing was printed.
     SourceFault,
-    /// A call of the sink failed. It took a front of what was to be printed.
+    /// A call of the sink failed. It took a prefix of what was to be printed.
     SinkFault,
-    /// Memory was refused. The sink took a front of what was to be printed.
+    /// Memory was refused. The sink took a prefix of what was to be printed.
     NoMemory,
 }
 

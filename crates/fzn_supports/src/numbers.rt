@@ -47,7 +47,7 @@ impl Numbers {
         }
     }
 
-    /// How many places have the numbers, and maybe others behind them.
+    /// How many places have the numbers, and maybe others after them.
     pub fn places(self) -> u8 {
         match self {
             Numbers::Seven => 7,

@@ -134,7 +134,7 @@ impl Row<'_> {
 }
 
 impl Count {
-    /// Counts a store of so many solutions.
+    /// Counts a store of that many solutions.
     fn add(&mut self, solutions: usize) {
         self.stores = self.stores.saturating_add(1);
         if solutions == 0 {

@@ -142,7 +142,7 @@ pub fn edges_of(alloc: Global, frontier: &Frontier) -> Result<String, AllocError
     Ok(text)
 }
 
-/// A search of a text's model that stops where so many are recorded, and then goes on with the same path; `best` records the best alone.
+/// A search of a text's model that stops where that many are recorded, and then goes on with the same path; `best` records the best alone.
 pub fn search(alloc: Global, text: &str, word: &str) -> Result<Answer, AllocError> {
     match (book_of(alloc, text)?, path_of(alloc, text)?) {
         (Some(book), Some(path)) => search_twice(alloc, book, path, word),

@@ -266,7 +266,7 @@ fn push_character(text: &mut String, number: &str) -> Result<bool, AllocError> {
     }
 }
 
-/// So many copies of a piece, as `3 ab`, or with the number of each, from 0, in place of its `#`.
+/// That many copies of a piece, as `3 ab`, or with the number of each, from 0, in place of its `#`.
 fn push_copies(
     alloc: Global,
     text: &mut String,

@@ -3,7 +3,7 @@ use fz_io::gate::{EventKind, Gate};
 use std::sync::atomic::{AtomicBool, AtomicU32, Ordering};
 use std::thread;
 
-/// A wait that takes so many turns is given up.
+/// A wait that takes that many turns is given up.
 const TURNS: u32 = 10_000_000;
 
 /// No worker has come to a step yet.

@@ -61,7 +61,7 @@ fn lines_of(alloc: Global, choice: &Choice) -> Result<String, AllocError> {
     Ok(lines)
 }
 
-/// The text of a generated model of so many items.
+/// The text of a generated model of that many items.
 pub fn generated(alloc: Global, items: &str) -> Result<Answer, AllocError> {
     match items.parse::<u32>() {
         Ok(items) if 1 <= items && items <= 1000 => Ok(Answer::of(0, knapsack(alloc, items)?)),

@@ -26,7 +26,7 @@ pub fn run(alloc: Global, text: &str, workers: &str) -> Result<Answer, AllocErro
     Ok(Answer::of(0, told.into_bytes()))
 }
 
-/// So many idle workers on a text's model; none where that is refused.
+/// That many idle workers on a text's model; none where that is refused.
 fn machine_of(
     alloc: Global,
     text: &str,

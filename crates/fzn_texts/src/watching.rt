@@ -6,7 +6,7 @@ use fz_io::outside::{Failed, Sink};
 use std::sync::atomic::{AtomicBool, Ordering};
 use std::thread;
 
-/// A wait that takes so many turns is given up.
+/// A wait that takes that many turns is given up.
 const TURNS: u32 = 10_000_000;
 
 /// Another sink, which shows that it has taken something.
@@ -52,7 +52,7 @@ impl<S: Sink + Drop> Sink for ShowingSink<'_, S> {
     }
 }
 
-/// Each of two workers waits behind its first report until a sink has taken something.
+/// Each of two workers waits after its first report until a sink has taken something.
 #[derive(Drop)]
 pub struct Watching<'a> {
     has_taken: &'a AtomicBool,

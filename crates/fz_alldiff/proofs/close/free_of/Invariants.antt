@@ -3,7 +3,7 @@ use Rattle.fz_bits.specs.Windows.{IsBit}
 use Rattle.fz_alldiff.proofs.Freeing.{AreFreeBelow, AreOpenBelow}
 use Rattle.fz_alldiff.proofs.close.free_of.Given as goal
 
--- the numbers of the places so far aren't free, and so many of these aren't fixed
+-- the numbers of the places so far aren't free, and that many of these aren't fixed
 abbrev pub invariant-loop-term : goal.invariant-loop-term
 invariant-loop-term l = record {
   base : l.numbers.base ≡ l.fn.span.low;

@@ -6,6 +6,6 @@ use Rattle.fz_syntax.specs.Trees.{expression_of}
 use Rattle.fz_room.specs.Rooms.{IsRoom, IsSoFar}
 use Rattle.fz_room.proofs.limits.Room.behind_arguments.Given as goal
 
--- behind those so far
+-- after those so far
 abbrev pub invariant-loop-argument : goal.invariant-loop-argument
 invariant-loop-argument l = (n : Counts) → IsRoom l.initial.room n → IsSoFar n (flat_map expression_additions (map expression_of (take l.argument-index l.arguments))) l.room

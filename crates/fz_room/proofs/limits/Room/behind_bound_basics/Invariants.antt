@@ -6,6 +6,6 @@ use Rattle.fz_syntax.specs.Trees.{basic_of}
 use Rattle.fz_room.specs.Rooms.{IsRoom, IsSoFar}
 use Rattle.fz_room.proofs.limits.Room.behind_bound_basics.Given as goal
 
--- behind those so far
+-- after those so far
 abbrev pub invariant-loop-basic : goal.invariant-loop-basic
 invariant-loop-basic l = (n : Counts) → IsRoom l.initial.room n → IsSoFar n (flat_map (array_element_additions true) (map basic_of (take l.basic-index l.basics))) l.room

@@ -6,6 +6,6 @@ use Rattle.fz_syntax.specs.Trees.{integer_basic_of}
 use Rattle.fz_room.specs.Rooms.{IsRoom, IsSoFar}
 use Rattle.fz_room.proofs.limits.Room.behind_bound_integers.Given as goal
 
--- behind those so far
+-- after those so far
 abbrev pub invariant-loop-integer : goal.invariant-loop-integer
 invariant-loop-integer l = (n : Counts) → IsRoom l.initial.room n → IsSoFar n (flat_map (array_element_additions true) (map integer_basic_of (take l.integer-index l.integers))) l.room

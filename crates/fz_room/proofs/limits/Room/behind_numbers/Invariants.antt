@@ -7,6 +7,6 @@ use Rattle.fz_syntax.specs.Trees.{number_of}
 use Rattle.fz_room.specs.Rooms.{IsRoom, IsSoFar}
 use Rattle.fz_room.proofs.limits.Room.behind_numbers.Given as goal
 
--- behind those so far
+-- after those so far
 abbrev pub invariant-loop-member : goal.invariant-loop-member
 invariant-loop-member l = (n : Counts) → IsRoom l.initial.room n → IsSoFar n (flat_map (λ m. AnElement (number_at m) ∷ []) (map number_of (take l.member-index l.members))) l.room
