@@ -9,16 +9,14 @@ use Rattle.fz_sets.proofs.Lists.{all_at, all_left, all_right, all_both, some_is}
 use Rattle.fz_spec.specs.declared.term.Term.{Term}
 use Rattle.fz_spec.specs.Constraints.{Constraint, IsTrueOf}
 use Rattle.fz_spec.specs.Instance.{Instance, Variable}
-use Rattle.fz_spec.specs.declared.kind.Kind.TheVariants as kinds
-use Rattle.fz_model.specs.Kept as kept
 use Rattle.fz_model.specs.Kept.{IsConstraint, IsModel}
 use Rattle.fz_strength.specs.declared.relation.Relation.TheVariants.{Equal}
 use Rattle.fz_strength.specs.Events.{AreBelow}
-use Rattle.fz_strength.specs.Sayings.{Saying, Differ, DifferByBounds, Sum, SumByNumbers, saying_of, said_terms, truth_of, truths_of, waits_of}
+use Rattle.fz_strength.specs.Sayings.{Saying, Differ, DifferByBounds, Sum, SumByNumbers, saying_of, said_terms, truth_of, waits_of}
 use Rattle.fz_strength.proofs.Says.{says}
 use Rattle.fz_prop.specs.Stores.{IsTermOf, FitsTerm, declared_sets}
 use Rattle.fz_prop.proofs.Waits.{below}
-use Rattle.fz_says.specs.Fits.{FitsSum, IsKnown, IsFit}
+use Rattle.fz_says.specs.Fits.{IsKnown, IsFit}
 use Rattle.fz_says.proofs.Fitting.{said_fits}
 use Rattle.fz_says.proofs.Suiting.{fit_suits}
 use Rattle.fz_spec.specs.declared.limits.TheConstants.{CONSTRAINT_LIMIT}
@@ -26,7 +24,7 @@ use Rattle.fz_propagators.specs.declared.any.AnyPropagator.{AnyPropagator}
 use Rattle.fz_plain.specs.Plain.{IsPlainOf}
 use Rattle.fz_propagators.specs.Forms.{said_of}
 use Rattle.fz_agenda.specs.Wakes.{Waking}
-use Rattle.fz_engine.specs.Networks.{AreSaid, AreSaidOf, AreOf, IsListing, IsNetwork, IsSaidPlain, and_more, sayings_of}
+use Rattle.fz_engine.specs.Networks.{AreSaidOf, AreOf, IsListing, IsNetwork, IsSaidPlain, and_more, sayings_of}
 use Rattle.fz_engine.specs.Stronger.{is_kept_whole, is_short, said_once_more, stronger_of}
 use Rattle.fz_engine.proofs.Listing.{at_end}
 

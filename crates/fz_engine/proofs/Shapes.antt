@@ -1,5 +1,5 @@
 -- Sums of two and of three terms, as lists.
-use Rattle.std.proofs.Common.{◌≡◌, ◌⊎◌, inl, inr, ℕ, zero, suc, List, [], ◌∷◌, refl, arith, length, get_or, false}
+use Rattle.std.proofs.Common.{◌≡◌, List, [], ◌∷◌, refl, arith, length, get_or, false}
 use Rattle.std.specs.Prelude.{ℤ}
 use Rattle.fz_spec.specs.declared.term.Term.{Term}
 use Rattle.fz_spec.specs.Instance.{Variable}

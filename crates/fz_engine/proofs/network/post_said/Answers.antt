@@ -1,4 +1,3 @@
-use Rattle.fz_says.specs.Fits.{IsFit}
 use Rattle.fz_says.specs.Said.{said_by}
 use Rattle.fz_engine.proofs.Posting.{limits_of, waits_below, more_fit}
 use Rattle.fz_engine.proofs.network.post_said.Goals as goal
