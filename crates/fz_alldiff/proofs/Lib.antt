@@ -5,3 +5,4 @@ pub mod Spanning
 pub mod Freeing
 pub mod Filling
 pub mod Between
+pub mod Settling

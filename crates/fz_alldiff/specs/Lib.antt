@@ -1,3 +1,4 @@
 pub mod Differing
 pub mod Freeing
 pub mod Ends
+pub mod Settled

@@ -6,6 +6,7 @@ ghost use Rattle.fz_prop.specs.Answers.{IsAnswerOf, IsCorrectOf};
 ghost use Rattle.fz_prop.specs.Stores.{Shrinks, IsTermOf, IsTermChange};
 ghost use Rattle.fz_alldiff.specs.Differing.{IsDifferent, AreNeverDifferent, IsFixedPlace, IsOnlyAt, IsDone, IsCleared, AreCleared, IsOutside};
 
+use crate::settled::settle;
 use fz_prop::terms::{has, least_of, remove, value_of};
 use fz_prop::{Answer, Change, Store};
 use fz_spec::term::Term;
@@ -22,7 +23,26 @@ pub fn keep_each(alloc: Global, store: &mut Store, terms: &[Term]) -> Result<Ans
         store.old.doms store.new.doms) }
 {
     let _ = store.doms();
-    let mut done = Vec::from_elem(alloc, false, terms.len())?;
+    match settle(alloc, store, terms)? {
+        Some(done) => keep_rest(store, terms, done),
+        None => Ok(Answer::Failed),
+    }
+}
+
+/// Narrows a store so that terms are all different, where some of the places that are fixed are done: the number of each that isn't leaves
+/// the others, until no place gets fixed anew.
+fn keep_rest(store: &mut Store, terms: &[Term], done: Vec<bool>) -> Result<Answer, AllocError>
+    requires terms { AllByRecursion (IsTermOf (length store.old.doms)) terms.now }
+    requires size { length done.items ≡ length terms.now }
+    requires cleared { AreCleared terms.now store.old.doms done.items }
+    ensures shrinks { Shrinks store.old store.new }
+    ensures correct { IsCorrectOf (IsDifferent terms.now) store.old.doms store.new.doms }
+    ensures answer { IfOk result
+        (λ r. IsAnswerOf r (IsDifferent terms.now) (AreApart terms.now)
+        store.old.doms store.new.doms) }
+{
+    let _ = store.doms();
+    let mut done = done;
     'places: while let Some(place) = next_fixed(store, terms, &done) {
         if !clear(store, terms, place, &done)? {
             return Ok(Answer::Failed);
@@ -99,7 +119,7 @@ fn remove_others(
 }
 
 /// Removes a number of a term, if it is left.
-fn remove_from(store: &mut Store, term: Term, value: i32) -> Result<Change, AllocError>
+pub(crate) fn remove_from(store: &mut Store, term: Term, value: i32) -> Result<Change, AllocError>
     requires { IsTermOf (length store.old.doms) term }
     ensures shrinks { Shrinks store.old store.new }
     ensures err { OnErr result (store.new ≡ store.old) }

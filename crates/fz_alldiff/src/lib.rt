@@ -9,6 +9,7 @@ mod close;
 pub mod differ;
 mod ends;
 mod far;
+mod settled;
 mod span;
 
 pub use all_different::AllDifferent;

@@ -1,5 +1,5 @@
 use Rattle.fz_alldiff.proofs.Resting.{IsClearing, open_places}
-use Rattle.fz_alldiff.proofs.far.keep_each.Given as goal
+use Rattle.fz_alldiff.proofs.far.keep_rest.Given as goal
 
 -- the places that are done are cleared
 abbrev pub invariant-places : goal.invariant-places
