@@ -6,7 +6,7 @@ ghost use Rattle.fz_printer.specs.Printed.{book_of, stopped_of, CountsMark, IsRe
 ghost use Rattle.fz_printer.specs.Gathered.{Gathers, IsFilled};
 ghost use Rattle.fz_runs.specs.Modes.{mode_for};
 ghost use Rattle.fz_collect.specs.Subjects.{IsBookOf};
-ghost use Rattle.fz_search.specs.Searched.{IsOfModel, IsPrinted};
+ghost use Rattle.fz_search.specs.Searched.{AreWorkers, IsOfModel, IsPrinted};
 
 use crate::searching::{begin, enough_for, mode_for, shows_found};
 use fz_account::Mode;
@@ -177,7 +177,7 @@ fn work<T: Threads + Wait + Sync, S: SearchSpace + Send, G: Gate + Sync, B: Subj
     Ok(())
 }
 
-/// As many idle paths as workers are asked for.
+/// As many idle paths as workers are asked for, at the distances that are asked for.
 fn paths_of<S: SearchSpace, B: Subject>(
     alloc: Global,
     model: &Arc<Model>,
@@ -188,11 +188,14 @@ fn paths_of<S: SearchSpace, B: Subject>(
     requires mode { IsModeOf (arc_value model.now).goal mode }
     requires subject { (arc_value model.now ≡ B.model) × (mode ≡ B.mode) }
     ensures several { IfOk result (λ v. (1 ≤ vec_len v) × (vec_len v ≤ 64)) }
+    ensures workers { IfOk result
+        (λ v. AreWorkers (arc_value model.now) mode options.now v.items) }
 {
     let distance = options.commit_distance();
     let adaptive = options.adaptive_distance();
+    let count = options.workers();
     let mut paths = Vec::new(alloc);
-    'workers: for _worker in 0..options.workers() {
+    'workers: for _worker in 0..count {
         let path = Path::idle(alloc, model.clone()?, mode, distance, adaptive)?;
         paths.push(OwnPath::new(path))?;
     }
