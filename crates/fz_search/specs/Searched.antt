@@ -1,11 +1,11 @@
 -- What a search leaves of its book, and what is shown of it.
-use Rattle.std.specs.Prelude.{◌≡◌, ℕ, ℤ, ◌<◌, ◌≤◌, ◌⊎◌, Bool, true, false, length, take, Option, Some, None, IsSomeAnd, List, []}
+use Rattle.std.specs.Prelude.{◌≡◌, ℕ, ℤ, ◌<◌, ◌≤◌, ◌⊎◌, All, Bool, true, false, length, take, Option, Some, None, IsSomeAnd, List, []}
 use Rattle.fz_spec.specs.Instance.{Instance}
 use Rattle.fz_spec.specs.declared.goal.Goal.{Goal}
 use Rattle.fz_spec.specs.declared.goal.Goal.TheVariants.{Satisfy, Minimize, Maximize}
 use Rattle.fz_tree.specs.declared.mode.Mode.{Mode}
 use Rattle.fz_tree.specs.Book.{Book, BookLaw, opening}
-use Rattle.fz_path.specs.Paths.{Pathed, idle_path}
+use Rattle.fz_path.specs.Paths.{Pathed, Walked, bare, idle_path}
 use Rattle.fz_solo.specs.Searches.{Searches}
 use Rattle.fz_printer.specs.declared.printer.Printer.{Printer}
 use Rattle.fz_printer.specs.Printed.{book_of, as_found_of, wanted_of, printed_of, stopped_of, due_among, due_of, HasPrinted, IsReady}
@@ -79,6 +79,11 @@ pub record IsByTurns (m : Instance) (o : Options) (seed : ℕ) (b : Book) : Type
 abbrev pub IsSearchedBy : Option ℕ → Instance → Options → Book → Type 0
 IsSearchedBy None m o b = IsAlone m o b
 IsSearchedBy (Some seed) m o b = IsByTurns m o seed b
+
+-- as many paths as workers are asked for: each holds nothing, and keeps copies at the distances that are asked for
+pub record AreWorkers (m : Instance) (mode : Mode) (o : Options) (paths : List Walked) : Type 0 where
+  pub count : length paths ≡ o.workers
+  pub idle : All (λ (p : Walked). bare p ≡ idle_path m mode o.commit_distance o.adaptive_distance) paths
 
 -- ---- what is shown
 
