@@ -1,34 +1,62 @@
--- From which place on a part is looked at.
-use Rattle.std.proofs.Common.{◌≡◌, ◌∙◌, ℕ, zero, suc, ◌+◌, ◌<◌, ◌≤◌, List, [], ◌∷◌, ◌++◌, length, get_or, ap, sym, subst, arith, false}
+-- Parts whose variables rise, and from which place on they are looked at.
+use Rattle.std.proofs.Common.{◌≡◌, ◌∙◌, ℕ, zero, suc, ◌+◌, ◌-◌, ◌<◌, ◌≤◌, List, [], ◌∷◌, ◌++◌, length, take, get_or, ap, sym, subst, refl, arith, Bool, true, inl, inr}
 use Rattle.std.specs.Prelude.{ℤ, slice_index}
-use Rattle.std.specs.List.{range_with_len}
-use Rattle.std.proofs.lemmas.List.FromFn.{get_or-range_with_len, length-range_with_len}
+use Rattle.std.proofs.lemmas.Bool.{cases_lt}
 use Rattle.fz_spec.specs.Instance.{SearchPart}
-use Rattle.fz_branch.specs.Values.{is_open}
-use Rattle.fz_branch.specs.Picks.{AreClosed, IsPassed, domain_at}
-use Rattle.fz_branch.specs.Plans.{EndsInAll}
-use Rattle.fz_branch.proofs.Choosing.{at_place}
+use Rattle.fz_branch.specs.Picks.{AreClosed, IsPassed}
+use Rattle.fz_branch.specs.Plans.{AreRising, IsRising}
 
-numbered : (vs : List ℕ) (k : ℕ) → vs ≡ range_with_len 0 (length vs) → k < length vs → slice_index vs k ≡ k
-numbered vs k is h = let e : 0 + k ≡ k = omega arith in ap (λ l. slice_index l k) is ∙ get_or-range_with_len 0 (length vs) k 0 h ∙ e
+-- the first so many rise
+abbrev pub rising_to : ℕ → List ℕ → Type 0
+rising_to n vs = (j k : ℕ) → j ≤ k → k < n → slice_index vs j ≤ slice_index vs k
 
-last_all : (ps : List SearchPart) (i : ℕ) (d : SearchPart) → EndsInAll ps → i + 1 ≡ length ps → (get_or ps i d).variables ≡ range_with_len 0 (length (get_or ps i d).variables)
-last_all [] i d ends e = absurd (omega (arith, e))
-last_all (p ∷ []) zero d ends e = ends
-last_all (p ∷ []) (suc i) d ends e = absurd (omega (arith, e))
-last_all (p ∷ q ∷ ps) zero d ends e = absurd (omega (arith, e))
-last_all (p ∷ q ∷ ps) (suc i) d ends e = last_all (q ∷ ps) i d ends (omega (arith, e))
+pub one_rises : (vs : List ℕ) → rising_to 1 vs
+one_rises vs j k h l =
+    let same : j ≡ k = omega (arith, h, l) in
+    subst (λ (i : ℕ). slice_index vs j ≤ slice_index vs i) same (omega arith)
 
--- the last part is of all variables: those before the first that may be open are passed
-pub starts : (ds : List (List (ℤ × ℤ))) (ps : List SearchPart) (i : ℕ) (p : SearchPart) (n closed : ℕ) → EndsInAll ps → i + 1 ≡ length ps → p ≡ get_or ps i p → AreClosed closed ds → n ≤ closed → n ≤ length p.variables → (d : SearchPart)
-    → IsPassed n ds (get_or ps i d).variables
-starts ds ps i p n closed ends last is none few within = λ d.
-    let whole : p.variables ≡ range_with_len 0 (length p.variables) = subst (λ (q : SearchPart). q.variables ≡ range_with_len 0 (length q.variables)) (sym is) (last_all ps i p ends last) in
-    subst (λ (q : SearchPart). IsPassed n ds q.variables) (at_place ps i p d (omega (arith, last)) is)
-    (λ k h. subst (λ (v : ℕ). is_open (domain_at ds v) ≡ false) (sym (numbered p.variables k whole (omega (arith, h, within)))) (none k (omega (arith, h, few))))
+-- one more, which is at least the last one
+pub more_rise : (vs : List ℕ) (n : ℕ) → 1 ≤ n → rising_to n vs → slice_index vs (n - 1) ≤ slice_index vs n → rising_to (n + 1) vs
+more_rise vs n some rise last j k h l =
+    elim (cases_lt k n) [
+      | inl below ↦ rise j k h below
+      | inr from ↦
+          let at : n ≡ k = omega (arith, l, from) in
+          subst (λ (i : ℕ). slice_index vs j ≤ slice_index vs i) at (elim (cases_lt j n) [
+            | inl before ↦ let up = rise j (n - 1) (omega (arith, before)) (omega (arith, some)) in omega (arith, up, last)
+            | inr same ↦ let here : n ≡ j = omega (arith, same, h, at) in subst (λ (i : ℕ). slice_index vs i ≤ slice_index vs n) here (omega arith)
+          ])
+    ]
 
--- all variables as the last part
-pub ends_pushed : (ps : List SearchPart) (p : SearchPart) (n : ℕ) → p.variables ≡ range_with_len 0 n → EndsInAll (ps ++ p ∷ [])
-ends_pushed [] p n is = is ∙ sym (ap (range_with_len 0) (ap length is ∙ length-range_with_len 0 n))
-ends_pushed (q ∷ []) p n is = ends_pushed [] p n is
-ends_pushed (q ∷ r ∷ ps) p n is = ends_pushed (r ∷ ps) p n is
+-- the places before one whose variable is closed are passed
+pub passed_below : (ds : List (List (ℤ × ℤ))) (vs : List ℕ) (n closed : ℕ) → IsRising vs → AreClosed closed ds → 1 ≤ n → n ≤ length vs → slice_index vs (n - 1) < closed → IsPassed n ds vs
+passed_below ds vs n closed rise none some within last = λ k h.
+    let up = rise k (n - 1) (omega (arith, h)) (omega (arith, some, within)) in
+    none (slice_index vs k) (omega (arith, up, last))
+
+-- ---- of each part
+
+said_suc : (bs : List Bool) (ps : List SearchPart) (i : ℕ) (b : Bool) (p : SearchPart) → i < length ps → p ≡ get_or ps i p → (b ≡ true → IsRising p.variables) → AreRising bs (take i ps) → AreRising (bs ++ b ∷ []) (take (suc i) ps)
+said_suc bs [] i b p lt is here all = absurd (omega (arith, lt))
+said_suc [] (q ∷ ps) zero b p lt is here all = (subst (λ (r : SearchPart). b ≡ true → IsRising r.variables) is here, tt)
+said_suc (c ∷ bs) (q ∷ ps) zero b p lt is here all = absurd all
+said_suc [] (q ∷ ps) (suc i) b p lt is here all = absurd all
+said_suc (c ∷ bs) (q ∷ ps) (suc i) b p lt is here all = (all.0, said_suc bs ps i b p (omega (arith, lt)) is here all.1)
+
+pub said_more : (bs after : List Bool) (ps : List SearchPart) (i : ℕ) (b : Bool) (p : SearchPart) → i < length ps → p ≡ get_or ps i p → after ≡ bs ++ b ∷ [] → (b ≡ true → IsRising p.variables) → AreRising bs (take i ps)
+    → AreRising after (take (i + 1) ps)
+said_more bs after ps i b p lt is more here all =
+    let next : suc i ≡ i + 1 = omega arith in
+    subst (λ (l : List Bool). AreRising l (take (i + 1) ps)) (sym more) (subst (λ n. AreRising (bs ++ b ∷ []) (take n ps)) next (said_suc bs ps i b p lt is here all))
+
+pub said_size : (bs : List Bool) (ps : List SearchPart) → AreRising bs ps → length bs ≡ length ps
+said_size [] [] all = refl
+said_size [] (p ∷ ps) all = absurd all
+said_size (b ∷ bs) [] all = absurd all
+said_size (b ∷ bs) (p ∷ ps) all = ap suc (said_size bs ps all.1)
+
+pub said_at : (bs : List Bool) (ps : List SearchPart) (i : ℕ) (b : Bool) (p : SearchPart) → i < length ps → b ≡ get_or bs i b → p ≡ get_or ps i p → AreRising bs ps → b ≡ true → IsRising p.variables
+said_at bs [] i b p lt is_b is_p all says = absurd (omega (arith, lt))
+said_at [] (q ∷ ps) i b p lt is_b is_p all says = absurd all
+said_at (c ∷ bs) (q ∷ ps) zero b p lt is_b is_p all says = subst (λ (r : SearchPart). IsRising r.variables) (sym is_p) (all.0 (sym is_b ∙ says))
+said_at (c ∷ bs) (q ∷ ps) (suc i) b p lt is_b is_p all says = said_at bs ps i b p (omega (arith, lt)) is_b is_p all.1 says

@@ -1,6 +1,6 @@
 -- Plans, and what is chosen by one.
-use Rattle.std.specs.Prelude.{◌≡◌, ℕ, ◌<◌, ℤ, List, [], ◌∷◌, ◌++◌, length, map, slice_index, slice_index_or}
-use Rattle.std.specs.List.{range_with_len, filter}
+use Rattle.std.specs.Prelude.{◌≡◌, ℕ, ◌<◌, ◌≤◌, ℤ, Bool, true, List, [], ◌∷◌, ◌++◌, length, map, slice_index, slice_index_or}
+use Rattle.std.specs.List.{AllZip, range_with_len, filter}
 use Rattle.fz_spec.specs.declared.search.Pick.TheVariants.{InputOrder}
 use Rattle.fz_spec.specs.declared.search.Value.TheVariants.{IndomainMin}
 use Rattle.fz_spec.specs.Instance.{Instance, SearchPart}
@@ -36,11 +36,13 @@ plan_for Best m = plan_of m
 
 -- ----
 
--- the last part is of all variables in order of declaration
-abbrev pub EndsInAll : List SearchPart → Type 0
-EndsInAll [] = Unit {0}
-EndsInAll (p ∷ []) = p.variables ≡ range_with_len 0 (length p.variables)
-EndsInAll (p ∷ q ∷ ps) = EndsInAll (q ∷ ps)
+-- each variable is at least the one before it
+abbrev pub IsRising : List ℕ → Type 0
+IsRising vs = (j k : ℕ) → j ≤ k → k < length vs → slice_index vs j ≤ slice_index vs k
+
+-- of each part it is said whether its variables rise; where that is said, they do
+abbrev pub AreRising : List Bool → List SearchPart → Type 0
+AreRising rises ps = AllZip (λ (b : Bool) (p : SearchPart). b ≡ true → IsRising p.variables) rises ps
 
 -- no variable of a part has more than one value left
 abbrev pub AreDone : List (List (ℤ × ℤ)) → List SearchPart → Type 0

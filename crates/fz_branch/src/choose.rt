@@ -1,11 +1,11 @@
 //! The next choice.
-ghost use Rattle.std.specs.Prelude.{◌≡◌, ◌≤◌, ◌<◌, MatchOption, IfOk, length, slice_index_or};
-ghost use Rattle.fz_spec.specs.Instance as instance;
+ghost use Rattle.std.specs.Prelude.{◌≤◌, MatchOption, IfOk, length};
 ghost use Rattle.fz_branch.specs.Picks.{AreClosed, IsPassed, IsDone};
-ghost use Rattle.fz_branch.specs.Plans.{AreDone, EndsInAll, IsChosen, IsChosenOf};
+ghost use Rattle.fz_branch.specs.Plans.{AreDone, IsChosen, IsChosenOf};
 
 use crate::pick::picked;
 use crate::plan::Plan;
+use crate::rising::start_of;
 use crate::value;
 use fz_dom::Dom;
 use fz_model::SearchPart;
@@ -25,34 +25,13 @@ pub fn choose_among(plan: &Plan, doms: &[Dom], closed: usize) -> Result<Option<C
     let alloc = plan.allocator();
     let parts = plan.parts();
     for place in 0..parts.len() {
-        let start = if plan.ends_in_all() {
-            start_of(parts, place, doms, closed)
-        } else {
-            0
-        };
-        if let Some(choice) = choice_of(alloc, &parts[place], doms, closed, start)? {
+        let part = &parts[place];
+        let start = start_of(part.variables(), plan.rises(place), doms, closed);
+        if let Some(choice) = choice_of(alloc, part, doms, closed, start)? {
             return Ok(Some(choice));
         }
     }
     Ok(None)
-}
-
-/// From which place on a part is looked at: the last one is of all variables, in order, and those before `closed` are passed.
-fn start_of(parts: &[SearchPart], place: usize, doms: &[Dom], closed: usize) -> usize
-    requires closed { AreClosed closed doms.now }
-    requires all { EndsInAll parts.now }
-    requires place { place < length parts.now }
-    ensures start { (d : instance.SearchPart)
-        → result ≤ length (slice_index_or parts.now place d).variables }
-    ensures passed { (d : instance.SearchPart)
-        → IsPassed result doms.now (slice_index_or parts.now place d).variables }
-{
-    let _ = doms;
-    if place + 1 == parts.len() {
-        closed.min(parts[place].variables().len())
-    } else {
-        0
-    }
 }
 
 /// The choice of one part, of which the places before `start` are passed.

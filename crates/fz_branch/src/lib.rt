@@ -7,6 +7,7 @@ pub mod choose;
 pub mod laws;
 mod pick;
 pub mod plan;
+mod rising;
 mod shown;
 mod value;
 

@@ -1,8 +1,10 @@
 //! Plans.
-ghost use Rattle.std.specs.Prelude.{◌≡◌, ◌≤◌, ◌^◌, length, map, IfOk, IsTrue};
+ghost use Rattle.std.specs.Prelude.{◌≡◌, ◌<◌, true, length, slice_index_or, IfOk};
 ghost use Rattle.std.specs.List.{range_with_len};
-ghost use Rattle.fz_branch.specs.Plans.{plan_of, plan_rows, EndsInAll};
+ghost use Rattle.fz_spec.specs.Instance as instance;
+ghost use Rattle.fz_branch.specs.Plans.{plan_of, plan_rows, IsRising};
 
+use crate::rising::rises_of;
 use crate::shown::{all_shown, shown_in, shown_parts};
 use fz_model::{Listed, Part, SearchPart};
 use fz_spec::search::{Pick, Value};
@@ -13,21 +15,21 @@ use std::marker::Model;
 #[derive(Drop)]
 pub struct Plan {
     parts: Vec<SearchPart>,
-    /// The last part is of all variables in order of declaration.
-    ends_in_all: bool,
+    /// Of each part whether its variables rise.
+    rises: Vec<bool>,
 }
 
 impl Model for Plan {
-    ghost use Rattle.std.specs.Prelude.{List, IsTrue};
+    ghost use Rattle.std.specs.Prelude.{List};
     ghost use Rattle.fz_spec.specs.Instance as instance;
 
     ghost Value = { List instance.SearchPart };
 
     ghost view = { λ p. p.parts.items };
 
-    ghost use Rattle.fz_branch.specs.Plans.{EndsInAll};
+    ghost use Rattle.fz_branch.specs.Plans.{AreRising};
 
-    ghost invariant = { λ p. IsTrue p.ends_in_all → EndsInAll p.parts.items };
+    ghost invariant = { λ p. AreRising p.rises.items p.parts.items };
 }
 
 impl Plan {
@@ -41,10 +43,7 @@ impl Plan {
         let mut parts = copies(alloc, model.search())?;
         let variables = all_variables(alloc, model.variables().len() as u32)?;
         parts.push(SearchPart::new(Listed::own(variables), Pick::InputOrder, Value::IndomainMin))?;
-        Ok(Plan {
-            parts,
-            ends_in_all: true,
-        })
+        Plan::of_parts(alloc, parts)
     }
 
     /// The plan of a model whose rows are sought: its search parts cut down to the variables of the output, and after them all of
@@ -59,10 +58,14 @@ impl Plan {
         let mut parts = shown_parts(alloc, model, &shown)?;
         let all = all_shown(alloc, model, &shown)?;
         parts.push(SearchPart::new(Listed::own(all), Pick::InputOrder, Value::IndomainMin))?;
-        Ok(Plan {
-            parts,
-            ends_in_all: false,
-        })
+        Plan::of_parts(alloc, parts)
+    }
+
+    fn of_parts(alloc: Global, parts: Vec<SearchPart>) -> Result<Plan, AllocError>
+        ensures { IfOk result (λ p. p ≡ parts.items) }
+    {
+        let rises = rises_of(alloc, &parts)?;
+        Ok(Plan { parts, rises })
     }
 
     /// The allocator that it was made with.
@@ -77,11 +80,13 @@ impl Plan {
         &self.parts
     }
 
-    /// Whether the last part is known to be of all variables in order of declaration.
-    pub(crate) fn ends_in_all(&self) -> bool
-        ensures { IsTrue result → EndsInAll self.now }
+    /// Whether the variables of a part are known to rise.
+    pub(crate) fn rises(&self, place: usize) -> bool
+        requires { place < length self.now }
+        ensures { (p : instance.SearchPart) → result ≡ true → p ≡ slice_index_or self.now place p
+            → IsRising p.variables }
     {
-        self.ends_in_all
+        self.rises[place]
     }
 }
 

@@ -1,6 +1,7 @@
 //! What a path begins with.
 ghost use Rattle.std.specs.Prelude.{◌≡◌, ◌≤◌, None, [], IfOk};
 ghost use Rattle.std.specs.Arc.{arc_value};
+ghost use Rattle.fz_trail.specs.Nodes.{IsAt};
 ghost use Rattle.fz_trail.specs.Trails.{IsTrail};
 ghost use Rattle.fz_path.specs.Paths.{ArePlans};
 
@@ -14,7 +15,7 @@ use std::sync::Arc;
 /// The plans of a model, and the space of its root alone.
 #[derive(Drop)]
 pub struct Beginning<S: SearchSpace> {
-    pub plans: Plans,
+    pub plans: Arc<Plans>,
     pub trail: Trail<S>,
 }
 
@@ -31,7 +32,7 @@ pub fn beginning_of<S: SearchSpace>(
 ) -> Result<Beginning<S>, AllocError>
     requires accepts { S.accepts (arc_value model.now) }
     requires distances { (1 ≤ commit_distance) × (1 ≤ adaptive_distance) }
-    ensures plans { IfOk result (λ b. ArePlans mode (arc_value model.now) b.plans) }
+    ensures plans { IfOk result (λ b. ArePlans mode (arc_value model.now) (arc_value b.plans)) }
     ensures distances { IfOk result (λ b. (b.trail.distance ≡ commit_distance)
         × (b.trail.adaptive ≡ adaptive_distance)) }
     ensures begun { IfOk result (λ b. (b.trail.copies.items ≡ []) × (b.trail.current ≡ None)
@@ -39,10 +40,40 @@ pub fn beginning_of<S: SearchSpace>(
     ensures spaces { IfOk result (λ b.
         IsTrail S.spaced (arc_value model.now) None [] b.trail) }
 {
-    let plans = Plans::of(alloc, model, mode)?;
-    let root = S::root(alloc, model.clone()?)?;
+    let plans = shared_plans(alloc, model, mode)?;
+    let root = shared_root::<S>(alloc, model)?;
     Ok(Beginning {
         plans,
         trail: Trail::new(alloc, root, commit_distance, adaptive_distance),
     })
+}
+
+/// The plans of a model, to be shared.
+fn shared_plans(
+    alloc: Global,
+    model: &fz_model::Model,
+    mode: Mode,
+) -> Result<Arc<Plans>, AllocError>
+    ensures { IfOk result (λ p. ArePlans mode model.now (arc_value p)) }
+{
+    let plans = Plans::of(alloc, model, mode)?;
+    match Arc::new(alloc, plans) {
+        Ok(plans) => Ok(plans),
+        Err(_) => Err(AllocError),
+    }
+}
+
+/// The space of a model's root, to be shared.
+fn shared_root<S: SearchSpace>(
+    alloc: Global,
+    model: &Arc<fz_model::Model>,
+) -> Result<Arc<S>, AllocError>
+    requires { S.accepts (arc_value model.now) }
+    ensures { IfOk result (λ r. IsAt (arc_value model.now) None [] (S.spaced (arc_value r))) }
+{
+    let root = S::root(alloc, model.clone()?)?;
+    match Arc::new(alloc, root) {
+        Ok(root) => Ok(root),
+        Err(_) => Err(AllocError),
+    }
 }

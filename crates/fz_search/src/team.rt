@@ -1,15 +1,14 @@
 //! The search of a model by several workers in threads.
 ghost use Rattle.std.specs.Prelude.{◌≡◌, ◌-◌, ◌<◌, ◌≤◌, ◌^◌, ◌⊎◌, [], None, IfOk, OnErr, vec_len};
 ghost use Rattle.std.specs.Arc.{arc_value};
-ghost use Rattle.fz_tree.specs.Better.{IsModeOf};
 ghost use Rattle.fz_printer.specs.Printed.{book_of, stopped_of, CountsMark, IsReady};
 ghost use Rattle.fz_printer.specs.Gathered.{Gathers, IsFilled};
 ghost use Rattle.fz_runs.specs.Modes.{mode_for};
 ghost use Rattle.fz_collect.specs.Subjects.{IsBookOf};
+ghost use Rattle.fz_path.specs.Paths.{bare, idle_path};
 ghost use Rattle.fz_search.specs.Searched.{AreWorkers, IsOfModel, IsPrinted};
 
 use crate::searching::{begin, enough_for, mode_for, shows_found};
-use fz_account::Mode;
 use fz_cmd::Options;
 use fz_collect::{Outbox, Subject, gather};
 use fz_io::gate::Gate;
@@ -33,7 +32,7 @@ use std::thread::{Threads, join_mut};
 /// `AllocError` where there is no memory to begin with; nothing is printed.
 pub fn search_in_threads<
     T: Threads + Wait + Sync,
-    S: SearchSpace + Send,
+    S: SearchSpace + Send + Sync,
     K: Sink + Send,
     G: Gate + Sync,
 >(
@@ -74,8 +73,13 @@ pub fn search_in_threads<
     Ok(printer)
 }
 
-/// Several workers search, and one after them what the printer wasn't told of.
-fn search_all<T: Threads + Wait + Sync, S: SearchSpace + Send, K: Sink + Send, G: Gate + Sync>(
+/// Several workers search, and one behind them what the printer wasn't told of.
+fn search_all<
+    T: Threads + Wait + Sync,
+    S: SearchSpace + Send + Sync,
+    K: Sink + Send,
+    G: Gate + Sync,
+>(
     rt: &T,
     alloc: Global,
     model: &Arc<Model>,
@@ -85,13 +89,12 @@ fn search_all<T: Threads + Wait + Sync, S: SearchSpace + Send, K: Sink + Send, G
     sink: &mut K,
     gate: &G,
 )
-    requires accepts { S.accepts (arc_value model.now) }
     requires working { stopped_of printer.old ≡ None }
     requires ready { IsReady printer.old }
     requires faults { K.faults sink.old < 2 ^ 64 - 1 }
-    requires idle { path.old.held ≡ None }
-    requires model { path.old.model ≡ (book_of printer.old).model }
-    requires mode { path.old.mode ≡ (book_of printer.old).mode }
+    requires idle { bare path.old
+        ≡ idle_path (arc_value model.now) (mode_for (arc_value model.now).goal options.now)
+        options.now.commit_distance options.now.adaptive_distance }
     requires own { IsBookOf (arc_value model.now)
         (mode_for (arc_value model.now).goal options.now) (book_of printer.old) }
     ensures gathers { Gathers printer.old (K.taken sink.old) (K.faults sink.old)
@@ -99,17 +102,17 @@ fn search_all<T: Threads + Wait + Sync, S: SearchSpace + Send, K: Sink + Send, G
     ensures ended { stopped_of printer.new ≡ None
         → IsFilled printer.new ⊎ ((book_of printer.new).parts ≡ []) }
 {
-    search_together::<T, S, K, G, Brand>(rt, alloc, model, options, printer, sink, gate);
+    search_together::<T, S, K, G, Brand>(rt, alloc, model, options, printer, path, sink, gate);
     if printer.stopped().is_some() {
         return;
     }
     stream(alloc, printer, path, sink);
 }
 
-/// The workers search, and what they tell is printed in the meantime; where no more thread can be made, after it.
+/// The workers search, and what they tell is printed in the meantime; where no more thread can be made, behind it.
 fn search_together<
     T: Threads + Wait + Sync,
-    S: SearchSpace + Send,
+    S: SearchSpace + Send + Sync,
     K: Sink + Send,
     G: Gate + Sync,
     B: Subject + Send + Sync,
@@ -119,14 +122,16 @@ fn search_together<
     model: &Arc<Model>,
     options: &Options,
     printer: &mut Printer,
+    path: &Path<S>,
     sink: &mut K,
     gate: &G,
 )
-    requires accepts { S.accepts (arc_value model.now) }
     requires working { stopped_of printer.old ≡ None }
     requires ready { IsReady printer.old }
     requires faults { K.faults sink.old < 2 ^ 64 - 1 }
     requires subject { IsOfModel B.model B.mode (arc_value model.now) options.now }
+    requires idle { bare path.now ≡ idle_path
+        B.model B.mode options.now.commit_distance options.now.adaptive_distance }
     requires own { IsBookOf B.model B.mode (book_of printer.old) }
     ensures { Gathers printer.old (K.taken sink.old) (K.faults sink.old)
         printer.new (K.taken sink.new) (K.faults sink.new) }
@@ -137,67 +142,81 @@ fn search_together<
         rt,
         &mut || gather(rt, alloc, told, printer, sink),
         &mut ||
-            requires { S.accepts (arc_value model.now)
-                × IsOfModel B.model B.mode (arc_value model.now) options.now }
-        { work_through::<T, S, G, B>(rt, alloc, model, options, gate, told) },
+            requires { IsOfModel B.model B.mode (arc_value model.now) options.now
+                × (bare path.now ≡ idle_path B.model B.mode
+                options.now.commit_distance options.now.adaptive_distance) }
+        { work_through::<T, S, G, B>(rt, alloc, model, options, path, gate, told) },
     );
 }
 
 /// The workers search, and end what they tell.
 fn work_through<
     T: Threads + Wait + Sync,
-    S: SearchSpace + Send,
+    S: SearchSpace + Send + Sync,
     G: Gate + Sync,
     B: Subject + Send + Sync,
->(rt: &T, alloc: Global, model: &Arc<Model>, options: &Options, gate: &G, outbox: &Outbox<B>)
-    requires accepts { S.accepts (arc_value model.now) }
-    requires subject { IsOfModel B.model B.mode (arc_value model.now) options.now }
-{
-    let _whether_there_was_memory = work::<T, S, G, B>(rt, alloc, model, options, gate, outbox);
-    outbox.end();
-}
-
-/// The workers search, with a book of their own.
-fn work<T: Threads + Wait + Sync, S: SearchSpace + Send, G: Gate + Sync, B: Subject + Send + Sync>(
+>(
     rt: &T,
     alloc: Global,
     model: &Arc<Model>,
     options: &Options,
+    path: &Path<S>,
+    gate: &G,
+    outbox: &Outbox<B>,
+)
+    requires subject { IsOfModel B.model B.mode (arc_value model.now) options.now }
+    requires idle { bare path.now ≡ idle_path
+        B.model B.mode options.now.commit_distance options.now.adaptive_distance }
+{
+    let _whether_there_was_memory = work::<T, S, G, B>(
+        rt, alloc, model, options, path, gate, outbox,
+    );
+    outbox.end();
+}
+
+/// The workers search, with a book of their own.
+fn work<
+    T: Threads + Wait + Sync,
+    S: SearchSpace + Send + Sync,
+    G: Gate + Sync,
+    B: Subject + Send + Sync,
+>(
+    rt: &T,
+    alloc: Global,
+    model: &Arc<Model>,
+    options: &Options,
+    path: &Path<S>,
     gate: &G,
     outbox: &Outbox<B>,
 ) -> Result<(), AllocError>
-    requires accepts { S.accepts (arc_value model.now) }
     requires subject { IsOfModel B.model B.mode (arc_value model.now) options.now }
+    requires idle { bare path.now ≡ idle_path
+        B.model B.mode options.now.commit_distance options.now.adaptive_distance }
 {
     let mode = mode_for(model.goal(), options);
     let book = OwnBook::new(begin(alloc, model, mode)?);
-    let paths = paths_of::<S, B>(alloc, model, mode, options)?;
+    let paths = paths_of::<S, B>(alloc, path, options)?;
     let enough = enough_for(model.goal(), options);
     let _end = run_own(rt, alloc, book, paths, enough, gate, outbox);
     Ok(())
 }
 
-/// As many idle paths as workers are asked for, at the distances that are asked for.
+/// As many idle paths as workers are asked for, beside an idle one: they share what is posted, the plans and the root's space.
 fn paths_of<S: SearchSpace, B: Subject>(
     alloc: Global,
-    model: &Arc<Model>,
-    mode: Mode,
+    path: &Path<S>,
     options: &Options,
 ) -> Result<Vec<OwnPath<S, B>>, AllocError>
-    requires accepts { S.accepts (arc_value model.now) }
-    requires mode { IsModeOf (arc_value model.now).goal mode }
-    requires subject { (arc_value model.now ≡ B.model) × (mode ≡ B.mode) }
+    requires idle { bare path.now ≡ idle_path
+        B.model B.mode options.now.commit_distance options.now.adaptive_distance }
     ensures several { IfOk result (λ v. (1 ≤ vec_len v) × (vec_len v ≤ 64)) }
-    ensures workers { IfOk result
-        (λ v. AreWorkers (arc_value model.now) mode options.now v.items) }
+    ensures workers { IfOk result (λ v. AreWorkers B.model B.mode options.now v.items) }
 {
-    let distance = options.commit_distance();
-    let adaptive = options.adaptive_distance();
     let count = options.workers();
     let mut paths = Vec::new(alloc);
     'workers: for _worker in 0..count {
-        let path = Path::idle(alloc, model.clone()?, mode, distance, adaptive)?;
-        paths.push(OwnPath::new(path))?;
+        let beside = path.beside()?;
+        paths.push(OwnPath::new(beside))?;
     }
     Ok(paths)
 }

@@ -42,7 +42,7 @@ struct Team<S: SearchSpace, T: Subject> {
 /// nothing is searched, and it ends as for being out of memory.
 pub fn run<
     R: Threads + Wait + Sync,
-    S: SearchSpace + Send,
+    S: SearchSpace + Send + Sync,
     G: Gate + Sync,
     T: Subject + Send + Sync,
 >(
@@ -88,7 +88,7 @@ fn own_paths<S: SearchSpace, T: Subject>(
 /// The same with a book and paths that are known to be of one model and mode.
 pub fn run_own<
     R: Threads + Wait + Sync,
-    S: SearchSpace + Send,
+    S: SearchSpace + Send + Sync,
     G: Gate + Sync,
     T: Subject + Send + Sync,
 >(
@@ -217,7 +217,7 @@ fn members_of<S: SearchSpace, T: Subject>(
 /// Rounds of the workers, until one shows an end.
 fn rounds<
     R: Threads + Wait + Sync,
-    S: SearchSpace + Send,
+    S: SearchSpace + Send + Sync,
     G: Gate + Sync,
     T: Subject + Send + Sync,
 >(
@@ -257,7 +257,12 @@ fn rounds<
 }
 
 /// One round: the workers act until they are told to stop. None where one of them had no memory.
-fn round<R: Threads + Wait + Sync, S: SearchSpace + Send, G: Gate + Sync, T: Subject + Send + Sync>(
+fn round<
+    R: Threads + Wait + Sync,
+    S: SearchSpace + Send + Sync,
+    G: Gate + Sync,
+    T: Subject + Send + Sync,
+>(
     rt: &R,
     paths: &[CachePadded<Mutex<OwnPath<S, T>>>],
     bound: &Bound,
@@ -295,7 +300,7 @@ fn round<R: Threads + Wait + Sync, S: SearchSpace + Send, G: Gate + Sync, T: Sub
 /// Each worker in a thread of its own, where one can be made.
 fn in_threads<
     R: Threads + Wait + Sync,
-    S: SearchSpace + Send,
+    S: SearchSpace + Send + Sync,
     G: Gate + Sync,
     T: Subject + Send + Sync,
 >(rt: &R, crew: &Crew<S, G, T>, members: Vec<Member<S>>) -> Result<Vec<Member<S>>, AllocError>

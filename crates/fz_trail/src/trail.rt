@@ -1,6 +1,7 @@
 //! The spaces beside a path.
 ghost use Rattle.std.specs.Prelude.{◌≡◌, ◌⊎◌, ◌↔◌, ◌≤◌, ◌<◌, ◌+◌, ◌-◌, ◌*◌, ◌++◌, ◌∷◌, [], ℕ, ℤ, List, length, take, false, IsTrue, Option, Some, None, IfNone, is_some, option_map, MatchOption, IfOk, IfSome, IsSomeAnd, OnOk, OnErr};
 ghost use Rattle.std.specs.List.{AllByRecursion, slice_range};
+ghost use Rattle.std.specs.Arc.{arc_value};
 ghost use Rattle.std.specs.Vec.{vec_len, vec_capacity};
 ghost use Rattle.fz_spec.specs.Instance.{Instance};
 ghost use Rattle.fz_tree.specs.declared.decision.Decision.{Decision};
@@ -17,13 +18,14 @@ use crate::steps::Steps;
 use fz_region::Edges;
 use fz_search_space::SearchSpace;
 use std::alloc::{AllocError, Global};
+use std::sync::Arc;
 use std::sync::ledger::Ledger;
 
-/// The space of the root, copies of spaces at nodes of the path, and the space of the node above its last edge, if that is at hand.
+/// The space of the root, which paths beside each other share, copies of spaces at nodes of the path, and the space of the node above its last edge, if that is at hand.
 /// Spaces that are done with are written over.
 #[derive(Drop)]
 pub struct Trail<S> {
-    pub root: S,
+    pub root: Arc<S>,
     pub copies: Vec<Kept<S>>,
     pub current: Option<S>,
     pub spare: Vec<S>,
@@ -37,13 +39,13 @@ pub struct Trail<S> {
 
 impl<S: SearchSpace> Trail<S> {
     /// The root's space alone.
-    pub fn new(alloc: Global, root: S, distance: u32, adaptive: u32) -> Trail<S>
+    pub fn new(alloc: Global, root: Arc<S>, distance: u32, adaptive: u32) -> Trail<S>
         requires { (1 ≤ distance) × (1 ≤ adaptive) }
         ensures distances { (result.distance ≡ distance) × (result.adaptive ≡ adaptive) }
         ensures begun { (result.copies.items ≡ []) × (result.current ≡ None)
             × (result.sparse ≡ 0) }
         ensures trail { (m : Instance) (known : Option (List ℤ))
-            → IsAt m known [] (S.spaced root)
+            → IsAt m known [] (S.spaced (arc_value root))
             → IsTrail S.spaced m known [] result }
     {
         Trail {
@@ -56,6 +58,25 @@ impl<S: SearchSpace> Trail<S> {
             sparse: 0,
             back: None,
         }
+    }
+
+    /// The spaces beside another path of which nothing is begun: the root's alone, which is shared.
+    ///
+    /// # Errors
+    /// `AllocError` where there is no memory.
+    pub fn alone(&self) -> Result<Trail<S>, AllocError>
+        requires { (1 ≤ self.now.distance) × (1 ≤ self.now.adaptive) }
+        ensures distances { IfOk result (λ t. (t.distance ≡ self.now.distance)
+            × (t.adaptive ≡ self.now.adaptive)) }
+        ensures begun { IfOk result (λ t. (t.copies.items ≡ []) × (t.current ≡ None)
+            × (t.sparse ≡ 0)) }
+        ensures trail { IfOk result (λ t. (m : Instance) (known : Option (List ℤ))
+            (es : List frontier.Edge) → IsTrail S.spaced m known es self.now
+            → IsTrail S.spaced m known [] t) }
+    {
+        let root = self.root.clone()?;
+        let alloc = *self.copies.allocator();
+        Ok(Trail::new(alloc, root, self.distance, self.adaptive))
     }
 
     /// Forgets all but the root. The path that is begun has that many edges.

@@ -1,8 +1,7 @@
 use Rattle.std.proofs.Common.{◌≡◌}
-use Rattle.std.specs.Arc.{arc_value}
 use Rattle.std.specs.Vec.{vec_len}
 use Rattle.fz_search.proofs.Workers.{are_idle}
 use Rattle.fz_search.proofs.team.paths_of.Given as goal
 
 abbrev pub invariant-workers : goal.invariant-workers
-invariant-workers g l = (vec_len l.paths ≡ l._worker) × are_idle (arc_value l.model) l.mode l.distance l.adaptive l.paths.items
+invariant-workers g l = (vec_len l.paths ≡ l._worker) × are_idle g.B.Subject.model g.B.Subject.mode l.options.commit_distance l.options.adaptive_distance l.paths.items
