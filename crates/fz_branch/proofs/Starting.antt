@@ -6,7 +6,7 @@ use Rattle.fz_spec.specs.Instance.{SearchPart}
 use Rattle.fz_branch.specs.Picks.{AreClosed, IsPassed}
 use Rattle.fz_branch.specs.Plans.{AreRising, IsRising}
 
--- the first so many rise
+-- the first that many rise
 abbrev pub rising_to : ℕ → List ℕ → Type 0
 rising_to n vs = (j k : ℕ) → j ≤ k → k < n → slice_index vs j ≤ slice_index vs k
 

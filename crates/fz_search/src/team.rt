@@ -73,7 +73,7 @@ pub fn search_in_threads<
     Ok(printer)
 }
 
-/// Several workers search, and one behind them what the printer wasn't told of.
+/// Several workers search, and one after them what the printer wasn't told of.
 fn search_all<
     T: Threads + Wait + Sync,
     S: SearchSpace + Send + Sync,
@@ -109,7 +109,7 @@ fn search_all<
     stream(alloc, printer, path, sink);
 }
 
-/// The workers search, and what they tell is printed in the meantime; where no more thread can be made, behind it.
+/// The workers search, and what they tell is printed in the meantime; where no more thread can be made, after it.
 fn search_together<
     T: Threads + Wait + Sync,
     S: SearchSpace + Send + Sync,
