@@ -58,11 +58,11 @@ def roster(size):
 
 
 def sums(size):
-    """Ten terms for each variable, in sums of at most 10,000 terms, of which each is at least a third of what it may be."""
+    """Three terms for each variable, in sums of at most 10,000 terms, of which each is at least a third of what it may be."""
     dice = random.Random(4)
     terms = min(size, 10000)
     constraints = []
-    for number in range(10 * size // terms):
+    for number in range(3 * size // terms):
         first = number * terms % size
         names = [f"x{(first + i) % size}" for i in range(terms)]
         factors = [dice.randint(1, 5) for _ in range(terms)]
