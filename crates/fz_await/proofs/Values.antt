@@ -6,11 +6,10 @@ use Rattle.fz_sets.specs.Sets.{IsInSet}
 use Rattle.fz_spec.specs.declared.builtin.Builtin.{Builtin}
 use Rattle.fz_spec.specs.declared.term.Term.{Term}
 use Rattle.fz_spec.specs.declared.term.Term.TheVariants.{Num, Var}
-use Rattle.fz_spec.specs.Constraints.{Argument, One, Numbers, Terms, Set, term_value, term_values, Holds}
+use Rattle.fz_spec.specs.Constraints.{Argument, One, Numbers, Terms, Set, term_value, term_values, Holds, terms_among}
 use Rattle.fz_strength.specs.Domains.{dom_at, Within, number_at}
 use Rattle.fz_strength.specs.Events.{AllFixed}
 use Rattle.fz_prop.specs.Stores.{IsTermOf}
-use Rattle.fz_strength.specs.Lines.{terms_among}
 use Rattle.fz_sets.proofs.Lists.{all_left, all_right}
 use Rattle.fz_strength.proofs.Terms.{is_single}
 

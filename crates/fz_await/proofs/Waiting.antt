@@ -3,10 +3,9 @@ use Rattle.std.proofs.Common.{List, length}
 use Rattle.std.specs.Prelude.{ℤ}
 use Rattle.std.specs.List.{AllByRecursion}
 use Rattle.fz_spec.specs.declared.builtin.Builtin.{Builtin}
-use Rattle.fz_spec.specs.Constraints.{Argument, Holds}
+use Rattle.fz_spec.specs.Constraints.{Argument, Holds, terms_among}
 use Rattle.fz_strength.specs.Domains.{Within}
 use Rattle.fz_strength.specs.Events.{AllFixed}
-use Rattle.fz_strength.specs.Lines.{terms_among}
 use Rattle.fz_strength.specs.Sayings.{Nothing, truth_of, line_of}
 use Rattle.fz_strength.proofs.Terms.{within_before}
 use Rattle.fz_prop.specs.Answers.{IsAnswerOf}

@@ -1,7 +1,7 @@
 //! Constraints that wait for their terms to get fixed.
 ghost use Rattle.std.specs.Prelude.{◌≡◌, ◌++◌, map, IfOk, OnOk};
 ghost use Rattle.fz_model.specs.Arguments.{argument_of};
-ghost use Rattle.fz_strength.specs.Lines.{terms_among, terms_of};
+ghost use Rattle.fz_spec.specs.Constraints.{terms_among, terms_of};
 ghost use Rattle.fz_strength.specs.Sayings.{Nothing};
 
 use crate::numbers::least_numbers;
@@ -24,7 +24,7 @@ pub struct Awaiting {
 
 impl Model for Awaiting {
     ghost use Rattle.std.specs.Prelude.{◌≡◌};
-    ghost use Rattle.fz_strength.specs.Lines.{terms_among};
+    ghost use Rattle.fz_spec.specs.Constraints.{terms_among};
     ghost use Rattle.fz_strength.specs.Sayings.{Saying, Nothing};
 
     ghost Value = { Saying };

@@ -10,7 +10,7 @@ use Rattle.fz_spec.specs.declared.term.Term.{Term}
 use Rattle.fz_spec.specs.Constraints.{Constraint, IsTrueOf}
 use Rattle.fz_spec.specs.Instance.{Instance, Variable}
 use Rattle.fz_model.specs.Kept.{IsConstraint, IsModel}
-use Rattle.fz_strength.specs.declared.relation.Relation.TheVariants.{Equal}
+use Rattle.fz_spec.specs.declared.shape.Relation.TheVariants.{Equal}
 use Rattle.fz_strength.specs.Events.{AreBelow}
 use Rattle.fz_strength.specs.Sayings.{Saying, Differ, DifferByBounds, Sum, SumByNumbers, saying_of, said_terms, truth_of, waits_of}
 use Rattle.fz_strength.proofs.Says.{says}

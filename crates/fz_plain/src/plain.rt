@@ -11,8 +11,8 @@ use fz_dom::Dom;
 use fz_says::Saying;
 use fz_says::saying::Operands;
 use fz_spec::term::Term;
-use fz_strength::operation::Operation;
-use fz_strength::relation::Relation;
+use fz_spec::shape::Operation;
+use fz_spec::shape::Relation;
 use std::alloc::{AllocError, Global};
 use std::sync::Arc;
 

@@ -9,7 +9,7 @@ use Rattle.fz_strength.specs.declared.event.Event.TheVariants.{Any, Bound, Fixed
 use Rattle.fz_strength.specs.Clauses.{clause_terms}
 use Rattle.fz_strength.specs.Cumulatives.{terms_of_tasks}
 use Rattle.fz_strength.specs.Events.{Wait, wait_for, waits_for, AreBelow}
-use Rattle.fz_strength.specs.Lines.{terms_among}
+use Rattle.fz_spec.specs.Constraints.{terms_among}
 use Rattle.fz_strength.specs.Operations.{operand_event}
 use Rattle.fz_strength.specs.Relations.{event_of, reified_event}
 use Rattle.fz_strength.specs.Sums.{sum_event_of}

@@ -6,8 +6,8 @@ use Rattle.fz_sets.proofs.Lists.{all_left, all_right}
 use Rattle.fz_spec.specs.declared.builtin.Builtin.{Builtin}
 use Rattle.fz_spec.specs.declared.term.Term.{Term}
 use Rattle.fz_spec.specs.declared.term.Term.TheVariants.{Num, Var}
-use Rattle.fz_spec.specs.Constraints.{Argument, One, Numbers, Terms, Set, Constraint, Holds, IsTrueOf, term_value, term_values}
-use Rattle.fz_refutes.specs.Refuted.{terms_among, variables_among, variables_of}
+use Rattle.fz_spec.specs.Constraints.{Argument, One, Numbers, Terms, Set, Constraint, Holds, IsTrueOf, term_value, term_values, terms_among}
+use Rattle.fz_refutes.specs.Refuted.{variables_among, variables_of}
 
 -- two assignments give a variable the same number, and each of these terms
 abbrev pub IsSameAt : List ℤ → List ℤ → ℕ → Type 0

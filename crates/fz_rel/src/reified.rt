@@ -14,7 +14,7 @@ use crate::seen::{are_all, are_none};
 use fz_prop::terms::{keep_only, value_of};
 use fz_prop::{Answer, Propagator, Store};
 use fz_spec::term::Term;
-use fz_strength::relation::Relation;
+use fz_spec::shape::Relation;
 use std::alloc::AllocError;
 use std::marker::Model;
 

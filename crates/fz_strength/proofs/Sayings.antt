@@ -15,7 +15,7 @@ use Rattle.fz_strength.specs.Lines.{LiesIn}
 use Rattle.fz_strength.specs.Relations.{event_of, reified_event}
 use Rattle.fz_strength.specs.Sums.{sum_event_of}
 use Rattle.fz_strength.specs.Operations.{operand_event}
-use Rattle.fz_strength.specs.Sayings.{Saying, saying_of, Compare, CompareIf, Member, MemberIf, Sum, SumIf, Says, Equals, Odd, Select, SelectTerm, Row, Differ, DifferByBounds, SumByNumbers, Share, Nothing, truth_of, line_of, waits_of}
+use Rattle.fz_strength.specs.Sayings.{Saying, saying_of, Compare, CompareIf, Member, MemberIf, Sum, SumIf, Says, Equals, Odd, Select, SelectTerm, Row, Differ, DifferByBounds, SumByNumbers, Share, Other, truth_of, line_of, waits_of}
 use Rattle.fz_strength.proofs.Terms.{in_single, term_narrower, term_quiet, terms_quiet, fixed_before, within_before, term_alone, terms_alone, all_fixed_alone, within_alone}
 use Rattle.fz_strength.specs.Laws.{KeptWhereQuiet, TrueWhereAlone}
 use Rattle.fz_strength.proofs.Says.{says}
@@ -71,7 +71,7 @@ kept (Differ xs) ds es domains narrower quiet h = kept_apart xs ds es narrower (
 kept (DifferByBounds xs) ds es domains narrower quiet h = kept_once_all_fixed xs ds es narrower (terms_quiet Bound xs ds es quiet) h
 kept (SumByNumbers ks ts c) ds es domains narrower quiet h = numbers_kept ks ts c ds es (terms_quiet Any ts ds es quiet) h
 kept (Share ss dd us b) ds es domains narrower quiet h = kept_cumulative ss dd us b ds es (all_of_tasks _ ss dd us b (terms_quiet Bound (terms_of_tasks ss dd us b) ds es quiet)) h
-kept (Nothing name arguments) ds es domains narrower quiet h = kept_once_fixed name arguments ds es narrower quiet h
+kept (Other shape arguments) ds es domains narrower quiet h = kept_once_fixed shape arguments ds es narrower quiet h
 
 abbrev Below : ℕ → Wait → Type 0
 Below n w = w.variable < n
@@ -113,7 +113,7 @@ true_alone (Differ xs) ds a below alone h = different xs ds a (terms_alone Fixed
 true_alone (DifferByBounds xs) ds a below alone h = let single = terms_alone Bound xs ds a below alone in different xs ds a single (h (all_fixed_alone xs ds a single))
 true_alone (SumByNumbers ks ts c) ds a below alone h = numbers_true ks ts c ds a (terms_alone Any ts ds a below alone) h
 true_alone (Share ss dd us b) ds a below alone h = cumulative_true ss dd us b ds a (all_of_tasks _ ss dd us b (terms_alone Bound (terms_of_tasks ss dd us b) ds a below alone)) h
-true_alone (Nothing name arguments) ds a below alone h = truths.once_fixed name arguments ds a alone below h
+true_alone (Other shape arguments) ds a below alone h = truths.once_fixed shape arguments ds a alone below h
 
 pub kept_where_quiet : KeptWhereQuiet
 kept_where_quiet c ds es domains narrower quiet h = kept (saying_of c) ds es domains narrower quiet h

@@ -3,7 +3,7 @@ use Rattle.std.specs.Prelude.{◌↔◌, IsTrue}
 use Rattle.std.proofs.Math.Facts.{to_z-of_z}
 use Rattle.fz_spec.specs.Constraints.{term_values}
 use Rattle.fz_spec.specs.Truth.{SomeByRecursion}
-use Rattle.fz_truth.proofs.lists.is_greatest.Goals as goal
+use Rattle.fz_truth.proofs.numbers.is_greatest.Goals as goal
 
 pub returns-else-some_is : goal.returns-else-some_is
 returns-else-some_is c =
