@@ -8,7 +8,7 @@ use Rattle.fz_spec.specs.declared.term.Term.TheVariants.{Num, Var}
 use Rattle.fz_strength.specs.declared.event.Event.TheVariants.{Any}
 use Rattle.fz_strength.specs.Domains.{dom_at, term_set, AreDomains, IsNarrower}
 use Rattle.fz_strength.specs.Events.{Wait, AreQuiet}
-use Rattle.fz_strength.specs.Sayings.{Saying, line_of, waits_of, Compare, CompareIf, Member, MemberIf, Sum, SumIf, Says, Equals, Odd, Select, SelectTerm, Row, Differ, DifferByBounds, SumByNumbers, Share, Nothing}
+use Rattle.fz_strength.specs.Sayings.{Saying, line_of, waits_of, SelectTerm}
 use Rattle.fz_strength.specs.VariableElements.{StandsAt, IsMatch}
 use Rattle.fz_strength.proofs.Sayings.{kept}
 use Rattle.fz_strength.proofs.Terms.{in_single, terms_quiet}
@@ -29,23 +29,8 @@ always : (saying : Saying) → ((v : ℕ) (t : Term) (n : ℤ) → LooksWhile sa
 always saying none waits = inr (record { none = none; waits = waits })
 
 either : (saying : Saying) → Selects saying ⊎ LooksAlways saying
-either (Compare relation x y) = always (Compare relation x y) (λ v t n looks. looks) refl
-either (CompareIf relation x y r) = always (CompareIf relation x y r) (λ v t n looks. looks) refl
-either (Member x set) = always (Member x set) (λ v t n looks. looks) refl
-either (MemberIf x set r) = always (MemberIf x set r) (λ v t n looks. looks) refl
-either (Sum relation ks ts c) = always (Sum relation ks ts c) (λ v t n looks. looks) refl
-either (SumIf relation ks ts c r) = always (SumIf relation ks ts c r) (λ v t n looks. looks) refl
-either (Says all clause) = always (Says all clause) (λ v t n looks. looks) refl
-either (Equals equation) = always (Equals equation) (λ v t n looks. looks) refl
-either (Odd ts) = always (Odd ts) (λ v t n looks. looks) refl
-either (Select xs k c) = always (Select xs k c) (λ v t n looks. looks) refl
 either (SelectTerm xs k c) = inl (record { terms = xs; index = k; value = c; is = refl })
-either (Row xs table) = always (Row xs table) (λ v t n looks. looks) refl
-either (Differ xs) = always (Differ xs) (λ v t n looks. looks) refl
-either (DifferByBounds xs) = always (DifferByBounds xs) (λ v t n looks. looks) refl
-either (SumByNumbers ks ts c) = always (SumByNumbers ks ts c) (λ v t n looks. looks) refl
-either (Share ss dd us b) = always (Share ss dd us b) (λ v t n looks. looks) refl
-either (Nothing name arguments) = always (Nothing name arguments) (λ v t n looks. looks) refl
+either saying = always saying (λ v t n looks. looks) refl
 
 -- ---- the term that tells is always waited for
 

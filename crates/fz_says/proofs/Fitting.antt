@@ -1,5 +1,5 @@
 -- What a model keeps of what its constraints say: computation looks at each row, and there is a line for each shape.
-use Rattle.std.proofs.Common.{tests, ◌≡◌, ◌≢◌, ℕ, zero, suc, ◌<◌, List, [], ◌∷◌, ◌++◌, ◌∙◌, refl, sym, ap, subst, arith, length, map, drop, true, false, Bool, cond}
+use Rattle.std.proofs.Common.{tests, ◌≡◌, ◌≢◌, ℕ, zero, suc, List, [], ◌∷◌, ◌++◌, ◌∙◌, refl, ap, subst, arith, length, map, drop, true, false, Bool, cond}
 use Rattle.std.proofs.lemmas.Bool.{and_parts}
 use Rattle.std.proofs.lemmas.Int.{ints}
 use Rattle.std.specs.Prelude.{ℤ, pos, ◌≤◌, ◌&&◌, ◌==◌, IsTrue, Option, Some, None, MatchOption, find}
@@ -29,8 +29,8 @@ use Rattle.fz_model.specs.Kept as kept
 use Rattle.fz_model.specs.Kept.{FitsElement, FitsList, FitsAsked, AllFit, FitsRow}
 use Rattle.fz_strength.specs.declared.literal.Literal.{Literal}
 use Rattle.fz_strength.specs.Clauses.{positive, negative}
-use Rattle.fz_strength.specs.Sums.{left_factors, left_terms, right_number}
-use Rattle.fz_strength.specs.Sayings.{Saying, Sum, said, said_terms, truths_of}
+use Rattle.fz_strength.specs.Sums.{left_factors, left_terms}
+use Rattle.fz_strength.specs.Sayings.{Saying, said, said_terms, truths_of}
 use Rattle.fz_says.specs.Fits.{IsKnown, FitsSum, IsFit, SaidFits}
 use Rattle.fz_says.proofs.Known.{known_of, no_list}
 
@@ -75,11 +75,11 @@ all_sound = refl
 -- of a list all of whose elements pass a test the one that is found does
 found_passes : {X : Type 0} (test first : X → Bool) (xs : List X) (x : X) → list_all test xs ≡ true → find first xs ≡ Some x → test x ≡ true
 found_passes test first [] x all e = cc
-found_passes test first (y ∷ ys) x all e = go (and_parts (test y) (list_all test ys) all) (first y) e
+found_passes test first (y ∷ ys) x all e = let each = and_parts (test y) (list_all test ys) all in go each.0 (λ k. found_passes test first ys x each.1 k) (first y) e
   where
-    go : (test y ≡ true) × (list_all test ys ≡ true) → (b : Bool) → cond b (Some y) (find first ys) ≡ Some x → test x ≡ true
-    go h true k = let is : y ≡ x = cc in subst (λ z. test z ≡ true) is h.0
-    go h false k = found_passes test first ys x h.1 k
+    go : test y ≡ true → (find first ys ≡ Some x → test x ≡ true) → (b : Bool) → cond b (Some y) (find first ys) ≡ Some x → test x ≡ true
+    go here later true k = let is : y ≡ x = cc in subst (λ z. test z ≡ true) is here
+    go here later false k = later k
 
 -- ---- Booleans among arguments
 
@@ -221,9 +221,11 @@ fit vs Xor (Terms ts ∷ []) h = made (all_left (IsKnown vs) ts [] h.known) (all
 fit vs (Arithmetic operation) (One x ∷ One z ∷ []) h = made (h.known.1.0, (h.known.0, tt)) tt tt
 fit vs (Arithmetic operation) (One x ∷ One y ∷ One z ∷ []) h = made (h.known.1.1.0, (h.known.0, (h.known.1.0, tt))) tt tt
 fit vs (Arithmetic operation) (One z ∷ Terms xs ∷ []) h = made (h.known.0, all_left (IsKnown vs) xs [] h.known.1) tt tt
+fit vs shapes.Element (One k ∷ Numbers xs ∷ One c ∷ []) h = made h.known tt tt
 fit vs shapes.Element (One k ∷ Terms xs ∷ One c ∷ []) h = made (h.known.0, ((all_right (IsKnown vs) xs (c ∷ []) h.known.1).0, all_left (IsKnown vs) xs (c ∷ []) h.known.1)) tt tt
 fit vs Extensional (Terms xs ∷ Numbers table ∷ []) h = made (all_left (IsKnown vs) xs [] h.known) tt tt
 fit vs Distinct (Terms xs ∷ []) h = made (all_left (IsKnown vs) xs [] h.known) tt tt
+fit vs shapes.Cumulative (Terms ss ∷ Terms dd ∷ Terms us ∷ One b ∷ []) h = made h.known tt tt
 fit vs shape arguments h = made h.known tt tt
 
 -- ---- rows

@@ -1,5 +1,5 @@
 -- What a model keeps of the terms of its constraints.
-use Rattle.std.proofs.Common.{◌≡◌, ℕ, zero, suc, ◌<◌, List, [], ◌∷◌, ◌++◌, arith, length, true, false, Bool}
+use Rattle.std.proofs.Common.{◌≡◌, ℕ, zero, suc, ◌<◌, List, [], ◌∷◌, arith, length, true, false, Bool}
 use Rattle.std.proofs.lemmas.Int.{ints}
 use Rattle.std.specs.Prelude.{ℤ, Option, Some, None, MatchOption}
 use Rattle.std.specs.List.{AllByRecursion}
@@ -17,7 +17,6 @@ use Rattle.fz_spec.specs.Instance.{Variable}
 use Rattle.fz_model.specs.Kept as kept
 use Rattle.fz_model.specs.Kept.{IsNumberOf, kind_at, FitsElement, FitsList, FitsAsked, AllFit, FitsRow, IsConstraint}
 use Rattle.fz_sets.proofs.Lists.{all_both}
-use Rattle.fz_prop.specs.Stores.{IsTermOf, FitsTerm}
 use Rattle.fz_says.specs.Fits.{IsKnown}
 
 number_limits : (kind : Kind) (n : ℤ) → IsNumberOf kind n → IsWithinLimits n

@@ -1,6 +1,7 @@
 //! What a constraint says.
-ghost use Rattle.std.specs.Prelude.{◌≡◌};
+ghost use Rattle.std.specs.Prelude.{◌≡◌, ◌∷◌, []};
 ghost use Rattle.fz_spec.specs.declared.shape.Shape.TheVariants as shapes;
+ghost use Rattle.fz_spec.specs.Constraints.{One, Numbers, Terms};
 ghost use Rattle.fz_spec.specs.Signatures.{shape_of};
 ghost use Rattle.fz_strength.specs.Sayings as said;
 ghost use Rattle.fz_says.specs.Said.{operands_of, said_by};
@@ -138,10 +139,37 @@ fn linear<'m>(relation: Relation, constraint: &'m Constraint) -> Saying<'m>
         [
             Argument::Numbers(factors),
             Argument::Terms(terms),
-            Argument::One(Term::Num(number)),
+            Argument::One(last),
             Argument::One(r),
-        ] => Saying::SumIf(relation, factors.as_slice(), terms.as_slice(), *number, *r),
+        ] => linear_if(
+            relation,
+            constraint,
+            factors.as_slice(),
+            terms.as_slice(),
+            *last,
+            *r,
+        ),
         _ => Saying::Other(constraint),
+    }
+}
+
+/// A sum that is related to a number, and a Boolean that says whether it is; of a sum that is related to a variable nothing.
+fn linear_if<'m>(
+    relation: Relation,
+    constraint: &'m Constraint,
+    factors: &'m [i32],
+    terms: &'m [Term],
+    last: Term,
+    r: Term,
+) -> Saying<'m>
+    requires shape { shape_of constraint.now.name ≡ shapes.Linear relation }
+    requires arguments { constraint.now.arguments ≡ Numbers factors.now ∷ Terms terms.now
+        ∷ One last ∷ One r ∷ [] }
+    ensures { said_by result ≡ said.said (shapes.Linear relation) constraint.now.arguments }
+{
+    match last {
+        Term::Num(number) => Saying::SumIf(relation, factors, terms, number, r),
+        Term::Var(_) => Saying::Other(constraint),
     }
 }
 
