@@ -18,7 +18,7 @@ use Rattle.fz_strength.specs.Events.{Wait, wait_for, waits_for}
 use Rattle.fz_strength.specs.Clauses.{Clause, disjunction, conjunction, clause, ClauseTruth, AllTruth, clause_terms, IsClauseLine}
 use Rattle.fz_strength.specs.Cumulatives.{RestsCumulative, open_tasks, terms_of_tasks}
 use Rattle.fz_strength.specs.Relations.{Relates, RestsAs, event_of, reified_event}
-use Rattle.fz_strength.specs.Differences.{AreApart, AreApartOnceFixed}
+use Rattle.fz_strength.specs.Differences.{AreApart, AreSpread}
 use Rattle.fz_strength.specs.Sums.{left_factors, left_terms, right_number, RestsSum, sum_event_of}
 use Rattle.fz_strength.specs.Equations.{sets_of, RestsByNumbers}
 use Rattle.fz_strength.specs.Elements.{AreMatched}
@@ -242,7 +242,7 @@ line_of (Select xs k c) ds = AreMatched xs (term_set ds k) (term_set ds c)
 line_of (SelectTerm xs k c) ds = IsVariableElementLine xs k c ds
 line_of (Row xs table) ds = AreSupported xs table ds
 line_of (Differ xs) ds = AreApart xs ds
-line_of (DifferByBounds xs) ds = AreApartOnceFixed xs ds
+line_of (DifferByBounds xs) ds = AreSpread xs ds
 line_of (SumByNumbers ks ts c) ds = RestsByNumbers (sets_of ds ts) ks ts c
 line_of (Share ss dd us b) ds = RestsCumulative (open_tasks ds ss dd us) (least (term_set ds b)) (greatest (term_set ds b))
 line_of (Nothing name arguments) ds = RestsOnceFixed name arguments ds

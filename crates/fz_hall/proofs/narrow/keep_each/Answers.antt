@@ -5,7 +5,7 @@ use Rattle.fz_prop.specs.Outcomes.{IsOutcome}
 use Rattle.fz_prop.proofs.Keeping.{correct_more, kept_changed, kept_wiped, changed_of}
 use Rattle.fz_prop.proofs.Twice.{shrinks_twice}
 use Rattle.fz_alldiff.specs.Differing.{IsDifferent}
-use Rattle.fz_hall.proofs.narrow.keep_filled.Goals as goal
+use Rattle.fz_hall.proofs.narrow.keep_each.Goals as goal
 
 pub returns-in_err-change-clause-shrinks : goal.returns-in_err-change-clause-shrinks
 returns-in_err-change-clause-shrinks c = shrinks_twice c.args.store.now c.loop-left.store c.keep_interval.new.store c.loop-left.invariant.shrinks c.keep_interval.ensures.shrinks
