@@ -118,6 +118,12 @@ all_ordered ds (x ∷ xs) terms domains =
     let has = term_ranges ds x terms.0 domains in
     (least_below (term_set ds x) (greatest (term_set ds x)) has.ranges (greatest_member (term_set ds x) has.some has.ranges).0, all_ordered ds xs terms.1 domains)
 
+pub spread_more : (xs : List Term) (s t : Stored) (k : ℕ) (low high : ℤ) → t ≡ s → k < length xs → AllByRecursion (IsSpreadTo xs s.doms low) (take k xs) → high ≡ greatest (term_set s.doms (get_or xs k (Num (pos 0))))
+    → (low ≤ℤ high → IsSpread xs t.doms low high) → AllByRecursion (IsSpreadTo xs t.doms low) (take (k + 1) xs)
+spread_more xs s t k low high same within spread is here =
+    let now : IsSpreadTo xs s.doms low (get_or xs k (Num (pos 0))) = subst (λ (n : ℤ). low ≤ℤ n → IsSpread xs s.doms low n) is (subst (λ (v : Stored). low ≤ℤ high → IsSpread xs v.doms low high) same here) in
+    subst (λ (v : Stored). AllByRecursion (IsSpreadTo xs v.doms low) (take (k + 1) xs)) (sym same) (rw add-one (all_more (IsSpreadTo xs s.doms low) xs k (Num (pos 0)) within spread now))
+
 pub pairs_more : (xs : List Term) (s t : Stored) (k : ℕ) (low : ℤ) → t ≡ s → k < length xs → AllByRecursion (λ (u : Term). AreSpreadFrom xs s.doms (least (term_set s.doms u))) (take k xs)
     → low ≡ least (term_set s.doms (get_or xs k (Num (pos 0)))) → AreSpreadFrom xs t.doms low → AllByRecursion (λ (u : Term). AreSpreadFrom xs t.doms (least (term_set t.doms u))) (take (k + 1) xs)
 pairs_more xs s t k low same within pairs is here =

@@ -7,7 +7,7 @@ use Rattle.std.specs.List.Sorted.{IsPermutation}
 use Rattle.std.proofs.lemmas.Int.{ints}
 use Rattle.std.proofs.lemmas.Bool.{cases_eq}
 use Rattle.std.proofs.lemmas.Option.{slice_get-get_or}
-use Rattle.std.proofs.lemmas.List.{take_more}
+use Rattle.std.proofs.lemmas.List.{map_more, take_more}
 use Rattle.std.proofs.lemmas.List.Elements.{All-from_recursion, recursion_from_All}
 use Rattle.std.proofs.lemmas.List.Sorted.{All-permutation, IsPermutation-sym, sum_by-IsPermutation}
 use Rattle.fz_sets.proofs.Lists.{all_at, all_map, all_both, some_is}
@@ -27,6 +27,10 @@ count_map p f (x ∷ xs) = count_more p (f x) (map f xs) ∙ ap (λ (n : ℕ). b
 
 pub same_interval : (l m : Interval) → l.low ≡ m.low → l.high ≡ m.high → l ≡ m
 same_interval l m p q = λ i. record { low = p i; high = q i }
+
+pub mapped_more : {X Y : Type 0} (f : X → Y) (xs : List X) (k : ℕ) (d : X) (old new : List Y) (y : Y) → k < length xs → old ≡ map f (take k xs) → y ≡ f (get_or xs k d) → new ≡ old ++ y ∷ [] → new ≡ map f (take (k + 1) xs)
+mapped_more f xs k d old new y within before here is =
+    is ∙ ap (λ l. l ++ y ∷ []) before ∙ ap (λ z. map f (take k xs) ++ z ∷ []) here ∙ sym (map_more f xs k d within)
 
 pub nat_of : (d : ℤ) → pos 0 ≤ℤ d → (n : ℕ) × (d ≡ pos n)
 nat_of (pos n) h = (n, refl)
