@@ -1,15 +1,19 @@
 -- What is clear below and, of the opposite numbers, below again: no interval is crowded.
-use Rattle.std.proofs.Common.{◌≡◌, ℕ, ◌+◌, List, [], ◌∷◌, ◌∙◌, refl, sym, ap, subst, arith, map}
+use Rattle.std.proofs.Common.{◌≡◌, ℕ, ◌+◌, List, [], ◌∷◌, ◌∙◌, refl, sym, ap, subst, arith, map, take, length, get_or, ◌++◌, ◌<◌}
 use Rattle.std.specs.Prelude.{ℤ, pos, negsuc, ◌-ℤ◌, ◌≤ℤ◌, Bool, true, false, count_by}
 use Rattle.std.specs.List.{AllByRecursion}
+use Rattle.std.specs.List.Sorted.{IsPermutation}
 use Rattle.std.proofs.lemmas.Int.{ints}
+use Rattle.std.proofs.lemmas.List.{map_more, map_push}
+use Rattle.std.proofs.lemmas.List.Sorted.{IsPermutation-map, IsPermutation-trans}
 use Rattle.fz_spec.specs.declared.term.Term.{Term}
 use Rattle.fz_strength.specs.Differences.{AreSpread, IsClear, confined, interval_size, is_between}
 use Rattle.fz_hall.specs.declared.interval.Interval.{Interval}
 use Rattle.fz_hall.specs.Lefts.{is_within, left_of, turn}
-use Rattle.fz_hall.specs.Seats.{AreClearBelow}
+use Rattle.fz_hall.specs.declared.seats.Seat.{Seat}
+use Rattle.fz_hall.specs.Seats.{AreClearBelow, left, nobody}
 use Rattle.fz_hall.proofs.Crowding.{bit, count_more, both_le, both_from, not_true}
-use Rattle.fz_hall.proofs.Seating.{count_map}
+use Rattle.fz_hall.proofs.Seating.{clear_permuted, count_map}
 
 pub same_truth : (b c : Bool) → (b ≡ true → c ≡ true) → (c ≡ true → b ≡ true) → b ≡ c
 same_truth true c h k = sym (h refl)
@@ -65,3 +69,14 @@ spread_of xs ds below above = λ low high order.
       few = subst (λ (n : ℕ). pos n ≤ℤ interval_size low high) count one.few;
       clear = λ full. clear_both low high xs ds (one.clear (ap pos count ∙ full)) (other.clear (ap pos (count_turned low high ls ∙ count) ∙ full ∙ size_turned low high));
     }
+
+-- ---- places of the opposite numbers
+
+pub turned_more : (ss : List Seat) (k : ℕ) (old new : List Seat) (t : Seat) → k < length ss → map left old ≡ map turn (map left (take k ss)) → t.left ≡ turn (get_or ss k nobody).left → new ≡ old ++ t ∷ []
+    → map left new ≡ map turn (map left (take (k + 1) ss))
+turned_more ss k old new t within before here is =
+    ap (map left) is ∙ map_push left old t ∙ ap (λ (l : List Interval). l ++ left t ∷ []) before ∙ ap (λ (x : Interval). map turn (map left (take k ss)) ++ x ∷ []) here
+    ∙ sym (ap (map turn) (map_more left ss k nobody within) ∙ map_push turn (map left (take k ss)) (left (get_or ss k nobody)))
+
+pub clear_turned : (ls : List Interval) (ss ts : List Seat) → IsPermutation ls (map left ss) → IsPermutation (map turn (map left ss)) (map left ts) → AreClearBelow (map left ts) → AreClearBelow (map turn ls)
+clear_turned ls ss ts seated moved h = clear_permuted (map turn ls) (map left ts) (IsPermutation-trans (map turn ls) (map turn (map left ss)) (map left ts) (IsPermutation-map turn ls (map left ss) seated) moved) h

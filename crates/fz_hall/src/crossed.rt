@@ -1,14 +1,16 @@
 //! Intervals that places fill, in which the least number of another place lies.
-ghost use Rattle.std.specs.Prelude.{IfOk, IsNone};
-ghost use Rattle.fz_hall.specs.Seats.{AreClearBelow};
+ghost use Rattle.std.specs.Prelude.{◌≡◌, true, map, IfOk, IsNone};
+ghost use Rattle.fz_hall.specs.Lefts.{turn};
+ghost use Rattle.fz_hall.specs.Seats.{AreClearBelow, left};
 
 use crate::interval::Interval;
-use crate::seats::{Seat, are_seated, seats_of};
+use crate::lefts::turned;
+use crate::seats::{Seat, are_seated, seats_of, turned_seats};
 use crate::tops::{Top, are_passed, tops_of};
 use std::alloc::{AllocError, Global};
 
-/// Intervals that are full where the least number of another place lies, or that too many are confined to; `None` where there is none of
-/// these. Which they are is a hint.
+/// Intervals that are full where the least or the greatest number of another place lies, or that too many are confined to; `None` where
+/// there is none of these. Which they are is a hint.
 ///
 /// # Errors
 /// `AllocError` where there is no memory.
@@ -16,17 +18,55 @@ pub fn crossed_intervals(
     alloc: Global,
     lefts: &[Interval],
 ) -> Result<Option<Vec<Interval>>, AllocError>
-    ensures { IfOk result (λ o. IsNone o → AreClearBelow lefts.now) }
+    ensures below { IfOk result (λ o. IsNone o → AreClearBelow lefts.now) }
+    ensures above { IfOk result (λ o. IsNone o → AreClearBelow (map turn lefts.now)) }
 {
     let seats = seats_of(alloc, lefts)?;
-    if !are_seated(&seats) {
-        return Ok(Some(crowded(alloc, &seats)?));
+    if let Some(found) = crossed_below(alloc, &seats)? {
+        return Ok(Some(found));
     }
-    let tops = tops_of(alloc, &seats)?;
-    if are_passed(&seats, &tops) {
+    let opposites = turned_seats(alloc, &seats)?;
+    if are_clear(alloc, &opposites)? {
         return Ok(None);
     }
-    Ok(Some(filled(alloc, &seats, &tops)?))
+    crossed_above(alloc, lefts)
+}
+
+/// The same by the greatest numbers alone.
+fn crossed_above(alloc: Global, lefts: &[Interval]) -> Result<Option<Vec<Interval>>, AllocError>
+    ensures { IfOk result (λ o. IsNone o → AreClearBelow (map turn lefts.now)) }
+{
+    let opposites = turned(alloc, lefts)?;
+    let seats = seats_of(alloc, &opposites)?;
+    match crossed_below(alloc, &seats)? {
+        Some(found) => Ok(Some(turned(alloc, &found)?)),
+        None => Ok(None),
+    }
+}
+
+/// The same by the least numbers alone.
+fn crossed_below(alloc: Global, seats: &[Seat]) -> Result<Option<Vec<Interval>>, AllocError>
+    ensures { IfOk result (λ o. IsNone o → AreClearBelow (map left seats.now)) }
+{
+    if !are_seated(seats) {
+        return Ok(Some(crowded(alloc, seats)?));
+    }
+    let tops = tops_of(alloc, seats)?;
+    if are_passed(seats, &tops) {
+        return Ok(None);
+    }
+    Ok(Some(filled(alloc, seats, &tops)?))
+}
+
+/// Whether numbers of their own show that there is none, by the least numbers.
+fn are_clear(alloc: Global, seats: &[Seat]) -> Result<bool, AllocError>
+    ensures { IfOk result (λ b. b ≡ true → AreClearBelow (map left seats.now)) }
+{
+    if !are_seated(seats) {
+        return Ok(false);
+    }
+    let tops = tops_of(alloc, seats)?;
+    Ok(are_passed(seats, &tops))
 }
 
 /// An interval that too many are confined to, where one has no number that is left of it.

@@ -39,7 +39,7 @@ pub fn turned(alloc: Global, lefts: &[Interval]) -> Result<Vec<Interval>, AllocE
 }
 
 /// The interval of the opposite numbers.
-fn turn(left: Interval) -> Interval
+pub fn turn(left: Interval) -> Interval
     ensures { result ≡ turn left }
 {
     Interval {
@@ -49,7 +49,7 @@ fn turn(left: Interval) -> Interval
 }
 
 /// As far from -1 as a number from 0, on the other side.
-fn opposite(number: i32) -> i32
+pub fn opposite(number: i32) -> i32
     ensures { result ≡ negsuc 0 -ℤ number }
 {
     -1 - number

@@ -13,15 +13,14 @@ use crate::close::crossed_interval;
 use crate::counts::{is_close, span_of};
 use crate::crossed::crossed_intervals;
 use crate::interval::{Interval, count_confined, ends_of};
-use crate::lefts::{lefts_of, turned};
+use crate::lefts::lefts_of;
 use crate::scan::keep_all;
 use fz_prop::terms::{keep_from, keep_to};
 use fz_prop::{Answer, Change, Store};
 use fz_spec::term::Term;
 use std::alloc::{AllocError, Global};
 
-/// Narrows a store so that terms are all different, by the intervals that some of them fill. Where all are fixed, it tells whether
-/// they are.
+/// Narrows a store so that terms are all different, by the intervals that some of them fill.
 ///
 /// # Errors
 /// `AllocError` where there is no memory; the store is then narrower, and no assignment is lost.
@@ -74,14 +73,10 @@ fn keep_far(alloc: Global, store: &mut Store, terms: &[Term]) -> Result<Change, 
     ensures spread { IfOk result (λ r. IfSame r (AreSpread terms.now store.new.doms)) }
 {
     let lefts = lefts_of(alloc, store, terms)?;
-    let opposites = turned(alloc, &lefts)?;
-    let below = crossed_intervals(alloc, &lefts)?;
-    let above = crossed_intervals(alloc, &opposites)?;
-    if below.is_none() && above.is_none() {
-        return Ok(Change::Same);
+    match crossed_intervals(alloc, &lefts)? {
+        Some(found) => keep_found(store, terms, &found),
+        None => Ok(Change::Same),
     }
-    let found = joined(alloc, below, above)?;
-    keep_found(store, terms, &found)
 }
 
 /// Narrows a store by some intervals. Where none of them narrows it, all are looked at.
@@ -101,21 +96,6 @@ fn keep_found(
         Change::Same => keep_all(store, terms),
         change => Ok(change),
     }
-}
-
-/// Intervals, and the opposites of others.
-fn joined(
-    alloc: Global,
-    below: Option<Vec<Interval>>,
-    above: Option<Vec<Interval>>,
-) -> Result<Vec<Interval>, AllocError> {
-    let mut found = below.unwrap_or(Vec::new(alloc));
-    if let Some(opposites) = above {
-        for interval in &turned(alloc, &opposites)? {
-            found.push(*interval)?;
-        }
-    }
-    Ok(found)
 }
 
 /// Narrows a store by each of some intervals.

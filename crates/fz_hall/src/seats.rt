@@ -1,9 +1,11 @@
 //! Places that have a number of their own each: one to which others are led from their least number on.
 ghost use Rattle.std.specs.Prelude.{◌≡◌, map, IfOk, IsTrue};
 ghost use Rattle.std.specs.List.Sorted.{IsPermutation};
+ghost use Rattle.fz_hall.specs.Lefts.{turn};
 ghost use Rattle.fz_hall.specs.Seats.{left, AreSeated};
 
 use crate::interval::Interval;
+use crate::lefts::{opposite, turn};
 use crate::room::Room;
 use std::alloc::{AllocError, Global};
 
@@ -43,6 +45,24 @@ fn numbered(alloc: Global, lefts: &[Interval]) -> Result<Vec<Seat>, AllocError>
         })?;
     }
     Ok(seats)
+}
+
+/// The same of the opposite numbers.
+///
+/// # Errors
+/// `AllocError` where there is no memory.
+pub fn turned_seats(alloc: Global, seats: &[Seat]) -> Result<Vec<Seat>, AllocError>
+    ensures { IfOk result (λ v. IsPermutation (map turn (map left seats.now)) (map left v.items)) }
+{
+    let mut turned = Vec::with_capacity(alloc, seats.len())?;
+    for seat in seats {
+        turned.push(Seat {
+            left: turn(seat.left),
+            number: opposite(seat.number),
+        })?;
+    }
+    turned.reverse();
+    Ok(turned)
 }
 
 /// Whether the number of each place is left of it, and no two have the same.

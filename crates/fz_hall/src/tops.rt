@@ -69,7 +69,7 @@ pub fn are_passed(seats: &[Seat], tops: &[Top]) -> bool
 }
 
 /// The same of one place.
-pub fn is_passed(seats: &[Seat], tops: &[Top], place: usize) -> bool
+fn is_passed(seats: &[Seat], tops: &[Top], place: usize) -> bool
     requires seated { AreSeated seats.now }
     requires tops { AreTops seats.now tops.now }
     requires place { place < length seats.now }
