@@ -34,7 +34,7 @@ pub fn beginning_of<S: SearchSpace>(
     ensures distances { IfOk result (λ b. (b.trail.distance ≡ commit_distance)
         × (b.trail.adaptive ≡ adaptive_distance)) }
     ensures begun { IfOk result (λ b. (b.trail.copies.items ≡ []) × (b.trail.current ≡ None)
-        × (b.trail.sparse ≡ 0)) }
+        × (b.trail.sparse ≡ 0) × (b.trail.longest ≡ 0)) }
     ensures spaces { IfOk result (λ b.
         IsTrail S.spaced (arc_value model.now) None [] b.trail) }
 {

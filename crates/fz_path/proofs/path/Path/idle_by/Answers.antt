@@ -8,4 +8,5 @@ returns-in-Ok-clause-spaces g c = record {
   kept = ap depths_of c.in-Ok.ensures.begun.0;
   at_hand = ap is_some c.in-Ok.ensures.begun.1;
   thinned = c.in-Ok.ensures.begun.2;
+  longest = c.in-Ok.ensures.begun.3;
 }
