@@ -3,7 +3,7 @@ use Rattle.std.proofs.lemmas.Iterator.Adapters.{YieldsList-from_vec}
 use Rattle.std.proofs.lemmas.Iterator.Consumers.{YieldsList-turn, YieldsList-end}
 use Rattle.fz_team.specs.Members.{IsMember}
 use Rattle.fz_team.proofs.Words.{joins_one, word_begun}
-use Rattle.fz_team.proofs.team.gathered.Goals as goal
+use Rattle.fz_team.proofs.assets.gathered.Goals as goal
 
 pub members-init : goal.members-init
 members-init g c =

@@ -1,6 +1,6 @@
 use Rattle.std.proofs.Common.{arith, refl}
 use Rattle.fz_team.proofs.Words.{one_joins}
-use Rattle.fz_team.proofs.team.members_of.Goals as goal
+use Rattle.fz_team.proofs.assets.members_of.Goals as goal
 
 pub workers-preserved : goal.workers-preserved
 workers-preserved g c =

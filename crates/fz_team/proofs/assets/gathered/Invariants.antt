@@ -1,6 +1,6 @@
 use Rattle.std.proofs.Common.{◌≡◌, ◌+◌, length}
 use Rattle.fz_team.specs.Ends.{IsWordOf}
-use Rattle.fz_team.proofs.team.gathered.Given as goal
+use Rattle.fz_team.proofs.assets.gathered.Given as goal
 
 abbrev pub invariant-members : goal.invariant-members
 invariant-members g l =

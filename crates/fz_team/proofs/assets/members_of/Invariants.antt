@@ -3,7 +3,7 @@ use Rattle.std.specs.Prelude.{All}
 use Rattle.std.specs.Vec.{vec_len}
 use Rattle.fz_bound.specs.Rule.{UNSET, PARTS}
 use Rattle.fz_team.specs.Members.{IsMember}
-use Rattle.fz_team.proofs.team.members_of.Given as goal
+use Rattle.fz_team.proofs.assets.members_of.Given as goal
 
 abbrev pub invariant-workers : goal.invariant-workers
 invariant-workers g l =
