@@ -11,8 +11,8 @@ are_idle m mode commit adaptive paths = All (λ (p : Walked). bare p ≡ idle_pa
 
 -- one more, p, which stands beside an idle one
 pub one_more_idle : (m : Instance) (mode : Mode) (commit adaptive : ℕ) (before after : List Walked) (first p q : Walked) → after ≡ before ++ q ∷ [] → q ≡ p
-    → bare p ≡ idle_path first.model first.mode first.commit_distance first.adaptive_distance → bare first ≡ idle_path m mode commit adaptive → are_idle m mode commit adaptive before → are_idle m mode commit adaptive after
+    → bare p ≡ bare first → bare first ≡ idle_path m mode commit adaptive → are_idle m mode commit adaptive before → are_idle m mode commit adaptive after
 one_more_idle m mode commit adaptive before after first p q more same beside idle all =
     subst (are_idle m mode commit adaptive) (sym more)
     (All-push (λ (p : Walked). bare p ≡ idle_path m mode commit adaptive) before q all
-    (ap bare same ∙ beside ∙ ap (λ (b : Pathed). idle_path b.model b.mode b.commit_distance b.adaptive_distance) idle))
+    (ap bare same ∙ beside ∙ idle))

@@ -1,7 +1,7 @@
 use Rattle.std.proofs.Common.{ap}
 use Rattle.std.specs.Prelude.{is_some}
 use Rattle.fz_trail.specs.Places.{depths_of}
-use Rattle.fz_path.proofs.path.Path.idle.Goals as goal
+use Rattle.fz_path.proofs.path.Path.idle_by.Goals as goal
 
 pub returns-in-Ok-clause-spaces : goal.returns-in-Ok-clause-spaces
 returns-in-Ok-clause-spaces g c = record {
