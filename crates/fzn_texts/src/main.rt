@@ -15,6 +15,7 @@ mod machines;
 mod meeting;
 mod models;
 mod paths;
+mod portfolios;
 mod runs;
 mod seeds;
 mod spaces;
