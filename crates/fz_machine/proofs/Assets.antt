@@ -1,5 +1,5 @@
 -- Portfolios as the code says them: p is the portfolio by its fields, k the number of an asset, read its core as it is read there.
-use Rattle.std.proofs.Common.{◌≡◌, ◌≢◌, ◌∙◌, ℕ, ◌<◌, ◌≤◌, ◌+◌, ◌^◌, List, [], ◌∷◌, ◌++◌, arith, length, map, set, get_or, ap, sym, subst, refl, Option, Some, None, IfSome, IfOk, Result, Ok, Err}
+use Rattle.std.proofs.Common.{◌≡◌, ◌≢◌, ◌∙◌, ℕ, ◌<◌, ◌≤◌, ◌+◌, ◌^◌, List, [], ◌∷◌, ◌++◌, arith, length, map, set, get_or, ap, sym, subst, refl, Option, Some, None, inl, inr, IfSome, IfOk, Result, Ok, Err}
 use Rattle.std.specs.Prelude.{ℤ, OnErr, unwrap_or}
 use Rattle.std.specs.List.{AllByRecursion, range_with_len}
 use Rattle.std.proofs.lemmas.List.{length-set, set-get_or}
@@ -12,21 +12,21 @@ use Rattle.fz_tree.specs.declared.mode.Mode.{Mode}
 use Rattle.fz_tree.specs.declared.mode.Mode.TheVariants.{All, Rows, Best}
 use Rattle.fz_tree.specs.Better.{IsModeOf, Betters}
 use Rattle.fz_tree.specs.Book.{Book, incumbent_of, incumbent}
-use Rattle.fz_tree.proofs.Books.{all_set}
+use Rattle.fz_tree.proofs.Books.{all_set, closed_is_best}
 use Rattle.fz_branch.specs.Plans.{plan_asset}
 use Rattle.fz_book.specs.Offering.{Offers}
 use Rattle.fz_book.specs.declared.offered.Offered.{Offered}
 use Rattle.fz_book.specs.declared.offered.Offered.TheVariants as offered
 use Rattle.fz_core.specs.declared.event.Event.{Event}
 use Rattle.fz_core.specs.declared.event.Answer.{Answer}
-use Rattle.fz_core.specs.Cores.{Core, CoreLaw, starting_by}
+use Rattle.fz_core.specs.Cores.{Core, CoreLaw, starting_by, told}
 use Rattle.fz_core.specs.Events.{Refuses}
 use Rattle.fz_core.specs.Runs.{Answers}
 use Rattle.fz_core.proofs.Keeping.{refusal_keeps}
 use Rattle.fz_core.proofs.Reaching.{answer_keeps, offer_keeps, start_law}
 use Rattle.fz_machine.specs.declared.shared.Shared.{Shared}
 use Rattle.fz_machine.specs.declared.shared.Shared.TheVariants.{Better, NotBetter}
-use Rattle.fz_machine.specs.Portfolios.{Portfolio, PortfolioLaw, IsCoreOf, AppliesAt, RefusesAt, assets_of, IsAhead, IsIncumbentAt, IsOffered, IsOfferedAt, Shares, core_at, with_core}
+use Rattle.fz_machine.specs.Portfolios.{Portfolio, PortfolioLaw, Call, OnAsset, Between, Turns, Runs, Reaches, IsBestWhereClosed, gathered, IsCoreOf, AppliesAt, RefusesAt, assets_of, IsAhead, IsIncumbentAt, IsOffered, IsOfferedAt, Shares, core_at, with_core}
 use Rattle.fz_machine.proofs.Going.{IsOfOne, answers_of, refuses_of}
 
 -- ---- one core
@@ -236,3 +236,48 @@ gathered_law m mode n workers commit adaptive cores own other some several numbe
       mode = other;
       cores = all_start m mode workers commit adaptive (range_with_len 0 n) own several numbered one two;
     })
+
+-- ---- many calls
+
+applied_kept : (k : ℕ) (event : Event) (answer : Answer) (old new : Portfolio) → PortfolioLaw old → AppliesAt k event answer old new → PortfolioLaw new
+applied_kept k event answer old new law a =
+    subst PortfolioLaw (sym a.is) (kept old k a.core a.changed law a.at (answer_keeps answer event a.core a.changed (core_of old k a.core law a.at).law a.answers) (answers_of answer event a.core a.changed a.answers))
+
+refused_kept : (k : ℕ) (event : Event) (old new : Portfolio) → PortfolioLaw old → RefusesAt k event old new → PortfolioLaw new
+refused_kept k event old new law r =
+    subst PortfolioLaw (sym r.is) (kept old k r.core r.changed law r.at (refusal_keeps event r.core r.changed (core_of old k r.core law r.at).law r.refuses) (refuses_of event r.core r.changed r.refuses))
+
+shared_kept : (shared : Shared) (j k : ℕ) (old new : Portfolio) → PortfolioLaw old → Shares shared j k old new → PortfolioLaw new
+shared_kept Better j k old new law s =
+    let a = s.0 in
+    let to = s.1 in
+    let ahead = s.2 in
+    let known = known_by old j ahead.from (Some a) law ahead.at_from ahead.known in
+    let of_to = core_of old k to law ahead.at_to in
+    let satisfies : Satisfies to.book.model a = subst (λ (m : Instance). Satisfies m a) (sym of_to.model) known.1 in
+    subst PortfolioLaw (sym s.3) (kept old k to (told to a) law ahead.at_to (offer_keeps to a of_to.law (of_to.mode ∙ known.0) satisfies ahead.better) (record { model = refl; mode = refl }))
+shared_kept NotBetter j k old new law s = subst PortfolioLaw (sym s.1) law
+
+turn_kept : (call : Call) (old new : Portfolio) → PortfolioLaw old → Turns call old new → PortfolioLaw new
+turn_kept (OnAsset k event) old new law (inl a) = applied_kept k event a.0 old new law a.1
+turn_kept (OnAsset k event) old new law (inr r) = refused_kept k event old new law r
+turn_kept (Between j k) old new law (inl s) = shared_kept s.0 j k old new law s.1
+turn_kept (Between j k) old new law (inr same) = subst PortfolioLaw (sym same) law
+
+runs_kept : (calls : List Call) (old new : Portfolio) → PortfolioLaw old → Runs calls old new → PortfolioLaw new
+runs_kept [] old new law same = subst PortfolioLaw (sym same) law
+runs_kept (call ∷ calls) old new law runs = runs_kept calls runs.0 new (turn_kept call old runs.0 law runs.1) runs.2
+
+pub reached_law : (p : Portfolio) → Reaches p → PortfolioLaw p
+reached_law p r =
+    runs_kept r.calls (gathered r.model r.mode r.assets r.workers r.commit_distance r.adaptive_distance) p
+    (gathered_law r.model r.mode r.assets r.workers r.commit_distance r.adaptive_distance (assets_of r.model r.mode r.assets r.workers r.commit_distance r.adaptive_distance) r.own_mode r.no_rows r.some r.several r.numbered
+    r.distances.0 r.distances.1 refl) r.runs
+
+pub recorded_satisfy : (p : Portfolio) (k : ℕ) (s : Core) → PortfolioLaw p → core_at p k ≡ Some s → AllByRecursion (Satisfies p.model) s.book.recorded
+recorded_satisfy p k s law at =
+    let of_s = core_of p k s law at in
+    subst (λ (m : Instance). AllByRecursion (Satisfies m) s.book.recorded) of_s.model of_s.law.book.sound
+
+pub best_where_closed : (s : Core) → CoreLaw s → IsBestWhereClosed s.book
+best_where_closed s law = λ best closed a satisfies better. closed_is_best s.book a law.book best closed satisfies better

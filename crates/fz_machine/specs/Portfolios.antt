@@ -1,10 +1,10 @@
 -- Several cores that search one model, each by its own plan, and tell each other of better solutions.
-use Rattle.std.specs.Prelude.{◌≡◌, ◌≢◌, ℕ, ◌≤◌, ℤ, List, [], length, map, Option, Some, slice_set}
+use Rattle.std.specs.Prelude.{◌≡◌, ◌≢◌, ◌⊎◌, ℕ, ◌≤◌, ◌<◌, ◌^◌, ℤ, List, [], ◌∷◌, length, map, Option, Some, slice_set}
 use Rattle.std.specs.List.{AllByRecursion, slice_get, range_with_len}
 use Rattle.fz_spec.specs.Instance.{Instance, Satisfies}
 use Rattle.fz_tree.specs.declared.mode.Mode.{Mode}
 use Rattle.fz_tree.specs.declared.mode.Mode.TheVariants.{Best, Rows}
-use Rattle.fz_tree.specs.Better.{Betters}
+use Rattle.fz_tree.specs.Better.{IsModeOf, Betters}
 use Rattle.fz_tree.specs.Book.{Book, incumbent}
 use Rattle.fz_branch.specs.Plans.{plan_asset}
 use Rattle.fz_core.specs.declared.event.Event.{Event}
@@ -102,3 +102,49 @@ pub record IsAhead (j k : ℕ) (p : Portfolio) (a : List ℤ) (to : Core) : Type
 abbrev pub Shares : Shared → ℕ → ℕ → Portfolio → Portfolio → Type 0
 Shares Better j k old new = (a : List ℤ) × (to : Core) × IsAhead j k old a to × (new ≡ with_core old k (told to a))
 Shares NotBetter j k old new = ((a : List ℤ) (to : Core) → IsAhead j k old a to → ⊥) × (new ≡ old)
+
+-- ---- many calls
+
+-- an event of one asset, or a share from the first asset to the second
+pub data Call : Type 0 where
+  OnAsset : ℕ → Event → Call
+  Between : ℕ → ℕ → Call
+
+-- what one call makes of it, whether it answers or has no memory
+abbrev pub Turns : Call → Portfolio → Portfolio → Type 0
+Turns (OnAsset k event) old new = ((answer : Answer) × AppliesAt k event answer old new) ⊎ RefusesAt k event old new
+Turns (Between j k) old new = ((shared : Shared) × Shares shared j k old new) ⊎ (new ≡ old)
+
+-- what a list of calls makes of it, one after the other
+abbrev pub Runs : List Call → Portfolio → Portfolio → Type 0
+Runs [] old new = new ≡ old
+Runs (call ∷ calls) old new = (between : Portfolio) × Turns call old between × Runs calls between new
+
+-- what becomes of so many assets by some list of calls
+pub record Reaches (p : Portfolio) : Type 0 where
+  pub model : Instance
+  pub mode : Mode
+  pub assets : ℕ
+  pub workers : ℕ
+  pub commit_distance : ℕ
+  pub adaptive_distance : ℕ
+  pub own_mode : IsModeOf model.goal mode
+  pub no_rows : mode ≢ Rows
+  pub some : (1 ≤ assets) × (assets ≤ 8)
+  pub several : 1 ≤ workers
+  pub numbered : workers < 2 ^ 32
+  pub distances : (1 ≤ commit_distance) × (1 ≤ adaptive_distance)
+  pub calls : List Call
+  pub runs : Runs calls (gathered model mode assets workers commit_distance adaptive_distance) p
+
+-- Each core keeps its law, with all that follows from it.
+abbrev pub CallsKeepLaw : Type 0
+CallsKeepLaw = (p : Portfolio) → Reaches p → PortfolioLaw p
+
+-- What any of the books records satisfies the model,
+abbrev pub RecordedSatisfy : Type 0
+RecordedSatisfy = (p : Portfolio) (k : ℕ) (s : Core) → Reaches p → core_at p k ≡ Some s → AllByRecursion (Satisfies p.model) s.book.recorded
+
+-- and the first that is closed has the answer.
+abbrev pub ClosedIsBest : Type 0
+ClosedIsBest = (p : Portfolio) (k : ℕ) (s : Core) → Reaches p → core_at p k ≡ Some s → IsBestWhereClosed s.book

@@ -5,6 +5,7 @@
 //! A portfolio is several machines of one model. Each searches the whole tree by its own plan, and their books share incumbents.
 #![tactic(auto)]
 
+pub mod laws;
 pub mod machine;
 pub mod portfolio;
 pub mod run;
