@@ -4,7 +4,7 @@ use Rattle.std.specs.Prelude.{All}
 use Rattle.std.proofs.lemmas.List.Elements.{All-push}
 use Rattle.fz_spec.specs.Instance.{Instance}
 use Rattle.fz_tree.specs.declared.mode.Mode.{Mode}
-use Rattle.fz_path.specs.Paths.{Pathed, Walked, bare, idle_path}
+use Rattle.fz_path.specs.Paths.{Walked, bare, idle_path}
 
 abbrev pub are_idle : Instance → Mode → ℕ → ℕ → List Walked → Type 0
 are_idle m mode commit adaptive paths = All (λ (p : Walked). bare p ≡ idle_path m mode commit adaptive) paths

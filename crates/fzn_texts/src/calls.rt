@@ -2,7 +2,7 @@
 use crate::answer::Answer;
 use crate::case::Case;
 use crate::models::{divide, generated, truth};
-use crate::runs::{check, run, run_learning, run_meeting, run_showing, words_of};
+use crate::runs::{check, run, run_abreast, run_learning, run_meeting, run_showing, words_of};
 use crate::{
     books, collecting, domains, frontiers, machines, paths, portfolios, seeds, spaces, words,
 };
@@ -114,6 +114,7 @@ fn answer_of<R: Threads + Wait + Sync>(
         b"fzcheck" => check(alloc, case, &words)?,
         b"meeting" => run_meeting(rt, alloc, case, &words)?,
         b"learning" => run_learning(rt, alloc, case, &words)?,
+        b"abreast" => run_abreast(rt, alloc, case, &words)?,
         b"showing" => run_showing(rt, alloc, case, &words)?,
         b"words" => words::read(alloc, &words)?,
         b"divide" => divide(alloc, &case.text)?,

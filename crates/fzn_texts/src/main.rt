@@ -3,6 +3,7 @@
 //! stands in the first lines of `data/solutions`.
 #![tactic(auto)]
 
+mod abreast;
 mod answer;
 mod books;
 mod calls;
