@@ -1,15 +1,13 @@
 -- Draining keeps what is settled.
 use Rattle.std.proofs.Common.{◌≡◌, ◌⊎◌, inl, inr, ℕ, zero, suc, ◌<◌, ◌≤◌, List, [], ◌∷◌, refl, sym, ◌∙◌, ap, subst, arith, length}
-use Rattle.std.specs.Prelude.{ℤ, slice_index, slice_index_or, slice_set}
+use Rattle.std.specs.Prelude.{Bool, ℤ, slice_index, slice_index_or, slice_set}
 use Rattle.std.specs.List.{AllByRecursion}
 use Rattle.std.proofs.lemmas.Bool.{cases_lt}
 use Rattle.std.proofs.lemmas.Option.{slice_get_within}
-use Rattle.fz_sets.specs.Sets.{IsInSet}
 use Rattle.fz_spec.specs.declared.term.Term.{Term}
 use Rattle.fz_spec.specs.Truth.{SomeByRecursion}
 use Rattle.fz_strength.specs.declared.event.Event.{Event}
 use Rattle.fz_strength.specs.declared.event.Event.TheVariants.{Any, Bound, Fixed}
-use Rattle.fz_strength.specs.Domains.{term_set}
 use Rattle.fz_strength.specs.Events.{Wait, level}
 use Rattle.fz_strength.specs.Sayings.{Saying}
 use Rattle.fz_prop.specs.Stores.{Stored, IsStore, IsListed, IsTaken, mark_at, without_first}
@@ -17,7 +15,7 @@ use Rattle.fz_agenda.specs.declared.watches.Watch.{Watch}
 use Rattle.fz_agenda.specs.Agendas.{IsSettled, AreWoken}
 use Rattle.fz_agenda.specs.Queues.{Lineup, IsWoken}
 use Rattle.fz_agenda.specs.Wakes.{Waking, waiting_at, watches_at, watch, IsListedAt, IsIndexOf, HaveSize, HasVariable, Extends, AllAwake, AreWatchersAwake, AreWatchesOf, Heeds, IsCalled, IsDraining}
-use Rattle.fz_agenda.specs.Watches.{steady_waits}
+use Rattle.fz_agenda.specs.Watches.{IsSeen, steady_waits}
 use Rattle.fz_agenda.proofs.Settled.{may_be_taken}
 use Rattle.fz_agenda.proofs.Waking.{later}
 use Rattle.fz_agenda.proofs.Woken.{one_awake, same_woken, woken_twice, woken_by_more, settled_woken}
@@ -46,12 +44,12 @@ all_above w (x ∷ ws) states v n i awake listed within idle = (
 )
 
 -- one that looks at a variable now isn't idle
-looking : (ds : List (List (ℤ × ℤ))) (states : List ℕ) (es : List Watch) (i : ℕ) (t : Term) (n : ℤ) → AreWatchersAwake ds states es → SomeByRecursion (λ (e : Watch). e ≡ watch i t n) es → IsInSet (term_set ds t) n
+looking : (ds : List (List (ℤ × ℤ))) (states : List ℕ) (es : List Watch) (i : ℕ) (t : Term) (n : ℤ) (sign : Bool) → AreWatchersAwake ds states es → SomeByRecursion (λ (e : Watch). e ≡ watch i t n sign) es → IsSeen sign ds t n
     → i < length states → slice_index states i ≡ 0 → ⊥
-looking ds states [] i t n awake some left within idle = absurd some
-looking ds states (e ∷ es) i t n awake (inl same) left within idle =
-    subst (λ (x : Watch). IsInSet (term_set ds x.term) x.number → x.place < length states → slice_index states x.place ≡ 0 → ⊥) same awake.0 left within idle
-looking ds states (e ∷ es) i t n awake (inr more) left within idle = looking ds states es i t n awake.1 more left within idle
+looking ds states [] i t n sign awake some left within idle = absurd some
+looking ds states (e ∷ es) i t n sign awake (inl same) left within idle =
+    subst (λ (x : Watch). IsSeen x.while_left ds x.term x.number → x.place < length states → slice_index states x.place ≡ 0 → ⊥) same awake.0 left within idle
+looking ds states (e ∷ es) i t n sign awake (inr more) left within idle = looking ds states es i t n sign awake.1 more left within idle
 
 unmarked : (n : ℕ) (A : Type 0) → (1 ≤ n → A) → (A → ⊥) → n ≡ 0
 unmarked zero A f not = refl
@@ -64,8 +62,8 @@ are_woken sayings w states s v index size awake watching = λ i saying is idle.
     let at = index i saying is in
     record {
       steady = all_above w (steady_waits saying) states v (mark_at s v) i awake at.steady within idle;
-      watched = λ t n looks left. elim (at.watched v t n looks) [
-        | inl one ↦ unmarked (mark_at s v) (AreWatchersAwake s.doms states (watches_at w v)) watching (λ all. looking s.doms states (watches_at w v) i t n all one left within idle)
+      watched = λ t n sign looks seen. elim (at.watched v t n sign looks) [
+        | inl one ↦ unmarked (mark_at s v) (AreWatchersAwake s.doms states (watches_at w v)) watching (λ all. looking s.doms states (watches_at w v) i t n sign all one seen within idle)
         | inr listed ↦ (let low : mark_at s v < 1 = above w Any states v (mark_at s v) i awake listed within idle in omega (arith, low))
       ];
     }
@@ -86,7 +84,7 @@ something s t v rest is none same = let e : v ∷ rest ≡ [] = sym is ∙ (ap (
 
 heeds_later : (w : Waking) (ds es : List (List (ℤ × ℤ))) (v n k i : ℕ) → ds ≡ es → n ≤ k → Heeds w ds v n i → Heeds w es v k i
 heeds_later w ds es v n k i same low (inl waits) = inl (later w v n k i low waits)
-heeds_later w ds es v n k i same low (inr watching) = inr (let some = watching.0 in omega (arith, some, low), subst (λ (fs : List (List (ℤ × ℤ))). SomeByRecursion (λ (e : Watch). (e.place ≡ i) × IsInSet (term_set fs e.term) e.number) (watches_at w v)) same watching.1)
+heeds_later w ds es v n k i same low (inr watching) = inr (let some = watching.0 in omega (arith, some, low), subst (λ (fs : List (List (ℤ × ℤ))). SomeByRecursion (λ (e : Watch). (e.place ≡ i) × IsSeen e.while_left fs e.term e.number) (watches_at w v)) same watching.1)
 
 called : (w : Waking) (s t : Stored) (l k m : Lineup) (v n : ℕ) → IsUnderWay w s l t k → n ≡ mark_at t v → IsWoken (Heeds w t.doms v n) w.costs k m → IsWoken (IsCalled w s) w.costs l m
 called w s t l k m v n under marked woken =

@@ -2,18 +2,17 @@
 use Rattle.std.proofs.Common.{◌≡◌, inl, inr, ℕ, zero, suc, ◌+◌, ◌<◌, ◌≤◌, List, [], ◌∷◌, subst, arith, length, take}
 use Rattle.std.specs.Prelude.{ℤ, slice_index, slice_index_or}
 use Rattle.std.specs.List.{AllByRecursion}
-use Rattle.fz_sets.specs.Sets.{IsInSet}
 use Rattle.fz_strength.specs.declared.cost.Cost.{Cost}
-use Rattle.fz_strength.specs.Domains.{term_set}
 use Rattle.fz_agenda.specs.declared.watches.Watch.{Watch}
 use Rattle.fz_agenda.specs.Queues.{Lineup, IsWoken}
 use Rattle.fz_prop.specs.Stores.{IsTermOf}
 use Rattle.fz_agenda.specs.Wakes.{Waking, watches_at, AreWatchersAwake, AreWatchesOf, Heeds, IsWatching, WaitsFor}
+use Rattle.fz_agenda.specs.Watches.{IsSeen}
 use Rattle.fz_agenda.proofs.Woken.{woken_twice, woken_by_more, still_awake}
 
 -- it is this one, which looks now
 abbrev pub LooksNow : List (List (ℤ × ℤ)) → Watch → ℕ → Type 0
-LooksNow ds e i = (e.place ≡ i) × IsInSet (term_set ds e.term) e.number
+LooksNow ds e i = (e.place ≡ i) × IsSeen e.while_left ds e.term e.number
 
 watching_at : (ds : List (List (ℤ × ℤ))) (es : List Watch) (k i : ℕ) (e : Watch) → k < length es → LooksNow ds (slice_index_or es k e) i → IsWatching ds es i
 watching_at ds [] k i e within now = absurd (omega (arith, within))
@@ -27,7 +26,7 @@ watching_woken ds es k e costs l m o within first second =
     woken_twice (IsWatching ds es) costs l m o first (woken_by_more here (IsWatching ds es) costs m o (λ i now. watching_at ds es k i e within now) second)
 
 abbrev IsAwakeIn : List (List (ℤ × ℤ)) → List ℕ → Watch → Type 0
-IsAwakeIn ds states e = IsInSet (term_set ds e.term) e.number → e.place < length states → slice_index states e.place ≡ 0 → ⊥
+IsAwakeIn ds states e = IsSeen e.while_left ds e.term e.number → e.place < length states → slice_index states e.place ≡ 0 → ⊥
 
 all_next : (P : Watch → Type 0) (es : List Watch) (k : ℕ) (e : Watch) → k < length es → AllByRecursion P (take k es) → P (slice_index_or es k e) → AllByRecursion P (take (suc k) es)
 all_next P [] k e within before here = absurd (omega (arith, within))

@@ -1,10 +1,9 @@
 -- What is settled lasts.
 use Rattle.std.proofs.Common.{◌≡◌, ◌≢◌, get_or-set_same, get_or-set_other, ℕ, ◌<◌, List, [], ◌∷◌, refl, sym, ◌∙◌, subst, arith, length, inl, inr}
-use Rattle.std.specs.Prelude.{ℤ, slice_get, slice_index, slice_set, Some}
+use Rattle.std.specs.Prelude.{slice_get, slice_index, slice_set, Some}
 use Rattle.std.specs.List.{AllByRecursion}
 use Rattle.std.proofs.lemmas.Bool.{cases_eq}
 use Rattle.std.proofs.lemmas.List.{length-set}
-use Rattle.fz_sets.specs.Sets.{IsInSet}
 use Rattle.fz_sets.proofs.Lists.{by_place}
 use Rattle.fz_strength.specs.declared.event.Event.{Event}
 use Rattle.fz_strength.specs.declared.event.Event.TheVariants.{Any, Bound, Fixed}
@@ -14,8 +13,8 @@ use Rattle.fz_strength.specs.Promises.{RestsForGood}
 use Rattle.fz_prop.specs.Stores.{Stored, Shrinks, mark_at, without_first}
 use Rattle.fz_prop.proofs.Twice.{narrower_twice}
 use Rattle.fz_agenda.specs.Agendas.{AreUnmarked, IsUnmarked, IsUnmarkedAt, IsSettled, SettledLasts, AllRestAtRest, MayBeIdle, MayBeGone, MayBeQueued, MayBeTaken}
-use Rattle.fz_agenda.specs.Watches.{LooksWhile, steady_waits}
-use Rattle.fz_agenda.proofs.Watched.{tells_same, watched_kept}
+use Rattle.fz_agenda.specs.Watches.{Looks, steady_waits}
+use Rattle.fz_agenda.proofs.Watched.{seen_later, watched_kept}
 
 unmarked_before : (ws : List Wait) (s t : Stored) → Shrinks s t → AreUnmarked ws t → AreUnmarked ws s
 unmarked_before [] s t shrinks un = tt
@@ -29,9 +28,9 @@ quiet_since (w ∷ ws) s t shrinks un = (shrinks.marks_tell w.variable w.event u
 all_unmarked_before : (saying : Saying) (s t : Stored) → Shrinks s t → IsUnmarked saying t → IsUnmarked saying s
 all_unmarked_before saying s t shrinks un = record {
   steady = unmarked_before (steady_waits saying) s t shrinks un.steady;
-  watched = λ v u n looks left.
-      let same = tells_same saying v u n looks s.doms t.doms (quiet_since (steady_waits saying) s t shrinks un.steady) in
-      let none = un.watched v u n looks (subst (λ (d : List (ℤ × ℤ)). IsInSet d n) same left) in
+  watched = λ v u n left looks seen.
+      let later = seen_later saying v u n left looks s.doms t.doms shrinks.narrower (quiet_since (steady_waits saying) s t shrinks un.steady) seen in
+      let none = un.watched v u n left looks later in
       omega (arith, shrinks.marks_grow v, none);
 }
 
@@ -39,7 +38,7 @@ pub settled_lasts : SettledLasts
 settled_lasts sayings states s t store shrinks settled = record {
   size = settled.size;
   idle = λ i saying is idle un. watched_kept saying s.doms t.doms store.domains shrinks.narrower (quiet_since (steady_waits saying) s t shrinks un.steady)
-      (λ v u n looks left. let none = un.watched v u n looks left in shrinks.marks_tell v Any (omega (arith, none)))
+      (λ v u n left looks seen. let none = un.watched v u n left looks seen in shrinks.marks_tell v Any (omega (arith, none)))
       (settled.idle i saying is idle (all_unmarked_before saying s t shrinks un));
   gone = λ i saying is gone es domains narrower. settled.gone i saying is gone es domains (narrower_twice s.doms t.doms es shrinks.narrower narrower);
 }
@@ -55,7 +54,7 @@ all_unmarked (w ∷ ws) s none = (omega (arith, none w.variable, some_level w.ev
 
 pub all_rest_at_rest : AllRestAtRest
 all_rest_at_rest sayings states s store none free settled i saying is = elim (free i) [
-  | inl idle ↦ settled.idle i saying is idle (record { steady = all_unmarked (steady_waits saying) s none; watched = λ v t n looks left. none v })
+  | inl idle ↦ settled.idle i saying is idle (record { steady = all_unmarked (steady_waits saying) s none; watched = λ v t n left looks seen. none v })
   | inr gone ↦ settled.gone i saying is gone s.doms store.domains (record { size = refl; members = λ v x m. m })
 ]
 
@@ -110,9 +109,9 @@ still_unmarked (w ∷ ws) s v rest woken un = (
 all_still_unmarked : (saying : Saying) (s : Stored) (v : ℕ) (rest : List ℕ) → IsUnmarkedAt saying s v → IsUnmarked saying (without_first s v rest) → IsUnmarked saying s
 all_still_unmarked saying s v rest woken un = record {
   steady = still_unmarked (steady_waits saying) s v rest woken.steady un.steady;
-  watched = λ u t n looks left. elim (cases_eq u v) [
-    | inl e ↦ subst (λ (x : ℕ). mark_at s x ≡ 0) (sym e) (woken.watched t n (subst (λ (x : ℕ). LooksWhile saying x t n) e looks) left)
-    | inr ne ↦ sym (unmarked_there s v u rest ne) ∙ un.watched u t n looks left
+  watched = λ u t n left looks seen. elim (cases_eq u v) [
+    | inl e ↦ subst (λ (x : ℕ). mark_at s x ≡ 0) (sym e) (woken.watched t n left (subst (λ (x : ℕ). Looks saying x t n left) e looks) seen)
+    | inr ne ↦ sym (unmarked_there s v u rest ne) ∙ un.watched u t n left looks seen
   ];
 }
 

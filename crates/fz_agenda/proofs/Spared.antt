@@ -43,7 +43,7 @@ with_idler sayings place = slice_set sayings place idler
 
 idler_listed : (sayings : List Saying) (place : ℕ) (w : Waking) → IsIndexOf sayings w → IsIndexOf (with_idler sayings place) w
 idler_listed sayings place w index = by_place (λ i. (saying : Saying) → slice_get (with_idler sayings place) i ≡ Some saying → IsIndexedAt w i saying) place
-    (λ saying is. subst (λ (x : Saying). IsIndexedAt w place x) (sym (set_same sayings place idler saying is)) (record { steady = tt; watched = λ v t n looks. absurd looks }))
+    (λ saying is. subst (λ (x : Saying). IsIndexedAt w place x) (sym (set_same sayings place idler saying is)) (record { steady = tt; watched = λ v t n left looks. absurd looks }))
     (λ i ne saying is. index i saying (sym (set_other sayings place i idler ne) ∙ is))
 
 idler_settled : (sayings : List Saying) (place : ℕ) (states after : List ℕ) (s : Stored) → IsSettled sayings states s → after ≡ slice_set states place 2 → slice_index after place ≡ 2

@@ -1,14 +1,12 @@
 -- What holds while the propagators of a space run: which are idle, queued or gone.
-use Rattle.std.specs.Prelude.{◌≡◌, ◌⊎◌, ℕ, ℤ, ◌<◌, List, slice_get, slice_index, slice_set, Some, length}
+use Rattle.std.specs.Prelude.{◌≡◌, ◌⊎◌, Bool, ℕ, ℤ, ◌<◌, List, slice_get, slice_index, slice_set, Some, length}
 use Rattle.std.specs.List.{AllByRecursion}
-use Rattle.fz_sets.specs.Sets.{IsInSet}
 use Rattle.fz_spec.specs.declared.term.Term.{Term}
-use Rattle.fz_strength.specs.Domains.{term_set}
 use Rattle.fz_strength.specs.Events.{Wait, level}
 use Rattle.fz_strength.specs.Sayings.{Saying, line_of}
 use Rattle.fz_strength.specs.Promises.{RestsForGood}
 use Rattle.fz_prop.specs.Stores.{Stored, IsStore, Shrinks, mark_at, without_first}
-use Rattle.fz_agenda.specs.Watches.{LooksWhile, steady_waits}
+use Rattle.fz_agenda.specs.Watches.{IsSeen, Looks, steady_waits}
 
 -- the marks show no change that is waited for
 abbrev pub AreUnmarked : List Wait → Stored → Type 0
@@ -16,7 +14,7 @@ AreUnmarked ws s = AllByRecursion (λ (w : Wait). mark_at s w.variable < level w
 
 -- nor a change of a variable that is looked at now
 abbrev pub IsUnmarkedWhere : Saying → Stored → ℕ → Type 0
-IsUnmarkedWhere saying s v = (t : Term) (n : ℤ) → LooksWhile saying v t n → IsInSet (term_set s.doms t) n → mark_at s v ≡ 0
+IsUnmarkedWhere saying s v = (t : Term) (n : ℤ) (left : Bool) → Looks saying v t n left → IsSeen left s.doms t n → mark_at s v ≡ 0
 
 -- the marks show no change that may break its line
 pub record IsUnmarked (saying : Saying) (s : Stored) : Type 0 where

@@ -1,23 +1,21 @@
 -- Who waits for which change.
-use Rattle.std.specs.Prelude.{◌≡◌, ◌≢◌, ◌⊎◌, ℕ, ℤ, ◌<◌, ◌≤◌, List, [], ◌∷◌, ◌++◌, length, slice_get, slice_index, slice_index_or, slice_set, Some}
+use Rattle.std.specs.Prelude.{◌≡◌, ◌≢◌, ◌⊎◌, Bool, ℕ, ℤ, ◌<◌, ◌≤◌, List, [], ◌∷◌, ◌++◌, length, slice_get, slice_index, slice_index_or, slice_set, Some}
 use Rattle.std.specs.List.{AllByRecursion}
-use Rattle.fz_sets.specs.Sets.{IsInSet}
 use Rattle.fz_spec.specs.declared.term.Term.{Term}
 use Rattle.fz_spec.specs.Truth.{SomeByRecursion}
 use Rattle.fz_strength.specs.declared.cost.Cost.{Cost}
 use Rattle.fz_strength.specs.declared.event.Event.{Event}
 use Rattle.fz_strength.specs.declared.event.Event.TheVariants.{Any, Bound, Fixed}
-use Rattle.fz_strength.specs.Domains.{term_set}
 use Rattle.fz_strength.specs.Events.{Wait}
 use Rattle.fz_strength.specs.Sayings.{Saying, line_of}
 use Rattle.fz_prop.specs.Stores.{Stored, IsStore, IsListed, IsTermOf, mark_at}
 use Rattle.fz_agenda.specs.Agendas.{IsSettled}
 use Rattle.fz_agenda.specs.declared.watches.Watch.{Watch}
 use Rattle.fz_agenda.specs.Queues.{Lineup, rested, AreAwake, IsWoken}
-use Rattle.fz_agenda.specs.Watches.{LooksWhile, steady_waits}
+use Rattle.fz_agenda.specs.Watches.{IsSeen, Looks, steady_waits}
 
--- for each kind of change and each variable the propagators that wait for it; for each variable those that look at it only while a
--- number is left of a term; and the class of each propagator's cost
+-- for each kind of change and each variable the propagators that wait for it; for each variable those that look at it only for a while;
+-- and the class of each propagator's cost
 pub record Waking : Type 0 where
   pub any : List (List ℕ)
   pub bound : List (List ℕ)
@@ -37,9 +35,9 @@ waiting_at w event v = slice_index_or (lists_of event w) v []
 abbrev pub IsListedAt : Waking → ℕ → List Wait → Type 0
 IsListedAt w i ws = AllByRecursion (λ (wait : Wait). IsListed (waiting_at w wait.event wait.variable) i) ws
 
--- the propagator of this number looks at a variable while a number is left of a term
-abbrev pub watch : ℕ → Term → ℤ → Watch
-watch i t n = record { place = i; term = t; number = n }
+-- the propagator of this number looks at a variable while a number is left of a term, or once it is gone
+abbrev pub watch : ℕ → Term → ℤ → Bool → Watch
+watch i t n left = record { place = i; term = t; number = n; while_left = left }
 
 abbrev pub watches_at : Waking → ℕ → List Watch
 watches_at w v = slice_index_or w.watches v []
@@ -51,7 +49,7 @@ IsWatch w v e = SomeByRecursion (λ (x : Watch). x ≡ e) (watches_at w v)
 -- while, or is listed at all its changes
 pub record IsIndexedAt (w : Waking) (i : ℕ) (saying : Saying) : Type 0 where
   pub steady : IsListedAt w i (steady_waits saying)
-  pub watched : (v : ℕ) (t : Term) (n : ℤ) → LooksWhile saying v t n → IsWatch w v (watch i t n) ⊎ IsListed (waiting_at w Any v) i
+  pub watched : (v : ℕ) (t : Term) (n : ℤ) (left : Bool) → Looks saying v t n left → IsWatch w v (watch i t n left) ⊎ IsListed (waiting_at w Any v) i
 
 -- and so is each of these
 abbrev pub IsIndexOf : List Saying → Waking → Type 0
@@ -95,7 +93,7 @@ WaitsFor w v n i = ((1 ≤ n) × IsListed (waiting_at w Any v) i) ⊎ ((2 ≤ n)
 
 -- it looks at a variable now
 abbrev pub IsWatching : List (List (ℤ × ℤ)) → List Watch → ℕ → Type 0
-IsWatching ds es i = SomeByRecursion (λ (e : Watch). (e.place ≡ i) × IsInSet (term_set ds e.term) e.number) es
+IsWatching ds es i = SomeByRecursion (λ (e : Watch). (e.place ≡ i) × IsSeen e.while_left ds e.term e.number) es
 
 -- and either of both
 abbrev pub Heeds : Waking → List (List (ℤ × ℤ)) → ℕ → ℕ → ℕ → Type 0
@@ -113,7 +111,7 @@ pub record AllAwake (w : Waking) (v n : ℕ) (states : List ℕ) : Type 0 where
 
 -- none is idle of those that look at a variable now
 abbrev pub AreWatchersAwake : List (List (ℤ × ℤ)) → List ℕ → List Watch → Type 0
-AreWatchersAwake ds states es = AllByRecursion (λ (e : Watch). IsInSet (term_set ds e.term) e.number → e.place < length states → slice_index states e.place ≡ 0 → ⊥) es
+AreWatchersAwake ds states es = AllByRecursion (λ (e : Watch). IsSeen e.while_left ds e.term e.number → e.place < length states → slice_index states e.place ≡ 0 → ⊥) es
 
 -- From a store and a line-up, by waking those that wait for listed changes and taking these from the list, another store and
 -- line-up.

@@ -161,7 +161,7 @@ impl Wakes {
         }
     }
 
-    /// A propagator looks at a variable while a number is left of a term, and any change of the variable then wakes it.
+    /// A propagator looks at a variable while a number is left of a term, or once it is gone, and any change of the variable then wakes it.
     ///
     /// # Errors
     /// `AllocError` where there is no memory; the lists are then as they were.

@@ -1,10 +1,9 @@
 //! Who looks at a variable only for a while.
-ghost use Rattle.std.specs.Prelude.{◌≡◌, ◌<◌, ◌++◌, ◌∷◌, [], length, slice_index, OnOk, OnErr};
-ghost use Rattle.fz_sets.specs.Sets.{IsInSet};
-ghost use Rattle.fz_strength.specs.Domains.{term_set};
+ghost use Rattle.std.specs.Prelude.{◌≡◌, ◌<◌, ◌↔◌, ◌++◌, ◌∷◌, [], length, slice_index, IsTrue, OnOk, OnErr};
 ghost use Rattle.fz_prop.specs.Stores.{IsTermOf};
 ghost use Rattle.fz_agenda.specs.Queues.{IsWoken};
 ghost use Rattle.fz_agenda.specs.Wakes.{AreWatchersAwake, AreWatchesOf, IsWatching};
+ghost use Rattle.fz_agenda.specs.Watches.{IsSeen};
 
 use crate::agenda::Agenda;
 use crate::wakes::cost_at;
@@ -14,12 +13,15 @@ use fz_spec::term::Term;
 use std::alloc::{AllocError, Global};
 use std::marker::Model;
 
-/// A propagator that looks at some variable only while a number is left of a term: an element, at a term of its list.
+/// A propagator that looks at some variable only for a while: an element at a term of its list while the term's place is left of the
+/// index, or what says whether a variable is a number once this is gone.
 #[derive(Clone, Copy)]
 pub struct Watch {
     pub place: u32,
     pub term: Term,
     pub number: i32,
+    /// It looks while the number is left of the term; else once it is gone.
+    pub while_left: bool,
 }
 
 /// Those that look at one variable for a while.
@@ -95,15 +97,25 @@ fn wake_watcher(
     agenda: &mut Agenda,
 ) -> Result<(), AllocError>
     requires { IsTermOf (length store.now.doms) watch.now.term }
-    ensures woken { IsWoken (λ i. (watch.now.place ≡ i)
-        × IsInSet (term_set store.now.doms watch.now.term) watch.now.number) costs.now
+    ensures woken { IsWoken (λ i. (watch.now.place ≡ i) × IsSeen
+        watch.now.while_left store.now.doms watch.now.term watch.now.number) costs.now
         agenda.old agenda.new }
-    ensures awake { OnOk result (IsInSet (term_set store.now.doms watch.now.term) watch.now.number
+    ensures awake { OnOk result (IsSeen
+        watch.now.while_left store.now.doms watch.now.term watch.now.number
         → watch.now.place < length agenda.new.states
         → slice_index agenda.new.states watch.now.place ≡ 0 → ⊥) }
 {
-    if agenda.is_idle(watch.place) && has(store, watch.term, watch.number) {
+    if agenda.is_idle(watch.place) && looks_now(watch, store) {
         agenda.wake_idle(watch.place, cost_at(costs, watch.place))?;
     }
     Ok(())
+}
+
+/// Whether it looks now.
+fn looks_now(watch: &Watch, store: &Store) -> bool
+    requires { IsTermOf (length store.now.doms) watch.now.term }
+    ensures { IsTrue result ↔ IsSeen
+        watch.now.while_left store.now.doms watch.now.term watch.now.number }
+{
+    has(store, watch.term, watch.number) == watch.while_left
 }

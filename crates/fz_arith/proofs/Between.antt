@@ -12,11 +12,11 @@ use Rattle.fz_dom.specs.Changes.{IsFromTo}
 use Rattle.fz_dom.proofs.Ranges.{least_member, greatest_member}
 use Rattle.fz_spec.specs.declared.term.Term.{Term}
 use Rattle.fz_spec.specs.Constraints.{term_value, term_values}
-use Rattle.fz_spec.specs.Truth.{SomeByRecursion}
-use Rattle.fz_strength.specs.declared.operation.Operation.{Operation}
-use Rattle.fz_strength.specs.declared.operation.Operation.TheVariants.{Plus, Times, Quotient, Remainder, Abs, Min, Max}
+use Rattle.fz_spec.specs.Truth.{SomeByRecursion, IsResult, remainder}
+use Rattle.fz_spec.specs.declared.shape.Operation.{Operation}
+use Rattle.fz_spec.specs.declared.shape.Operation.TheVariants.{Plus, Times, Quotient, Remainder, Abs, Min, Max}
 use Rattle.fz_strength.specs.Domains.{term_set, AreDomains, Within}
-use Rattle.fz_strength.specs.Operations.{Equation, equation_terms, IsResult, EquationTruth, low_of, high_of, between, own_bounds, corner_bounds, result_bounds, quotient_bounds, remainder, remainder_bounds, operand_bounds, bounds_of}
+use Rattle.fz_strength.specs.Operations.{Equation, equation_terms, EquationTruth, low_of, high_of, between, own_bounds, corner_bounds, result_bounds, quotient_bounds, remainder_bounds, operand_bounds, bounds_of}
 use Rattle.fz_strength.proofs.OperationLaws.{least_is, greatest_is}
 use Rattle.fz_strength.proofs.Sizes.{least_below, greatest_above}
 use Rattle.fz_prop.specs.Stores.{IsTermOf}

@@ -6,7 +6,7 @@ use Rattle.fz_dom.specs.declared.change.Change.{Change}
 use Rattle.fz_dom.specs.declared.change.Change.TheVariants.{Same, Changed, Wiped}
 use Rattle.fz_spec.specs.declared.term.Term.{Term}
 use Rattle.fz_spec.specs.Constraints.{term_value}
-use Rattle.fz_strength.specs.declared.operation.Bounds.{Bounds}
+use Rattle.fz_strength.specs.declared.bounds.Bounds.{Bounds}
 use Rattle.fz_strength.specs.Domains.{Within}
 use Rattle.fz_strength.specs.Operations.{Equation, EquationTruth, IsEquationLine, between}
 use Rattle.fz_prop.specs.declared.answer.Answer.{Answer}

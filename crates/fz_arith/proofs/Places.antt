@@ -6,7 +6,8 @@ use Rattle.std.specs.List.{fold}
 use Rattle.std.proofs.lemmas.Int.{ints, clamps}
 use Rattle.fz_dom.specs.Shape.{IsDomain, least, greatest}
 use Rattle.fz_dom.proofs.Ranges.{least_member, greatest_member}
-use Rattle.fz_strength.specs.Operations.{size_of, size_between, least_size}
+use Rattle.fz_spec.specs.Truth.{size_of}
+use Rattle.fz_strength.specs.Operations.{size_between, least_size}
 use Rattle.fz_strength.proofs.Sizes.{sizes_of_sets}
 
 pub fold_mapped : {X : Type 0} (f : ℤ → ℤ → ℤ) (g : X → ℤ) (a : ℤ) (ts : List X) (i : ℕ) (d : X) → i < length ts → fold f a (map g (take (suc i) ts)) ≡ f (fold f a (map g (take i ts))) (g (slice_index_or ts i d))

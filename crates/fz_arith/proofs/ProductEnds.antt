@@ -6,7 +6,7 @@ use Rattle.std.specs.List.{fold}
 use Rattle.std.proofs.lemmas.Int.{ints, clamps}
 use Rattle.std.proofs.Math.IntN.{*ℤ_comm}
 use Rattle.fz_spec.specs.declared.term.Term.{Term}
-use Rattle.fz_strength.specs.declared.operation.Operation.TheVariants.{Times}
+use Rattle.fz_spec.specs.declared.shape.Operation.TheVariants.{Times}
 use Rattle.fz_strength.specs.Operations.{equation, low_of, high_of, own_bounds, corner_bounds, quotient_bounds, IsBounded, IsEquationLine}
 use Rattle.fz_arith.proofs.Quotients.{quotient_is}
 

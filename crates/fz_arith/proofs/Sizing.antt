@@ -7,7 +7,7 @@ use Rattle.fz_dom.specs.declared.change.Change.{Change}
 use Rattle.fz_dom.specs.declared.change.Change.TheVariants.{Same, Changed, Wiped}
 use Rattle.fz_spec.specs.declared.term.Term.{Term}
 use Rattle.fz_spec.specs.Constraints.{term_value}
-use Rattle.fz_strength.specs.declared.operation.Operation.TheVariants.{Plus, Times}
+use Rattle.fz_spec.specs.declared.shape.Operation.TheVariants.{Plus, Times}
 use Rattle.fz_strength.specs.Domains.{term_set, Within}
 use Rattle.fz_strength.specs.Operations.{Equation, equation, EquationTruth}
 use Rattle.fz_prop.specs.Answers.{IsCorrectOf}

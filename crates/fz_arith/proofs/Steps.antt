@@ -15,12 +15,13 @@ use Rattle.fz_spec.specs.declared.term.Term.{Term}
 use Rattle.fz_spec.specs.Constraints.{term_value, term_values}
 use Rattle.fz_strength.specs.declared.event.Event.{Event}
 use Rattle.fz_strength.specs.declared.event.Event.TheVariants.{Bound}
-use Rattle.fz_strength.specs.declared.operation.Operation.{Operation}
-use Rattle.fz_strength.specs.declared.operation.Operation.TheVariants.{Quotient, Remainder}
-use Rattle.fz_strength.specs.declared.operation.Bounds.{Bounds}
+use Rattle.fz_spec.specs.declared.shape.Operation.{Operation}
+use Rattle.fz_spec.specs.declared.shape.Operation.TheVariants.{Quotient, Remainder}
+use Rattle.fz_strength.specs.declared.bounds.Bounds.{Bounds}
 use Rattle.fz_strength.specs.Domains.{dom_at, term_set, AreDomains, Within, IsNarrower}
 use Rattle.fz_strength.specs.Events.{IsOnly, AllFixed, AreSingle, IsQuiet}
-use Rattle.fz_strength.specs.Operations.{Equation, equation_terms, EquationTruth, bounds_of, operand_event, IsBounded, IsEquationLine, IsResult, LacksZero, divisors_of}
+use Rattle.fz_spec.specs.Truth.{IsResult}
+use Rattle.fz_strength.specs.Operations.{Equation, equation_terms, EquationTruth, bounds_of, operand_event, IsBounded, IsEquationLine, LacksZero, divisors_of}
 use Rattle.fz_strength.proofs.Clauses.{all_unmap}
 use Rattle.fz_sets.proofs.Lists.{all_at}
 use Rattle.fz_strength.proofs.Terms.{AreQuietAt, quiet_self}

@@ -1,8 +1,8 @@
 -- The least or the greatest of numbers, and of terms.
 use Rattle.std.specs.Prelude.{ℕ, ℤ, List}
 use Rattle.std.specs.Int.{int_min, int_max}
-use Rattle.fz_strength.specs.declared.operation.Operation.{Operation}
-use Rattle.fz_strength.specs.declared.operation.Operation.TheVariants.{Min, Max}
+use Rattle.fz_spec.specs.declared.shape.Operation.{Operation}
+use Rattle.fz_spec.specs.declared.shape.Operation.TheVariants.{Min, Max}
 use Rattle.fz_spec.specs.declared.term.Term.{Term}
 use Rattle.fz_kept.specs.Told.{AreEndsDone, IsBeaten}
 

@@ -12,8 +12,8 @@ ghost use Rattle.fz_prop.specs.Stores.{IsTermOf};
 use crate::extremes::{is_long, keep_between_ends};
 use fz_kept::Kept;
 use fz_prop::{Answer, Propagator, Store};
+use fz_spec::shape::Operation;
 use fz_spec::term::Term;
-use fz_strength::operation::Operation;
 use std::alloc::AllocError;
 use std::marker::Model;
 

@@ -1,7 +1,7 @@
 //! The bounds of each term of an equation.
 ghost use Rattle.std.specs.Prelude.{◌≡◌, ◌≤◌, ◌<◌, ◌∷◌, List, length, slice_get, Some};
 ghost use Rattle.std.specs.List.{AllByRecursion};
-ghost use Rattle.fz_strength.specs.declared.operation.Operation.TheVariants.{Plus, Times, Quotient, Remainder, Abs};
+ghost use Rattle.fz_spec.specs.declared.shape.Operation.TheVariants.{Plus, Times, Quotient, Remainder, Abs};
 ghost use Rattle.fz_strength.specs.Operations.{equation, low_of, high_of, between, no_bounds, result_bounds, operand_bounds, bounds_of};
 ghost use Rattle.fz_prop.specs.Stores.{IsTermOf};
 
@@ -11,8 +11,9 @@ use crate::ends::{
 };
 use fz_prop::Store;
 use fz_prop::terms::{greatest_of, least_of};
+use fz_spec::shape::Operation;
 use fz_spec::term::Term;
-use fz_strength::operation::{Bounds, Operation};
+use fz_strength::bounds::Bounds;
 
 /// The bounds of the term at a place, from what an operation makes at 0 on.
 pub fn bounds_at(

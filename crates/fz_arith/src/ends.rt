@@ -6,7 +6,7 @@ ghost use Rattle.fz_sets.specs.Sets.{IsInSet};
 ghost use Rattle.fz_dom.specs.Changes.{IsFromTo};
 ghost use Rattle.fz_strength.specs.Domains.{term_set};
 ghost use Rattle.fz_strength.specs.Operations.{size_between, least_size, low_of, high_of, between, own_bounds, corner_bounds, difference_bounds, quotient_bounds, remainder_bounds, signed_bounds, result_bounds};
-ghost use Rattle.fz_strength.specs.declared.operation.Operation.TheVariants.{Plus, Times, Abs};
+ghost use Rattle.fz_spec.specs.declared.shape.Operation.TheVariants.{Plus, Times, Abs};
 ghost use Rattle.fz_prop.specs.Stores.{IsTermOf};
 ghost use Rattle.fz_arith.specs.Extremes.{pick};
 
@@ -14,8 +14,9 @@ use fz_dom::Dom;
 use fz_prop::Store;
 use fz_prop::terms::{greatest_of, least_of};
 use fz_ranges::numbers::{difference, negative, product, quotient, remainder, sum};
+use fz_spec::shape::Operation;
 use fz_spec::term::Term;
-use fz_strength::operation::{Bounds, Operation};
+use fz_strength::bounds::Bounds;
 
 /// A term between the least and the greatest of four numbers.
 fn around(term: Term, a: i64, b: i64, c: i64, d: i64) -> Bounds

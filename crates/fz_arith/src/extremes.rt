@@ -11,8 +11,8 @@ use crate::narrow::keep_equation;
 use fz_kept::{Kept, count_of};
 use fz_prop::terms::{greatest_of, least_of};
 use fz_prop::{Answer, Store};
+use fz_spec::shape::Operation;
 use fz_spec::term::Term;
-use fz_strength::operation::Operation;
 use std::alloc::AllocError;
 
 /// Whether there are so many operands that it serves to keep something of them.

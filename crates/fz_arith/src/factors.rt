@@ -3,7 +3,7 @@ ghost use Rattle.std.specs.Prelude.{◌≡◌, ℤ, ◌+ℤ◌, ◌*ℤ◌, ◌�
 ghost use Rattle.std.specs.List.{AllByRecursion};
 ghost use Rattle.fz_sets.specs.Sets.{IsInSet};
 ghost use Rattle.fz_dom.specs.Changes.{IsFromTo};
-ghost use Rattle.fz_strength.specs.declared.operation.Operation.TheVariants.{Plus, Times};
+ghost use Rattle.fz_spec.specs.declared.shape.Operation.TheVariants.{Plus, Times};
 ghost use Rattle.fz_strength.specs.Domains.{term_set};
 ghost use Rattle.fz_strength.specs.Operations.{equation, EquationTruth};
 ghost use Rattle.fz_prop.specs.Answers.{IsCorrectOf};
@@ -15,8 +15,9 @@ use crate::sized::keep_sized;
 use fz_prop::terms::{greatest_of, least_of};
 use fz_prop::{Change, Store};
 use fz_ranges::roots::{half, least_root, root};
+use fz_spec::shape::Operation;
 use fz_spec::term::Term;
-use fz_strength::operation::{Bounds, Operation};
+use fz_strength::bounds::Bounds;
 use std::alloc::AllocError;
 
 /// Keeps the terms of an equation between the bounds that one variable in two places, or the sizes of the others, give them.

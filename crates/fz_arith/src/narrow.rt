@@ -14,8 +14,9 @@ use crate::factors::keep_operands;
 use crate::positive::rests_as_product;
 use fz_prop::terms::{are_fixed, remove, value_of};
 use fz_prop::{Answer, Change, Store};
+use fz_spec::shape::Operation;
 use fz_spec::term::Term;
-use fz_strength::operation::{Bounds, Operation};
+use fz_strength::bounds::Bounds;
 use std::alloc::AllocError;
 
 /// Narrows a store so that a term is what an operation makes of others.

@@ -1,14 +1,14 @@
 //! Products of terms that can't be negative.
 ghost use Rattle.std.specs.Prelude.{◌≡◌, ◌∷◌, [], pos, ◌*ℤ◌, ◌≤ℤ◌, length, IsTrue};
 ghost use Rattle.std.specs.List.{AllByRecursion};
-ghost use Rattle.fz_strength.specs.declared.operation.Operation.TheVariants.{Times};
+ghost use Rattle.fz_spec.specs.declared.shape.Operation.TheVariants.{Times};
 ghost use Rattle.fz_strength.specs.Operations.{equation, IsEquationLine};
 ghost use Rattle.fz_prop.specs.Stores.{IsTermOf};
 
 use fz_prop::Store;
 use fz_prop::terms::{greatest_of, least_of};
+use fz_spec::shape::Operation;
 use fz_spec::term::Term;
-use fz_strength::operation::Operation;
 
 /// Whether an equation is a product of two terms that can't be negative, and its ends are the products of theirs: then no bound lacks.
 pub fn rests_as_product(store: &Store, operation: Operation, operands: &[Term], value: Term) -> bool

@@ -2,7 +2,7 @@
 ghost use Rattle.std.specs.Prelude.{◌≡◌, ◌∷◌, [], ℤ, length, IfOk};
 ghost use Rattle.std.specs.List.{AllByRecursion};
 ghost use Rattle.fz_sets.specs.Sets.{IsInSet};
-ghost use Rattle.fz_strength.specs.declared.operation.Bounds.{Bounds};
+ghost use Rattle.fz_strength.specs.declared.bounds.Bounds.{Bounds};
 ghost use Rattle.fz_strength.specs.Domains.{term_set};
 ghost use Rattle.fz_strength.specs.Operations.{equation, between, EquationTruth};
 ghost use Rattle.fz_prop.specs.Answers.{IsCorrectOf};
@@ -15,8 +15,9 @@ use crate::narrow::keep_between;
 use fz_prop::terms::{greatest_of, least_of};
 use fz_prop::{Change, Store};
 use fz_ranges::{Range, Ranges, narrowed};
+use fz_spec::shape::Operation;
 use fz_spec::term::Term;
-use fz_strength::operation::{Bounds, Operation};
+use fz_strength::bounds::Bounds;
 use std::alloc::AllocError;
 
 /// The range of a term.

@@ -2,34 +2,34 @@
 use Rattle.std.proofs.Common.{List, length}
 use Rattle.std.specs.Prelude.{ℤ}
 use Rattle.std.specs.List.{AllByRecursion}
-use Rattle.fz_spec.specs.declared.builtin.Builtin.{Builtin}
-use Rattle.fz_spec.specs.Constraints.{Argument, Holds}
+use Rattle.fz_spec.specs.declared.shape.Shape.{Shape}
+use Rattle.fz_spec.specs.Constraints.{Argument, HoldsAs, terms_among}
 use Rattle.fz_strength.specs.Domains.{Within}
 use Rattle.fz_strength.specs.Events.{AllFixed}
-use Rattle.fz_strength.specs.Lines.{terms_among}
-use Rattle.fz_strength.specs.Sayings.{Nothing, truth_of, line_of}
+use Rattle.fz_strength.specs.Sayings.{Other, truth_of, line_of}
 use Rattle.fz_strength.proofs.Terms.{within_before}
 use Rattle.fz_prop.specs.Answers.{IsAnswerOf}
 use Rattle.fz_prop.specs.declared.answer.Answer.TheVariants.{Subsumed, Failed}
 use Rattle.fz_prop.specs.Stores.{IsTermOf}
-use Rattle.fz_await.proofs.Values.{fixed_agree, truth_agrees}
+use Rattle.fz_spec.proofs.Agreeing.{truth_agrees}
+use Rattle.fz_await.proofs.Values.{fixed_agree}
 
 -- where some term isn't fixed
-pub still_waits : (name : Builtin) (arguments : List Argument) (ds : List (List (ℤ × ℤ))) → (AllFixed ds (terms_among arguments) → ⊥) → line_of (Nothing name arguments) ds
-still_waits name arguments ds unfixed = λ fixed a within. absurd (unfixed fixed)
+pub still_waits : (shape : Shape) (arguments : List Argument) (ds : List (List (ℤ × ℤ))) → (AllFixed ds (terms_among arguments) → ⊥) → line_of (Other shape arguments) ds
+still_waits shape arguments ds unfixed = λ fixed a within. absurd (unfixed fixed)
 
 -- where all are, one assignment within the domains speaks for all
-one_for_all : (name : Builtin) (arguments : List Argument) (ds : List (List (ℤ × ℤ))) (a b : List ℤ) → AllByRecursion (IsTermOf (length ds)) (terms_among arguments)
-    → AllFixed ds (terms_among arguments) → Within ds a → Within ds b → Holds name arguments a → Holds name arguments b
-one_for_all name arguments ds a b terms fixed in_a in_b h = truth_agrees name arguments a b (fixed_agree ds (terms_among arguments) a b terms fixed in_a in_b) h
+one_for_all : (shape : Shape) (arguments : List Argument) (ds : List (List (ℤ × ℤ))) (a b : List ℤ) → AllByRecursion (IsTermOf (length ds)) (terms_among arguments)
+    → AllFixed ds (terms_among arguments) → Within ds a → Within ds b → HoldsAs shape arguments a → HoldsAs shape arguments b
+one_for_all shape arguments ds a b terms fixed in_a in_b h = truth_agrees shape arguments a b (fixed_agree ds (terms_among arguments) a b terms fixed in_a in_b) h
 
-pub always_true : (name : Builtin) (arguments : List Argument) (ds : List (List (ℤ × ℤ))) (a : List ℤ) → AllByRecursion (IsTermOf (length ds)) (terms_among arguments)
-    → AllFixed ds (terms_among arguments) → Within ds a → Holds name arguments a → IsAnswerOf Subsumed (truth_of (Nothing name arguments)) (line_of (Nothing name arguments)) ds ds
-always_true name arguments ds a terms fixed in_a h = (
-  (λ b in_b. one_for_all name arguments ds a b terms fixed in_a in_b h),
-  (λ es domains narrower all b in_b. one_for_all name arguments ds a b terms fixed in_a (within_before ds es b narrower in_b) h),
+pub always_true : (shape : Shape) (arguments : List Argument) (ds : List (List (ℤ × ℤ))) (a : List ℤ) → AllByRecursion (IsTermOf (length ds)) (terms_among arguments)
+    → AllFixed ds (terms_among arguments) → Within ds a → HoldsAs shape arguments a → IsAnswerOf Subsumed (truth_of (Other shape arguments)) (line_of (Other shape arguments)) ds ds
+always_true shape arguments ds a terms fixed in_a h = (
+  (λ b in_b. one_for_all shape arguments ds a b terms fixed in_a in_b h),
+  (λ es domains narrower all b in_b. one_for_all shape arguments ds a b terms fixed in_a (within_before ds es b narrower in_b) h),
 )
 
-pub never_true : (name : Builtin) (arguments : List Argument) (ds : List (List (ℤ × ℤ))) (a : List ℤ) → AllByRecursion (IsTermOf (length ds)) (terms_among arguments)
-    → AllFixed ds (terms_among arguments) → Within ds a → (Holds name arguments a → ⊥) → IsAnswerOf Failed (truth_of (Nothing name arguments)) (line_of (Nothing name arguments)) ds ds
-never_true name arguments ds a terms fixed in_a false = λ b in_b h. false (one_for_all name arguments ds b a terms fixed in_b in_a h)
+pub never_true : (shape : Shape) (arguments : List Argument) (ds : List (List (ℤ × ℤ))) (a : List ℤ) → AllByRecursion (IsTermOf (length ds)) (terms_among arguments)
+    → AllFixed ds (terms_among arguments) → Within ds a → (HoldsAs shape arguments a → ⊥) → IsAnswerOf Failed (truth_of (Other shape arguments)) (line_of (Other shape arguments)) ds ds
+never_true shape arguments ds a terms fixed in_a false = λ b in_b h. false (one_for_all shape arguments ds b a terms fixed in_b in_a h)

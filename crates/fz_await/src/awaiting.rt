@@ -1,8 +1,9 @@
 //! Constraints that wait for their terms to get fixed.
 ghost use Rattle.std.specs.Prelude.{◌≡◌, ◌++◌, map, IfOk, OnOk};
 ghost use Rattle.fz_model.specs.Arguments.{argument_of};
-ghost use Rattle.fz_strength.specs.Lines.{terms_among, terms_of};
-ghost use Rattle.fz_strength.specs.Sayings.{Nothing};
+ghost use Rattle.fz_spec.specs.Constraints.{terms_among, terms_of};
+ghost use Rattle.fz_spec.specs.Signatures.{shape_of};
+ghost use Rattle.fz_strength.specs.Sayings.{Other};
 
 use crate::numbers::least_numbers;
 use fz_model::constraint::{Argument, Constraint};
@@ -24,12 +25,13 @@ pub struct Awaiting {
 
 impl Model for Awaiting {
     ghost use Rattle.std.specs.Prelude.{◌≡◌};
-    ghost use Rattle.fz_strength.specs.Lines.{terms_among};
-    ghost use Rattle.fz_strength.specs.Sayings.{Saying, Nothing};
+    ghost use Rattle.fz_spec.specs.Constraints.{terms_among};
+    ghost use Rattle.fz_spec.specs.Signatures.{shape_of};
+    ghost use Rattle.fz_strength.specs.Sayings.{Saying, Other};
 
     ghost Value = { Saying };
 
-    ghost view = { λ p. Nothing p.constraint.name p.constraint.arguments };
+    ghost view = { λ p. Other (shape_of p.constraint.name) p.constraint.arguments };
 
     ghost invariant = { λ p. p.terms.items ≡ terms_among p.constraint.arguments };
 }
@@ -40,7 +42,7 @@ impl Awaiting {
     /// # Errors
     /// `AllocError` where there is no memory.
     pub fn new(alloc: Global, constraint: &Constraint) -> Result<Awaiting, AllocError>
-        ensures { IfOk result (λ p. p ≡ Nothing constraint.now.name constraint.now.arguments) }
+        ensures { IfOk result (λ p. p ≡ Other (shape_of constraint.now.name) constraint.now.arguments) }
     {
         let terms = terms_in(alloc, constraint.arguments())?;
         let constraint = constraint.copy()?;

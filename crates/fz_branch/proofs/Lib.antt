@@ -5,3 +5,4 @@ pub mod Starting
 pub mod Keeping
 pub mod Showing
 pub mod Rows
+pub mod Whole

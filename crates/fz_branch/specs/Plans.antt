@@ -1,8 +1,10 @@
 -- Plans, and what is chosen by one.
-use Rattle.std.specs.Prelude.{◌≡◌, ℕ, ◌<◌, ◌≤◌, ℤ, Bool, true, List, [], ◌∷◌, ◌++◌, length, map, slice_index, slice_index_or}
-use Rattle.std.specs.List.{AllZip, range_with_len, filter}
-use Rattle.fz_spec.specs.declared.search.Pick.TheVariants.{InputOrder}
-use Rattle.fz_spec.specs.declared.search.Value.TheVariants.{IndomainMin}
+use Rattle.std.specs.Prelude.{◌≡◌, ℕ, ◌<◌, ◌≤◌, ℤ, Bool, true, List, [], ◌∷◌, ◌++◌, length, map, Option, Some, None, slice_index, slice_index_or}
+use Rattle.std.specs.List.{AllZip, Any, Contains, range_with_len, filter}
+use Rattle.fz_spec.specs.declared.search.Pick.{Pick}
+use Rattle.fz_spec.specs.declared.search.Pick.TheVariants.{InputOrder, FirstFail, AntiFirstFail, Smallest, Largest}
+use Rattle.fz_spec.specs.declared.search.Value.{Value}
+use Rattle.fz_spec.specs.declared.search.Value.TheVariants.{IndomainMin, IndomainMax, IndomainMedian, IndomainSplit, IndomainReverseSplit}
 use Rattle.fz_spec.specs.Instance.{Instance, SearchPart}
 use Rattle.fz_tree.specs.declared.decision.Decision.{Decision}
 use Rattle.fz_tree.specs.declared.mode.Mode.{Mode}
@@ -33,6 +35,33 @@ abbrev pub plan_for : Mode → Instance → List SearchPart
 plan_for All m = plan_of m
 plan_for Rows m = plan_rows m
 plan_for Best m = plan_of m
+
+-- each variable of a model stands in one of the parts
+abbrev pub IsPlanOf : Instance → List SearchPart → Type 0
+IsPlanOf m ps = (v : ℕ) → v < length m.variables → Any (λ (p : SearchPart). Contains p.variables v) ps
+
+-- ---- of the assets of a portfolio
+
+-- How each asset picks a variable and divides its values, by the number of the asset. The first follows the search parts.
+abbrev pub asset_ways : List (Option (Pick × Value))
+asset_ways =
+    None
+    ∷ Some (FirstFail, IndomainMin)
+    ∷ Some (FirstFail, IndomainSplit)
+    ∷ Some (Smallest, IndomainMin)
+    ∷ Some (Largest, IndomainMax)
+    ∷ Some (AntiFirstFail, IndomainMedian)
+    ∷ Some (InputOrder, IndomainMax)
+    ∷ Some (FirstFail, IndomainReverseSplit)
+    ∷ []
+
+-- all variables in order of declaration, picked and divided in one way
+abbrev pub plan_by : Instance → Option (Pick × Value) → List SearchPart
+plan_by m None = plan_of m
+plan_by m (Some way) = record { variables = range_with_len 0 (length m.variables); pick = way.0; value = way.1 } ∷ []
+
+abbrev pub plan_asset : Instance → ℕ → List SearchPart
+plan_asset m asset = plan_by m (slice_index_or asset_ways asset None)
 
 -- ----
 

@@ -2,7 +2,7 @@
 ghost use Rattle.std.specs.Prelude.{◌≡◌, ◌<◌, true, length, slice_index_or, IfOk};
 ghost use Rattle.std.specs.List.{range_with_len};
 ghost use Rattle.fz_spec.specs.Instance as instance;
-ghost use Rattle.fz_branch.specs.Plans.{plan_of, plan_rows, IsRising};
+ghost use Rattle.fz_branch.specs.Plans.{plan_of, plan_by, plan_asset, plan_rows, IsPlanOf, IsRising};
 
 use crate::rising::rises_of;
 use crate::shown::{all_shown, shown_in, shown_parts};
@@ -10,6 +10,18 @@ use fz_model::{Listed, Part, SearchPart};
 use fz_spec::search::{Pick, Value};
 use std::alloc::{AllocError, Global};
 use std::marker::Model;
+
+/// How each asset of a portfolio picks a variable and divides its values. The first follows the search parts of the model.
+pub const ASSETS: [Option<(Pick, Value)>; 8] = [
+    None,
+    Some((Pick::FirstFail, Value::IndomainMin)),
+    Some((Pick::FirstFail, Value::IndomainSplit)),
+    Some((Pick::Smallest, Value::IndomainMin)),
+    Some((Pick::Largest, Value::IndomainMax)),
+    Some((Pick::AntiFirstFail, Value::IndomainMedian)),
+    Some((Pick::InputOrder, Value::IndomainMax)),
+    Some((Pick::FirstFail, Value::IndomainReverseSplit)),
+];
 
 /// In which order a search divides variables: parts, each followed until none of its variables has more than one value left.
 #[derive(Drop)]
@@ -38,11 +50,43 @@ impl Plan {
     /// # Errors
     /// `AllocError` where there is no memory.
     pub fn of(alloc: Global, model: &fz_model::Model) -> Result<Plan, AllocError>
-        ensures { IfOk result (λ p. p ≡ plan_of model.now) }
+        ensures plan { IfOk result (λ p. p ≡ plan_of model.now) }
+        ensures whole { IfOk result (IsPlanOf model.now) }
     {
         let mut parts = copies(alloc, model.search())?;
         let variables = all_variables(alloc, model.variables().len() as u32)?;
         parts.push(SearchPart::new(Listed::own(variables), Pick::InputOrder, Value::IndomainMin))?;
+        Plan::of_parts(alloc, parts)
+    }
+
+    /// The plan of an asset of a portfolio. Those after the first ignore the search parts of the model and take all variables.
+    ///
+    /// # Errors
+    /// `AllocError` where there is no memory.
+    pub fn of_asset(alloc: Global, model: &fz_model::Model, asset: u32) -> Result<Plan, AllocError>
+        requires { asset < 8 }
+        ensures plan { IfOk result (λ p. p ≡ plan_asset model.now asset) }
+        ensures whole { IfOk result (IsPlanOf model.now) }
+    {
+        match ASSETS[asset as usize] {
+            Some((pick, value)) => Plan::of_all(alloc, model, pick, value),
+            None => Plan::of(alloc, model),
+        }
+    }
+
+    /// The plan of all variables alone, picked and divided in this way.
+    fn of_all(
+        alloc: Global,
+        model: &fz_model::Model,
+        pick: Pick,
+        value: Value,
+    ) -> Result<Plan, AllocError>
+        ensures plan { IfOk result (λ p. p ≡ plan_by model.now (Some (pick, value))) }
+        ensures whole { IfOk result (IsPlanOf model.now) }
+    {
+        let variables = all_variables(alloc, model.variables().len() as u32)?;
+        let mut parts = Vec::with_capacity(alloc, 1)?;
+        parts.push(SearchPart::new(Listed::own(variables), pick, value))?;
         Plan::of_parts(alloc, parts)
     }
 

@@ -4,8 +4,8 @@ use Rattle.std.specs.Prelude.{ℤ, pos, flat_map}
 use Rattle.std.specs.List.{AllByRecursion}
 use Rattle.fz_sets.proofs.Lists.{all_more, beyond, same_at}
 use Rattle.fz_refutes.specs.Boxes.{set_at}
-use Rattle.fz_refutes.specs.Refuted.{IsEmptyAmong, terms_of, variable_of, variables_of}
-use Rattle.fz_spec.specs.Constraints.{Argument, term_value}
+use Rattle.fz_refutes.specs.Refuted.{IsEmptyAmong, variable_of, variables_of}
+use Rattle.fz_spec.specs.Constraints.{Argument, term_value, terms_of}
 use Rattle.fz_spec.specs.declared.term.Term.TheVariants.{Var}
 use Rattle.fz_sets.specs.Sets.{single}
 use Rattle.fz_dom.specs.Shape.{least}

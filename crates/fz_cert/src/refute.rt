@@ -1,5 +1,6 @@
 //! Which constraints a box refutes.
 ghost use Rattle.std.specs.Prelude.{◌≡◌, ◌↔◌, ◌⊎◌, ◌<◌, ◌∷◌, [], negsuc, ◌+ℤ◌, ◌*ℤ◌, ◌^◌, ◌≤◌, unsigned_abs, length, slice_get, IfOk, IsTrue};
+ghost use Rattle.fz_spec.specs.Signatures.{shape_of};
 ghost use Rattle.fz_model.specs.Groups.{within};
 ghost use Rattle.fz_refutes.specs.Refuted.{IsEmptyAmong, IsRefutedSmall, IsRefutedSum, IsSumOut, Refutes, RefutesIfThere, choices_of, open_after, greatest_sum, least_sum, variables_of};
 
@@ -11,6 +12,7 @@ use fz_dom::Dom;
 use fz_model::constraint::Argument;
 use fz_model::{Constraint, ConstraintAt, Model, Term};
 use fz_spec::builtin::Builtin;
+use fz_spec::shape::{Relation, Shape};
 use std::alloc::{AllocError, Global};
 use std::sync::Arc;
 
@@ -66,7 +68,7 @@ fn is_refuted(
 
 /// Whether the constraint compares a sum that is out of reach.
 fn is_refuted_sum(constraint: &Constraint, area: &Area) -> bool
-    ensures { IsTrue result ↔ IsRefutedSum constraint.now.name constraint.now.arguments area.now }
+    ensures { IsTrue result ↔ IsRefutedSum (shape_of constraint.now.name) constraint.now.arguments area.now }
 {
     match constraint.arguments() {
         [
@@ -74,7 +76,7 @@ fn is_refuted_sum(constraint: &Constraint, area: &Area) -> bool
             Argument::Terms(terms),
             Argument::One(bound),
         ] => is_sum_out(
-            constraint.name(),
+            constraint.name().shape(),
             area,
             factors.as_slice(),
             terms.as_slice(),
@@ -84,14 +86,14 @@ fn is_refuted_sum(constraint: &Constraint, area: &Area) -> bool
     }
 }
 
-fn is_sum_out(name: Builtin, area: &Area, factors: &[i32], terms: &[Term], bound: Term) -> bool
-    ensures { IsTrue result ↔ IsSumOut name
+fn is_sum_out(shape: Shape, area: &Area, factors: &[i32], terms: &[Term], bound: Term) -> bool
+    ensures { IsTrue result ↔ IsSumOut shape
         (least_sum area.now (negsuc 0 ∷ factors.now) (bound ∷ terms.now))
         (greatest_sum area.now (negsuc 0 ∷ factors.now) (bound ∷ terms.now)) }
 {
     let (low, high) = sum_ends(area, factors, terms);
     let (least, greatest) = term_ends(area, bound);
-    is_out(name, lessened(low, greatest), lessened(high, least))
+    is_out(shape, lessened(low, greatest), lessened(high, least))
 }
 
 /// A sum less a number.
@@ -102,12 +104,12 @@ fn lessened(sum: i128, number: i32) -> i128
     sum - i128::from(number)
 }
 
-fn is_out(name: Builtin, low: i128, high: i128) -> bool
-    ensures { IsTrue result ↔ IsSumOut name low high }
+fn is_out(shape: Shape, low: i128, high: i128) -> bool
+    ensures { IsTrue result ↔ IsSumOut shape low high }
 {
-    match name {
-        Builtin::IntLinLe | Builtin::BoolLinLe => 0 < low,
-        Builtin::IntLinEq | Builtin::BoolLinEq => 0 < low || high < 0,
+    match shape {
+        Shape::Linear(Relation::AtMost) => 0 < low,
+        Shape::Linear(Relation::Equal) => 0 < low || high < 0,
         _ => false,
     }
 }

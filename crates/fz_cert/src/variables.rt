@@ -4,7 +4,8 @@ ghost use Rattle.std.specs.List.{AllByRecursion};
 ghost use Rattle.fz_sets.specs.Sets.{set_size};
 ghost use Rattle.fz_model.specs.Arguments.{argument_of};
 ghost use Rattle.fz_refutes.specs.Boxes.{set_at};
-ghost use Rattle.fz_refutes.specs.Refuted.{IsEmptyAmong, choices_of, open_after, terms_of, variable_of, variables_of, with_open};
+ghost use Rattle.fz_spec.specs.Constraints.{terms_of};
+ghost use Rattle.fz_refutes.specs.Refuted.{IsEmptyAmong, choices_of, open_after, variable_of, variables_of, with_open};
 ghost use Rattle.fz_refutes.specs.Smalls.{HasFixed};
 
 use crate::area::Area;

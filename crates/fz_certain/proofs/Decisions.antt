@@ -1,20 +1,24 @@
 -- Whether an assignment satisfies, and whether it is better, can be decided.
 use Rattle.std.proofs.Common.{◌≡◌, ◌≢◌, ◌∙◌, ◌<◌, ◌≤◌, ◌+◌, ◌*◌, ◌⊎◌, inl, inr, ℕ, zero, suc, List, [], ◌∷◌, length, Option, Some, None, refl, ap, subst, arith, length-drop}
-use Rattle.std.specs.Prelude.{◌↔◌, ◌%◌, ℤ, pos, negsuc, ◌≤ℤ◌, ◌<ℤ◌, ◌+ℤ◌, ◌-ℤ◌, ◌*ℤ◌, int_div, nat_abs, slice_get, slice_range, count_by}
+use Rattle.std.specs.Prelude.{◌↔◌, ◌%◌, ℤ, pos, negsuc, ◌≤ℤ◌, ◌<ℤ◌, ◌+ℤ◌, ◌-ℤ◌, ◌*ℤ◌, int_div, slice_get, slice_range, count_by}
 use Rattle.std.specs.Ordering.{int_eq}
-use Rattle.std.specs.Int.{int_min, int_max}
 use Rattle.std.specs.List.{AllByRecursion}
 use Rattle.std.proofs.lemmas.Bool.{cases_lt}
 use Rattle.std.proofs.lemmas.Int.{ints}
 use Rattle.std.proofs.lemmas.List.{length-take}
 use Rattle.std.proofs.lemmas.Bool.Decides.{Decides-int_eq, Decides-eqb}
-use Rattle.fz_spec.specs.declared.builtin.Builtin.{Builtin}
-use Rattle.fz_spec.specs.declared.builtin.Builtin.TheVariants.{AllDifferentInt, ArrayBoolAnd, ArrayBoolElement, ArrayBoolOr, ArrayBoolXor, ArrayIntElement, ArrayIntMaximum, ArrayIntMinimum, ArrayVarBoolElement, ArrayVarIntElement, Bool2Int, BoolAnd, BoolClause, BoolEq, BoolLe, BoolLinEq, BoolLinLe, BoolLt, BoolNot, BoolOr, BoolXor, FznAllDifferentInt, FznCumulative, FznTableBool, FznTableInt, IntAbs, IntDiv, IntEq, IntLe, IntLinEq, IntLinLe, IntLinNe, IntLt, IntMax, IntMin, IntMod, IntNe, IntPlus, IntTimes, SetIn}
+use Rattle.fz_spec.specs.declared.shape.Operation.{Operation}
+use Rattle.fz_spec.specs.declared.shape.Operation.TheVariants.{Plus, Times, Quotient, Remainder, Abs, Min, Max}
+use Rattle.fz_spec.specs.declared.shape.Relation.{Relation}
+use Rattle.fz_spec.specs.declared.shape.Relation.TheVariants.{Equal, NotEqual, AtMost, Below}
+use Rattle.fz_spec.specs.declared.shape.Shape.{Shape}
+use Rattle.fz_spec.specs.declared.shape.Shape.TheVariants.{Rel, Dom, Linear, Clause, Or, And, Xor, Arithmetic, Element, Extensional, Distinct, Cumulative}
+use Rattle.fz_spec.specs.Signatures.{shape_of}
 use Rattle.fz_spec.specs.declared.goal.Goal.{Goal}
 use Rattle.fz_spec.specs.declared.goal.Goal.TheVariants.{Satisfy, Minimize, Maximize}
 use Rattle.fz_sets.specs.Sets.{IsInSet}
-use Rattle.fz_spec.specs.Truth.{SomeByRecursion, IsOne, IsZero, plain_of, IsReifiedOf, weighted_sum, Task, tasks_of, IsTask, load_at, IsElement, AreDifferent, is_one, IsRowOf, HoldsOfTwo, HoldsOfThree, HoldsOfSum, HoldsOfExtreme, HoldsOfElement, HoldsOfVarElement, HoldsOfSet, HoldsOfList, HoldsOfListAnd, HoldsOfClause, HoldsOfTable, HoldsOfTasks}
-use Rattle.fz_spec.specs.Constraints.{Argument, One, Numbers, Terms, Set, Constraint, Holds, IsTrueOf, term_value, term_values}
+use Rattle.fz_spec.specs.Truth.{SomeByRecursion, IsOne, IsZero, Relates, IsResult, remainder, size_of, weighted_sum, Task, tasks_of, IsTask, IsCumulative, load_at, IsElement, AreDifferent, is_one, IsRowOf}
+use Rattle.fz_spec.specs.Constraints.{Argument, One, Numbers, Terms, Set, Constraint, OrReified, HoldsAs, IsTrueOf, term_value, term_values}
 use Rattle.fz_spec.specs.Instance.{Instance, Variable, AreDeclared, Satisfies, IsBetter, score}
 use Rattle.fz_language.proofs.Decisions.{Decided, by, both, from_test}
 
@@ -136,114 +140,60 @@ has_some (x ∷ xs) = inl (omega arith)
 
 -- ---- constraints
 
-reified : (o : Option Builtin) (H : Builtin → Type 0) (r : ℤ) → ((plain : Builtin) → Decided (H plain)) → Decided (IsReifiedOf o H r)
-reified None H r decide = never
-reified (Some plain) H r decide = alike (equal r (pos 1)) (decide plain)
-
-two : (name : Builtin) (a b : ℤ) → Decided (HoldsOfTwo name a b)
-two IntEq a b = equal a b
-two IntNe a b = without (equal a b)
-two IntLe a b = at_most a b
-two IntLt a b = below a b
-two IntAbs a c = equal c (pos (nat_abs a))
-two BoolEq a b = equal a b
-two BoolLe a b = at_most a b
-two BoolLt a b = below a b
-two BoolNot a b = without (equal a b)
-two BoolXor a b = without (equal a b)
-two Bool2Int a b = equal a b
-two name a b = never
-
-three : (name : Builtin) (a b c : ℤ) → Decided (HoldsOfThree name a b c)
-three IntPlus a b c = equal (a +ℤ b) c
-three IntTimes a b c = equal (a *ℤ b) c
-three IntDiv a b c = both (without (equal b (pos 0))) (equal (int_div a b) c)
-three IntMod a b c = both (without (equal b (pos 0))) (equal (a -ℤ (int_div a b *ℤ b)) c)
-three IntMin a b c = equal c (int_min a b)
-three IntMax a b c = equal c (int_max a b)
-three BoolAnd a b r = alike (equal r (pos 1)) (both (equal a (pos 1)) (equal b (pos 1)))
-three BoolOr a b r = alike (equal r (pos 1)) (either (equal a (pos 1)) (equal b (pos 1)))
-three BoolXor a b r = alike (equal r (pos 1)) (without (equal a b))
-three name a b r = reified (plain_of name) (λ plain. HoldsOfTwo plain a b) r (λ plain. two plain a b)
-
-sum : (name : Builtin) (s c : ℤ) → Decided (HoldsOfSum name s c)
-sum IntLinEq s c = equal s c
-sum IntLinNe s c = without (equal s c)
-sum IntLinLe s c = at_most s c
-sum BoolLinEq s c = equal s c
-sum BoolLinLe s c = at_most s c
-sum name s c = never
-
-extreme : (name : Builtin) (m : ℤ) (xs : List ℤ) → Decided (HoldsOfExtreme name m xs)
-extreme ArrayIntMinimum m xs = both (some (λ x. x ≡ m) (λ x. equal x m) xs) (all (λ x. m ≤ℤ x) (λ x. at_most m x) xs)
-extreme ArrayIntMaximum m xs = both (some (λ x. x ≡ m) (λ x. equal x m) xs) (all (λ x. x ≤ℤ m) (λ x. at_most x m) xs)
-extreme name m xs = never
-
-of_element : (name : Builtin) (k : ℤ) (xs : List ℤ) (c : ℤ) → Decided (HoldsOfElement name k xs c)
-of_element ArrayIntElement k xs c = element k xs c
-of_element ArrayBoolElement k xs c = element k xs c
-of_element name k xs c = never
-
-of_var_element : (name : Builtin) (k : ℤ) (xs : List ℤ) (c : ℤ) → Decided (HoldsOfVarElement name k xs c)
-of_var_element ArrayVarIntElement k xs c = element k xs c
-of_var_element ArrayVarBoolElement k xs c = element k xs c
-of_var_element name k xs c = never
-
-of_set : (name : Builtin) (x : ℤ) (set : List (ℤ × ℤ)) → Decided (HoldsOfSet name x set)
-of_set SetIn x set = in_set set x
-of_set name x set = never
-
-of_list : (name : Builtin) (xs : List ℤ) → Decided (HoldsOfList name xs)
-of_list ArrayBoolXor xs = from_test _ (Decides-eqb (count_by is_one xs % 2) 1)
-of_list FznAllDifferentInt xs = different xs
-of_list AllDifferentInt xs = different xs
-of_list name xs = never
-
 ones : (xs : List ℤ) → Decided (AllByRecursion IsOne xs)
 ones xs = all IsOne (λ x. equal x (pos 1)) xs
 
 a_one : (xs : List ℤ) → Decided (SomeByRecursion IsOne xs)
 a_one xs = some IsOne (λ x. equal x (pos 1)) xs
 
-of_list_and : (name : Builtin) (xs : List ℤ) (r : ℤ) → Decided (HoldsOfListAnd name xs r)
-of_list_and ArrayBoolAnd xs r = alike (equal r (pos 1)) (ones xs)
-of_list_and ArrayBoolOr xs r = alike (equal r (pos 1)) (a_one xs)
-of_list_and name xs r = never
+relates : (relation : Relation) (x y : ℤ) → Decided (Relates relation x y)
+relates Equal x y = equal x y
+relates NotEqual x y = without (equal x y)
+relates AtMost x y = at_most x y
+relates Below x y = below x y
 
-of_clause : (name : Builtin) (ps ns : List ℤ) → Decided (HoldsOfClause name ps ns)
-of_clause BoolClause ps ns = either (a_one ps) (some IsZero (λ x. equal x (pos 0)) ns)
-of_clause name ps ns = never
-
-of_table : (name : Builtin) (xs table : List ℤ) → Decided (HoldsOfTable name xs table)
-of_table FznTableInt xs table = row xs table (has_some xs)
-of_table FznTableBool xs table = row xs table (has_some xs)
-of_table name xs table = never
+result : (operation : Operation) (xs : List ℤ) (z : ℤ) → Decided (IsResult operation xs z)
+result Plus (x ∷ y ∷ []) z = equal (x +ℤ y) z
+result Times (x ∷ y ∷ []) z = equal (x *ℤ y) z
+result Quotient (x ∷ y ∷ []) z = both (without (equal y (pos 0))) (equal (int_div x y) z)
+result Remainder (x ∷ y ∷ []) z = both (without (equal y (pos 0))) (equal (remainder x y) z)
+result Abs (x ∷ []) z = equal z (size_of x)
+result Min xs z = both (some (λ x. x ≡ z) (λ x. equal x z) xs) (all (λ x. z ≤ℤ x) (λ x. at_most z x) xs)
+result Max xs z = both (some (λ x. x ≡ z) (λ x. equal x z) xs) (all (λ x. x ≤ℤ z) (λ x. at_most x z) xs)
+result operation xs z = never
 
 task : (t : Task) → Decided (IsTask t)
 task t = both (at_most (pos 0) t.duration) (at_most (pos 0) t.usage)
 
-of_tasks : (name : Builtin) (tasks : List Task) (bound : ℤ) → Decided (HoldsOfTasks name tasks bound)
-of_tasks FznCumulative tasks bound = by (λ h. (h.0, h.1.0, h.1.1)) (λ h. (h.0, (h.1, h.2))) (both (at_most (pos 0) bound) (both (all IsTask task tasks)
+cumulative : (tasks : List Task) (bound : ℤ) → Decided (IsCumulative tasks bound)
+cumulative tasks bound = by (λ h. (h.0, h.1.0, h.1.1)) (λ h. (h.0, (h.1, h.2))) (both (at_most (pos 0) bound) (both (all IsTask task tasks)
     (all (λ (t : Task). pos 0 <ℤ t.duration → load_at t.start tasks ≤ℤ bound) (λ (t : Task). implied (below (pos 0) t.duration) (at_most (load_at t.start tasks) bound)) tasks)))
-of_tasks name tasks bound = never
 
-pub holds : (name : Builtin) (arguments : List Argument) (a : List ℤ) → Decided (Holds name arguments a)
-holds name (One x ∷ One y ∷ []) a = two name (term_value a x) (term_value a y)
-holds name (One x ∷ One y ∷ One z ∷ []) a = three name (term_value a x) (term_value a y) (term_value a z)
-holds name (One m ∷ Terms xs ∷ []) a = extreme name (term_value a m) (term_values a xs)
-holds name (One k ∷ Numbers xs ∷ One c ∷ []) a = of_element name (term_value a k) xs (term_value a c)
-holds name (One k ∷ Terms xs ∷ One c ∷ []) a = of_var_element name (term_value a k) (term_values a xs) (term_value a c)
-holds name (One x ∷ Set set ∷ []) a = of_set name (term_value a x) set
-holds name (One x ∷ Set set ∷ One r ∷ []) a = reified (plain_of name) _ (term_value a r) (λ plain. of_set plain (term_value a x) set)
-holds name (Numbers cs ∷ Terms xs ∷ One c ∷ []) a = sum name (weighted_sum cs (term_values a xs)) (term_value a c)
-holds name (Numbers cs ∷ Terms xs ∷ One c ∷ One r ∷ []) a = reified (plain_of name) _ (term_value a r) (λ plain. sum plain (weighted_sum cs (term_values a xs)) (term_value a c))
-holds name (Terms xs ∷ []) a = of_list name (term_values a xs)
-holds name (Terms xs ∷ One r ∷ []) a = of_list_and name (term_values a xs) (term_value a r)
-holds name (Terms ps ∷ Terms ns ∷ []) a = of_clause name (term_values a ps) (term_values a ns)
-holds name (Terms ps ∷ Terms ns ∷ One r ∷ []) a = reified (plain_of name) _ (term_value a r) (λ plain. of_clause plain (term_values a ps) (term_values a ns))
-holds name (Terms xs ∷ Numbers table ∷ []) a = of_table name (term_values a xs) table
-holds name (Terms ss ∷ Terms ds ∷ Terms us ∷ One b ∷ []) a = of_tasks name (tasks_of (term_values a ss) (term_values a ds) (term_values a us)) (term_value a b)
-holds name arguments a = never
+-- with one Boolean more
+reified : {P : Type 0} → (rest : List Argument) (a : List ℤ) → Decided P → Decided (OrReified rest a P)
+reified [] a decide = decide
+reified (One r ∷ []) a decide = alike (equal (term_value a r) (pos 1)) decide
+reified rest a decide = never
+
+pub holds : (shape : Shape) (arguments : List Argument) (a : List ℤ) → Decided (HoldsAs shape arguments a)
+holds (Rel relation) (One x ∷ One y ∷ rest) a = reified rest a (relates relation (term_value a x) (term_value a y))
+holds Dom (One x ∷ Set set ∷ rest) a = reified rest a (in_set set (term_value a x))
+holds (Linear relation) (Numbers ks ∷ Terms ts ∷ One c ∷ rest) a = reified rest a (relates relation (weighted_sum ks (term_values a ts)) (term_value a c))
+holds Clause (Terms ps ∷ Terms ns ∷ rest) a = reified rest a (either (a_one (term_values a ps)) (some IsZero (λ x. equal x (pos 0)) (term_values a ns)))
+holds Or (Terms ts ∷ rest) a = reified rest a (a_one (term_values a ts))
+holds Or (One x ∷ One y ∷ rest) a = reified rest a (a_one (term_values a (x ∷ y ∷ [])))
+holds And (Terms ts ∷ rest) a = reified rest a (ones (term_values a ts))
+holds And (One x ∷ One y ∷ rest) a = reified rest a (ones (term_values a (x ∷ y ∷ [])))
+holds Xor (Terms ts ∷ rest) a = reified rest a (from_test _ (Decides-eqb (count_by is_one (term_values a ts) % 2) 1))
+holds (Arithmetic operation) (One x ∷ One z ∷ []) a = result operation (term_values a (x ∷ [])) (term_value a z)
+holds (Arithmetic operation) (One x ∷ One y ∷ One z ∷ rest) a = reified rest a (result operation (term_values a (x ∷ y ∷ [])) (term_value a z))
+holds (Arithmetic operation) (One z ∷ Terms xs ∷ rest) a = reified rest a (result operation (term_values a xs) (term_value a z))
+holds Element (One k ∷ Numbers xs ∷ One c ∷ rest) a = reified rest a (element (term_value a k) xs (term_value a c))
+holds Element (One k ∷ Terms xs ∷ One c ∷ rest) a = reified rest a (element (term_value a k) (term_values a xs) (term_value a c))
+holds Extensional (Terms xs ∷ Numbers table ∷ rest) a = reified rest a (row (term_values a xs) table (has_some (term_values a xs)))
+holds Distinct (Terms xs ∷ rest) a = reified rest a (different (term_values a xs))
+holds Cumulative (Terms ss ∷ Terms ds ∷ Terms us ∷ One b ∷ rest) a = reified rest a (cumulative (tasks_of (term_values a ss) (term_values a ds) (term_values a us)) (term_value a b))
+holds shape arguments a = never
 
 -- ---- assignments
 
@@ -255,7 +205,7 @@ declared (v ∷ vs) [] = never
 
 pub satisfies : (m : Instance) (a : List ℤ) → Decided (Satisfies m a)
 satisfies m a = by (λ h. record { declared = h.0; constraints = h.1 }) (λ s. (s.declared, s.constraints))
-    (both (declared m.variables a) (all (IsTrueOf a) (λ (c : Constraint). holds c.name c.arguments a) m.constraints))
+    (both (declared m.variables a) (all (IsTrueOf a) (λ (c : Constraint). holds (shape_of c.name) c.arguments a) m.constraints))
 
 no_goal : (g : Goal) → Decided (g ≡ Satisfy)
 no_goal Satisfy = inl refl

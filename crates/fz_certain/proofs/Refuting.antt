@@ -7,8 +7,10 @@ use Rattle.std.proofs.lemmas.Int.{ints}
 use Rattle.fz_sets.specs.Sets.{AreRanges, IsInSet}
 use Rattle.fz_dom.specs.Shape.{least, greatest}
 use Rattle.fz_dom.proofs.Ranges.{least_member, greatest_member}
-use Rattle.fz_spec.specs.declared.builtin.Builtin.{Builtin}
-use Rattle.fz_spec.specs.declared.builtin.Builtin.TheVariants.{BoolLinEq, BoolLinLe, IntLinEq, IntLinLe}
+use Rattle.fz_spec.specs.declared.shape.Relation.TheVariants.{AtMost, Equal}
+use Rattle.fz_spec.specs.declared.shape.Shape.{Shape}
+use Rattle.fz_spec.specs.declared.shape.Shape.TheVariants.{Linear}
+use Rattle.fz_spec.specs.Signatures.{shape_of}
 use Rattle.fz_spec.specs.declared.term.Term.TheVariants.{Var}
 use Rattle.fz_spec.specs.declared.goal.Goal.{Goal}
 use Rattle.fz_spec.specs.declared.goal.Goal.TheVariants.{Satisfy, Minimize, Maximize}
@@ -39,16 +41,14 @@ empty_among box (v ∷ vs) = either (is_none (set_at box v)) (empty_among box vs
 
 -- ---- sums
 
-sum_out : (name : Builtin) (low high : ℤ) → Decided (IsSumOut name low high)
-sum_out IntLinLe low high = below (pos 0) low
-sum_out BoolLinLe low high = below (pos 0) low
-sum_out IntLinEq low high = either (below (pos 0) low) (below high (pos 0))
-sum_out BoolLinEq low high = either (below (pos 0) low) (below high (pos 0))
-sum_out name low high = never
+sum_out : (shape : Shape) (low high : ℤ) → Decided (IsSumOut shape low high)
+sum_out (Linear AtMost) low high = below (pos 0) low
+sum_out (Linear Equal) low high = either (below (pos 0) low) (below high (pos 0))
+sum_out shape low high = never
 
-refuted_sum : (name : Builtin) (arguments : List Argument) (box : List (List (ℤ × ℤ))) → Decided (IsRefutedSum name arguments box)
-refuted_sum name (Numbers ks ∷ Terms ts ∷ One c ∷ []) box = sum_out name _ _
-refuted_sum name arguments box = never
+refuted_sum : (shape : Shape) (arguments : List Argument) (box : List (List (ℤ × ℤ))) → Decided (IsRefutedSum shape arguments box)
+refuted_sum shape (Numbers ks ∷ Terms ts ∷ One c ∷ []) box = sum_out shape _ _
+refuted_sum shape arguments box = never
 
 -- ---- small boxes
 
@@ -79,14 +79,14 @@ refuted_small c box are full =
       | inr many ↦ inr (λ small. many small.few)
     ]
 
-only_small : (c : Constraint) (box : List (List (ℤ × ℤ))) → (IsRefutedSum c.name c.arguments box → ⊥) → (IsEmptyAmong box (variables_of c.arguments) → ⊥) → Refutes c box → IsRefutedSmall c box
+only_small : (c : Constraint) (box : List (List (ℤ × ℤ))) → (IsRefutedSum (shape_of c.name) c.arguments box → ⊥) → (IsEmptyAmong box (variables_of c.arguments) → ⊥) → Refutes c box → IsRefutedSmall c box
 only_small c box no_sum full (inl out) = absurd (no_sum out)
 only_small c box no_sum full (inr (inl e)) = absurd (full e)
 only_small c box no_sum full (inr (inr small)) = small
 
 pub refutes : (c : Constraint) (box : List (List (ℤ × ℤ))) → AreSets box → Decided (Refutes c box)
 refutes c box are =
-    elim (refuted_sum c.name c.arguments box) [
+    elim (refuted_sum (shape_of c.name) c.arguments box) [
       | inl out ↦ inl (inl out)
       | inr no_sum ↦ elim (empty_among box (variables_of c.arguments)) [
         | inl e ↦ inl (inr (inl e))

@@ -8,6 +8,7 @@ use Rattle.fz_spec.specs.Constraints.{Constraint}
 use Rattle.fz_language.proofs.Decisions.{Decided, by, both}
 use Rattle.fz_refutes.specs.Boxes.{set_at}
 use Rattle.fz_refutes.specs.Smalls.{NeverFrom}
+use Rattle.fz_spec.specs.Signatures.{shape_of}
 use Rattle.fz_certain.proofs.Decisions.{holds, without}
 
 last_or_less : (P : ℕ → Type 0) (n k : ℕ) → ((j : ℕ) → j < n → P j) → P n → k < suc n → P k
@@ -33,5 +34,5 @@ each_in P decide (r ∷ rs) =
     by (λ h x i. elim i [ inl j ↦ h.0 x j | inr j ↦ h.1 x j ]) (λ all. ((λ x j. all x (inl j)), (λ x j. all x (inr j)))) (both (each_between P decide r) (each_in P decide rs))
 
 pub never_from : (c : Constraint) (box : List (List (ℤ × ℤ))) (vs : List ℕ) (a : List ℤ) → Decided (NeverFrom c box vs a)
-never_from c box [] a = without (holds c.name c.arguments a)
+never_from c box [] a = without (holds (shape_of c.name) c.arguments a)
 never_from c box (v ∷ vs) a = each_in (λ (x : ℤ). NeverFrom c box vs (set a v x)) (λ x. never_from c box vs (set a v x)) (set_at box v)

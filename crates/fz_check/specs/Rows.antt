@@ -6,10 +6,11 @@ use denote.Ref.{Bor}
 use Rattle.fz_spec.specs.declared.asked.Asked.{Asked}
 use Rattle.fz_spec.specs.declared.asked.Lengths.{Lengths}
 use Rattle.fz_spec.specs.declared.builtin.Builtin.{Builtin}
+use Rattle.fz_spec.specs.declared.shape.Shape.{Shape}
 use Rattle.fz_spec.specs.Signatures as signatures
 
-abbrev pub row_of : Bor (List ℕ) × Builtin × Bor (List (Bor (List Asked))) × Lengths → signatures.Row
-row_of r = record { name = r.0.now; builtin = r.1; signatures = map (λ s. s.now) r.2.now; lengths = r.3 }
+abbrev pub row_of : Bor (List ℕ) × Builtin × Bor (List (Bor (List Asked))) × Lengths × Shape → signatures.Row
+row_of r = record { name = r.0.now; builtin = r.1; signatures = map (λ s. s.now) r.2.now; lengths = r.3; shape = r.4 }
 
 -- each name is below the next
 abbrev pub are_rising : List signatures.Row → Bool

@@ -1,5 +1,5 @@
 -- What the words of a command line mean.
-use Rattle.std.specs.Prelude.{ℕ, Bool, false, ◌≤◌, ◌&&◌, ◌||◌, Option, Some, None, IfSome, List, codes, cond, bytes_eq, is_some, option_map, option_and_then, unwrap_or}
+use Rattle.std.specs.Prelude.{◌≡◌, ℕ, Bool, false, ◌≤◌, ◌<◌, nat_lt, ◌&&◌, ◌||◌, Option, Some, None, IfSome, List, codes, cond, bytes_eq, is_some, option_map, option_and_then, unwrap_or}
 use Rattle.std.specs.Option.{option_map_or}
 use Rattle.std.specs.Str.Parse.{digits_value, without_leading_plus}
 use Rattle.clap.specs.Words.{Row, Text, first_of, matches_of, fault_of}
@@ -8,16 +8,17 @@ use Rattle.clap.specs.Walk.{is_empty}
 use Rattle.fz_cmd.specs.declared.words.Numbers.{Numbers}
 use Rattle.fz_cmd.specs.declared.options.Takes.{Takes}
 use Rattle.fz_cmd.specs.declared.options.Takes.TheVariants.{Nothing, Number, Defaulted}
-use Rattle.fz_cmd.specs.declared.options.TheConstants.{ALL, LIMIT, DISTINCT, WORKERS, STATS, CERTIFICATE, COMMIT_DISTANCE, ADAPTIVE_DISTANCE, INTERLEAVE, GENERATE}
+use Rattle.fz_cmd.specs.declared.options.TheConstants.{ALL, LIMIT, DISTINCT, WORKERS, ASSETS, STATS, CERTIFICATE, COMMIT_DISTANCE, ADAPTIVE_DISTANCE, INTERLEAVE, GENERATE}
 use Rattle.fz_cmd.specs.Command.{fzn_app}
 
--- All solutions or not, how many of them, whether each block of values is printed once, by how many workers, the commit distance, the adaptive distance, the seed of the workers' turns,
+-- All solutions or not, how many of them, whether each block of values is printed once, by how many workers, by how many plans side by side, the commit distance, the adaptive distance, the seed of the workers' turns,
 -- whether statistics are printed, whether a certificate is, of how many items a model is generated, and the text that is read.
 pub record Options : Type 0 where
   pub all : Bool
   pub limit : Option ℕ
   pub distinct : Bool
   pub workers : ℕ
+  pub assets : ℕ
   pub commit_distance : ℕ
   pub adaptive_distance : ℕ
   pub interleave : Option ℕ
@@ -38,14 +39,26 @@ HasDefault (Defaulted least most default) = (least ≤ default) × (default ≤ 
 HasDefault takes = Unit {0}
 
 -- each number is in its range
-pub record AreInRange (count distance adaptive : ℕ) (items : Option ℕ) : Type 0 where
+pub record AreInRange (count plans distance adaptive : ℕ) (items : Option ℕ) : Type 0 where
   pub workers : IsTakenBy WORKERS.2 count
+  pub assets : IsTakenBy ASSETS.2 plans
   pub commit_distance : IsTakenBy COMMIT_DISTANCE.2 distance
   pub adaptive_distance : IsTakenBy ADAPTIVE_DISTANCE.2 adaptive
   pub generate : IfSome items (IsTakenBy GENERATE.2)
 
 abbrev pub HasRanges : Options → Type 0
-HasRanges o = AreInRange o.workers o.commit_distance o.adaptive_distance o.generate
+HasRanges o = AreInRange o.workers o.assets o.commit_distance o.adaptive_distance o.generate
+
+-- Several assets have a worker each, and search in threads for one solution or a best one.
+pub record AreForAssets (o : Options) : Type 0 where
+  pub workers : o.assets ≤ o.workers
+  pub all : o.all ≡ false
+  pub limit : o.limit ≡ None
+  pub distinct : o.distinct ≡ false
+  pub interleave : o.interleave ≡ None
+
+abbrev pub SuitsAssets : Options → Type 0
+SuitsAssets o = 1 < o.assets → AreForAssets o
 
 -- a flag was given
 abbrev pub is_on : Text → List Row → Bool
@@ -71,6 +84,7 @@ abbrev pub numbers_of : List Row → Option Numbers
 numbers_of rows =
     option_and_then (λ limit.
     option_and_then (λ workers.
+    option_and_then (λ assets.
     option_and_then (λ distance.
     option_and_then (λ adaptive.
     option_and_then (λ interleave.
@@ -78,6 +92,7 @@ numbers_of rows =
     Some (record {
       limit = limit;
       workers = unwrap_or workers 0;
+      assets = unwrap_or assets 0;
       commit_distance = unwrap_or distance 0;
       adaptive_distance = unwrap_or adaptive 0;
       interleave = interleave;
@@ -87,6 +102,7 @@ numbers_of rows =
     (number_at rows INTERLEAVE.0.now INTERLEAVE.2))
     (number_at rows ADAPTIVE_DISTANCE.0.now ADAPTIVE_DISTANCE.2))
     (number_at rows COMMIT_DISTANCE.0.now COMMIT_DISTANCE.2))
+    (number_at rows ASSETS.0.now ASSETS.2))
     (number_at rows WORKERS.0.now WORKERS.2))
     (number_at rows LIMIT.0.now LIMIT.2)
 
@@ -94,14 +110,24 @@ numbers_of rows =
 abbrev pub suits_no_certificate : List Row → Numbers → Bool
 suits_no_certificate rows n = is_on ALL.0.now rows || is_some n.limit || is_on DISTINCT.0.now rows || is_on STATS.0.now rows || is_some n.generate
 
--- The options that the numbers, the flags and the name of a file give. Where a model is generated no file may be named; beside a certificate
--- stands no option that it doesn't suit.
+-- Several assets are no more than the workers, which search in threads for one solution or a best one.
+abbrev pub suits_no_assets : List Row → Numbers → Bool
+suits_no_assets rows n = nat_lt n.workers n.assets || is_on ALL.0.now rows || is_some n.limit || is_on DISTINCT.0.now rows || is_some n.interleave
+
+-- two options that don't go together
+abbrev pub are_apart : List Row → Numbers → Option Text → Bool
+are_apart rows n file =
+    (is_some n.generate && is_some file) || (is_on CERTIFICATE.0.now rows && suits_no_certificate rows n) || (nat_lt 1 n.assets && suits_no_assets rows n)
+
+-- The options that the numbers, the flags and the name of a file give. Where a model is generated no file may be named; beside a certificate,
+-- or several assets, stands no option that they don't suit.
 abbrev pub with_file : List Row → Numbers → Option Text → Option Options
-with_file rows n file = cond ((is_some n.generate && is_some file) || (is_on CERTIFICATE.0.now rows && suits_no_certificate rows n)) None (Some (record {
+with_file rows n file = cond (are_apart rows n file) None (Some (record {
   all = is_on ALL.0.now rows;
   limit = n.limit;
   distinct = is_on DISTINCT.0.now rows;
   workers = n.workers;
+  assets = n.assets;
   commit_distance = n.commit_distance;
   adaptive_distance = n.adaptive_distance;
   interleave = n.interleave;

@@ -1,6 +1,6 @@
 //! Options.
 ghost use Rattle.std.specs.Prelude.{◌≡◌};
-ghost use Rattle.fz_cmd.specs.Meaning.{HasRanges};
+ghost use Rattle.fz_cmd.specs.Meaning.{HasRanges, SuitsAssets};
 
 use crate::name::Name;
 use fz_gen::text::{ITEMS_LEAST, ITEMS_MOST};
@@ -49,6 +49,13 @@ pub const WORKERS: Row = (
     "-p N                   N workers, each in a thread: 1 to 64, else 1",
 );
 
+pub const ASSETS: Row = (
+    "assets",
+    None,
+    Takes::Defaulted(1, 8, 1),
+    "--assets N             N ways to search side by side, each with workers of its own: 1 to 8, else 1; from 2 not with -a, -n, --distinct, --interleave",
+);
+
 pub const STATS: Row = (
     "stats",
     Some('s'),
@@ -92,11 +99,12 @@ pub const GENERATE: Row = (
 );
 
 /// All options, in the order of the usage.
-pub const OPTIONS: [Row; 10] = [
+pub const OPTIONS: [Row; 11] = [
     ALL,
     LIMIT,
     DISTINCT,
     WORKERS,
+    ASSETS,
     STATS,
     CERTIFICATE,
     COMMIT_DISTANCE,
@@ -112,6 +120,7 @@ pub struct Options {
     pub(crate) limit: Option<u32>,
     pub(crate) distinct: bool,
     pub(crate) workers: u32,
+    pub(crate) assets: u32,
     pub(crate) commit_distance: u32,
     pub(crate) adaptive_distance: u32,
     pub(crate) interleave: Option<u64>,
@@ -130,7 +139,8 @@ impl Model for Options {
 
     ghost view = { options_in };
 
-    ghost invariant = { λ o. meaning.HasRanges (options_in o) };
+    ghost invariant = { λ o. meaning.HasRanges (options_in o)
+        × meaning.SuitsAssets (options_in o) };
 }
 
 impl Options {
@@ -161,6 +171,16 @@ impl Options {
         ensures kept { HasRanges self.now }
     {
         self.workers
+    }
+
+    /// The number of assets: how many plans are searched side by side, each by workers of its own. Several search for one solution, or a
+    /// best one.
+    pub fn assets(&self) -> u32
+        ensures assets { result ≡ self.now.assets }
+        ensures kept { HasRanges self.now }
+        ensures suits { SuitsAssets self.now }
+    {
+        self.assets
     }
 
     /// The commit distance, which recomputation keeps copies by.

@@ -7,8 +7,8 @@ ghost use Rattle.fz_cmd.specs.Meaning.{AreInRange};
 use crate::command::parse;
 use crate::name::Name;
 use crate::options::{
-    ADAPTIVE_DISTANCE, ALL, CERTIFICATE, COMMIT_DISTANCE, DISTINCT, GENERATE, INTERLEAVE, LIMIT,
-    Options, STATS, WORKERS,
+    ADAPTIVE_DISTANCE, ALL, ASSETS, CERTIFICATE, COMMIT_DISTANCE, DISTINCT, GENERATE, INTERLEAVE,
+    LIMIT, Options, STATS, WORKERS,
 };
 use crate::reading::{is_on, number, text};
 use clap::ArgMatches;
@@ -20,6 +20,7 @@ use std::alloc::{AllocError, Global};
 pub(crate) struct Numbers {
     pub limit: Option<u32>,
     pub workers: u32,
+    pub assets: u32,
     pub commit_distance: u32,
     pub adaptive_distance: u32,
     pub interleave: Option<u64>,
@@ -61,15 +62,12 @@ fn with_file(
     numbers: Numbers,
     file: Option<&str>,
 ) -> Result<Option<Options>, AllocError>
-    requires { AreInRange numbers.workers numbers.commit_distance numbers.adaptive_distance
-        numbers.generate }
+    requires { AreInRange numbers.workers numbers.assets numbers.commit_distance
+        numbers.adaptive_distance numbers.generate }
     ensures { IfOk result (λ r. r ≡ meaning.with_file (rows_of (found_of matches.now)) numbers
         (option_map (λ s. s.now) file.entry)) }
 {
-    let certificate = is_on(matches, CERTIFICATE.0);
-    if numbers.generate.is_some() && file.is_some()
-        || certificate && suits_no_certificate(matches, numbers)
-    {
+    if are_apart(matches, numbers, file) {
         return Ok(None);
     }
     let file = Name::new(alloc, file.unwrap_or("-"))?;
@@ -78,14 +76,36 @@ fn with_file(
         limit: numbers.limit,
         distinct: is_on(matches, DISTINCT.0),
         workers: numbers.workers,
+        assets: numbers.assets,
         commit_distance: numbers.commit_distance,
         adaptive_distance: numbers.adaptive_distance,
         interleave: numbers.interleave,
         stats: is_on(matches, STATS.0),
-        certificate,
+        certificate: is_on(matches, CERTIFICATE.0),
         generate: numbers.generate,
         file,
     }))
+}
+
+/// Whether options were given that don't go together.
+fn are_apart(matches: &ArgMatches<'_>, numbers: Numbers, file: Option<&str>) -> bool
+    ensures { result ≡ meaning.are_apart (rows_of (found_of matches.now)) numbers
+        (option_map (λ s. s.now) file.entry) }
+{
+    numbers.generate.is_some() && file.is_some()
+        || is_on(matches, CERTIFICATE.0) && suits_no_certificate(matches, numbers)
+        || 1 < numbers.assets && suits_no_assets(matches, numbers)
+}
+
+/// Whether several assets are more than the workers, or an option was given that they can't stand beside.
+fn suits_no_assets(matches: &ArgMatches<'_>, numbers: Numbers) -> bool
+    ensures { result ≡ meaning.suits_no_assets (rows_of (found_of matches.now)) numbers }
+{
+    numbers.workers < numbers.assets
+        || is_on(matches, ALL.0)
+        || numbers.limit.is_some()
+        || is_on(matches, DISTINCT.0)
+        || numbers.interleave.is_some()
 }
 
 /// Whether an option was given that a certificate can't stand beside.
@@ -102,11 +122,12 @@ fn suits_no_certificate(matches: &ArgMatches<'_>, numbers: Numbers) -> bool
 /// The numbers that the matches give, each within its bounds.
 fn numbers_of(matches: &ArgMatches<'_>) -> Option<Numbers>
     ensures is { result ≡ meaning.numbers_of (rows_of (found_of matches.now)) }
-    ensures within { IfSome result (λ n. AreInRange n.workers n.commit_distance
+    ensures within { IfSome result (λ n. AreInRange n.workers n.assets n.commit_distance
         n.adaptive_distance n.generate) }
 {
     let limit = number(matches, &LIMIT)?;
     let workers = number(matches, &WORKERS)?;
+    let assets = number(matches, &ASSETS)?;
     let distance = number(matches, &COMMIT_DISTANCE)?;
     let adaptive = number(matches, &ADAPTIVE_DISTANCE)?;
     let interleave = number(matches, &INTERLEAVE)?;
@@ -114,6 +135,7 @@ fn numbers_of(matches: &ArgMatches<'_>) -> Option<Numbers>
     Some(Numbers {
         limit: short(limit),
         workers: defaulted(workers),
+        assets: defaulted(assets),
         commit_distance: defaulted(distance),
         adaptive_distance: defaulted(adaptive),
         interleave,

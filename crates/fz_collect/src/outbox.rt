@@ -28,10 +28,11 @@ pub enum Told<T: Subject> {
 }
 
 /// What workers told and nobody has taken yet, in the order in which it was told. Each worker tells what a book took while it holds
-/// that book's lock, so it is the order of the book.
+/// that book's lock, so it is the order of the book. A deaf one keeps nothing.
 #[derive(Drop)]
 pub struct Outbox<T: Subject> {
     told: Mutex<Vec<Told<T>>>,
+    is_deaf: bool,
     waiting: AtomicU64,
     asks: AtomicU64,
     is_read: AtomicBool,
@@ -43,8 +44,18 @@ pub struct Outbox<T: Subject> {
 impl<T: Subject> Outbox<T> {
     /// Nothing is told yet, and workers are asked for what they find first.
     pub fn new(alloc: Global) -> Outbox<T> {
+        Outbox::with(alloc, false)
+    }
+
+    /// Nothing that is told is kept, since nobody is to take it.
+    pub fn deaf(alloc: Global) -> Outbox<T> {
+        Outbox::with(alloc, true)
+    }
+
+    fn with(alloc: Global, is_deaf: bool) -> Outbox<T> {
         Outbox {
             told: Mutex::new(Vec::new(alloc)),
+            is_deaf,
             waiting: AtomicU64::new(0),
             asks: AtomicU64::new(1),
             is_read: AtomicBool::new(false),
@@ -54,11 +65,14 @@ impl<T: Subject> Outbox<T> {
         }
     }
 
-    /// Tells the collector.
+    /// Tells the collector. A deaf outbox tells nobody.
     ///
     /// # Errors
     /// `AllocError` where there is no memory; then nothing is told.
     pub fn tell<R: Wait>(&self, rt: &R, told: Told<T>) -> Result<(), AllocError> {
+        if self.is_deaf {
+            return Ok(());
+        }
         let weight = weight_of(&told);
         let mut waiting = self.told.lock(rt);
         waiting.push(told)?;

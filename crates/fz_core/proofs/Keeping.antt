@@ -85,7 +85,7 @@ followed old new i w c held law at holds follows is =
 step_keeps : (w : ℕ) (answer : Outcome) (old new : Core) → CoreLaw old → StepsAt w answer old new → CoreLaw new
 step_keeps w answer old new law s =
     let is = held_by old.book.model old.book.mode s.worker s.account (worker_of old w s.worker law s.at) s.holds in
-    followed old new w s.worker s.account (Some s.stepped) law s.at s.holds (steps_to s.step s.account s.stepped is.law s.steps) s.is
+    followed old new w s.worker s.account (Some s.stepped) law s.at s.holds (steps_to s.worker.path.plan s.step s.account s.stepped is.law s.steps) s.is
 
 stay_keeps : (w : ℕ) (old new : Core) → CoreLaw old → StaysAt w old new → CoreLaw new
 stay_keeps w old new law s =

@@ -8,7 +8,7 @@ use Rattle.fz_tree.specs.declared.mode.Mode.{Mode}
 use Rattle.fz_tree.specs.declared.mode.Mode.TheVariants.{All, Rows, Best}
 use Rattle.fz_tree.specs.Frontier.{Frontier, times_in, times_in_all}
 use Rattle.fz_tree.specs.Better.{Betters}
-use Rattle.fz_tree.specs.Account.{Account, AccountLaw, SuitsMode, times_found}
+use Rattle.fz_tree.specs.Account.{Account, SuitsMode, times_found}
 use Rattle.fz_tree.specs.Book.{Part, incumbent_of, incumbent, times_open, times_recorded}
 use Rattle.fz_path.specs.Paths.{Pathed}
 use Rattle.fz_core.specs.Cores.{Worker, Core, CoreLaw, IsOwn, IsWorkerOf, path_adds, worker_adds, claimed_adds}

@@ -1,25 +1,28 @@
 -- The law holds at the start, and after any list of calls.
 use Rattle.std.proofs.Common.{◌≡◌, ◌∙◌, ℕ, ◌<◌, ◌≤◌, ◌^◌, List, [], ◌∷◌, ◌++◌, replicate, sym, subst, refl, arith, Some, inl, inr}
+use Rattle.std.specs.Prelude.{ℤ}
 use Rattle.std.specs.List.{AllByRecursion, slice_get}
 use Rattle.std.proofs.lemmas.List.{length-replicate, get_or-replicate}
 use Rattle.std.proofs.lemmas.List.Folds.{sum_by-replicate}
 use Rattle.std.proofs.lemmas.Option.{slice_get_within, get_or_from_slice_get}
 use Rattle.fz_sets.proofs.Lists.{all_of}
-use Rattle.fz_spec.specs.Instance.{Instance}
+use Rattle.fz_spec.specs.Instance.{Instance, SearchPart, Satisfies}
 use Rattle.fz_tree.specs.declared.mode.Mode.{Mode}
-use Rattle.fz_tree.specs.Better.{IsModeOf}
-use Rattle.fz_tree.proofs.Books.{opens}
+use Rattle.fz_tree.specs.declared.mode.Mode.TheVariants.{Best}
+use Rattle.fz_tree.specs.Better.{IsModeOf, Betters}
+use Rattle.fz_tree.specs.Book.{incumbent}
+use Rattle.fz_tree.proofs.Books.{opens, offers}
 use Rattle.fz_path.proofs.Paths.{suits_nothing}
 use Rattle.fz_core.specs.declared.event.Event.{Event}
 use Rattle.fz_core.specs.declared.event.Answer.{Answer}
 use Rattle.fz_core.specs.declared.event.Answer.TheVariants.{Applied, Unlawful}
-use Rattle.fz_core.specs.Cores.{Core, CoreLaw, IsWorkerOf, idle, starting, worker_adds}
+use Rattle.fz_core.specs.Cores.{Core, CoreLaw, IsWorkerOf, idle_by, starting_by, told, worker_adds}
 use Rattle.fz_core.specs.Runs.{Answers, Turns, Runs}
 use Rattle.fz_core.specs.Laws.{Reaches}
 use Rattle.fz_core.proofs.Keeping.{event_keeps, refusal_keeps}
 
-idle_is : (m : Instance) (mode : Mode) (commit adaptive : ℕ) → IsModeOf m.goal mode → 1 ≤ commit → 1 ≤ adaptive → IsWorkerOf m mode (idle m mode commit adaptive)
-idle_is m mode commit adaptive own one two = record {
+idle_is : (m : Instance) (mode : Mode) (plan : List SearchPart) (commit adaptive : ℕ) → IsModeOf m.goal mode → 1 ≤ commit → 1 ≤ adaptive → IsWorkerOf m mode (idle_by m mode plan commit adaptive)
+idle_is m mode plan commit adaptive own one two = record {
   model = refl;
   mode = refl;
   law = record { own_mode = own; distances = (one, two); held = tt; known = tt; suits = suits_nothing mode };
@@ -35,18 +38,18 @@ all_copies {X} P n x p = all_of P (replicate n x) (λ i y at. subst P (sym (copy
         let within : i < n = omega (arith, slice_get_within (replicate n x) i y at, length-replicate n x) in
         sym (get_or_from_slice_get (replicate n x) i y y at) ∙ get_or-replicate n i x y within
 
-pub start_law : (m : Instance) (mode : Mode) (n commit adaptive : ℕ) → IsModeOf m.goal mode → 1 ≤ n → n < 2 ^ 32 → 1 ≤ commit → 1 ≤ adaptive → CoreLaw (starting m mode n commit adaptive)
-start_law m mode n commit adaptive own several numbered one two =
-    let w = idle m mode commit adaptive in
+pub start_law : (m : Instance) (mode : Mode) (plan : List SearchPart) (n commit adaptive : ℕ) → IsModeOf m.goal mode → 1 ≤ n → n < 2 ^ 32 → 1 ≤ commit → 1 ≤ adaptive → CoreLaw (starting_by m mode plan n commit adaptive)
+start_law m mode plan n commit adaptive own several numbered one two =
+    let w = idle_by m mode plan commit adaptive in
     record {
       several = rw (length-replicate n w) several;
       numbered = rw (length-replicate n w) numbered;
       book = opens m mode own;
-      workers = all_copies (IsWorkerOf m mode) n w (idle_is m mode commit adaptive own one two);
+      workers = all_copies (IsWorkerOf m mode) n w (idle_is m mode plan commit adaptive own one two);
       held = λ g. omega (arith, sum_by-replicate (worker_adds g) n w);
     }
 
-answer_keeps : (a : Answer) (event : Event) (old new : Core) → CoreLaw old → Answers a event old new → CoreLaw new
+pub answer_keeps : (a : Answer) (event : Event) (old new : Core) → CoreLaw old → Answers a event old new → CoreLaw new
 answer_keeps (Applied outcome) event old new law h = event_keeps event outcome old new law h.1
 answer_keeps (Unlawful e) event old new law h = subst CoreLaw (sym h.2) law
 
@@ -60,10 +63,21 @@ runs_keep (event ∷ events) old new law runs = runs_keep events runs.0 new (tur
 
 pub reaches_law : (s : Core) → Reaches s → CoreLaw s
 reaches_law s r =
-    runs_keep r.events (starting r.model r.mode r.workers r.commit_distance r.adaptive_distance) s
-    (start_law r.model r.mode r.workers r.commit_distance r.adaptive_distance r.own_mode r.several r.numbered r.distances.0 r.distances.1) r.runs
+    runs_keep r.events (starting_by r.model r.mode r.plan r.workers r.commit_distance r.adaptive_distance) s
+    (start_law r.model r.mode r.plan r.workers r.commit_distance r.adaptive_distance r.own_mode r.several r.numbered r.distances.0 r.distances.1) r.runs
 
 -- one more call
 pub runs_more : (events : List Event) (event : Event) (old between new : Core) → Runs events old between → Turns event between new → Runs (events ++ event ∷ []) old new
 runs_more [] event old between new same turns = (new, subst (λ (s : Core). Turns event s new) same turns, refl)
 runs_more (e ∷ events) event old between new runs turns = (runs.0, runs.1, runs_more events event runs.0 between new runs.2 turns)
+
+-- ---- offers
+
+pub offer_keeps : (s : Core) (a : List ℤ) → CoreLaw s → s.book.mode ≡ Best → Satisfies s.book.model a → Betters s.book.model a (incumbent s.book) → CoreLaw (told s a)
+offer_keeps s a law best satisfies better = record {
+  several = law.several;
+  numbered = law.numbered;
+  book = offers s.book a law.book best satisfies better;
+  workers = law.workers;
+  held = law.held;
+}

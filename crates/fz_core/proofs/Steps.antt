@@ -1,6 +1,7 @@
 -- A step keeps the law of the account that it is on, and the account is still one of the same frontier.
 use Rattle.std.proofs.Common.{◌≡◌, ◌∙◌, ◌||◌, Bool, true, false, sym, subst, refl, inl, inr}
 use Rattle.std.specs.Prelude.{◌≢◌, ℤ, List, if◌then◌else◌}
+use Rattle.fz_spec.specs.Instance.{SearchPart}
 use Rattle.fz_tree.specs.declared.mode.Mode.{Mode}
 use Rattle.fz_tree.specs.declared.mode.Mode.TheVariants.{All, Rows, Best}
 use Rattle.fz_tree.specs.Frontier.{can_cut, moved}
@@ -36,8 +37,8 @@ follows_both c between new first second = record {
 fails_follows : (c new : Account) → AccountLaw c → c.after.current_open ≡ true → Fails c new → Follows c new
 fails_follows c new law current f = subst (Follows c) (sym f.is) (record { law = fails c law current f.hopeless; model = refl; mode = refl; before = refl; given = refl })
 
-divides_follows : (c new : Account) → AccountLaw c → c.after.current_open ≡ true → Divides c new → Follows c new
-divides_follows c new law current d =
+divides_follows : (plan : List SearchPart) (c new : Account) → AccountLaw c → c.after.current_open ≡ true → Divides plan c new → Follows c new
+divides_follows plan c new law current d =
     subst (Follows c) (sym d.is) (record { law = branches c d.choice law current d.chooses d.reachable d.fits d.about; model = refl; mode = refl; before = refl; given = refl })
 
 finds_one : (c : Account) (x : List ℤ) → AccountLaw c → c.mode ≢ Best → c.after.current_open ≡ true → IsOnlyAt c x → Follows c (with_found c x)
@@ -57,12 +58,12 @@ added_follows Best c new is law current f = record {
 finds_follows : (c new : Account) → AccountLaw c → c.after.current_open ≡ true → Finds c new → Follows c new
 finds_follows c new law current f = subst (Follows c) (sym f.is) (added_follows c.mode c new refl law current f)
 
-node_follows : (step : Step) (c new : Account) → AccountLaw c → c.after.current_open ≡ true → NodeTo step c new → Follows c new
-node_follows Expanded c new law current (inl f) = fails_follows c new law current f
-node_follows Expanded c new law current (inr d) = divides_follows c new law current d
-node_follows Found c new law current f = finds_follows c new law current f
-node_follows Closed c new law current none = absurd none
-node_follows Idle c new law current none = absurd none
+node_follows : (plan : List SearchPart) (step : Step) (c new : Account) → AccountLaw c → c.after.current_open ≡ true → NodeTo plan step c new → Follows c new
+node_follows plan Expanded c new law current (inl f) = fails_follows c new law current f
+node_follows plan Expanded c new law current (inr d) = divides_follows plan c new law current d
+node_follows plan Found c new law current f = finds_follows c new law current f
+node_follows plan Closed c new law current none = absurd none
+node_follows plan Idle c new law current none = absurd none
 
 -- ---- from where it was
 
@@ -81,12 +82,12 @@ node_at c law rest = moves_at c c.after.current_open law refl rest
 pub node_follows_from : (c : Account) → AccountLaw c → (c.after.current_open || can_cut c.after) ≡ true → Follows c (at_node c)
 node_follows_from c law rest = (node_at c law rest).follows
 
-pub step_follows : (step : Step) (c new : Account) → AccountLaw c → StepsTo step c new → Follows c new
-step_follows Expanded c new law steps =
+pub step_follows : (plan : List SearchPart) (step : Step) (c new : Account) → AccountLaw c → StepsTo plan step c new → Follows c new
+step_follows plan Expanded c new law steps =
     let node = node_at c law steps.0 in
-    follows_both c (at_node c) new node.follows (node_follows Expanded (at_node c) new node.follows.law node.current steps.1)
-step_follows Found c new law steps =
+    follows_both c (at_node c) new node.follows (node_follows plan Expanded (at_node c) new node.follows.law node.current steps.1)
+step_follows plan Found c new law steps =
     let node = node_at c law steps.0 in
-    follows_both c (at_node c) new node.follows (node_follows Found (at_node c) new node.follows.law node.current steps.1)
-step_follows Closed c new law steps = subst (Follows c) (sym steps.1) (follows_itself c law)
-step_follows Idle c new law none = absurd none
+    follows_both c (at_node c) new node.follows (node_follows plan Found (at_node c) new node.follows.law node.current steps.1)
+step_follows plan Closed c new law steps = subst (Follows c) (sym steps.1) (follows_itself c law)
+step_follows plan Idle c new law none = absurd none

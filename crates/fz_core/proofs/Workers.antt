@@ -1,7 +1,7 @@
 -- What each event makes of a worker is a worker.
 use Rattle.std.proofs.Common.{◌≡◌, ◌∙◌, List, [], Bool, true, false, sym, subst, refl, Option, Some, None, IfSome, inl, inr}
 use Rattle.std.specs.Prelude.{ℤ, if◌then◌else◌}
-use Rattle.fz_spec.specs.Instance.{Instance, Satisfies}
+use Rattle.fz_spec.specs.Instance.{Instance, Satisfies, SearchPart}
 use Rattle.fz_tree.specs.declared.mode.Mode.{Mode}
 use Rattle.fz_tree.specs.declared.mode.Mode.TheVariants.{Best}
 use Rattle.fz_tree.specs.Frontier.{has_rest, can_cut}
@@ -89,8 +89,8 @@ follow_worker m mode w c held of_m holds follows =
     let is = follows_held w.path c follows.0 (held_by m mode w c of_m holds) follows.2 in
     holds_other m mode w held w.hand of_m (subst (λ (o : Option Account). IfSome o (IsHeldBy w.path)) (sym follows.1) is) of_m.task
 
-pub steps_to : (step : Step) (c new : Account) → AccountLaw c → StepsTo step c new → FollowsTo c (Some new)
-steps_to step c new law steps = (new, refl, step_follows step c new law steps)
+pub steps_to : (plan : List SearchPart) (step : Step) (c new : Account) → AccountLaw c → StepsTo plan step c new → FollowsTo c (Some new)
+steps_to plan step c new law steps = (new, refl, step_follows plan step c new law steps)
 
 pub stays_to : (c : Account) (held : Option Account) → AccountLaw c → Stays (Some c) held → FollowsTo c held
 stays_to c held law (inl same) = (c, same, record { law = law; model = refl; mode = refl; before = refl; given = refl })

@@ -1,13 +1,13 @@
 -- Several workers and one book, and what they keep.
 use Rattle.std.specs.Prelude.{◌≡◌, ℕ, ◌+◌, ◌<◌, ◌≤◌, ◌^◌, ℤ, List, [], Option, Some, None, IfSome, length, replicate, sum_by, if◌then◌else◌, slice_set}
 use Rattle.std.specs.List.{AllByRecursion, slice_get}
-use Rattle.fz_spec.specs.Instance.{Instance}
+use Rattle.fz_spec.specs.Instance.{Instance, SearchPart}
 use Rattle.fz_tree.specs.declared.mode.Mode.{Mode}
 use Rattle.fz_tree.specs.Frontier.{Frontier, AreEdges}
 use Rattle.fz_tree.specs.Account.{Account, AccountLaw}
 use Rattle.fz_tree.specs.Rows.{AreAbout}
-use Rattle.fz_tree.specs.Book.{Book, BookLaw, Part, opening}
-use Rattle.fz_path.specs.Paths.{Pathed, PathLaw, idle_path}
+use Rattle.fz_tree.specs.Book.{Book, BookLaw, Part, opening, with_recorded}
+use Rattle.fz_path.specs.Paths.{Pathed, PathLaw, idle_path, idle_with}
 use Rattle.fz_path.specs.Tasks.{Tasked}
 
 -- A worker's path, and the task in its hand.
@@ -27,12 +27,23 @@ idle m mode commit adaptive = record { path = idle_path m mode commit adaptive; 
 abbrev pub starting : Instance → Mode → ℕ → ℕ → ℕ → Core
 starting m mode n commit adaptive = record { workers = replicate n (idle m mode commit adaptive); book = opening m mode }
 
+-- the same, by another plan than the model's own
+abbrev pub idle_by : Instance → Mode → List SearchPart → ℕ → ℕ → Worker
+idle_by m mode plan commit adaptive = record { path = idle_with m mode plan commit adaptive; hand = None }
+
+abbrev pub starting_by : Instance → Mode → List SearchPart → ℕ → ℕ → ℕ → Core
+starting_by m mode plan n commit adaptive = record { workers = replicate n (idle_by m mode plan commit adaptive); book = opening m mode }
+
 abbrev pub worker_at : Core → ℕ → Option Worker
 worker_at s i = slice_get s.workers i
 
 -- another worker has this number
 abbrev pub with_worker : Core → ℕ → Worker → Core
 with_worker s i w = record { workers = slice_set s.workers i w; book = s.book }
+
+-- an assignment that was found elsewhere is recorded
+abbrev pub told : Core → List ℤ → Core
+told s a = record { workers = s.workers; book = with_recorded s.book a }
 
 -- ---- what is held
 

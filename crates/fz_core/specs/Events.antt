@@ -52,7 +52,7 @@ step_outcome step.Found = Some outcome.Found
 step_outcome step.Closed = Some outcome.Closed
 step_outcome step.Idle = None
 
--- a worker that holds a frontier looks at a node
+-- a worker that holds a frontier looks at a node, and divides it by its plan
 pub record StepsAt (w : ℕ) (answer : Outcome) (old new : Core) : Type 0 where
   pub worker : Worker
   pub at : worker_at old w ≡ Some worker
@@ -61,7 +61,7 @@ pub record StepsAt (w : ℕ) (answer : Outcome) (old new : Core) : Type 0 where
   pub step : Step
   pub answers : step_outcome step ≡ Some answer
   pub stepped : Account
-  pub steps : StepsTo step account stepped
+  pub steps : StepsTo worker.path.plan step account stepped
   pub falls : Falls step account stepped
   pub is : new ≡ with_worker old w (holding worker (Some stepped))
 

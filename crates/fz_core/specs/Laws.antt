@@ -2,7 +2,7 @@
 use Rattle.std.specs.Prelude.{◌≡◌, ◌≢◌, ℕ, ◌+◌, ◌<◌, ◌≤◌, ◌^◌, ℤ, List, [], ◌∷◌, ◌++◌, true, Option, Some, None, sum_by, if◌then◌else◌, map}
 use Rattle.std.specs.List.{AllByRecursion, list_all, flat_map}
 use Rattle.std.specs.List.Sorted.{IsPermutation}
-use Rattle.fz_spec.specs.Instance.{Instance, Satisfies, Lists}
+use Rattle.fz_spec.specs.Instance.{Instance, SearchPart, Satisfies, Lists}
 use Rattle.fz_tree.specs.declared.mode.Mode.{Mode}
 use Rattle.fz_tree.specs.declared.mode.Mode.TheVariants.{All, Rows, Best}
 use Rattle.fz_tree.specs.Frontier.{Frontier, times_in}
@@ -12,13 +12,14 @@ use Rattle.fz_tree.specs.Account.{Account, times_found}
 use Rattle.fz_tree.specs.Book.{Part, incumbent, is_claimed, times_recorded}
 use Rattle.fz_path.specs.Tasks.{Tasked}
 use Rattle.fz_core.specs.declared.event.Event.{Event}
-use Rattle.fz_core.specs.Cores.{Worker, Core, CoreLaw, starting, hand_adds}
+use Rattle.fz_core.specs.Cores.{Worker, Core, CoreLaw, starting_by, told, hand_adds}
 use Rattle.fz_core.specs.Runs.{Runs}
 
--- what becomes of that many workers on a model by some list of calls
+-- what becomes of that many workers on a model, that search it by some plan, by some list of calls
 pub record Reaches (s : Core) : Type 0 where
   pub model : Instance
   pub mode : Mode
+  pub plan : List SearchPart
   pub workers : ℕ
   pub commit_distance : ℕ
   pub adaptive_distance : ℕ
@@ -27,11 +28,15 @@ pub record Reaches (s : Core) : Type 0 where
   pub numbered : workers < 2 ^ 32
   pub distances : (1 ≤ commit_distance) × (1 ≤ adaptive_distance)
   pub events : List Event
-  pub runs : Runs events (starting model mode workers commit_distance adaptive_distance) s
+  pub runs : Runs events (starting_by model mode plan workers commit_distance adaptive_distance) s
 
 -- The laws of the book, of each path and of each account hold, and the claimed parts are what paths and hands hold.
 abbrev pub EventsKeepLaw : Type 0
 EventsKeepLaw = (s : Core) → Reaches s → CoreLaw s
+
+-- It is kept, too, where a better one that was found elsewhere is recorded. So all below holds of every core that keeps it.
+abbrev pub OffersKeepLaw : Type 0
+OffersKeepLaw = (s : Core) (a : List ℤ) → CoreLaw s → s.book.mode ≡ Best → Satisfies s.book.model a → Betters s.book.model a (incumbent s.book) → CoreLaw (told s a)
 
 -- ---- nothing is lost, and nothing is searched twice
 
@@ -56,7 +61,7 @@ held s = flat_map worker_held s.workers ++ unclaimed_in s.book.parts
 
 -- that is what the book names as open, up to order
 abbrev pub OpenIsHeld : Type 0
-OpenIsHeld = (s : Core) → Reaches s → IsPermutation (map (λ (p : Part). p.frontier) s.book.parts) (held s)
+OpenIsHeld = (s : Core) → CoreLaw s → IsPermutation (map (λ (p : Part). p.frontier) s.book.parts) (held s)
 
 -- how often an assignment, or one of its row, is found in a path, and in how many open places of it
 abbrev pub path_has : Instance → List ℤ → Option Account → ℕ
@@ -72,7 +77,7 @@ unclaimed_has a p = if p.claimed then 0 else times_in p.frontier a
 -- Where all are sought, or their rows, each satisfying assignment, or one of its row, is recorded once, or found once in one path, or
 -- it is in one open place of a path, a hand or an unclaimed part.
 abbrev pub EachIsOnce : Type 0
-EachIsOnce = (s : Core) (a : List ℤ) → Reaches s → s.book.mode ≢ Best → Satisfies s.book.model a
+EachIsOnce = (s : Core) (a : List ℤ) → CoreLaw s → s.book.mode ≢ Best → Satisfies s.book.model a
     → times_recorded s.book a + sum_by (worker_has s.book.model a) s.workers + sum_by (unclaimed_has a) s.book.parts ≡ 1
 
 -- ---- the end
@@ -88,14 +93,14 @@ pub record IsQuiet (s : Core) : Type 0 where
 
 -- the book is closed then
 abbrev pub QuietIsClosed : Type 0
-QuietIsClosed = (s : Core) → Reaches s → IsQuiet s → s.book.parts ≡ []
+QuietIsClosed = (s : Core) → CoreLaw s → IsQuiet s → s.book.parts ≡ []
 
 -- It records each satisfying assignment once, or one of each row, or its incumbent is one that none betters.
 abbrev pub QuietListsAll : Type 0
-QuietListsAll = (s : Core) → Reaches s → IsQuiet s → s.book.mode ≡ All → Lists s.book.model s.book.recorded
+QuietListsAll = (s : Core) → CoreLaw s → IsQuiet s → s.book.mode ≡ All → Lists s.book.model s.book.recorded
 
 abbrev pub QuietListsRows : Type 0
-QuietListsRows = (s : Core) → Reaches s → IsQuiet s → s.book.mode ≡ Rows → ListsRows s.book.model s.book.recorded
+QuietListsRows = (s : Core) → CoreLaw s → IsQuiet s → s.book.mode ≡ Rows → ListsRows s.book.model s.book.recorded
 
 abbrev pub QuietIsBest : Type 0
-QuietIsBest = (s : Core) (a : List ℤ) → Reaches s → IsQuiet s → s.book.mode ≡ Best → Satisfies s.book.model a → Betters s.book.model a (incumbent s.book) → ⊥
+QuietIsBest = (s : Core) (a : List ℤ) → CoreLaw s → IsQuiet s → s.book.mode ≡ Best → Satisfies s.book.model a → Betters s.book.model a (incumbent s.book) → ⊥

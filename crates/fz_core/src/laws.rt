@@ -1,10 +1,15 @@
 //! Laws of machines: each is the clause of a function that does nothing, so that the clause is proved.
-ghost use Rattle.fz_core.specs.Laws.{EventsKeepLaw, OpenIsHeld, EachIsOnce, QuietIsClosed, QuietListsAll, QuietListsRows, QuietIsBest};
+ghost use Rattle.fz_core.specs.Laws.{EventsKeepLaw, OffersKeepLaw, OpenIsHeld, EachIsOnce, QuietIsClosed, QuietListsAll, QuietListsRows, QuietIsBest};
 
 /// Whatever the events, book, paths and accounts keep their laws, and the claimed parts are what paths and hands hold. Where a
 /// best solution is sought too, with what was recorded learnt in any order, late or never.
 pub fn events_keep_law()
     ensures { EventsKeepLaw }
+{}
+
+/// They keep them where the book records a better assignment that was found elsewhere.
+pub fn offers_keep_law()
+    ensures { OffersKeepLaw }
 {}
 
 /// What the book names as open is what paths were started with, what is in hands and what nobody has claimed, up to order.

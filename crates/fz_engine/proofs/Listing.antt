@@ -67,7 +67,7 @@ at_end (z ∷ xs) x y (suc i) is = elim (at_end xs x y i is) [ inl there ↦ inl
 still_indexed : (w u : Waking) (i : ℕ) (saying : Saying) → Extends w u → IsIndexedAt w i saying → IsIndexedAt u i saying
 still_indexed w u i saying extends at = record {
   steady = still_listed w u i (steady_waits saying) extends at.steady;
-  watched = λ v t n looks. elim (at.watched v t n looks) [ inl watching ↦ inl (extends.watching v (watch i t n) watching) | inr listed ↦ inr (extends.listed Any v i listed) ];
+  watched = λ v t n left looks. elim (at.watched v t n left looks) [ inl watching ↦ inl (extends.watching v (watch i t n left) watching) | inr listed ↦ inr (extends.listed Any v i listed) ];
 }
 
 -- one propagator more

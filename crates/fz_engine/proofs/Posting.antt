@@ -10,9 +10,9 @@ use Rattle.fz_spec.specs.declared.term.Term.{Term}
 use Rattle.fz_spec.specs.Constraints.{Constraint, IsTrueOf}
 use Rattle.fz_spec.specs.Instance.{Instance, Variable}
 use Rattle.fz_model.specs.Kept.{IsConstraint, IsModel}
-use Rattle.fz_strength.specs.declared.relation.Relation.TheVariants.{Equal}
+use Rattle.fz_spec.specs.declared.shape.Relation.TheVariants.{Equal}
 use Rattle.fz_strength.specs.Events.{AreBelow}
-use Rattle.fz_strength.specs.Sayings.{Saying, Differ, DifferByBounds, Sum, SumByNumbers, saying_of, said_terms, truth_of, waits_of}
+use Rattle.fz_strength.specs.Sayings.{Saying, Differ, DifferByBounds, Sum, SumByNumbers, saying_of, said_terms, truth_of, waits_of, Member}
 use Rattle.fz_strength.proofs.Says.{says}
 use Rattle.fz_prop.specs.Stores.{IsTermOf, FitsTerm, declared_sets}
 use Rattle.fz_prop.proofs.Waits.{below}
@@ -27,6 +27,8 @@ use Rattle.fz_agenda.specs.Wakes.{Waking}
 use Rattle.fz_engine.specs.Networks.{AreSaidOf, AreOf, IsListing, IsNetwork, IsSaidPlain, and_more, sayings_of}
 use Rattle.fz_engine.specs.Stronger.{is_kept_whole, is_short, said_once_more, stronger_of}
 use Rattle.fz_engine.proofs.Listing.{at_end}
+use Rattle.fz_spec.specs.Signatures.{shape_of}
+use Rattle.fz_model.specs.Groups.{within}
 
 -- ---- what is said
 
@@ -251,3 +253,9 @@ few_behind ps qs saying few is =
     let size = length-map ps said_of in
     let more = sym (length-map qs said_of) ∙ ap (λ (l : List Saying). length l) is ∙ length-append (sayings_of ps) (saying ∷ []) in
     omega (arith, size, more, few)
+
+-- ---- an element of an array lies in the set of its type
+
+pub said_within : (set : List (ℤ × ℤ)) (term : Term) → Member term set ≡ saying_of (within set term)
+unfolding shape_of
+said_within set term = refl

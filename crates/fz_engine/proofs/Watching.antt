@@ -1,6 +1,6 @@
 -- Who looks at the terms of a list for a while.
 use Rattle.std.proofs.Common.{◌≡◌, ◌⊎◌, inl, inr, ℕ, ◌+◌, ◌<◌, List, [], ◌∷◌, ◌++◌, ◌∙◌, refl, sym, subst, arith, length, get_or-set_same, get_or-set_other, Result, Ok, Err}
-use Rattle.std.specs.Prelude.{ℤ, pos, OnOk, OnErr, Some, slice_get}
+use Rattle.std.specs.Prelude.{Bool, true, false, ℤ, pos, OnOk, OnErr, Some, slice_get}
 use Rattle.std.specs.List.{AllByRecursion}
 use Rattle.std.proofs.lemmas.Bool.{cases_eq}
 use Rattle.fz_sets.proofs.Lists.{all_both, by_place, some_is}
@@ -15,6 +15,7 @@ use Rattle.fz_strength.specs.VariableElements.{StandsAt}
 use Rattle.fz_prop.specs.Stores.{IsListed, IsTermOf}
 use Rattle.fz_agenda.specs.declared.watches.Watch.{Watch}
 use Rattle.fz_agenda.specs.Wakes.{Extends, IsIndexedAt, IsListedAt, IsWatch, Waking, waiting_at, watch, watches_at, with_watch}
+use Rattle.fz_agenda.specs.Watches.{Looks}
 use Rattle.fz_engine.proofs.Listing.{extends_twice, still_listed}
 
 -- ---- one watch more
@@ -51,19 +52,27 @@ is_watched w u v e within is = subst (λ (z : Waking). IsWatch z v e) (sym is)
     (subst (λ (xs : List Watch). SomeByRecursion (λ (y : Watch). y ≡ e) xs) (sym (get_or-set_same w.watches v (watches_at w v ++ e ∷ []) [] within)) (last_is (watches_at w v) e))
 
 pub watches_it : {T E : Type 0} (r : Result T E) (w u : Waking) (v place before : ℕ) (term index : Term) (n : ℤ) → v < length w.watches → term ≡ Var v → n ≡ pos (before + 1)
-    → OnOk r (u ≡ with_watch w v (watch place index n))
-    → OnOk r ((x : ℕ) → term ≡ Var x → IsWatch u x (watch place index (pos (before + 1))) ⊎ IsListed (waiting_at u Any x) place)
+    → OnOk r (u ≡ with_watch w v (watch place index n true))
+    → OnOk r ((x : ℕ) → term ≡ Var x → IsWatch u x (watch place index (pos (before + 1)) true) ⊎ IsListed (waiting_at u Any x) place)
 watches_it (Err e) w u v place before term index n within is number ok = tt
 watches_it (Ok y) w u v place before term index n within is number ok = λ x at.
     let e : Var v ≡ Var x = sym is ∙ at in
     let same : v ≡ x = cc in
-    inl (subst (λ (m : ℤ). IsWatch u x (watch place index m)) number (subst (λ (k : ℕ). IsWatch u k (watch place index n)) same (is_watched w u v (watch place index n) within ok)))
+    inl (subst (λ (m : ℤ). IsWatch u x (watch place index m true)) number (subst (λ (k : ℕ). IsWatch u k (watch place index n true)) same (is_watched w u v (watch place index n true) within ok)))
+
+-- a term is watched, where it is a variable
+pub number_watched : {T E : Type 0} (r : Result T E) (w u : Waking) (v : ℕ) (term : Term) (e : Watch) → v < length w.watches → term ≡ Var v → OnOk r (u ≡ with_watch w v e) → OnOk r ((x : ℕ) → term ≡ Var x → IsWatch u x e)
+number_watched (Err y) w u v term e within is ok = tt
+number_watched (Ok y) w u v term e within is ok = λ x at.
+    let eq : Var v ≡ Var x = sym is ∙ at in
+    let same : v ≡ x = cc in
+    subst (λ (k : ℕ). IsWatch u k e) same (is_watched w u v e within ok)
 
 -- ---- one term after another
 
 -- it looks at each of the first terms while its place is left of an index, or always
 abbrev pub AreWatched : Waking → ℕ → Term → List Term → ℕ → Type 0
-AreWatched w place index terms k = (j v : ℕ) → j < k → slice_get terms j ≡ Some (Var v) → IsWatch w v (watch place index (pos (j + 1))) ⊎ IsListed (waiting_at w Any v) place
+AreWatched w place index terms k = (j v : ℕ) → j < k → slice_get terms j ≡ Some (Var v) → IsWatch w v (watch place index (pos (j + 1)) true) ⊎ IsListed (waiting_at w Any v) place
 
 pub none_watched : (w : Waking) (place : ℕ) (index : Term) (terms : List Term) → AreWatched w place index terms 0
 none_watched w place index terms j v below at = absurd (omega (arith, below))
@@ -73,12 +82,12 @@ still_watched w u place e v extends (inl watching) = inl (extends.watching v e w
 still_watched w u place e v extends (inr listed) = inr (extends.listed Any v place listed)
 
 pub watched_next : (w u : Waking) (place : ℕ) (index term : Term) (terms : List Term) (k : ℕ) → slice_get terms k ≡ Some term → Extends w u → AreWatched w place index terms k
-    → ((v : ℕ) → term ≡ Var v → IsWatch u v (watch place index (pos (k + 1))) ⊎ IsListed (waiting_at u Any v) place) → AreWatched u place index terms (k + 1)
+    → ((v : ℕ) → term ≡ Var v → IsWatch u v (watch place index (pos (k + 1)) true) ⊎ IsListed (waiting_at u Any v) place) → AreWatched u place index terms (k + 1)
 watched_next w u place index term terms k is extends before here j v below at = elim (cases_eq j k) [
   | inl e ↦
       let same : term ≡ Var v = some_is term (Var v) (sym is ∙ subst (λ (i : ℕ). slice_get terms i ≡ Some (Var v)) e at) in
-      subst (λ (i : ℕ). IsWatch u v (watch place index (pos (i + 1))) ⊎ IsListed (waiting_at u Any v) place) (sym e) (here v same)
-  | inr ne ↦ still_watched w u place (watch place index (pos (j + 1))) v extends (before j v (omega (arith, below, ne)) at)
+      subst (λ (i : ℕ). IsWatch u v (watch place index (pos (i + 1)) true) ⊎ IsListed (waiting_at u Any v) place) (sym e) (here v same)
+  | inr ne ↦ still_watched w u place (watch place index (pos (j + 1)) true) v extends (before j v (omega (arith, below, ne)) at)
 ]
 
 -- ---- the terms are of as many variables
@@ -95,11 +104,22 @@ index_below n xs k c below = terms_below n (k ∷ c ∷ xs) below
 
 -- what selects a term is listed at its index and its value, and looks at each term for a while
 pub selected_at : {T E : Type 0} (r : Result T E) (w u x : Waking) (place : ℕ) (xs : List Term) (k c : Term) → Extends w u → Extends u x → IsListedAt w place (wait_for Any k) → IsListedAt u place (wait_for Any c)
-    → OnOk r ((v : ℕ) (n : ℤ) → StandsAt n xs (Var v) → IsWatch x v (watch place k n) ⊎ IsListed (waiting_at x Any v) place) → OnOk r (IsIndexedAt x place (SelectTerm xs k c))
+    → OnOk r ((v : ℕ) (n : ℤ) → StandsAt n xs (Var v) → IsWatch x v (watch place k n true) ⊎ IsListed (waiting_at x Any v) place) → OnOk r (IsIndexedAt x place (SelectTerm xs k c))
 selected_at (Err e) w u x place xs k c first then index value ok = tt
 selected_at (Ok y) w u x place xs k c first then index value ok = record {
   steady = all_both (λ (wait : Wait). IsListed (waiting_at x wait.event wait.variable) place) (wait_for Any k) (wait_for Any c ++ [])
       (still_listed w x place (wait_for Any k) (extends_twice w u x first then) index)
       (all_both (λ (wait : Wait). IsListed (waiting_at x wait.event wait.variable) place) (wait_for Any c) [] (still_listed u x place (wait_for Any c) then value) tt);
-  watched = λ v t n looks. subst (λ (i : Term). IsWatch x v (watch place i n) ⊎ IsListed (waiting_at x Any v) place) (sym looks.0) (ok v n looks.1);
+  watched = watched;
 }
+  where
+    watched : (v : ℕ) (t : Term) (n : ℤ) (left : Bool) → Looks (SelectTerm xs k c) v t n left → IsWatch x v (watch place t n left) ⊎ IsListed (waiting_at x Any v) place
+    watched v t n true looks = subst (λ (i : Term). IsWatch x v (watch place i n true) ⊎ IsListed (waiting_at x Any v) place) (sym looks.0) (ok v n looks.1)
+    watched v t n false looks = absurd looks
+
+pub number_listed : {T E : Type 0} (r : Result T E) (w u x : Waking) (place : ℕ) (term truth : Term) → Extends w u → Extends u x → IsListedAt w place (wait_for Fixed term) → IsListedAt u place (wait_for Any truth)
+    → OnOk r (IsListedAt x place (wait_for Fixed term ++ wait_for Any truth))
+number_listed (Err e) w u x place term truth first then fixed any = tt
+number_listed (Ok y) w u x place term truth first then fixed any =
+    all_both (λ (wait : Wait). IsListed (waiting_at x wait.event wait.variable) place) (wait_for Fixed term) (wait_for Any truth)
+    (still_listed w x place (wait_for Fixed term) (extends_twice w u x first then) fixed) (still_listed u x place (wait_for Any truth) then any)

@@ -1,12 +1,12 @@
 //! What the spaces of a model share.
-ghost use Rattle.std.specs.Prelude.{◌≡◌, ◌⊎◌, ◌<◌, ◌≤◌, ◌+◌, ◌^◌, List, ◌∷◌, [], ◌++◌, length, map, IfOk, IfSome, OnOk, pos, slice_get, slice_index_or, ℕ, ℤ, Some};
+ghost use Rattle.std.specs.Prelude.{◌≡◌, ◌⊎◌, true, false, ◌<◌, ◌≤◌, ◌+◌, ◌^◌, List, ◌∷◌, [], ◌++◌, length, map, IfOk, IfSome, OnOk, pos, slice_get, slice_index_or, ℕ, ℤ, Some};
 ghost use Rattle.std.specs.List.{AllByRecursion};
 ghost use Rattle.std.specs.Arc.{arc_value};
 ghost use Rattle.fz_model.specs.Groups.{constraint_at};
 ghost use Rattle.fz_model.specs.Kept.{IsModel};
 ghost use Rattle.fz_strength.specs.Costs.{cost_of};
 ghost use Rattle.fz_spec.specs.declared.term.Term.TheVariants.{Var};
-ghost use Rattle.fz_strength.specs.declared.event.Event.TheVariants.{Any};
+ghost use Rattle.fz_strength.specs.declared.event.Event.TheVariants.{Any, Fixed};
 ghost use Rattle.fz_strength.specs.Events.{AreBelow, wait_for, waits_for};
 ghost use Rattle.fz_strength.specs.Sayings as said;
 ghost use Rattle.fz_strength.specs.Sayings.{said_terms, waits_of};
@@ -29,6 +29,7 @@ use fz_plain::plain_of;
 use fz_prop::{Cost, Event};
 use fz_propagators::AnyPropagator;
 use fz_says::{Saying, Wait};
+use fz_spec::shape::Relation;
 use fz_spec::term::Term;
 use std::alloc::{AllocError, Global};
 use std::marker::Model;
@@ -284,9 +285,13 @@ fn list_said(
 {
     match saying {
         Saying::SelectTerm(terms, index, value) => {
-            list_term(wakes, *index, place)?;
-            list_term(wakes, *value, place)?;
+            list_term(wakes, Event::Any, *index, place)?;
+            list_term(wakes, Event::Any, *value, place)?;
             watch_terms(wakes, terms.as_slice(), *index, place)
+        }
+        Saying::CompareIf(Relation::Equal, term, Term::Num(number), truth)
+        | Saying::CompareIf(Relation::NotEqual, term, Term::Num(number), truth) => {
+            list_number(wakes, *term, *number, *truth, place)
         }
         _ => {
             let waits = saying.waits(alloc)?;
@@ -295,17 +300,66 @@ fn list_said(
     }
 }
 
-/// Lists a propagator at all changes of a term.
-fn list_term(wakes: &mut Wakes, term: Term, place: u32) -> Result<(), AllocError>
+/// Lists a propagator of what a Boolean says, whether a term is a number: at changes of the Boolean, where the term gets fixed, and at
+/// all its changes once the number is gone.
+fn list_number(
+    wakes: &mut Wakes,
+    term: Term,
+    number: i32,
+    truth: Term,
+    place: u32,
+) -> Result<(), AllocError>
+    requires size { HaveSize wakes.old (length wakes.old.any) }
+    requires term { IsTermOf (length wakes.old.any) term }
+    requires truth { IsTermOf (length wakes.old.any) truth }
+    ensures size { HaveSize wakes.new (length wakes.old.any) }
+    ensures extends { Extends wakes.old wakes.new }
+    ensures steady { OnOk result
+        (IsListedAt wakes.new place (wait_for Fixed term ++ wait_for Any truth)) }
+    ensures watched { OnOk result ((v : ℕ) → term ≡ Var v
+        → IsWatch wakes.new v (watch place term number false)) }
+    ensures costs { wakes.new.costs ≡ wakes.old.costs }
+{
+    list_term(wakes, Event::Fixed, term, place)?;
+    list_term(wakes, Event::Any, truth, place)?;
+    watch_number(wakes, term, number, place)
+}
+
+/// A propagator looks at a term once a number is gone.
+fn watch_number(wakes: &mut Wakes, term: Term, number: i32, place: u32) -> Result<(), AllocError>
+    requires size { HaveSize wakes.old (length wakes.old.any) }
+    requires term { IsTermOf (length wakes.old.any) term }
+    ensures size { HaveSize wakes.new (length wakes.old.any) }
+    ensures extends { Extends wakes.old wakes.new }
+    ensures watched { OnOk result ((v : ℕ) → term ≡ Var v
+        → IsWatch wakes.new v (watch place term number false)) }
+    ensures costs { wakes.new.costs ≡ wakes.old.costs }
+{
+    let Term::Var(variable) = term else {
+        return Ok(());
+    };
+    wakes.watch(
+        variable,
+        Watch {
+            place,
+            term,
+            number,
+            while_left: false,
+        },
+    )
+}
+
+/// Lists a propagator at changes of a term.
+fn list_term(wakes: &mut Wakes, event: Event, term: Term, place: u32) -> Result<(), AllocError>
     requires size { HaveSize wakes.old (length wakes.old.any) }
     requires inside { IsTermOf (length wakes.old.any) term }
     ensures size { HaveSize wakes.new (length wakes.old.any) }
     ensures extends { Extends wakes.old wakes.new }
-    ensures listed { OnOk result (IsListedAt wakes.new place (wait_for Any term)) }
+    ensures listed { OnOk result (IsListedAt wakes.new place (wait_for event term)) }
     ensures costs { wakes.new.costs ≡ wakes.old.costs }
 {
     match term {
-        Term::Var(variable) => wakes.list(variable, Event::Any, place),
+        Term::Var(variable) => wakes.list(variable, event, place),
         Term::Num(_) => Ok(()),
     }
 }
@@ -318,7 +372,7 @@ fn watch_terms(wakes: &mut Wakes, terms: &[Term], index: Term, place: u32) -> Re
     ensures size { HaveSize wakes.new (length wakes.old.any) }
     ensures extends { Extends wakes.old wakes.new }
     ensures watched { OnOk result ((v : ℕ) (n : ℤ) → StandsAt n terms.now (Var v)
-        → IsWatch wakes.new v (watch place index n)
+        → IsWatch wakes.new v (watch place index n true)
         ⊎ IsListed (waiting_at wakes.new Any v) place) }
     ensures costs { wakes.new.costs ≡ wakes.old.costs }
 {
@@ -342,7 +396,7 @@ fn watch_term(
     ensures size { HaveSize wakes.new (length wakes.old.any) }
     ensures extends { Extends wakes.old wakes.new }
     ensures watched { OnOk result ((v : ℕ) → term ≡ Var v
-        → IsWatch wakes.new v (watch place index (pos (before + 1)))
+        → IsWatch wakes.new v (watch place index (pos (before + 1)) true)
         ⊎ IsListed (waiting_at wakes.new Any v) place) }
     ensures costs { wakes.new.costs ≡ wakes.old.costs }
 {
@@ -358,6 +412,7 @@ fn watch_term(
                     place,
                     term,
                     number,
+                    while_left: true,
                 },
             )
         }

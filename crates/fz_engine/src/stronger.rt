@@ -7,8 +7,8 @@ ghost use Rattle.fz_engine.specs.Stronger as stronger;
 
 use fz_model::Variable;
 use fz_says::Saying;
+use fz_spec::shape::Relation;
 use fz_spec::term::Term;
-use fz_strength::relation::Relation;
 
 /// What is said once more: that terms differ, by their bounds, and a sum of two or three terms, by their numbers, where the constraint asks
 /// for whole domains and the sum's own propagator doesn't keep them.

@@ -13,7 +13,8 @@ use Rattle.fz_prop.specs.Stores.{IsTermOf}
 use Rattle.fz_prop.proofs.Filled.{term_ranges, narrower_ranges}
 use Rattle.fz_prop.proofs.TermChanges.{term_within, narrower_term}
 use Rattle.fz_alldiff.specs.Differing.{IsDifferent}
-use Rattle.fz_hall.specs.Intervals.{is_between, is_confined, IsFull, IsKeptOut}
+use Rattle.fz_strength.specs.Differences.{is_between, is_confined}
+use Rattle.fz_hall.specs.Intervals.{IsFull, IsKeptOut}
 use Rattle.fz_hall.proofs.Crowding.{bit, count_more, both_le, both_from, not_true, bit_le, few_between}
 
 -- ---- one term

@@ -7,7 +7,7 @@ use Rattle.std.proofs.lemmas.Bool.Decides.{Decides-int_eq}
 use Rattle.std.proofs.lemmas.Int.{ints}
 use Rattle.std.proofs.lemmas.List.Sums.{sum_by-cons}
 use Rattle.fz_spec.specs.Truth.{AreDifferent}
-use Rattle.fz_hall.specs.Intervals.{is_between}
+use Rattle.fz_strength.specs.Differences.{is_between}
 
 abbrev pub bit : Bool → ℕ
 bit b = cond b 1 0

@@ -1,21 +1,27 @@
 -- Keeping terms out of an interval that others fill, one after the other.
-use Rattle.std.proofs.Common.{◌≡◌, ℕ, List, arith, length, Result}
-use Rattle.std.specs.Prelude.{ℤ, pos, ◌+ℤ◌, ◌-ℤ◌, ◌≤ℤ◌, ◌<ℤ◌, IfOk, OnErr, slice_get, Some}
+use Rattle.std.proofs.Common.{◌≡◌, ℕ, List, arith, length, Result, false, sym, subst}
+use Rattle.std.specs.Prelude.{ℤ, pos, ◌+ℤ◌, ◌-ℤ◌, ◌≤ℤ◌, ◌<ℤ◌, int_le, ◌&&◌, IfOk, OnErr, slice_get, Some}
 use Rattle.std.specs.List.{AllByRecursion}
 use Rattle.std.proofs.lemmas.Int.{ints, by_lt_z}
 use Rattle.fz_sets.proofs.Lists.{all_at}
 use Rattle.fz_dom.specs.declared.change.Change.{Change}
 use Rattle.fz_dom.specs.declared.change.Change.TheVariants.{Same, Changed, Wiped}
 use Rattle.fz_dom.specs.Shape.{least, greatest}
+use Rattle.fz_dom.proofs.Ranges.{least_member, greatest_member}
+use Rattle.fz_sets.specs.Sets.{IsInSet}
 use Rattle.fz_spec.specs.declared.term.Term.{Term}
 use Rattle.fz_spec.specs.Constraints.{term_value}
 use Rattle.fz_strength.specs.Domains.{term_set, AreDomains, Within, IsNarrower}
 use Rattle.fz_prop.specs.Answers.{IsCorrectOf}
 use Rattle.fz_prop.specs.Outcomes.{IsOutcome}
 use Rattle.fz_prop.specs.Stores.{Stored, Shrinks, IsTermOf, IsTermChange}
+use Rattle.fz_prop.proofs.Filled.{term_ranges}
+use Rattle.fz_prop.proofs.TermChanges.{kept_term, same_store}
 use Rattle.fz_prop.proofs.Keeping.{change_correct, change_outcome}
 use Rattle.fz_alldiff.specs.Differing.{IsDifferent}
-use Rattle.fz_hall.specs.Intervals.{is_confined, IsFull, IsKeptOut}
+use Rattle.fz_strength.specs.Differences.{is_confined}
+use Rattle.fz_hall.specs.Intervals.{IsFull, IsKeptOut}
+use Rattle.fz_hall.specs.Lefts.{IfSame}
 use Rattle.fz_hall.proofs.Crowding.{both_from, not_true}
 use Rattle.fz_hall.proofs.Confining.{value_from, value_to, confined_is, still_confined, kept_out}
 
@@ -48,6 +54,28 @@ stands_before ds a low high t is domains until before within out =
     let inside = both_from low v v high above (omega (arith, ints, until, to)) in
     let no = out outside in
     absurd (cc (inside, no)))
+
+-- what isn't within goes on after it, or begins before it
+pub goes_on : (low high a b : ℤ) → (int_le low a && int_le b high) ≡ false → low ≤ℤ a → high <ℤ b
+goes_on low high a b outside from = by_lt_z high b (λ behind. behind) (λ within. let yes = both_from low a b high from within in absurd (cc (yes, outside)))
+
+pub begins_before : (low high a b : ℤ) → (int_le low a && int_le b high) ≡ false → b ≤ℤ high → a <ℤ low
+begins_before low high a b outside to = by_lt_z a low (λ before. before) (λ within. let yes = both_from low a b high within to in absurd (cc (yes, outside)))
+
+same_holds : (t : Term) (P : ℤ → Type 0) (r s : Stored) → IsTermChange Same t P r s → (x : ℤ) → IsInSet (term_set r.doms t) x → P x
+same_holds t P r s h x is = (kept_term Same t P r s h (λ e. absurd (cc (e))) x (subst (λ (u : Stored). IsInSet (term_set u.doms t) x) (sym (same_store t P r s h)) is)).1
+
+-- a number that is to go isn't left where nothing changed
+pub never_same : (change : Change) (t : Term) (P : ℤ → Type 0) (R : Type 0) (r s : Stored) → IsTermChange change t P r s → (x : ℤ) → IsInSet (term_set r.doms t) x → (P x → ⊥) → IfSame change R
+never_same Same t P R r s h x is gone = absurd (gone (same_holds t P r s h x is))
+never_same Changed t P R r s h x is gone = tt
+never_same Wiped t P R r s h x is gone = tt
+
+pub least_in : (ds : List (List (ℤ × ℤ))) (t : Term) → IsTermOf (length ds) t → AreDomains ds → IsInSet (term_set ds t) (least (term_set ds t))
+least_in ds t is domains = let has = term_ranges ds t is domains in (least_member (term_set ds t) has.some has.ranges).0
+
+pub greatest_in : (ds : List (List (ℤ × ℤ))) (t : Term) → IsTermOf (length ds) t → AreDomains ds → IsInSet (term_set ds t) (greatest (term_set ds t))
+greatest_in ds t is domains = let has = term_ranges ds t is domains in (greatest_member (term_set ds t) has.some has.ranges).0
 
 outcome_within : (change : Change) (T : List ℤ → Type 0) (r s : Stored) → IsOutcome change (λ a. T a × Within r.doms a) r s → IsOutcome change T r s
 outcome_within Same T r s h = h

@@ -1,1 +1,4 @@
 pub mod Intervals
+pub mod Lefts
+pub mod Seats
+pub mod Counts

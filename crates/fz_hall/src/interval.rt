@@ -4,7 +4,8 @@ ghost use Rattle.std.specs.List.{AllByRecursion};
 ghost use Rattle.fz_dom.specs.Shape.{least, greatest};
 ghost use Rattle.fz_strength.specs.Domains.{term_set};
 ghost use Rattle.fz_prop.specs.Stores.{IsTermOf};
-ghost use Rattle.fz_hall.specs.Intervals.{is_between, is_confined};
+ghost use Rattle.fz_strength.specs.Differences.{is_between, is_confined};
+ghost use Rattle.fz_hall.specs.Lefts.{is_within};
 
 use fz_prop::Store;
 use fz_prop::terms::{greatest_of, least_of};
@@ -30,6 +31,13 @@ impl Interval {
         ensures { result ≡ is_between self.low self.high number }
     {
         self.low <= number && number <= self.high
+    }
+
+    /// Whether all numbers of another one are among its own.
+    pub fn contains(self, other: Interval) -> bool
+        ensures { result ≡ is_within self.low self.high other }
+    {
+        self.low <= other.low && other.high <= self.high
     }
 }
 

@@ -1,24 +1,26 @@
 //! Narrowing a store so that terms are all different, by the intervals that they fill.
-ghost use Rattle.std.specs.Prelude.{◌≡◌, length, pos, negsuc, ◌+ℤ◌, ◌-ℤ◌, ◌<ℤ◌, IfOk};
+ghost use Rattle.std.specs.Prelude.{◌≡◌, length, pos, negsuc, ◌+ℤ◌, ◌-ℤ◌, ◌≤ℤ◌, ◌<ℤ◌, IfOk};
 ghost use Rattle.std.specs.List.{AllByRecursion};
-ghost use Rattle.fz_strength.specs.Differences.{AreApartOnceFixed};
+ghost use Rattle.fz_strength.specs.Differences.{AreSpread, IsClear, IsSpread};
 ghost use Rattle.fz_prop.specs.Answers.{IsAnswerOf, IsCorrectOf};
 ghost use Rattle.fz_prop.specs.Outcomes.{IsOutcome};
 ghost use Rattle.fz_prop.specs.Stores.{Shrinks, IsTermOf};
 ghost use Rattle.fz_alldiff.specs.Differing.{IsDifferent};
 ghost use Rattle.fz_hall.specs.Intervals.{IsFull, IsKeptOut};
+ghost use Rattle.fz_hall.specs.Lefts.{IfSame};
 
+use crate::close::crossed_interval;
+use crate::counts::{is_close, span_of};
+use crate::crossed::crossed_intervals;
 use crate::interval::{Interval, count_confined, ends_of};
-use crate::span::span_of;
-use crate::sweep::{filled_intervals, may_fill, rising_places};
-use fz_alldiff::keep_different;
-use fz_prop::terms::{are_fixed, keep_from, keep_to};
+use crate::lefts::lefts_of;
+use crate::scan::keep_all;
+use fz_prop::terms::{keep_from, keep_to};
 use fz_prop::{Answer, Change, Store};
 use fz_spec::term::Term;
 use std::alloc::{AllocError, Global};
 
-/// Narrows a store so that terms are all different, by the intervals that some of them fill. Where all are fixed, it tells whether
-/// they are.
+/// Narrows a store so that terms are all different, by the intervals that some of them fill.
 ///
 /// # Errors
 /// `AllocError` where there is no memory; the store is then narrower, and no assignment is lost.
@@ -31,12 +33,9 @@ pub fn keep_intervals(
     ensures shrinks { Shrinks store.old store.new }
     ensures correct { IsCorrectOf (IsDifferent terms.now) store.old.doms store.new.doms }
     ensures answer { IfOk result
-        (λ r. IsAnswerOf r (IsDifferent terms.now) (AreApartOnceFixed terms.now)
+        (λ r. IsAnswerOf r (IsDifferent terms.now) (AreSpread terms.now)
         store.old.doms store.new.doms) }
 {
-    if are_fixed(store, terms) {
-        return keep_different(alloc, store, terms);
-    }
     match keep_filled(alloc, store, terms)? {
         Change::Same => Ok(Answer::Fix),
         Change::Changed => Ok(Answer::NoFix),
@@ -44,27 +43,76 @@ pub fn keep_intervals(
     }
 }
 
-/// Narrows a store by each interval that is found to be filled.
+/// Narrows a store by intervals that are found to be filled.
 fn keep_filled(alloc: Global, store: &mut Store, terms: &[Term]) -> Result<Change, AllocError>
     requires { AllByRecursion (IsTermOf (length store.old.doms)) terms.now }
     ensures shrinks { Shrinks store.old store.new }
     ensures correct { IsCorrectOf (IsDifferent terms.now) store.old.doms store.new.doms }
     ensures outcome { IfOk result
         (λ r. IsOutcome r (IsDifferent terms.now) store.old store.new) }
+    ensures spread { IfOk result (λ r. IfSame r (AreSpread terms.now store.new.doms)) }
 {
+    let _ = store.doms();
     let span = span_of(store, terms);
-    if !may_fill(store, terms, span) {
-        return Ok(Change::Same);
+    if !is_close(terms, span) {
+        return keep_far(alloc, store, terms);
     }
-    let places = rising_places(alloc, store, terms, span)?;
-    let filled = filled_intervals(alloc, &places, span)?;
+    match crossed_interval(store, terms, span) {
+        Some(interval) => keep_found(store, terms, &[interval]),
+        None => Ok(Change::Same),
+    }
+}
+
+/// The same, whatever their numbers are.
+fn keep_far(alloc: Global, store: &mut Store, terms: &[Term]) -> Result<Change, AllocError>
+    requires { AllByRecursion (IsTermOf (length store.old.doms)) terms.now }
+    ensures shrinks { Shrinks store.old store.new }
+    ensures correct { IsCorrectOf (IsDifferent terms.now) store.old.doms store.new.doms }
+    ensures outcome { IfOk result
+        (λ r. IsOutcome r (IsDifferent terms.now) store.old store.new) }
+    ensures spread { IfOk result (λ r. IfSame r (AreSpread terms.now store.new.doms)) }
+{
+    let lefts = lefts_of(alloc, store, terms)?;
+    match crossed_intervals(alloc, &lefts)? {
+        Some(found) => keep_found(store, terms, &found),
+        None => Ok(Change::Same),
+    }
+}
+
+/// Narrows a store by some intervals. Where none of them narrows it, all are looked at.
+fn keep_found(
+    store: &mut Store,
+    terms: &[Term],
+    intervals: &[Interval],
+) -> Result<Change, AllocError>
+    requires { AllByRecursion (IsTermOf (length store.old.doms)) terms.now }
+    ensures shrinks { Shrinks store.old store.new }
+    ensures correct { IsCorrectOf (IsDifferent terms.now) store.old.doms store.new.doms }
+    ensures outcome { IfOk result
+        (λ r. IsOutcome r (IsDifferent terms.now) store.old store.new) }
+    ensures spread { IfOk result (λ r. IfSame r (AreSpread terms.now store.new.doms)) }
+{
+    match keep_each(store, terms, intervals)? {
+        Change::Same => keep_all(store, terms),
+        change => Ok(change),
+    }
+}
+
+/// Narrows a store by each of some intervals.
+fn keep_each(
+    store: &mut Store,
+    terms: &[Term],
+    intervals: &[Interval],
+) -> Result<Change, AllocError>
+    requires { AllByRecursion (IsTermOf (length store.old.doms)) terms.now }
+    ensures shrinks { Shrinks store.old store.new }
+    ensures correct { IsCorrectOf (IsDifferent terms.now) store.old.doms store.new.doms }
+    ensures outcome { IfOk result
+        (λ r. IsOutcome r (IsDifferent terms.now) store.old store.new) }
+{
     let mut has_changed = false;
-    for left in &filled {
-        let interval = Interval {
-            low: span.number_at(left.low),
-            high: span.number_at(left.high),
-        };
-        let change = keep_interval(store, terms, interval)?;
+    for left in intervals {
+        let change = keep_interval(store, terms, *left)?;
         if let Change::Wiped = change {
             return Ok(Change::Wiped);
         }
@@ -82,7 +130,7 @@ fn keep_filled(alloc: Global, store: &mut Store, terms: &[Term]) -> Result<Chang
 
 /// Narrows a store by an interval that terms fill, or that too many are confined to; where they are fewer than it has numbers,
 /// nothing is told.
-fn keep_interval(
+pub fn keep_interval(
     store: &mut Store,
     terms: &[Term],
     interval: Interval,
@@ -92,6 +140,8 @@ fn keep_interval(
     ensures correct { IsCorrectOf (IsDifferent terms.now) store.old.doms store.new.doms }
     ensures outcome { IfOk result
         (λ r. IsOutcome r (IsDifferent terms.now) store.old store.new) }
+    ensures spread { interval.low ≤ℤ interval.high → IfOk result (λ r. IfSame r
+        (IsSpread terms.now store.new.doms interval.low interval.high)) }
 {
     let _ = store.doms();
     let count = count_confined(store, terms, interval);
@@ -113,6 +163,8 @@ fn keep_others(store: &mut Store, terms: &[Term], interval: Interval) -> Result<
     ensures correct { IsCorrectOf (IsDifferent terms.now) store.old.doms store.new.doms }
     ensures outcome { IfOk result
         (λ r. IsOutcome r (IsDifferent terms.now) store.old store.new) }
+    ensures clear { IfOk result (λ r. IfSame r (AllByRecursion
+        (IsClear store.new.doms interval.low interval.high) terms.now)) }
 {
     let _ = store.doms();
     let mut has_changed = false;
@@ -159,13 +211,18 @@ fn keep_out(store: &mut Store, term: Term, interval: Interval) -> Result<Change,
     ensures outcome { IfOk result
         (λ r. IsOutcome r (IsKeptOut store.old.doms term interval.low interval.high)
         store.old store.new) }
+    ensures clear { IfOk result (λ r. IfSame r
+        (IsClear store.new.doms interval.low interval.high term)) }
 {
     let _ = store.doms();
     let ends = ends_of(store, term);
-    if interval.has(ends.low) && interval.high < ends.high {
+    if interval.contains(ends) {
+        return Ok(Change::Same);
+    }
+    if interval.has(ends.low) {
         return keep_from(store, term, next(interval.high));
     }
-    if interval.has(ends.high) && ends.low < interval.low {
+    if interval.has(ends.high) {
         return keep_to(store, term, previous(interval.low));
     }
     Ok(Change::Same)

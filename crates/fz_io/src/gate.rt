@@ -15,6 +15,8 @@ pub enum EventKind {
     Steal,
     /// Takes in a better solution that another worker found.
     Learn,
+    /// Hands the best solution that its search knows to another search of the same model.
+    Share,
 }
 
 /// Sees each event of each worker, and may hold a worker up. Workers share it, so both methods take `&self`.

@@ -8,8 +8,8 @@ use Rattle.fz_spec.specs.Truth.{is_one}
 use Rattle.fz_strength.specs.declared.literal.Literal.{Literal}
 use Rattle.fz_strength.specs.Domains.{AreDomains, IsNarrower}
 use Rattle.fz_strength.specs.Clauses.{IsUntrueIn}
-use Rattle.fz_strength.specs.declared.operation.Operation.{Operation}
-use Rattle.fz_strength.specs.declared.operation.Operation.TheVariants.{Min, Max}
+use Rattle.fz_spec.specs.declared.shape.Operation.{Operation}
+use Rattle.fz_spec.specs.declared.shape.Operation.TheVariants.{Min, Max}
 use Rattle.fz_strength.specs.Sayings.{Saying, Sum, SumIf, Says, Equals, Odd, Differ}
 use Rattle.fz_strength.proofs.Clauses.{only_still}
 use Rattle.fz_strength.proofs.Terms.{term_narrower, within_before}

@@ -4,7 +4,7 @@ use Rattle.std.specs.Prelude.{ℤ, pos, negsuc, neg_ℤ, ◌-ℤ◌, ◌≤ℤ�
 use Rattle.std.proofs.lemmas.Int.{ints}
 use Rattle.fz_spec.specs.declared.term.Term.{Term}
 use Rattle.fz_spec.specs.Constraints.{term_values}
-use Rattle.fz_strength.specs.declared.relation.Relation.TheVariants.{Equal, AtMost}
+use Rattle.fz_spec.specs.declared.shape.Relation.TheVariants.{Equal, AtMost}
 use Rattle.fz_strength.specs.Domains.{term_set, AreDomains, IsNarrower}
 use Rattle.fz_strength.specs.Sums.{least_product, greatest_product, least_sum, greatest_sum, AreNear, RestsAtMost, negated}
 use Rattle.fz_strength.specs.Events.{AllFixed}

@@ -11,7 +11,7 @@ use Rattle.fz_spec.specs.declared.term.Term.TheVariants.{Num, Var}
 use Rattle.fz_dom.proofs.Ranges.{within_limits}
 use Rattle.fz_spec.specs.Constraints.{term_value, term_values}
 use Rattle.fz_spec.specs.Truth.{weighted_sum}
-use Rattle.fz_strength.specs.declared.relation.Relation.TheVariants.{NotEqual}
+use Rattle.fz_spec.specs.declared.shape.Relation.TheVariants.{NotEqual}
 use Rattle.fz_strength.specs.Domains.{term_set, AreDomains, Within}
 use Rattle.fz_strength.specs.Events.{IsOnly, IsFixedIn, AllFixed}
 use Rattle.fz_strength.specs.Sums.{least_product, least_sum, AllButOneFixed}

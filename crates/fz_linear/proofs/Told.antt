@@ -6,12 +6,11 @@ use Rattle.std.proofs.lemmas.Int.{ints}
 use Rattle.std.proofs.lemmas.List.Sums.{sum_by-cons}
 use Rattle.fz_spec.specs.declared.term.Term.{Term}
 use Rattle.fz_spec.specs.Constraints.{term_value, term_values}
-use Rattle.fz_spec.specs.Truth.{weighted_sum}
-use Rattle.fz_strength.specs.declared.relation.Relation.{Relation}
-use Rattle.fz_strength.specs.declared.relation.Relation.TheVariants.{Equal, NotEqual, AtMost, Below}
+use Rattle.fz_spec.specs.Truth.{weighted_sum, Relates}
+use Rattle.fz_spec.specs.declared.shape.Relation.{Relation}
+use Rattle.fz_spec.specs.declared.shape.Relation.TheVariants.{Equal, NotEqual, AtMost, Below}
 use Rattle.fz_strength.specs.Domains.{term_set, AreDomains, Within, IsNarrower}
 use Rattle.fz_strength.specs.Events.{IsOnly}
-use Rattle.fz_strength.specs.Relations.{Relates}
 use Rattle.fz_strength.specs.Sums.{least_product, greatest_product, least_sum, greatest_sum, AreNear, RestsAtMost, negated, AllButOneFixed}
 use Rattle.fz_strength.proofs.SumLaws.{neg_product, all_but_one}
 use Rattle.fz_strength.proofs.Terms.{within_before}

@@ -3,8 +3,8 @@ use Rattle.std.specs.Prelude.{◌≡◌, ◌≢◌, ◌+◌, ◌≤◌, ℕ, ℤ
 use Rattle.std.specs.List.{AllByRecursion}
 use Rattle.fz_spec.specs.declared.limits.TheConstants.{ELEMENT_LIMIT}
 use Rattle.fz_spec.specs.declared.term.Term.{Term}
-use Rattle.fz_strength.specs.declared.relation.Relation.{Relation}
-use Rattle.fz_strength.specs.declared.relation.Relation.TheVariants.{Equal, Below}
+use Rattle.fz_spec.specs.declared.shape.Relation.{Relation}
+use Rattle.fz_spec.specs.declared.shape.Relation.TheVariants.{Equal, Below}
 use Rattle.fz_strength.specs.Sayings.{Saying, Sum}
 use Rattle.fz_prop.specs.declared.answer.Answer.{Answer}
 use Rattle.fz_prop.specs.declared.answer.Answer.TheVariants.{Failed}

@@ -3,9 +3,8 @@
 use Rattle.std.specs.Prelude.{ℤ, List}
 use Rattle.fz_spec.specs.declared.term.Term.{Term}
 use Rattle.fz_spec.specs.Constraints.{term_values}
-use Rattle.fz_spec.specs.Truth.{weighted_sum}
-use Rattle.fz_strength.specs.declared.relation.Relation.{Relation}
-use Rattle.fz_strength.specs.Relations.{Relates}
+use Rattle.fz_spec.specs.Truth.{weighted_sum, Relates}
+use Rattle.fz_spec.specs.declared.shape.Relation.{Relation}
 use Rattle.fz_strength.specs.Sums.{RestsSum}
 use Rattle.fz_strength.specs.ReifiedSums.{RestsSumAgainst}
 use Rattle.fz_prop.specs.declared.answer.Answer.{Answer}

@@ -2,7 +2,7 @@
 ghost use Rattle.std.specs.Prelude.{◌≡◌, ◌≢◌, ◌+◌, ◌^◌, ◌<◌, ◌≤◌, ◌↔◌, ◌-ℤ◌, ◌*ℤ◌, IsTrue, length, take, slice_get, Some, IfOk, unsigned_abs};
 ghost use Rattle.std.specs.List.{AllByRecursion};
 ghost use Rattle.fz_spec.specs.declared.limits.TheConstants.{ELEMENT_LIMIT};
-ghost use Rattle.fz_strength.specs.declared.relation.Relation.TheVariants.{NotEqual};
+ghost use Rattle.fz_spec.specs.declared.shape.Relation.TheVariants.{NotEqual};
 ghost use Rattle.fz_strength.specs.Domains.{term_set, AreDomains};
 ghost use Rattle.fz_strength.specs.Events.{IsFixedIn, AllFixed};
 ghost use Rattle.fz_prop.specs.declared.answer.Answer.TheVariants.{Fix};

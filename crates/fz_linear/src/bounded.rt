@@ -1,7 +1,7 @@
 //! Sums that a number bounds.
 ghost use Rattle.std.specs.Prelude.{◌≡◌, ◌+◌, ◌^◌, ◌≤◌, ℤ, pos, ◌+ℤ◌, List, length, IfOk, unsigned_abs};
 ghost use Rattle.fz_spec.specs.declared.limits.TheConstants.{ELEMENT_LIMIT};
-ghost use Rattle.fz_strength.specs.declared.relation.Relation.TheVariants.{AtMost, Equal};
+ghost use Rattle.fz_spec.specs.declared.shape.Relation.TheVariants.{AtMost, Equal};
 ghost use Rattle.fz_strength.specs.Events.{AllFixed};
 ghost use Rattle.fz_prop.specs.declared.answer.Answer.TheVariants.{Fix};
 ghost use Rattle.fz_prop.specs.Answers.{IsCorrectOf};

@@ -2,7 +2,7 @@
 ghost use Rattle.std.specs.Prelude.{◌≡◌, ◌≢◌, ◌↔◌, ◌<◌, ◌≤◌, ◌+◌, ◌+ℤ◌, ◌-ℤ◌, ◌*ℤ◌, ℤ, drop, length, IfOk, IfSome, IsTrue};
 ghost use Rattle.std.specs.List.{AllByRecursion};
 ghost use Rattle.fz_spec.specs.declared.limits.TheConstants.{ELEMENT_LIMIT};
-ghost use Rattle.fz_strength.specs.declared.relation.Relation.TheVariants.{Below};
+ghost use Rattle.fz_spec.specs.declared.shape.Relation.TheVariants.{Below};
 ghost use Rattle.fz_strength.specs.Domains.{term_set, AreDomains};
 ghost use Rattle.fz_strength.specs.Events.{IsOnly};
 ghost use Rattle.fz_kept.specs.Told.{IsToldSum};
@@ -18,8 +18,8 @@ use crate::sums::product;
 use fz_kept::Kept;
 use fz_prop::terms::value_of;
 use fz_prop::{Answer, Store};
+use fz_spec::shape::Relation;
 use fz_spec::term::Term;
-use fz_strength::relation::Relation;
 use std::alloc::AllocError;
 
 /// Whether there are so many terms that it serves to keep which of them are fixed.

@@ -2,7 +2,7 @@
 ghost use Rattle.std.specs.Prelude.{◌≡◌, ◌≢◌, ◌↔◌, ◌≤◌, ◌+◌, length, IfOk, IsTrue};
 ghost use Rattle.std.specs.List.{AllByRecursion};
 ghost use Rattle.fz_spec.specs.declared.limits.TheConstants.{ELEMENT_LIMIT};
-ghost use Rattle.fz_strength.specs.declared.relation.Relation.TheVariants.{Below};
+ghost use Rattle.fz_spec.specs.declared.shape.Relation.TheVariants.{Below};
 ghost use Rattle.fz_strength.specs.Domains.{AreDomains};
 ghost use Rattle.fz_strength.specs.Promises.{Suits};
 ghost use Rattle.fz_strength.specs.Sayings.{Sum, line_of, said_terms, truth_of};
@@ -18,8 +18,8 @@ use crate::relate::relate_whole;
 use crate::shape::{Shape, shape_of};
 use fz_kept::Kept;
 use fz_prop::{Answer, Propagator, Store};
+use fz_spec::shape::Relation;
 use fz_spec::term::Term;
-use fz_strength::relation::Relation;
 use std::alloc::{AllocError, Global};
 use std::marker::Model;
 

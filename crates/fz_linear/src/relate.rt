@@ -2,7 +2,7 @@
 ghost use Rattle.std.specs.Prelude.{◌≡◌, ◌≢◌, ◌+◌, ◌≤◌, List, length, IfOk};
 ghost use Rattle.std.specs.List.{AllByRecursion};
 ghost use Rattle.fz_spec.specs.declared.limits.TheConstants.{ELEMENT_LIMIT};
-ghost use Rattle.fz_strength.specs.declared.relation.Relation.TheVariants.{Equal, Below};
+ghost use Rattle.fz_spec.specs.declared.shape.Relation.TheVariants.{Equal, Below};
 ghost use Rattle.fz_strength.specs.Domains.{AreDomains};
 ghost use Rattle.fz_strength.specs.Events.{AllFixed};
 ghost use Rattle.fz_kept.specs.Told.{IsToldSum};
@@ -23,8 +23,8 @@ use crate::shape::Shape;
 use fz_kept::Kept;
 use fz_prop::{Answer, Store};
 use fz_shift::{Plane, keep_above_by, keep_apart_by, keep_plane};
+use fz_spec::shape::Relation;
 use fz_spec::term::Term;
-use fz_strength::relation::Relation;
 use std::alloc::AllocError;
 
 /// Narrows a store by how a sum relates to a number. The sum is added up in as many bits as is said.

@@ -2,7 +2,7 @@
 use Rattle.std.proofs.Common.{refl, arith}
 use Rattle.std.specs.Prelude.{ℤ, ◌≤ℤ◌, ◌<ℤ◌}
 use Rattle.std.proofs.lemmas.Int.{ints, by_lt_z}
-use Rattle.fz_strength.specs.declared.relation.Relation.TheVariants.{NotEqual}
+use Rattle.fz_spec.specs.declared.shape.Relation.TheVariants.{NotEqual}
 use Rattle.fz_strength.specs.ReifiedSums.{AllRelate}
 
 pub all_below : (low high c : ℤ) → high <ℤ c → AllRelate NotEqual low high c

@@ -5,8 +5,8 @@ use Rattle.std.proofs.lemmas.Int.{ints}
 use Rattle.fz_spec.specs.declared.term.Term.{Term}
 use Rattle.fz_spec.specs.Truth.{IsReified}
 use Rattle.fz_spec.specs.Constraints.{term_value}
-use Rattle.fz_strength.specs.declared.relation.Relation.{Relation}
-use Rattle.fz_strength.specs.declared.relation.Relation.TheVariants.{Equal, NotEqual, AtMost, Below}
+use Rattle.fz_spec.specs.declared.shape.Relation.{Relation}
+use Rattle.fz_spec.specs.declared.shape.Relation.TheVariants.{Equal, NotEqual, AtMost, Below}
 use Rattle.fz_strength.specs.Domains.{AreDomains, Within, IsNarrower}
 use Rattle.fz_strength.specs.Sums.{RestsAtMost, negated}
 use Rattle.fz_strength.specs.ReifiedSums.{IsSumShown, IsSumRefuted}

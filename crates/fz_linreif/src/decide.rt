@@ -2,7 +2,7 @@
 ghost use Rattle.std.specs.Prelude.{◌↔◌, ◌≤ℤ◌, IsTrue};
 ghost use Rattle.fz_strength.specs.ReifiedSums.{AllRelate, NoneRelate};
 
-use fz_strength::relation::Relation;
+use fz_spec::shape::Relation;
 
 /// Whether each number between two ends stands in this relation to a number.
 pub fn is_shown(relation: Relation, low: i128, high: i128, number: i32) -> bool

@@ -2,7 +2,7 @@
 ghost use Rattle.std.specs.Prelude.{◌≡◌, ◌≢◌, ◌+◌, ◌≤◌, List, length, IfOk, MatchOption};
 ghost use Rattle.std.specs.List.{AllByRecursion};
 ghost use Rattle.fz_spec.specs.declared.limits.TheConstants.{ELEMENT_LIMIT};
-ghost use Rattle.fz_strength.specs.declared.relation.Relation.TheVariants.{AtMost, Below};
+ghost use Rattle.fz_spec.specs.declared.shape.Relation.TheVariants.{AtMost, Below};
 ghost use Rattle.fz_strength.specs.Domains.{term_set};
 ghost use Rattle.fz_strength.specs.Events.{IsOnly, IsFixedIn, AllFixed};
 ghost use Rattle.fz_strength.specs.Promises.{IsTruth};
@@ -22,8 +22,8 @@ use fz_linear::relate::{relate, relate_against};
 use fz_linear::sums::Ends;
 use fz_prop::terms::{keep_only, value_of};
 use fz_prop::{Answer, Store};
+use fz_spec::shape::Relation;
 use fz_spec::term::Term;
-use fz_strength::relation::Relation;
 use std::alloc::AllocError;
 
 /// Narrows a store so that a Boolean says whether a sum stands in this relation to a number.

@@ -1,7 +1,7 @@
 //! A sum and a Boolean, where the first terms of the sum are fixed.
 ghost use Rattle.std.specs.Prelude.{◌≡◌, ◌≢◌, length, IfOk};
 ghost use Rattle.std.specs.List.{AllByRecursion};
-ghost use Rattle.fz_strength.specs.declared.relation.Relation.TheVariants.{Below};
+ghost use Rattle.fz_spec.specs.declared.shape.Relation.TheVariants.{Below};
 ghost use Rattle.fz_strength.specs.Domains.{AreDomains};
 ghost use Rattle.fz_strength.specs.Promises.{IsTruth};
 ghost use Rattle.fz_kept.specs.Told.{IsToldSum};
@@ -18,8 +18,8 @@ use fz_kept::Kept;
 use fz_linear::front::{factors_behind, is_long, left_of, pass_fixed, terms_behind};
 use fz_linear::narrow::Weighted;
 use fz_prop::{Answer, Store};
+use fz_spec::shape::Relation;
 use fz_spec::term::Term;
-use fz_strength::relation::Relation;
 use std::alloc::AllocError;
 
 /// Narrows a store so that a Boolean says whether a sum stands in this relation to a number, as `keep_reified` does, where the sum is

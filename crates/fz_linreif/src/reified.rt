@@ -2,7 +2,7 @@
 ghost use Rattle.std.specs.Prelude.{◌≡◌, ◌≢◌, ◌↔◌, ◌≤◌, length, IfOk, IsTrue};
 ghost use Rattle.std.specs.List.{AllByRecursion};
 ghost use Rattle.fz_spec.specs.declared.limits.TheConstants.{ELEMENT_LIMIT};
-ghost use Rattle.fz_strength.specs.declared.relation.Relation.TheVariants.{Below};
+ghost use Rattle.fz_spec.specs.declared.shape.Relation.TheVariants.{Below};
 ghost use Rattle.fz_strength.specs.Domains.{AreDomains};
 ghost use Rattle.fz_strength.specs.Promises.{Suits};
 ghost use Rattle.fz_strength.specs.Sayings.{SumIf, line_of, said_terms, truth_of};
@@ -15,8 +15,8 @@ use fz_kept::Kept;
 use fz_linear::front::is_long;
 use fz_linear::narrow::{Precision, Weighted, precision_of};
 use fz_prop::{Answer, Propagator, Store};
+use fz_spec::shape::Relation;
 use fz_spec::term::Term;
-use fz_strength::relation::Relation;
 use std::alloc::{AllocError, Global};
 use std::marker::Model;
 

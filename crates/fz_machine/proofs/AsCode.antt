@@ -10,7 +10,7 @@ use Rattle.fz_tree.specs.declared.mode.Mode.{Mode}
 use Rattle.fz_tree.specs.declared.mode.Mode.TheVariants.{All, Rows, Best}
 use Rattle.fz_tree.specs.Frontier.{Frontier, part_of}
 use Rattle.fz_tree.specs.Account.{Account, with_given}
-use Rattle.fz_spec.specs.Instance.{Instance}
+use Rattle.fz_spec.specs.Instance.{Instance, SearchPart}
 use Rattle.fz_tree.specs.Better.{IsModeOf}
 use Rattle.fz_tree.specs.Book.{Book, Claims, Takes, opening, is_claimed}
 use Rattle.fz_account.specs.declared.account.Learned.{Learned}
@@ -25,7 +25,7 @@ use Rattle.fz_path.specs.Learns.{Learns}
 use Rattle.fz_core.specs.declared.event.Event.{Event}
 use Rattle.fz_core.specs.declared.event.Event.TheVariants.{Claim, Start, Step, Report, Steal, Learn}
 use Rattle.fz_core.specs.declared.event.Outcome.{Outcome}
-use Rattle.fz_core.specs.Cores.{Worker, Core, CoreLaw, idle, worker_at}
+use Rattle.fz_core.specs.Cores.{Worker, Core, CoreLaw, idle_by, worker_at}
 use Rattle.fz_core.specs.Lawful.{is_lawful, is_free, is_busy, can_be_cut, has_unclaimed, improving_in, improving}
 use Rattle.fz_core.specs.Events.{ClaimsAt, StartsAt, StepsAt, ReportsAt, StealsAt, LearnsAt, StaysAt, holding, step_outcome, learned_outcome}
 use Rattle.fz_book.specs.Reports.{IsReportable}
@@ -103,20 +103,20 @@ holds_now read w path new hand seen same rest =
     let made : Pathed → Option Tasked → Worker = λ p h. record { path = p; hand = h } in
     ap (λ (p : Pathed). made p hand) rest ∙ ap (λ (x : Worker). holding x new.held) (seen ∙ same)
 
-steps_held : (step : stepping.Step) (c : Account) (held new : Option Account) → held ≡ Some c → Steps step held new → FallsFrom step held new → (d : Account) × (new ≡ Some d) × StepsTo step c d × Falls step c d
-steps_held step c held new holds does falls =
-    let from = subst (λ (o : Option Account). Steps step o new) holds does in
+steps_held : (plan : List SearchPart) (step : stepping.Step) (c : Account) (held new : Option Account) → held ≡ Some c → Steps plan step held new → FallsFrom step held new → (d : Account) × (new ≡ Some d) × StepsTo plan step c d × Falls step c d
+steps_held plan step c held new holds does falls =
+    let from = subst (λ (o : Option Account). Steps plan step o new) holds does in
     let less : FallsFrom step (Some c) (Some from.account) = subst (λ (o : Option Account). FallsFrom step (Some c) o) from.holds (subst (λ (o : Option Account). FallsFrom step o new) holds falls) in
     (from.account, from.holds, from.steps, less)
 
 pub step_code : (s old : Core) (i : ℕ) (read : Worker) (path new : Pathed) (hand : Option Tasked) (step : stepping.Step) (answer : Outcome) → s ≡ old → is_lawful old (Step i) ≡ true → read ≡ get_or s.workers i read
-    → (let seen : Worker = record { path = path; hand = hand } in seen ≡ read) → Steps step path.held new.held → FallsFrom step path.held new.held → new ≡ with_held path new.held → step_outcome step ≡ Some answer
+    → (let seen : Worker = record { path = path; hand = hand } in seen ≡ read) → Steps path.plan step path.held new.held → FallsFrom step path.held new.held → new ≡ with_held path new.held → step_outcome step ≡ Some answer
     → StepsAt i answer old (record { workers = set s.workers i (record { path = new; hand = hand }); book = s.book })
 step_code s old i read path new hand step answer view lawful is seen does falls rest answers =
     let b = busy (worker_at old i) lawful in
     let same = read_is s old i b.worker read view b.at is in
     let holds : path.held ≡ Some b.account = ap (λ (w : Worker). w.path.held) (seen ∙ same) ∙ b.holds in
-    let d = steps_held step b.account path.held new.held holds does falls in
+    let d = steps_held path.plan step b.account path.held new.held holds does falls in
     let made : Core → Worker → Core = λ x w. record { workers = set x.workers i w; book = x.book } in
     let now : Worker = record { path = new; hand = hand } in
     record {
@@ -127,7 +127,7 @@ step_code s old i read path new hand step answer view lawful is seen does falls 
       step = step;
       answers = answers;
       stepped = d.0;
-      steps = d.2;
+      steps = subst (λ (plan : List SearchPart). StepsTo plan step b.account d.0) (ap (λ (w : Worker). w.path.plan) (seen ∙ same)) d.2;
       falls = d.3;
       is = ap (λ (x : Core). made x now) view ∙ ap (made old) (holds_now read b.worker path new hand seen same rest ∙ ap (holding b.worker) d.1);
     }
@@ -152,14 +152,14 @@ stay_code s old i read path new hand view lawful is seen stays rest =
 
 -- a worker that holds a frontier isn't idle at a step
 pub never_idle : (s old : Core) (i : ℕ) (read : Worker) (path new : Pathed) (hand : Option Tasked) (step : stepping.Step) → s ≡ old → is_lawful old (Step i) ≡ true → read ≡ get_or s.workers i read
-    → (let seen : Worker = record { path = path; hand = hand } in seen ≡ read) → Steps step path.held new.held → step_outcome step ≡ None → ⊥
+    → (let seen : Worker = record { path = path; hand = hand } in seen ≡ read) → Steps path.plan step path.held new.held → step_outcome step ≡ None → ⊥
 never_idle s old i read path new hand step view lawful is seen does none =
     let b = busy (worker_at old i) lawful in
     let holds : path.held ≡ Some b.account = ap (λ (w : Worker). w.path.held) (seen ∙ read_is s old i b.worker read view b.at is) ∙ b.holds in
-    let from = subst (λ (o : Option Account). Steps step o new.held) holds does in
+    let from = subst (λ (o : Option Account). Steps path.plan step o new.held) holds does in
     acts step b.account from.account from.steps none
   where
-    acts : (x : stepping.Step) (a d : Account) → StepsTo x a d → step_outcome x ≡ None → ⊥
+    acts : (x : stepping.Step) (a d : Account) → StepsTo path.plan x a d → step_outcome x ≡ None → ⊥
     acts steps.Expanded a d h bad = cc bad
     acts steps.Found a d h bad = cc bad
     acts steps.Closed a d h bad = cc bad
@@ -310,7 +310,7 @@ unlearned_code s old i read path new hand view is seen same =
 
 -- a step keeps the law, whatever it answered
 pub step_law : {E : Type 0} (s old : Core) (i : ℕ) (read : Worker) (path new : Pathed) (hand : Option Tasked) (r : Result stepping.Step E) → CoreLaw s → s ≡ old → is_lawful old (Step i) ≡ true → read ≡ get_or s.workers i read
-    → (let seen : Worker = record { path = path; hand = hand } in seen ≡ read) → IfOk r (λ step. Steps step path.held new.held) → IfOk r (λ step. FallsFrom step path.held new.held) → OnErr r (Stays path.held new.held) → new ≡ with_held path new.held
+    → (let seen : Worker = record { path = path; hand = hand } in seen ≡ read) → IfOk r (λ step. Steps path.plan step path.held new.held) → IfOk r (λ step. FallsFrom step path.held new.held) → OnErr r (Stays path.held new.held) → new ≡ with_held path new.held
     → CoreLaw (record { workers = set s.workers i (record { path = new; hand = hand }); book = s.book })
 step_law s old i read path new hand (Ok step) law view lawful is seen does falls err rest =
     answered (step_outcome step) refl
@@ -325,11 +325,11 @@ step_law s old i read path new hand (Err e) law view lawful is seen does falls e
 -- ---- the start
 
 -- slots are the workers that were made, and made the number of the one that would come next
-pub new_law : (m : Instance) (mode : Mode) (n commit adaptive : ℕ) (slots : List Worker) (b : Book) → IsModeOf m.goal mode → 1 ≤ n → n < 2 ^ 32 → 1 ≤ commit → 1 ≤ adaptive → slots ≡ replicate n (idle m mode commit adaptive) → b ≡ opening m mode
+pub new_law : (m : Instance) (mode : Mode) (plan : List SearchPart) (n commit adaptive : ℕ) (slots : List Worker) (b : Book) → IsModeOf m.goal mode → 1 ≤ n → n < 2 ^ 32 → 1 ≤ commit → 1 ≤ adaptive → slots ≡ replicate n (idle_by m mode plan commit adaptive) → b ≡ opening m mode
     → CoreLaw (record { workers = slots; book = b })
-new_law m mode n commit adaptive slots b own several numbered one two is book =
+new_law m mode plan n commit adaptive slots b own several numbered one two is book =
     let core : List Worker → Book → Core = λ ws x. record { workers = ws; book = x } in
-    subst CoreLaw (sym (ap (λ (ws : List Worker). core ws b) is ∙ ap (core (replicate n (idle m mode commit adaptive))) book)) (start_law m mode n commit adaptive own several numbered one two)
+    subst CoreLaw (sym (ap (λ (ws : List Worker). core ws b) is ∙ ap (core (replicate n (idle_by m mode plan commit adaptive))) book)) (start_law m mode plan n commit adaptive own several numbered one two)
 
 -- ---- where lawful events look
 

@@ -7,11 +7,12 @@ use Rattle.fz_tree.specs.Book.{Book}
 use Rattle.fz_core.specs.declared.event.Event.{Event}
 use Rattle.fz_core.specs.declared.event.Event.TheVariants.{Claim, Start, Step, Report, Steal, Learn}
 use Rattle.fz_core.specs.declared.event.Outcome.{Outcome}
-use Rattle.fz_core.specs.declared.event.Answer.TheVariants.{Applied}
+use Rattle.fz_core.specs.declared.event.Answer.{Answer}
+use Rattle.fz_core.specs.declared.event.Answer.TheVariants.{Applied, Unlawful}
 use Rattle.fz_core.specs.Cores.{Core, CoreLaw}
 use Rattle.fz_core.specs.Lawful.{is_lawful}
 use Rattle.fz_core.specs.Events.{Happens, Refuses}
-use Rattle.fz_core.specs.Runs.{Turns, Runs}
+use Rattle.fz_core.specs.Runs.{Answers, Turns, Runs}
 use Rattle.fz_machine.specs.Schedule.{IsNext, NoneActs, FirstActs, IsTurn, HasTurn, Goes, HasStopped, HasEnough, next_number, picked}
 use Rattle.fz_machine.specs.Measure.{core_left}
 use Rattle.fz_machine.proofs.Turns.{next_lawful, next_leaves_less, nobody_closes}
@@ -50,7 +51,7 @@ of_book s t b is model mode = record { model = ap (λ (x : Book). x.model) is �
 same_book : (s t : Core) → t.book ≡ s.book → IsOfOne s t
 same_book s t is = of_book s t s.book is refl refl
 
-happens_of : (event : Event) (outcome : Outcome) (s t : Core) → Happens event outcome s t → IsOfOne s t
+pub happens_of : (event : Event) (outcome : Outcome) (s t : Core) → Happens event outcome s t → IsOfOne s t
 happens_of (Claim w) outcome s t h = of_book s t _ h.1.claims.is refl refl
 happens_of (Start w) outcome s t h = same_book s t (ap (λ (x : Core). x.book) h.1.is)
 happens_of (Step w) outcome s t h = same_book s t (ap (λ (x : Core). x.book) h.is)
@@ -58,13 +59,17 @@ happens_of (Report w) outcome s t h = of_book s t _ h.1.takes.is refl refl
 happens_of (Steal v w) outcome s t h = of_book s t _ h.1.takes.is refl refl
 happens_of (Learn w i) outcome s t h = same_book s t (ap (λ (x : Core). x.book) h.is)
 
-refuses_of : (event : Event) (s t : Core) → Refuses event s t → IsOfOne s t
+pub refuses_of : (event : Event) (s t : Core) → Refuses event s t → IsOfOne s t
 refuses_of (Claim w) s t h = same_book s t (ap (λ (x : Core). x.book) h)
 refuses_of (Start w) s t h = same_book s t (ap (λ (x : Core). x.book) h)
 refuses_of (Step w) s t h = same_book s t (ap (λ (x : Core). x.book) h.is)
 refuses_of (Report w) s t h = same_book s t (ap (λ (x : Core). x.book) h)
 refuses_of (Steal v w) s t h = same_book s t (ap (λ (x : Core). x.book) h)
 refuses_of (Learn w i) s t h = same_book s t (ap (λ (x : Core). x.book) h)
+
+pub answers_of : (a : Answer) (event : Event) (s t : Core) → Answers a event s t → IsOfOne s t
+answers_of (Applied outcome) event s t h = happens_of event outcome s t h.1
+answers_of (Unlawful e) event s t h = same_book s t (ap (λ (x : Core). x.book) h.2)
 
 -- ---- turn by turn
 

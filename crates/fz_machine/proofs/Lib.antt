@@ -6,3 +6,4 @@ pub mod Turns
 pub mod Going
 pub mod Victims
 pub mod AsCode
+pub mod Assets

@@ -4,7 +4,7 @@ use Rattle.std.specs.Prelude.{ℤ, if◌then◌else◌}
 use Rattle.std.specs.List.{slice_get, remove}
 use Rattle.std.proofs.lemmas.List.{length-append}
 use Rattle.std.proofs.lemmas.List.Sums.{sum_by-set, sum_by-cons, sum_by-append, sum_by-remove}
-use Rattle.fz_spec.specs.Instance.{Instance, Satisfies}
+use Rattle.fz_spec.specs.Instance.{Instance, Satisfies, SearchPart}
 use Rattle.fz_model.specs.Kept.{IsModel}
 use Rattle.fz_tree.specs.declared.mode.Mode.{Mode}
 use Rattle.fz_tree.specs.declared.mode.Mode.TheVariants.{All, Rows, Best}
@@ -156,15 +156,15 @@ added_learns m All c x less = record { found = omega (arith, length-append c.fou
 added_learns m Rows c x less = record { found = omega (arith, length-append c.found (x ∷ [])); witness = omega arith }
 added_learns m Best c x less = record { found = omega arith; witness = less }
 
-node_learns : (m : Instance) (step : Step) (c new : Account) → IsModel m → c.model ≡ m → IfSome c.witness (Satisfies m) → NodeTo step c new → LearnsBy m c new
-node_learns m Expanded c new model is sound (inl f) = subst (LearnsBy m c) (sym f.is) (record { found = omega arith; witness = omega arith })
-node_learns m Expanded c new model is sound (inr d) = subst (LearnsBy m c) (sym d.is) (record { found = omega arith; witness = omega arith })
-node_learns m Found c new model is sound f =
+node_learns : (plan : List SearchPart) (m : Instance) (step : Step) (c new : Account) → IsModel m → c.model ≡ m → IfSome c.witness (Satisfies m) → NodeTo plan step c new → LearnsBy m c new
+node_learns plan m Expanded c new model is sound (inl f) = subst (LearnsBy m c) (sym f.is) (record { found = omega arith; witness = omega arith })
+node_learns plan m Expanded c new model is sound (inr d) = subst (LearnsBy m c) (sym d.is) (record { found = omega arith; witness = omega arith })
+node_learns plan m Found c new model is sound f =
     let satisfies : Satisfies m f.assignment = subst (λ (n : Instance). Satisfies n f.assignment) is f.only.satisfies in
     let better : Betters m f.assignment c.witness = subst (λ (n : Instance). Betters n f.assignment c.witness) is f.better in
     subst (LearnsBy m c) (sym f.is) (added_learns m c.mode c f.assignment (omega (arith, better_less m f.assignment c.witness model satisfies sound better)))
-node_learns m Closed c new model is sound none = absurd none
-node_learns m Idle c new model is sound none = absurd none
+node_learns plan m Closed c new model is sound none = absurd none
+node_learns plan m Idle c new model is sound none = absurd none
 
 from_node : (m : Instance) (c node new : Account) → (node.found ≡ c.found) × (node.witness ≡ c.witness) → LearnsBy m node new → LearnsBy m c new
 from_node m c node new same learns = record {
@@ -177,33 +177,33 @@ at_node_model c true = refl
 at_node_model c false = refl
 
 -- a step where something is left
-step_path : (m : Instance) (step : Step) (c new : Account) → IsModel m → c.model ≡ m → new.model ≡ m → IfSome c.witness (Satisfies m) → has_rest c.after ≡ true → StepsTo step c new → Falls step c new
+step_path : (plan : List SearchPart) (m : Instance) (step : Step) (c new : Account) → IsModel m → c.model ≡ m → new.model ≡ m → IfSome c.witness (Satisfies m) → has_rest c.after ≡ true → StepsTo plan step c new → Falls step c new
     → path_left m (Some new) < path_left m (Some c)
-step_path m Expanded c new model is new_is sound rest steps falls =
+step_path plan m Expanded c new model is new_is sound rest steps falls =
     let same = node_same c c.after.current_open in
     let node_sound : IfSome (at_node c).witness (Satisfies m) = subst (λ (o : Option (List ℤ)). IfSome o (Satisfies m)) (sym same.1) sound in
-    let learns = from_node m c (at_node c) new same (node_learns m Expanded (at_node c) new model (at_node_model c c.after.current_open ∙ is) node_sound steps.1) in
+    let learns = from_node m c (at_node c) new same (node_learns plan m Expanded (at_node c) new model (at_node_model c c.after.current_open ∙ is) node_sound steps.1) in
     let less : weight m new.after < weight m c.after = rw (← is) (subst (λ (n : Instance). weight n new.after < weight c.model c.after) (new_is ∙ sym is) falls) in
     omega (arith, learns.found, learns.witness, weighs_less m c.after new.after less)
-step_path m Found c new model is new_is sound rest steps falls =
+step_path plan m Found c new model is new_is sound rest steps falls =
     let same = node_same c c.after.current_open in
     let node_sound : IfSome (at_node c).witness (Satisfies m) = subst (λ (o : Option (List ℤ)). IfSome o (Satisfies m)) (sym same.1) sound in
-    let learns = from_node m c (at_node c) new same (node_learns m Found (at_node c) new model (at_node_model c c.after.current_open ∙ is) node_sound steps.1) in
+    let learns = from_node m c (at_node c) new same (node_learns plan m Found (at_node c) new model (at_node_model c c.after.current_open ∙ is) node_sound steps.1) in
     let less : weight m new.after < weight m c.after = rw (← is) (subst (λ (n : Instance). weight n new.after < weight c.model c.after) (new_is ∙ sym is) falls) in
     omega (arith, learns.found, learns.witness, weighs_less m c.after new.after less)
-step_path m Closed c new model is new_is sound rest steps falls = absurd (let bad : true ≡ false = sym rest ∙ steps.0 in cc)
-step_path m Idle c new model is new_is sound rest steps falls = absurd steps
+step_path plan m Closed c new model is new_is sound rest steps falls = absurd (let bad : true ≡ false = sym rest ∙ steps.0 in cc)
+step_path plan m Idle c new model is new_is sound rest steps falls = absurd steps
 
 pub step_less : (w : ℕ) (answer : Outcome) (old new : Core) → CoreLaw old → IsModel old.book.model → (s : StepsAt w answer old new) → has_rest s.account.after ≡ true → core_left new < core_left old
 step_less w answer old new law model s rest =
     let m = old.book.model in
     let of_w = worker_of old w s.worker law s.at in
     let is = held_by m old.book.mode s.worker s.account of_w s.holds in
-    let follows = step_follows s.step s.account s.stepped is.law s.steps in
+    let follows = step_follows s.worker.path.plan s.step s.account s.stepped is.law s.steps in
     let of_m : s.account.model ≡ m = is.model ∙ of_w.model in
     let sound : IfSome s.account.witness (Satisfies m) = subst (λ (n : Instance). IfSome s.account.witness (Satisfies n)) of_m is.law.witness in
     replaced_less old new w s.worker (holding s.worker (Some s.stepped)) s.at s.is
-    (omega (arith, ap (path_left m) s.holds, step_path m s.step s.account s.stepped model of_m (follows.model ∙ of_m) sound rest s.steps s.falls))
+    (omega (arith, ap (path_left m) s.holds, step_path s.worker.path.plan m s.step s.account s.stepped model of_m (follows.model ∙ of_m) sound rest s.steps s.falls))
 
 -- ---- reports
 

@@ -1,5 +1,5 @@
 -- The next event of a worker is lawful, and leaves less; where no worker has one, the book is closed.
-use Rattle.std.proofs.Common.{◌≡◌, ◌∙◌, ℕ, zero, suc, ◌+◌, ◌-◌, ◌<◌, ◌≤◌, List, [], ◌∷◌, Bool, true, false, cond, ◌&&◌, ◌||◌, not, length, ap, sym, subst, refl, arith, Option, Some, None, IfSome, ◌⊎◌, inl, inr}
+use Rattle.std.proofs.Common.{◌≡◌, ◌∙◌, ℕ, suc, ◌+◌, ◌-◌, ◌<◌, ◌≤◌, List, [], ◌∷◌, Bool, true, false, cond, ◌&&◌, ◌||◌, not, length, ap, sym, subst, refl, arith, Option, Some, None, IfSome, ◌⊎◌, inl, inr}
 use Rattle.std.specs.Prelude.{ℤ, if◌then◌else◌, ◌==◌, nat_lt, is_some, is_none, option_map, IsSomeAnd, MatchOption}
 use Rattle.std.specs.List.{slice_get, list_all, position_from}
 use Rattle.std.proofs.lemmas.Bool.{ltb-true, lt-ltb, ne_eqb, and_from, not_from_false, not-false, not-true}

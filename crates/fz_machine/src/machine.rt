@@ -1,17 +1,22 @@
 //! Machines.
-ghost use Rattle.std.specs.Prelude.{◌≡◌, ◌≤◌, ◌<◌, true, length, option_copied, option_map, is_some, IfOk, IfErr, OnErr};
+ghost use Rattle.std.specs.Prelude.{◌≡◌, ◌≢◌, ◌≤◌, ◌<◌, true, length, option_copied, option_map, is_some, IfOk, IfErr, OnErr};
 ghost use Rattle.std.specs.Arc.{arc_value};
+ghost use Rattle.fz_spec.specs.Instance.{Satisfies};
 ghost use Rattle.fz_tree.specs.Better.{IsModeOf};
 ghost use Rattle.fz_tree.specs.Book.{BookLaw};
+ghost use Rattle.fz_branch.specs.Plans.{IsPlanOf};
 ghost use Rattle.fz_path.specs.Paths.{bare};
-ghost use Rattle.fz_core.specs.Cores.{CoreLaw, starting, worker_at};
+ghost use Rattle.fz_core.specs.Cores.{CoreLaw, starting, starting_by, worker_at};
 ghost use Rattle.fz_core.specs.Lawful.{is_lawful, has_unclaimed, improving};
 ghost use Rattle.fz_core.specs.Events.{Happens, Refuses};
 ghost use Rattle.fz_core.specs.Runs.{Answers};
+ghost use Rattle.fz_machine.specs.Portfolios.{IsOffered};
 
-use crate::slot::{Slot, can_be_cut, idle_slots, is_busy, is_free, is_ready, is_worker};
+use crate::shared::Shared;
+use crate::slot::{Slot, can_be_cut, idle_slots, is_busy, is_free, is_ready, is_worker, slots_by};
 use fz_account::Mode;
-use fz_book::Book;
+use fz_book::{Book, Offered};
+use fz_branch::Plan;
 use fz_core::event::{Answer, Event, Outcome, outcome_of_learned, outcome_of_step};
 use fz_model::Assignment;
 use fz_path::{Path, Task};
@@ -77,6 +82,42 @@ impl<S: SearchSpace> Machine<S> {
             workers: slots,
             book,
         })
+    }
+
+    /// The same, by a plan of the model in place of its own.
+    ///
+    /// # Errors
+    /// `AllocError` where there is no memory.
+    pub(crate) fn by_plan(
+        alloc: Global,
+        model: &Arc<fz_model::Model>,
+        mode: Mode,
+        plan: Plan,
+        workers: u32,
+        commit_distance: u32,
+        adaptive_distance: u32,
+    ) -> Result<Machine<S>, AllocError>
+        requires accepts { S.accepts (arc_value model.now) }
+        requires mode { IsModeOf (arc_value model.now).goal mode }
+        requires no_rows { mode ≢ Mode.Rows }
+        requires plan { IsPlanOf (arc_value model.now) plan }
+        requires workers { 1 ≤ workers }
+        requires commit_distance { 1 ≤ commit_distance }
+        requires adaptive_distance { 1 ≤ adaptive_distance }
+        ensures { IfOk result (λ m. m ≡ starting_by
+            (arc_value model.now) mode plan workers commit_distance adaptive_distance) }
+    {
+        let workers = slots_by(
+            alloc,
+            model,
+            mode,
+            plan,
+            workers,
+            commit_distance,
+            adaptive_distance,
+        )?;
+        let book = Book::begin(alloc, model.clone()?, mode)?;
+        Ok(Machine { workers, book })
     }
 
     /// Lets an event happen, and says what came of it: `Unlawful` exactly where it isn't lawful; then nothing changes.
@@ -219,6 +260,23 @@ impl<S: SearchSpace> Machine<S> {
         let assignment = &self.book.recorded()[number as usize];
         let learned = self.workers[worker as usize].path.learn(assignment)?;
         Ok(outcome_of_learned(learned))
+    }
+
+    /// Offers the book an assignment that satisfies and was found elsewhere, in a search for the best one.
+    ///
+    /// # Errors
+    /// `AllocError` where there is no memory; nothing has changed.
+    pub(crate) fn offer(&mut self, assignment: Assignment) -> Result<Shared, AllocError>
+        requires mode { self.old.book.mode ≡ Mode.Best }
+        requires satisfies { Satisfies self.old.book.model assignment }
+        ensures ok { IfOk result (λ shared. IsOffered shared assignment self.old self.new) }
+        ensures err { OnErr result (self.new ≡ self.old) }
+    {
+        match self.book.offer_found(assignment) {
+            Ok(Offered::Better) => Ok(Shared::Better),
+            Ok(Offered::NotBetter(_)) => Ok(Shared::NotBetter),
+            Err(_) => Err(AllocError),
+        }
     }
 
     /// The book. It keeps its law, so where nothing is open it is complete.

@@ -1,5 +1,5 @@
 //! One worker.
-ghost use Rattle.std.specs.Prelude.{◌≡◌, ◌≤◌, replicate, true, None, Some, is_some, IfOk, IfSome, OnOk, OnErr};
+ghost use Rattle.std.specs.Prelude.{◌≡◌, ◌≢◌, ◌≤◌, replicate, true, None, Some, is_some, IfOk, IfSome, OnOk, OnErr};
 ghost use Rattle.std.specs.List.{slice_get};
 ghost use Rattle.std.specs.Arc.{arc_value};
 ghost use Rattle.fz_tree.specs.Better.{IsModeOf};
@@ -7,17 +7,19 @@ ghost use Rattle.fz_tree.specs.Account as accounts;
 ghost use Rattle.fz_tree.specs.Account.{with_given};
 ghost use Rattle.fz_tree.specs.Book.{Takes};
 ghost use Rattle.fz_tree.specs.Frontier.{part_of};
-ghost use Rattle.fz_path.specs.Paths.{held_behind, can_cut_held};
+ghost use Rattle.fz_branch.specs.Plans.{IsPlanOf};
+ghost use Rattle.fz_path.specs.Paths.{bare, held_behind, can_cut_held};
 ghost use Rattle.fz_path.specs.Tasks as tasks;
 ghost use Rattle.fz_path.specs.Starts.{TakesUp};
 ghost use Rattle.fz_path.specs.Cuts.{IsNearOf, held_behind_cut};
-ghost use Rattle.fz_core.specs.Cores.{idle};
+ghost use Rattle.fz_core.specs.Cores.{idle, idle_by};
 ghost use Rattle.fz_core.specs.Events.{holding};
 ghost use Rattle.fz_core.specs.Lawful.{is_free, is_ready, is_busy, can_be_cut};
 ghost use Rattle.fz_book.specs.Reports.{IsReportable};
 
 use fz_account::Mode;
 use fz_book::Book;
+use fz_branch::Plan;
 use fz_path::{Path, Start, Task};
 use fz_search_space::SearchSpace;
 use std::alloc::{AllocError, Global};
@@ -32,6 +34,7 @@ pub struct Slot<S: SearchSpace> {
 }
 
 impl<S: SearchSpace> Model for Slot<S> {
+    ghost use Rattle.fz_branch.specs.Plans.{IsPlanOf};
     ghost use Rattle.fz_path.specs.Paths.{bare};
     ghost use Rattle.fz_core.specs.Cores.{Worker};
 
@@ -161,6 +164,54 @@ pub fn idle_slots<S: SearchSpace>(
     let mut slots = Vec::new(alloc);
     for _worker in 0..workers {
         slots.push(Slot::idle(alloc, model, mode, commit_distance, adaptive_distance)?)?;
+    }
+    Ok(slots)
+}
+
+/// That many idle workers, by a plan of the model in place of its own.
+///
+/// # Errors
+/// `AllocError` where there is no memory.
+pub fn slots_by<S: SearchSpace>(
+    alloc: Global,
+    model: &Arc<fz_model::Model>,
+    mode: Mode,
+    plan: Plan,
+    workers: u32,
+    commit_distance: u32,
+    adaptive_distance: u32,
+) -> Result<Vec<Slot<S>>, AllocError>
+    requires accepts { S.accepts (arc_value model.now) }
+    requires mode { IsModeOf (arc_value model.now).goal mode }
+    requires no_rows { mode ≢ Mode.Rows }
+    requires plan { IsPlanOf (arc_value model.now) plan }
+    requires commit_distance { 1 ≤ commit_distance }
+    requires adaptive_distance { 1 ≤ adaptive_distance }
+    ensures { IfOk result (λ slots. slots.items ≡ replicate workers
+        (idle_by (arc_value model.now) mode plan commit_distance adaptive_distance)) }
+{
+    let model = model.clone()?;
+    let path = Path::idle_with(alloc, model, mode, plan, commit_distance, adaptive_distance)?;
+    slots_beside(alloc, &path, workers)
+}
+
+/// That many workers like this path, which holds nothing, with empty hands.
+fn slots_beside<S: SearchSpace>(
+    alloc: Global,
+    path: &Path<S>,
+    workers: u32,
+) -> Result<Vec<Slot<S>>, AllocError>
+    requires holds_nothing { path.now.held ≡ None }
+    requires knows_nothing { path.now.known ≡ None }
+    ensures { IfOk result (λ slots. slots.items ≡ replicate workers
+        (record { path = bare path.now; hand = None })) }
+{
+    let mut slots = Vec::new(alloc);
+    for _worker in 0..workers {
+        slots.push(Slot {
+            path: path.beside()?,
+            hand: None,
+        })?;
     }
     Ok(slots)
 }

@@ -3,44 +3,42 @@ ghost use Rattle.std.specs.Prelude.{◌≡◌, ◌≤◌, None, [], IfOk};
 ghost use Rattle.std.specs.Arc.{arc_value};
 ghost use Rattle.fz_trail.specs.Nodes.{IsAt};
 ghost use Rattle.fz_trail.specs.Trails.{IsTrail};
-ghost use Rattle.fz_path.specs.Paths.{ArePlans};
 
 use crate::plans::Plans;
-use fz_account::Mode;
 use fz_search_space::SearchSpace;
 use fz_trail::Trail;
 use std::alloc::{AllocError, Global};
 use std::sync::Arc;
 
-/// The plans of a model, and the space of its root alone.
+/// The plans of a path, and the space of a model's root alone.
 #[derive(Drop)]
 pub struct Beginning<S: SearchSpace> {
     pub plans: Arc<Plans>,
     pub trail: Trail<S>,
 }
 
-/// The beginning of a model's paths that keep copies at these distances.
+/// The beginning of a model's path that keeps copies at these distances.
 ///
 /// # Errors
 /// `AllocError` where there is no memory.
 pub fn beginning_of<S: SearchSpace>(
     alloc: Global,
     model: &Arc<fz_model::Model>,
-    mode: Mode,
+    plans: Plans,
     commit_distance: u32,
     adaptive_distance: u32,
 ) -> Result<Beginning<S>, AllocError>
     requires accepts { S.accepts (arc_value model.now) }
     requires distances { (1 ≤ commit_distance) × (1 ≤ adaptive_distance) }
-    ensures plans { IfOk result (λ b. ArePlans mode (arc_value model.now) (arc_value b.plans)) }
+    ensures plans { IfOk result (λ b. arc_value b.plans ≡ plans) }
     ensures distances { IfOk result (λ b. (b.trail.distance ≡ commit_distance)
         × (b.trail.adaptive ≡ adaptive_distance)) }
     ensures begun { IfOk result (λ b. (b.trail.copies.items ≡ []) × (b.trail.current ≡ None)
-        × (b.trail.sparse ≡ 0)) }
+        × (b.trail.sparse ≡ 0) × (b.trail.longest ≡ 0)) }
     ensures spaces { IfOk result (λ b.
         IsTrail S.spaced (arc_value model.now) None [] b.trail) }
 {
-    let plans = shared_plans(alloc, model, mode)?;
+    let plans = shared_plans(alloc, plans)?;
     let root = shared_root::<S>(alloc, model)?;
     Ok(Beginning {
         plans,
@@ -48,15 +46,10 @@ pub fn beginning_of<S: SearchSpace>(
     })
 }
 
-/// The plans of a model, to be shared.
-fn shared_plans(
-    alloc: Global,
-    model: &fz_model::Model,
-    mode: Mode,
-) -> Result<Arc<Plans>, AllocError>
-    ensures { IfOk result (λ p. ArePlans mode model.now (arc_value p)) }
+/// The plans of a path, to be shared.
+fn shared_plans(alloc: Global, plans: Plans) -> Result<Arc<Plans>, AllocError>
+    ensures { IfOk result (λ p. arc_value p ≡ plans) }
 {
-    let plans = Plans::of(alloc, model, mode)?;
     match Arc::new(alloc, plans) {
         Ok(plans) => Ok(plans),
         Err(_) => Err(AllocError),

@@ -5,11 +5,10 @@ use Rattle.std.proofs.Math.IntN.{zero-*ℤ, *ℤ-zero, *ℤ_comm}
 use Rattle.std.specs.List.{AllByRecursion}
 use Rattle.fz_num.proofs.Euclid.{one_more, one_less}
 use Rattle.fz_num.proofs.Products.{mul_le}
-use Rattle.fz_spec.specs.Truth.{weighted_sum}
+use Rattle.fz_spec.specs.Truth.{weighted_sum, Relates}
 use Rattle.fz_spec.specs.declared.term.Term.{Term}
 use Rattle.fz_spec.specs.Constraints.{term_values}
-use Rattle.fz_strength.specs.declared.relation.Relation.{Relation}
-use Rattle.fz_strength.specs.Relations.{Relates}
+use Rattle.fz_spec.specs.declared.shape.Relation.{Relation}
 use Rattle.fz_plain.specs.Plain.{IsDecided, IsMultipleOf, SumRelates}
 use Rattle.fz_plain.proofs.Spread.{spread, num_up, num_down, minus_one}
 

@@ -5,10 +5,9 @@ use Rattle.fz_spec.specs.declared.term.Term.{Term}
 use Rattle.fz_spec.specs.declared.term.Term.TheVariants.{Num}
 use Rattle.fz_spec.specs.Constraints.{term_value, term_values}
 use Rattle.fz_spec.specs.Instance.{Variable}
-use Rattle.fz_spec.specs.Truth.{IsReified, weighted_sum}
-use Rattle.fz_strength.specs.declared.relation.Relation.{Relation}
-use Rattle.fz_strength.specs.declared.relation.Relation.TheVariants.{Equal, NotEqual, AtMost, Below}
-use Rattle.fz_strength.specs.Relations.{Relates}
+use Rattle.fz_spec.specs.Truth.{IsReified, weighted_sum, Relates}
+use Rattle.fz_spec.specs.declared.shape.Relation.{Relation}
+use Rattle.fz_spec.specs.declared.shape.Relation.TheVariants.{Equal, NotEqual, AtMost, Below}
 use Rattle.fz_strength.specs.Sayings.{Saying, Compare, CompareIf, Sum, SumIf, truth_of}
 use Rattle.fz_says.specs.Fits.{IsFit, IsKnown}
 use Rattle.fz_plain.specs.Plain.{AreLarge, HasPlainer, HasTwice, IsDecided, IsGathered, IsNeverSame, IsPlainForm, IsToldByDivisor, IsTwice, SumRelates, plain_said, told_by}

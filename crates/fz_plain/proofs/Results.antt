@@ -8,10 +8,10 @@ use Rattle.fz_spec.specs.declared.term.Term.{Term}
 use Rattle.fz_spec.specs.declared.term.Term.TheVariants.{Num, Var}
 use Rattle.fz_spec.specs.Constraints.{term_value, term_values}
 use Rattle.fz_spec.specs.Instance.{Variable}
-use Rattle.fz_spec.specs.Truth.{weighted_sum, IsGreatestOf, IsLeastOf, SomeByRecursion}
-use Rattle.fz_strength.specs.declared.operation.Operation.TheVariants.{Plus, Times, Quotient, Remainder, Abs, Min, Max}
-use Rattle.fz_strength.specs.declared.relation.Relation.TheVariants.{Equal, AtMost}
-use Rattle.fz_strength.specs.Operations.{equation, remainder, size_of}
+use Rattle.fz_spec.specs.Truth.{weighted_sum, IsGreatestOf, IsLeastOf, SomeByRecursion, remainder, size_of}
+use Rattle.fz_spec.specs.declared.shape.Operation.TheVariants.{Plus, Times, Quotient, Remainder, Abs, Min, Max}
+use Rattle.fz_spec.specs.declared.shape.Relation.TheVariants.{Equal, AtMost}
+use Rattle.fz_strength.specs.Operations.{equation}
 use Rattle.fz_strength.specs.Sayings.{Saying, Compare, Equals, Member, Sum, truth_of}
 use Rattle.fz_strength.specs.Sums.{left_factors, left_terms, right_number}
 use Rattle.fz_says.specs.Fits.{FitsSum, IsFit, IsKnown}

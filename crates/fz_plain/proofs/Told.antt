@@ -4,8 +4,8 @@ use Rattle.std.proofs.lemmas.Int.{ints}
 use Rattle.std.proofs.Math.IntN.{*ℤ-zero}
 use Rattle.std.specs.List.{AllByRecursion}
 use Rattle.fz_spec.specs.declared.term.Term.{Term}
-use Rattle.fz_strength.specs.declared.relation.Relation.{Relation}
-use Rattle.fz_strength.specs.declared.relation.Relation.TheVariants.{Equal, NotEqual}
+use Rattle.fz_spec.specs.declared.shape.Relation.{Relation}
+use Rattle.fz_spec.specs.declared.shape.Relation.TheVariants.{Equal, NotEqual}
 use Rattle.fz_plain.specs.Plain.{IsDecided, IsMultipleOf, IsOff, IsToldByDivisor, IsToldOff, SumRelates}
 use Rattle.fz_plain.proofs.Deciding.{zero_decided, never_equal}
 use Rattle.fz_plain.proofs.Divisors.{multiple_of_multiple, none_multiple, product_of_multiple, zero_multiple}

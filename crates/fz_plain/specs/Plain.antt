@@ -5,14 +5,13 @@ use Rattle.fz_spec.specs.declared.term.Term.{Term}
 use Rattle.fz_spec.specs.declared.term.Term.TheVariants.{Num, Var}
 use Rattle.fz_spec.specs.Constraints.{term_values}
 use Rattle.fz_spec.specs.Instance.{Variable}
-use Rattle.fz_spec.specs.Truth.{weighted_sum}
-use Rattle.fz_strength.specs.declared.operation.Operation.{Operation}
-use Rattle.fz_strength.specs.declared.operation.Operation.TheVariants.{Plus, Times, Quotient, Remainder, Abs, Min, Max}
-use Rattle.fz_strength.specs.declared.relation.Relation.{Relation}
-use Rattle.fz_strength.specs.declared.relation.Relation.TheVariants.{Equal, NotEqual}
+use Rattle.fz_spec.specs.Truth.{weighted_sum, Relates}
+use Rattle.fz_spec.specs.declared.shape.Operation.{Operation}
+use Rattle.fz_spec.specs.declared.shape.Operation.TheVariants.{Plus, Times, Quotient, Remainder, Abs, Min, Max}
+use Rattle.fz_spec.specs.declared.shape.Relation.{Relation}
+use Rattle.fz_spec.specs.declared.shape.Relation.TheVariants.{Equal, NotEqual}
 use Rattle.fz_strength.specs.Events.{variables_of}
 use Rattle.fz_strength.specs.Operations.{equation}
-use Rattle.fz_strength.specs.Relations.{Relates}
 use Rattle.fz_strength.specs.Sayings.{Saying, Compare, CompareIf, Member, Sum, SumIf, Equals, truth_of}
 use Rattle.fz_strength.specs.Sums.{left_factors, left_terms, right_number}
 use Rattle.fz_says.specs.Fits.{IsFit, IsKnown}

@@ -1,11 +1,11 @@
 //! Sums that are always related so to a number, or never.
 ghost use Rattle.std.specs.Prelude.{◌↔◌, ℤ, List, Bool, false, IfSome, IsNone, IsTrue};
-ghost use Rattle.fz_strength.specs.Relations.{Relates};
+ghost use Rattle.fz_spec.specs.Truth.{Relates};
 ghost use Rattle.fz_plain.specs.Plain.{IsDecided, IsToldByDivisor, SumRelates};
 
 use crate::divisor::{greatest_divisor, is_multiple};
+use fz_spec::shape::Relation;
 use fz_spec::term::Term;
-use fz_strength::relation::Relation;
 
 /// Whether a sum is always related so to a number, or never, where that is seen by the greatest divisor of its factors: the sum is a
 /// multiple of it, and 0 where all factors are.

@@ -1,6 +1,6 @@
 //! Operations in a plainer form.
 ghost use Rattle.std.specs.Prelude.{◌≡◌, ◌∷◌, [], IfOk};
-ghost use Rattle.fz_strength.specs.declared.operation.Operation.TheVariants.{Abs, Plus, Quotient, Remainder, Times};
+ghost use Rattle.fz_spec.specs.declared.shape.Operation.TheVariants.{Abs, Plus, Quotient, Remainder, Times};
 ghost use Rattle.fz_strength.specs.Operations.{equation};
 ghost use Rattle.fz_strength.specs.Sayings.{Equals};
 ghost use Rattle.fz_plain.specs.Plain.{IsPlainest};
@@ -10,9 +10,8 @@ use crate::operands::{plain_greatest, plain_least};
 use crate::plain::Plain;
 use crate::sums::plain_sum;
 use fz_dom::Dom;
+use fz_spec::shape::{Operation, Relation};
 use fz_spec::term::Term;
-use fz_strength::operation::Operation;
-use fz_strength::relation::Relation;
 use std::alloc::{AllocError, Global};
 use std::sync::Arc;
 

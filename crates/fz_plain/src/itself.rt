@@ -1,13 +1,13 @@
 //! Relations of a variable to itself.
 ghost use Rattle.std.specs.Prelude.{◌≡◌, ◌↔◌, ℤ, pos, false, IsTrue};
 ghost use Rattle.fz_spec.specs.declared.term.Term.TheVariants.{Num};
-ghost use Rattle.fz_strength.specs.Relations.{Relates};
+ghost use Rattle.fz_spec.specs.Truth.{Relates};
 ghost use Rattle.fz_strength.specs.Sayings.{Compare, CompareIf};
 ghost use Rattle.fz_plain.specs.Plain.{IsDecided, IsPlainest, IsTwice, plain_said, told_by};
 
 use crate::plain::Plain;
+use fz_spec::shape::Relation;
 use fz_spec::term::Term;
-use fz_strength::relation::Relation;
 
 /// That a relation is never true, where it is of a variable to itself and doesn't hold of equal numbers.
 pub fn plain_comparison(relation: Relation, x: Term, y: Term) -> Option<Plain>

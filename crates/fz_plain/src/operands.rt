@@ -1,14 +1,14 @@
 //! The greatest or the least of two terms.
 ghost use Rattle.std.specs.Prelude.{◌≡◌, ◌∷◌, []};
-ghost use Rattle.fz_strength.specs.declared.operation.Operation.TheVariants.{Max, Min};
+ghost use Rattle.fz_spec.specs.declared.shape.Operation.TheVariants.{Max, Min};
 ghost use Rattle.fz_strength.specs.Operations.{equation};
 ghost use Rattle.fz_strength.specs.Sayings.{Equals};
 ghost use Rattle.fz_plain.specs.Plain.{IsPlainest};
 
 use crate::itself::are_twice;
 use crate::plain::Plain;
+use fz_spec::shape::Relation;
 use fz_spec::term::Term;
-use fz_strength::relation::Relation;
 
 /// The greatest of two terms, where a variable stands twice.
 pub fn plain_greatest(x: Term, y: Term, z: Term) -> Option<Plain>

@@ -10,9 +10,8 @@ use crate::sums::{plain_sum, plain_sum_if};
 use fz_dom::Dom;
 use fz_says::Saying;
 use fz_says::saying::Operands;
+use fz_spec::shape::{Operation, Relation};
 use fz_spec::term::Term;
-use fz_strength::operation::Operation;
-use fz_strength::relation::Relation;
 use std::alloc::{AllocError, Global};
 use std::sync::Arc;
 

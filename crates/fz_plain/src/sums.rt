@@ -1,7 +1,7 @@
 //! Sums in a plainer form.
 ghost use Rattle.std.specs.Prelude.{◌≡◌, ◌↔◌, ◌⊎◌, pos, false, IfOk, IsTrue};
 ghost use Rattle.fz_spec.specs.declared.term.Term.TheVariants.{Num};
-ghost use Rattle.fz_strength.specs.declared.relation.Relation.TheVariants.{Equal};
+ghost use Rattle.fz_spec.specs.declared.shape.Relation.TheVariants.{Equal};
 ghost use Rattle.fz_strength.specs.Sayings.{Sum, SumIf};
 ghost use Rattle.fz_strength.specs.Sums.{left_factors, left_terms, right_number};
 ghost use Rattle.fz_says.specs.Fits.{FitsSum};
@@ -11,8 +11,8 @@ use crate::decided::{decided, is_never};
 use crate::gather::{Terms, gather};
 use crate::itself::{never, told_by};
 use crate::plain::Plain;
+use fz_spec::shape::Relation;
 use fz_spec::term::Term;
-use fz_strength::relation::Relation;
 use std::alloc::{AllocError, Global};
 
 /// That a sum is never related so to a term; or the same with equal terms added up.

@@ -9,11 +9,11 @@ use Rattle.fz_strength.specs.declared.event.Event.TheVariants.{Any, Bound, Fixed
 use Rattle.fz_strength.specs.Clauses.{clause_terms}
 use Rattle.fz_strength.specs.Cumulatives.{terms_of_tasks}
 use Rattle.fz_strength.specs.Events.{Wait, wait_for, waits_for, AreBelow}
-use Rattle.fz_strength.specs.Lines.{terms_among}
+use Rattle.fz_spec.specs.Constraints.{terms_among}
 use Rattle.fz_strength.specs.Operations.{operand_event}
 use Rattle.fz_strength.specs.Relations.{event_of, reified_event}
 use Rattle.fz_strength.specs.Sums.{sum_event_of}
-use Rattle.fz_strength.specs.Sayings.{Saying, Compare, CompareIf, Member, MemberIf, Sum, SumIf, Says, Equals, Odd, Select, SelectTerm, Row, Differ, DifferByBounds, SumByNumbers, Share, Nothing, said_terms, waits_of}
+use Rattle.fz_strength.specs.Sayings.{Saying, Compare, CompareIf, Member, MemberIf, Sum, SumIf, Says, Equals, Odd, Select, SelectTerm, Row, Differ, DifferByBounds, SumByNumbers, Share, Other, said_terms, waits_of}
 use Rattle.fz_prop.specs.Stores.{IsTermOf}
 
 wait_below : (event : Event) (t : Term) (n : ℕ) → IsTermOf n t → AreBelow (wait_for event t) n
@@ -44,4 +44,4 @@ below n (Differ xs) all = waits_below Fixed xs n all
 below n (DifferByBounds xs) all = waits_below Bound xs n all
 below n (SumByNumbers ks ts c) all = waits_below Any ts n all
 below n (Share ss dd us b) all = waits_below Bound (terms_of_tasks ss dd us b) n all
-below n (Nothing name arguments) all = waits_below Fixed (terms_among arguments) n all
+below n (Other shape arguments) all = waits_below Fixed (terms_among arguments) n all

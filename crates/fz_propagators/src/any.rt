@@ -136,7 +136,7 @@ impl AnyPropagator {
                 let disjunctive = Disjunctive::new(alloc, starts, durations, usages, *bound)?;
                 Ok(AnyPropagator::Disjunctive(disjunctive))
             }
-            Saying::Nothing(constraint) => {
+            Saying::Other(constraint) => {
                 let awaiting = Awaiting::new(alloc, constraint)?;
                 Ok(AnyPropagator::Awaiting(awaiting))
             }

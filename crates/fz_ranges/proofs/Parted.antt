@@ -3,7 +3,7 @@ use Rattle.std.proofs.Common.{◌≡◌, ◌≢◌, ℕ, zero, suc, ◌+◌, ◌
 use Rattle.std.specs.Prelude.{ℤ, pos, negsuc, neg_ℤ, ◌≤ℤ◌, int_div, int_rem, unsigned_abs}
 use Rattle.std.proofs.lemmas.Int.{ints, quot-rem, rem_below}
 use Rattle.std.proofs.Math.Nat.{div-add-mod', zero-mod}
-use Rattle.fz_strength.specs.Operations.{remainder}
+use Rattle.fz_spec.specs.Truth.{remainder}
 use Rattle.fz_num.proofs.Products.{neg_size}
 use Rattle.fz_ranges.specs.Sizes.{IsParted}
 

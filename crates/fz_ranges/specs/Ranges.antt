@@ -1,8 +1,8 @@
 -- Ranges of numbers, and the sides of 0.
 use Rattle.std.specs.Prelude.{Bool, true, false, not, ℤ, pos, neg_ℤ, ◌^◌, ◌≤ℤ◌, ◌<ℤ◌}
 use Rattle.fz_dom.specs.Changes.{IsFromTo}
-use Rattle.fz_strength.specs.declared.operation.Operation.{Operation}
-use Rattle.fz_strength.specs.declared.operation.Operation.TheVariants.{Times, Quotient, Remainder}
+use Rattle.fz_spec.specs.declared.shape.Operation.{Operation}
+use Rattle.fz_spec.specs.declared.shape.Operation.TheVariants.{Times, Quotient, Remainder}
 use Rattle.fz_ranges.specs.declared.ranges.Range.{Range}
 use Rattle.fz_ranges.specs.declared.ranges.Ranges.{Ranges}
 

@@ -1,7 +1,7 @@
 -- How large numbers are, and what divides and what is left, signs aside.
 use Rattle.std.specs.Prelude.{◌≡◌, ℕ, ◌+◌, ◌*◌, ◌≤◌, ◌<◌}
-use Rattle.fz_strength.specs.declared.operation.Operation.{Operation}
-use Rattle.fz_strength.specs.declared.operation.Operation.TheVariants.{Times, Quotient, Remainder}
+use Rattle.fz_spec.specs.declared.shape.Operation.{Operation}
+use Rattle.fz_spec.specs.declared.shape.Operation.TheVariants.{Times, Quotient, Remainder}
 use Rattle.fz_ranges.specs.declared.sizes.Sizes.{Sizes}
 use Rattle.fz_ranges.specs.declared.sizes.Triple.{Triple}
 

@@ -1,6 +1,6 @@
 //! Arithmetic on numbers of 32 bits, exact in 64.
 ghost use Rattle.std.specs.Prelude.{◌≡◌, ◌≢◌, pos, neg_ℤ, ◌+ℤ◌, ◌-ℤ◌, ◌*ℤ◌, int_div};
-ghost use Rattle.fz_strength.specs.Operations.{remainder};
+ghost use Rattle.fz_spec.specs.Truth.{remainder};
 
 /// The sum of two numbers.
 pub fn sum(x: i32, y: i32) -> i64

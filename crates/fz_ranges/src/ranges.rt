@@ -1,11 +1,11 @@
 //! Ranges of three numbers of which one is the product, the quotient or the rest of the two others: on each side of 0 these are sizes.
 ghost use Rattle.std.specs.Prelude.{◌≡◌, ◌∷◌, [], ◌⊎◌, IsFalse, ◌-◌, ◌^◌, ℤ, pos, ◌≤ℤ◌, ◌↔◌, IsTrue, unsigned_abs};
-ghost use Rattle.fz_strength.specs.Operations.{IsResult};
+ghost use Rattle.fz_spec.specs.Truth.{IsResult};
 ghost use Rattle.fz_ranges.specs.Sizes.{IsSized, AreAtMost, IsSizedBy};
 ghost use Rattle.fz_ranges.specs.Ranges.{IsIn, AreIn, IsNear, AreNear, IsEmpty, IsOnSide, IsTurned, IsScaling, turned};
 
 use crate::sizes::{Sizes, sizes_by};
-use fz_strength::operation::Operation;
+use fz_spec::shape::Operation;
 
 /// The numbers from a low to a high; none where that is less.
 #[derive(Clone, Copy)]

@@ -2,7 +2,7 @@
 ghost use Rattle.std.specs.Prelude.{ℕ, ◌+◌, ◌-◌, ◌*◌, ◌^◌, ◌≤◌, ◌<◌};
 ghost use Rattle.fz_ranges.specs.Sizes.{IsSized, AreSized, AreAtMost, IsParted, IsSizedBy};
 
-use fz_strength::operation::Operation;
+use fz_spec::shape::Operation;
 
 /// From the least to the greatest size of a number.
 #[derive(Clone, Copy)]

@@ -4,13 +4,16 @@ use Rattle.std.specs.Prelude.{Option, Some, None, slice_get, ◌<ℤ◌, ◌*ℤ
 use Rattle.std.specs.List.{AllByRecursion}
 use Rattle.std.proofs.lemmas.Int.{ints}
 use Rattle.fz_sets.specs.Sets.{AreRanges, IsInSet}
-use Rattle.fz_spec.specs.declared.builtin.Builtin.{Builtin}
-use Rattle.fz_spec.specs.declared.builtin.Builtin.TheVariants.{BoolLinEq, BoolLinLe, IntLinEq, IntLinLe}
+use Rattle.fz_spec.specs.declared.shape.Relation.TheVariants.{AtMost, Equal}
+use Rattle.fz_spec.specs.declared.shape.Shape.{Shape}
+use Rattle.fz_spec.specs.declared.shape.Shape.TheVariants.{Linear}
+use Rattle.fz_spec.specs.declared.term.Term.{Term}
 use Rattle.fz_spec.specs.declared.term.Term.TheVariants.{Var}
 use Rattle.fz_spec.specs.declared.goal.Goal.{Goal}
 use Rattle.fz_spec.specs.declared.goal.Goal.TheVariants.{Satisfy, Minimize, Maximize}
-use Rattle.fz_spec.specs.Truth.{weighted_sum, HoldsOfSum}
-use Rattle.fz_spec.specs.Constraints.{Argument, One, Numbers, Terms, Constraint, Holds, IsTrueOf, term_value, term_values}
+use Rattle.fz_spec.specs.Truth.{weighted_sum}
+use Rattle.fz_spec.specs.Constraints.{Argument, One, Numbers, Terms, Constraint, HoldsAs, IsTrueOf, term_value, term_values}
+use Rattle.fz_spec.specs.Signatures.{shape_of}
 use Rattle.fz_spec.specs.Instance.{Instance, Satisfies, Variable, score_of}
 use Rattle.fz_spec.specs.declared.kind.Kind.{Kind}
 use Rattle.fz_spec.specs.declared.kind.Kind.TheVariants as kinds
@@ -26,20 +29,18 @@ use Rattle.fz_refutes.proofs.Sums.{sum_above, sum_below}
 -- ---- constraints
 
 -- what a sum is out of, between its bounds
-sum_out : (name : Builtin) (low high sum c whole : ℤ) → whole ≡ ((negsuc 0 *ℤ c) +ℤ sum) → low ≤ℤ whole → whole ≤ℤ high → IsSumOut name low high → HoldsOfSum name sum c → ⊥
-sum_out IntLinLe low high sum c whole is above below out holds = omega (arith, ints, is, above, below, out, holds)
-sum_out BoolLinLe low high sum c whole is above below out holds = omega (arith, ints, is, above, below, out, holds)
-sum_out IntLinEq low high sum c whole is above below (inl out) holds = omega (arith, ints, is, above, below, out, holds)
-sum_out IntLinEq low high sum c whole is above below (inr out) holds = omega (arith, ints, is, above, below, out, holds)
-sum_out BoolLinEq low high sum c whole is above below (inl out) holds = omega (arith, ints, is, above, below, out, holds)
-sum_out BoolLinEq low high sum c whole is above below (inr out) holds = omega (arith, ints, is, above, below, out, holds)
-sum_out name low high sum c whole is above below out holds = out
+sum_out : (shape : Shape) (low high : ℤ) (ks : List ℤ) (ts : List Term) (c : Term) (b : List ℤ) (whole : ℤ) → whole ≡ ((negsuc 0 *ℤ term_value b c) +ℤ weighted_sum ks (term_values b ts)) → low ≤ℤ whole → whole ≤ℤ high
+    → IsSumOut shape low high → HoldsAs shape (Numbers ks ∷ Terms ts ∷ One c ∷ []) b → ⊥
+sum_out (Linear AtMost) low high ks ts c b whole is above below out holds = omega (arith, ints, is, above, below, out, holds)
+sum_out (Linear Equal) low high ks ts c b whole is above below (inl out) holds = omega (arith, ints, is, above, below, out, holds)
+sum_out (Linear Equal) low high ks ts c b whole is above below (inr out) holds = omega (arith, ints, is, above, below, out, holds)
+sum_out shape low high ks ts c b whole is above below out holds = out
 
-refuted_sum : (name : Builtin) (arguments : List Argument) (box : List (List (ℤ × ℤ))) (b : List ℤ) → AreSets box → IsInBox box b → IsRefutedSum name arguments box → Holds name arguments b → ⊥
-refuted_sum name (Numbers ks ∷ Terms ts ∷ One c ∷ []) box b are i out holds =
-    sum_out name _ _ (weighted_sum ks (term_values b ts)) (term_value b c) (weighted_sum (negsuc 0 ∷ ks) (term_values b (c ∷ ts))) refl
+refuted_sum : (shape : Shape) (arguments : List Argument) (box : List (List (ℤ × ℤ))) (b : List ℤ) → AreSets box → IsInBox box b → IsRefutedSum shape arguments box → HoldsAs shape arguments b → ⊥
+refuted_sum shape (Numbers ks ∷ Terms ts ∷ One c ∷ []) box b are i out holds =
+    sum_out shape _ _ ks ts c b (weighted_sum (negsuc 0 ∷ ks) (term_values b (c ∷ ts))) refl
     (sum_above box b (negsuc 0 ∷ ks) (c ∷ ts) are i) (sum_below box b (negsuc 0 ∷ ks) (c ∷ ts) are i) out holds
-refuted_sum name arguments box b are i out holds = out
+refuted_sum shape arguments box b are i out holds = out
 
 all_variables : (box : List (List (ℤ × ℤ))) (b : List ℤ) (vs : List ℕ) → IsInBox box b → AllByRecursion (IsAt box b) vs
 all_variables box b [] i = tt
@@ -51,7 +52,7 @@ empty_among box b (v ∷ vs) i (inl none) = subst (λ (s : List (ℤ × ℤ)). I
 empty_among box b (v ∷ vs) i (inr none) = empty_among box b vs i none
 
 refuted : (c : Constraint) (box : List (List (ℤ × ℤ))) (b : List ℤ) → AreSets box → IsInBox box b → Refutes c box → IsTrueOf b c → ⊥
-refuted c box b are i (inl out) holds = refuted_sum c.name c.arguments box b are i out holds
+refuted c box b are i (inl out) holds = refuted_sum (shape_of c.name) c.arguments box b are i out holds
 refuted c box b are i (inr (inl none)) holds = empty_among box b (variables_of c.arguments) i none
 refuted c box b are i (inr (inr small)) holds = small.never b (all_variables box b (variables_of c.arguments) i) holds
 

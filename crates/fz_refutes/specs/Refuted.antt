@@ -3,13 +3,15 @@ use Rattle.std.specs.Prelude.{◌≡◌, ◌⊎◌, ℕ, ◌*◌, ◌≤◌, ℤ
 use Rattle.std.specs.List.{AllByRecursion, list_any}
 use Rattle.fz_sets.specs.Sets.{IsInSet, set_size}
 use Rattle.fz_dom.specs.Shape.{least, greatest}
-use Rattle.fz_spec.specs.declared.builtin.Builtin.{Builtin}
-use Rattle.fz_spec.specs.declared.builtin.Builtin.TheVariants.{BoolLinEq, BoolLinLe, IntLinEq, IntLinLe}
+use Rattle.fz_spec.specs.declared.shape.Relation.TheVariants.{AtMost, Equal}
+use Rattle.fz_spec.specs.declared.shape.Shape.{Shape}
+use Rattle.fz_spec.specs.declared.shape.Shape.TheVariants.{Linear}
+use Rattle.fz_spec.specs.Signatures.{shape_of}
 use Rattle.fz_spec.specs.declared.term.Term.{Term}
 use Rattle.fz_spec.specs.declared.term.Term.TheVariants.{Num, Var}
 use Rattle.fz_spec.specs.declared.goal.Goal.{Goal}
 use Rattle.fz_spec.specs.declared.goal.Goal.TheVariants.{Satisfy, Minimize, Maximize}
-use Rattle.fz_spec.specs.Constraints.{Argument, One, Numbers, Terms, Set, Constraint, IsTrueOf, term_value}
+use Rattle.fz_spec.specs.Constraints.{Argument, One, Numbers, Terms, Constraint, IsTrueOf, term_value, terms_among}
 use Rattle.fz_refutes.specs.Boxes.{set_at, set_of}
 
 -- ---- sums
@@ -35,36 +37,25 @@ greatest_sum box (k ∷ ks) [] = pos 0
 greatest_sum box (k ∷ ks) (t ∷ ts) = greatest_product k (set_of box t) +ℤ greatest_sum box ks ts
 
 -- The least sum is above 0; or, of an equation, the greatest is below it.
-abbrev pub IsSumOut : Builtin → ℤ → ℤ → Type 0
-IsSumOut IntLinLe low high = pos 0 <ℤ low
-IsSumOut BoolLinLe low high = pos 0 <ℤ low
-IsSumOut IntLinEq low high = (pos 0 <ℤ low) ⊎ (high <ℤ pos 0)
-IsSumOut BoolLinEq low high = (pos 0 <ℤ low) ⊎ (high <ℤ pos 0)
-IsSumOut name low high = ⊥
+abbrev pub IsSumOut : Shape → ℤ → ℤ → Type 0
+IsSumOut (Linear AtMost) low high = pos 0 <ℤ low
+IsSumOut (Linear Equal) low high = (pos 0 <ℤ low) ⊎ (high <ℤ pos 0)
+IsSumOut shape low high = ⊥
 
 -- a sum and what it is compared with, as one sum that is compared with 0
-abbrev pub IsRefutedSum : Builtin → List Argument → List (List (ℤ × ℤ)) → Type 0
-IsRefutedSum name (Numbers ks ∷ Terms ts ∷ One c ∷ []) box = IsSumOut name (least_sum box (negsuc 0 ∷ ks) (c ∷ ts)) (greatest_sum box (negsuc 0 ∷ ks) (c ∷ ts))
-IsRefutedSum name arguments box = ⊥
+abbrev pub IsRefutedSum : Shape → List Argument → List (List (ℤ × ℤ)) → Type 0
+IsRefutedSum shape (Numbers ks ∷ Terms ts ∷ One c ∷ []) box = IsSumOut shape (least_sum box (negsuc 0 ∷ ks) (c ∷ ts)) (greatest_sum box (negsuc 0 ∷ ks) (c ∷ ts))
+IsRefutedSum shape arguments box = ⊥
 
 -- ---- small boxes
 
--- the terms of arguments, in order, and the variables among terms
-abbrev pub terms_of : Argument → List Term
-terms_of (One t) = t ∷ []
-terms_of (Numbers ns) = []
-terms_of (Terms ts) = ts
-terms_of (Set set) = []
-
+-- the variables among terms
 abbrev pub variable_of : Term → List ℕ
 variable_of (Num n) = []
 variable_of (Var v) = v ∷ []
 
 abbrev pub variables_among : List Term → List ℕ
 variables_among ts = flat_map variable_of ts
-
-abbrev pub terms_among : List Argument → List Term
-terms_among arguments = flat_map terms_of arguments
 
 -- the variables of arguments
 abbrev pub variables_of : List Argument → List ℕ
@@ -100,7 +91,7 @@ pub record IsRefutedSmall (c : Constraint) (box : List (List (ℤ × ℤ))) : Ty
 
 -- Its sum is out of reach; or there is no choice of its variables' values, or there are few and none makes it true.
 abbrev pub Refutes : Constraint → List (List (ℤ × ℤ)) → Type 0
-Refutes c box = IsRefutedSum c.name c.arguments box ⊎ (IsEmptyAmong box (variables_of c.arguments) ⊎ IsRefutedSmall c box)
+Refutes c box = IsRefutedSum (shape_of c.name) c.arguments box ⊎ (IsEmptyAmong box (variables_of c.arguments) ⊎ IsRefutedSmall c box)
 
 -- the constraint of this number
 abbrev pub RefutesIfThere : Option Constraint → List (List (ℤ × ℤ)) → Type 0

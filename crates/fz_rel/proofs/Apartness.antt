@@ -4,7 +4,7 @@ use Rattle.std.specs.Prelude.{ℤ}
 use Rattle.fz_sets.specs.Sets.{IsInSet}
 use Rattle.fz_spec.specs.declared.term.Term.{Term}
 use Rattle.fz_spec.specs.Constraints.{term_value}
-use Rattle.fz_strength.specs.declared.relation.Relation.TheVariants.{NotEqual}
+use Rattle.fz_spec.specs.declared.shape.Relation.TheVariants.{NotEqual}
 use Rattle.fz_strength.specs.Domains.{term_set, Within}
 use Rattle.fz_strength.specs.Events.{IsOnly}
 use Rattle.fz_strength.proofs.Terms.{in_single}

@@ -9,7 +9,7 @@ use Rattle.fz_dom.specs.declared.change.Change.TheVariants.{Same, Changed, Wiped
 use Rattle.fz_spec.specs.declared.term.Term.{Term}
 use Rattle.fz_spec.specs.declared.term.Term.TheVariants.{Var}
 use Rattle.fz_spec.specs.Constraints.{term_value}
-use Rattle.fz_strength.specs.declared.relation.Relation.TheVariants.{Equal}
+use Rattle.fz_spec.specs.declared.shape.Relation.TheVariants.{Equal}
 use Rattle.fz_strength.specs.Domains.{term_set, dom_at, AreDomains, Within}
 use Rattle.fz_strength.specs.Events.{IsOnly}
 use Rattle.fz_prop.specs.declared.answer.Answer.{Answer}

@@ -3,7 +3,7 @@ use Rattle.std.proofs.Common.{arith}
 use Rattle.std.proofs.lemmas.Int.{ints}
 use Rattle.fz_spec.specs.declared.term.Term.{Term}
 use Rattle.fz_spec.specs.Constraints.{term_value}
-use Rattle.fz_strength.specs.declared.relation.Relation.TheVariants.{Equal, NotEqual, AtMost, Below}
+use Rattle.fz_spec.specs.declared.shape.Relation.TheVariants.{Equal, NotEqual, AtMost, Below}
 use Rattle.fz_prop.specs.Truths.{IsSame}
 use Rattle.fz_sets.proofs.Numbers.{above_of_not, most_of_not}
 use Rattle.fz_prop.proofs.Numbers.{same_of_not}

@@ -9,7 +9,8 @@ use Rattle.fz_dom.specs.declared.change.Change.{Change}
 use Rattle.fz_dom.specs.declared.change.Change.TheVariants.{Same, Wiped}
 use Rattle.fz_spec.specs.declared.term.Term.{Term}
 use Rattle.fz_spec.specs.Constraints.{term_value}
-use Rattle.fz_strength.specs.Relations.{Relates, RestsAs}
+use Rattle.fz_spec.specs.Truth.{Relates}
+use Rattle.fz_strength.specs.Relations.{RestsAs}
 use Rattle.fz_strength.specs.Domains.{term_set, AreDomains, Within}
 use Rattle.fz_prop.specs.declared.answer.Answer.TheVariants.{Subsumed}
 use Rattle.fz_prop.specs.Answers.{IsCorrectOf}

@@ -7,13 +7,14 @@ use Rattle.fz_dom.specs.Shape.{least, greatest}
 use Rattle.fz_dom.proofs.Ranges.{least_member, greatest_member}
 use Rattle.fz_spec.specs.declared.term.Term.{Term}
 use Rattle.fz_spec.specs.Constraints.{term_value}
-use Rattle.fz_strength.specs.declared.relation.Relation.{Relation}
-use Rattle.fz_strength.specs.declared.relation.Relation.TheVariants.{Equal, NotEqual, AtMost, Below}
+use Rattle.fz_spec.specs.declared.shape.Relation.{Relation}
+use Rattle.fz_spec.specs.declared.shape.Relation.TheVariants.{Equal, NotEqual, AtMost, Below}
 use Rattle.fz_strength.specs.Domains.{term_set, AreDomains}
 use Rattle.fz_strength.specs.Events.{IsOnly}
 use Rattle.fz_strength.specs.Promises.{IsTruth}
 use Rattle.fz_strength.specs.Lines.{LiesOutside}
-use Rattle.fz_strength.specs.Relations.{Relates, RestsAs, RestsAgainst, IsShown, IsRefuted}
+use Rattle.fz_spec.specs.Truth.{Relates}
+use Rattle.fz_strength.specs.Relations.{RestsAs, RestsAgainst, IsShown, IsRefuted}
 use Rattle.fz_strength.proofs.Terms.{in_single}
 use Rattle.fz_prop.specs.Stores.{IsTermOf}
 use Rattle.fz_prop.specs.Truths.{HasRanges, AreSides, TruthWith, LineWith, IsAbout}

@@ -2,7 +2,7 @@
 use Rattle.std.specs.Prelude.{◌↔◌, ℤ, pos, ◌-ℤ◌, List, [], ◌∷◌, cond, int_lt}
 use Rattle.fz_sets.specs.Sets.{IsInSet, IsWithinLimits}
 use Rattle.fz_spec.specs.declared.term.Term.{Term}
-use Rattle.fz_strength.specs.declared.relation.Relation.{Relation}
+use Rattle.fz_spec.specs.declared.shape.Relation.{Relation}
 use Rattle.fz_strength.specs.Domains.{term_set}
 use Rattle.fz_strength.specs.Lines.{LiesIn, LiesOutside}
 use Rattle.fz_strength.specs.Relations.{IsShown, IsRefuted}

@@ -2,8 +2,8 @@
 use Rattle.std.specs.Prelude.{ℤ, pos, ◌+ℤ◌, ◌≤ℤ◌, List}
 use Rattle.fz_sets.specs.Sets.{IsInSet}
 use Rattle.fz_dom.specs.Shape.{least, greatest}
-use Rattle.fz_strength.specs.declared.relation.Relation.{Relation}
-use Rattle.fz_strength.specs.Relations.{Relates}
+use Rattle.fz_spec.specs.declared.shape.Relation.{Relation}
+use Rattle.fz_spec.specs.Truth.{Relates}
 
 -- all numbers of two sets are so related, and none are
 abbrev pub AreAll : Relation → List (ℤ × ℤ) → List (ℤ × ℤ) → Type 0

@@ -2,10 +2,11 @@
 use Rattle.std.specs.Prelude.{ℤ, pos, ◌+ℤ◌, ◌≤ℤ◌, List, Bool, if◌then◌else◌}
 use Rattle.fz_spec.specs.declared.term.Term.{Term}
 use Rattle.fz_spec.specs.Constraints.{term_value}
-use Rattle.fz_strength.specs.declared.relation.Relation.{Relation}
-use Rattle.fz_strength.specs.declared.relation.Relation.TheVariants.{AtMost, Below}
+use Rattle.fz_spec.specs.declared.shape.Relation.{Relation}
+use Rattle.fz_spec.specs.declared.shape.Relation.TheVariants.{AtMost, Below}
 use Rattle.fz_strength.specs.Domains.{term_set}
-use Rattle.fz_strength.specs.Relations.{Relates, RestsAs, RestsAgainst}
+use Rattle.fz_spec.specs.Truth.{Relates}
+use Rattle.fz_strength.specs.Relations.{RestsAs, RestsAgainst}
 use Rattle.fz_prop.specs.declared.answer.Answer.{Answer}
 use Rattle.fz_prop.specs.Answers.{IsAnswerOf}
 

@@ -5,8 +5,8 @@ ghost use Rattle.fz_prop.specs.Stores.{FitsTerm};
 
 use crate::relate::relate;
 use fz_prop::{Answer, Propagator, Store};
+use fz_spec::shape::Relation;
 use fz_spec::term::Term;
-use fz_strength::relation::Relation;
 use std::alloc::AllocError;
 use std::marker::Model;
 

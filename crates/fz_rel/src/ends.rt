@@ -8,8 +8,8 @@ ghost use Rattle.fz_rel.specs.Ends.{AreEnds};
 
 use fz_prop::Store;
 use fz_prop::terms::{greatest_of, least_of};
+use fz_spec::shape::Relation;
 use fz_spec::term::Term;
-use fz_strength::relation::Relation;
 
 /// The least and the greatest number of a term.
 #[derive(Clone, Copy)]

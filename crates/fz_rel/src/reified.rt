@@ -13,8 +13,8 @@ use crate::relate::{relate, relate_against};
 use crate::seen::{are_all, are_none};
 use fz_prop::terms::{keep_only, value_of};
 use fz_prop::{Answer, Propagator, Store};
+use fz_spec::shape::Relation;
 use fz_spec::term::Term;
-use fz_strength::relation::Relation;
 use std::alloc::AllocError;
 use std::marker::Model;
 

@@ -8,8 +8,8 @@ use crate::apart::keep_apart;
 use crate::equal::keep_equal;
 use crate::order::keep_order;
 use fz_prop::{Answer, Store};
+use fz_spec::shape::Relation;
 use fz_spec::term::Term;
-use fz_strength::relation::Relation;
 use std::alloc::AllocError;
 
 /// Narrows a store by a relation of two terms.

@@ -2,7 +2,7 @@
 ghost use Rattle.std.specs.Prelude.{◌⊎◌, ◌↔◌, ◌+ℤ◌, ◌≤ℤ◌, ℤ, pos, List, length, IsTrue};
 ghost use Rattle.fz_sets.specs.Sets.{IsInSet};
 ghost use Rattle.fz_bits.specs.Windows.{IsBit};
-ghost use Rattle.fz_strength.specs.declared.relation.Relation.TheVariants.{NotEqual};
+ghost use Rattle.fz_spec.specs.declared.shape.Relation.TheVariants.{NotEqual};
 ghost use Rattle.fz_strength.specs.Domains.{term_set};
 ghost use Rattle.fz_strength.specs.Lines.{LiesOutside};
 ghost use Rattle.fz_strength.specs.Relations.{IsShown, IsRefuted};
@@ -14,8 +14,8 @@ use fz_bits::Window;
 use fz_bits::word::common;
 use fz_prop::Store;
 use fz_prop::terms::{has, value_of, window_of, word_of};
+use fz_spec::shape::Relation;
 use fz_spec::term::Term;
-use fz_strength::relation::Relation;
 
 /// Whether all numbers of two terms are seen to stand in a relation: by their ends, and by what they have in common where one of them is
 /// at most 64 wide.

@@ -5,7 +5,7 @@ use Rattle.std.specs.List.{AllByRecursion}
 use Rattle.std.proofs.lemmas.List.{ext_get_or}
 use Rattle.fz_spec.specs.declared.term.Term.TheVariants.{Var}
 use Rattle.fz_strength.specs.Domains.{AreDomains, Alone, IsNarrower, number_at, room}
-use Rattle.fz_strength.specs.Sayings.{Saying, said_terms}
+use Rattle.fz_strength.specs.Sayings.{said_terms}
 use Rattle.fz_strength.proofs.Sayings.{true_alone}
 use Rattle.fz_strength.proofs.Terms.{within_alone}
 use Rattle.fz_prop.specs.declared.answer.Answer.TheVariants.{Fix, NoFix, Subsumed, Failed}

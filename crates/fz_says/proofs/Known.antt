@@ -1,5 +1,5 @@
 -- What a model keeps of the terms of its constraints.
-use Rattle.std.proofs.Common.{◌≡◌, ℕ, zero, suc, ◌<◌, List, [], ◌∷◌, ◌++◌, arith, length, true, false, Bool}
+use Rattle.std.proofs.Common.{◌≡◌, ℕ, zero, suc, ◌<◌, List, [], ◌∷◌, arith, length, true, false, Bool}
 use Rattle.std.proofs.lemmas.Int.{ints}
 use Rattle.std.specs.Prelude.{ℤ, Option, Some, None, MatchOption}
 use Rattle.std.specs.List.{AllByRecursion}
@@ -11,14 +11,12 @@ use Rattle.fz_spec.specs.declared.term.Term.TheVariants.{Num, Var}
 use Rattle.fz_spec.specs.declared.asked.Element.{Element}
 use Rattle.fz_spec.specs.declared.asked.Asked.{Asked}
 use Rattle.fz_spec.specs.declared.asked.Asked.TheVariants as asked
-use Rattle.fz_spec.specs.Constraints.{Argument, One, Numbers, Terms, Set, Constraint}
+use Rattle.fz_spec.specs.Constraints.{Argument, One, Numbers, Terms, Set, Constraint, terms_of, terms_among}
 use Rattle.fz_spec.specs.Signatures.{Row, row_of, signature_of}
 use Rattle.fz_spec.specs.Instance.{Variable}
 use Rattle.fz_model.specs.Kept as kept
 use Rattle.fz_model.specs.Kept.{IsNumberOf, kind_at, FitsElement, FitsList, FitsAsked, AllFit, FitsRow, IsConstraint}
-use Rattle.fz_strength.specs.Lines.{terms_of, terms_among}
 use Rattle.fz_sets.proofs.Lists.{all_both}
-use Rattle.fz_prop.specs.Stores.{IsTermOf, FitsTerm}
 use Rattle.fz_says.specs.Fits.{IsKnown}
 
 number_limits : (kind : Kind) (n : ℤ) → IsNumberOf kind n → IsWithinLimits n
@@ -39,7 +37,7 @@ terms_known vs kind [] all = tt
 terms_known vs kind (Num n ∷ ts) all = ((number_limits kind n all.0, tt), terms_known vs kind ts all.1)
 terms_known vs kind (Var v ∷ ts) all = ((tt, there_within vs v kind all.0), terms_known vs kind ts all.1)
 
-no_list : (vs : List Variable) (kind : Kind) (may_vary : Bool) (t : Term) → FitsList vs kind may_vary (One t) → ⊥
+pub no_list : (vs : List Variable) (kind : Kind) (may_vary : Bool) (t : Term) → FitsList vs kind may_vary (One t) → ⊥
 no_list vs kind true t fits = fits
 no_list vs kind false t fits = fits
 

@@ -1,6 +1,7 @@
 -- What a borrowed saying says.
 use Rattle.std.specs.Prelude.{true, false, map, List}
 use Rattle.fz_spec.specs.declared.term.Term.{Term}
+use Rattle.fz_spec.specs.Signatures.{shape_of}
 use Rattle.fz_strength.specs.Clauses.{clause, disjunction, conjunction}
 use Rattle.fz_strength.specs.Operations.{equation}
 use Rattle.fz_strength.specs.Sums.{left_factors, left_terms, right_number}
@@ -36,7 +37,7 @@ said_by (code.Differ xs) = said.Differ xs.now
 said_by (code.DifferByBounds xs) = said.DifferByBounds xs.now
 said_by (code.SumByNumbers ks ts c) = said.SumByNumbers (left_factors ks.now c) (left_terms ts.now c) (right_number c)
 said_by (code.Share ss dd us b) = said.Share ss.now dd.now us.now b
-said_by (code.Nothing c) = said.Nothing c.now.name c.now.arguments
+said_by (code.Other c) = said.Other (shape_of c.now.name) c.now.arguments
 
 -- what code waits for
 abbrev pub waits_in : List code_waits.Wait → List Wait

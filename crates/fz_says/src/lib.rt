@@ -1,5 +1,4 @@
-//! What a constraint says, of the arguments of a model: its shape, what is waited for there, and what a run costs. Here alone
-//! code distinguishes constraints by their names.
+//! What a constraint says, of the arguments of a model, by the shape in its row: what is waited for there, and what a run costs.
 #![tactic(auto)]
 
 mod costs;

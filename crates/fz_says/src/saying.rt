@@ -1,16 +1,16 @@
 //! What a constraint says.
-ghost use Rattle.std.specs.Prelude.{◌≡◌};
-ghost use Rattle.fz_spec.specs.declared.builtin.Builtin.TheVariants.{ArrayBoolXor, BoolClause, BoolClauseReif, BoolXor, FznCumulative, SetIn, SetInReif};
+ghost use Rattle.std.specs.Prelude.{◌≡◌, ◌∷◌, []};
+ghost use Rattle.fz_spec.specs.declared.shape.Shape.TheVariants as shapes;
+ghost use Rattle.fz_spec.specs.Constraints.{One, Numbers, Terms};
+ghost use Rattle.fz_spec.specs.Signatures.{shape_of};
 ghost use Rattle.fz_strength.specs.Sayings as said;
 ghost use Rattle.fz_says.specs.Said.{operands_of, said_by};
 
 use fz_dom::Dom;
 use fz_model::Listed;
 use fz_model::constraint::{Argument, Constraint};
-use fz_spec::builtin::Builtin;
+use fz_spec::shape::{Operation, Relation, Shape};
 use fz_spec::term::Term;
-use fz_strength::operation::Operation;
-use fz_strength::relation::Relation;
 use std::sync::Arc;
 
 /// One term, two, or a list.
@@ -74,123 +74,61 @@ pub enum Saying<'m> {
     /// Tasks, by their starts, durations and usages, never use more than a bound.
     Share(&'m [Term], &'m [Term], &'m [Term], Term),
     /// It is true: this is told of a constraint that says none of the others.
-    Nothing(&'m Constraint),
+    Other(&'m Constraint),
 }
 
 impl<'m> Saying<'m> {
-    /// What a constraint says.
+    /// What a constraint says, by the shape in its row.
     pub fn of(constraint: &'m Constraint) -> Saying<'m>
         ensures { said_by result ≡ said.saying_of constraint.now }
     {
-        match constraint.name() {
-            Builtin::IntEq | Builtin::BoolEq | Builtin::Bool2Int => {
-                compare(Relation::Equal, constraint)
-            }
-            Builtin::IntNe | Builtin::BoolNot => compare(Relation::NotEqual, constraint),
-            Builtin::IntLe | Builtin::BoolLe => compare(Relation::AtMost, constraint),
-            Builtin::IntLt | Builtin::BoolLt => compare(Relation::Below, constraint),
-            Builtin::IntEqReif | Builtin::BoolEqReif => compare_if(Relation::Equal, constraint),
-            Builtin::IntNeReif => compare_if(Relation::NotEqual, constraint),
-            Builtin::IntLeReif | Builtin::BoolLeReif => compare_if(Relation::AtMost, constraint),
-            Builtin::IntLtReif | Builtin::BoolLtReif => compare_if(Relation::Below, constraint),
-            Builtin::BoolXor => differ(constraint),
-            Builtin::SetIn => member(constraint),
-            Builtin::SetInReif => member_if(constraint),
-            Builtin::IntLinEq | Builtin::BoolLinEq => sum(Relation::Equal, constraint),
-            Builtin::IntLinNe => sum(Relation::NotEqual, constraint),
-            Builtin::IntLinLe | Builtin::BoolLinLe => sum(Relation::AtMost, constraint),
-            Builtin::IntLinEqReif => sum_if(Relation::Equal, constraint),
-            Builtin::IntLinNeReif => sum_if(Relation::NotEqual, constraint),
-            Builtin::IntLinLeReif => sum_if(Relation::AtMost, constraint),
-            Builtin::BoolClause => signs(constraint),
-            Builtin::BoolClauseReif => signs_if(constraint),
-            Builtin::ArrayBoolOr => any_of(constraint),
-            Builtin::BoolOr => any_of_two(constraint),
-            Builtin::ArrayBoolAnd => all_of(constraint),
-            Builtin::BoolAnd => all_of_two(constraint),
-            Builtin::IntPlus => two_operands(Operation::Plus, constraint),
-            Builtin::IntTimes => two_operands(Operation::Times, constraint),
-            Builtin::IntDiv => two_operands(Operation::Quotient, constraint),
-            Builtin::IntMod => two_operands(Operation::Remainder, constraint),
-            Builtin::IntMin => two_operands(Operation::Min, constraint),
-            Builtin::IntMax => two_operands(Operation::Max, constraint),
-            Builtin::IntAbs => one_operand(Operation::Abs, constraint),
-            Builtin::ArrayIntMinimum => list_operands(Operation::Min, constraint),
-            Builtin::ArrayIntMaximum => list_operands(Operation::Max, constraint),
-            Builtin::ArrayBoolXor => odd(constraint),
-            Builtin::ArrayIntElement | Builtin::ArrayBoolElement => select(constraint),
-            Builtin::ArrayVarIntElement | Builtin::ArrayVarBoolElement => select_term(constraint),
-            Builtin::FznTableInt | Builtin::FznTableBool => row(constraint),
-            Builtin::FznAllDifferentInt | Builtin::AllDifferentInt => all_different(constraint),
-            Builtin::FznCumulative => share(constraint),
+        match constraint.name().shape() {
+            Shape::Rel(relation) => related(relation, constraint),
+            Shape::Dom => member(constraint),
+            Shape::Linear(relation) => linear(relation, constraint),
+            Shape::Clause => clause(constraint),
+            Shape::Or => any_of(constraint),
+            Shape::And => all_of(constraint),
+            Shape::Xor => odd(constraint),
+            Shape::Arithmetic(operation) => equation(operation, constraint),
+            Shape::Element => element(constraint),
+            Shape::Extensional => row(constraint),
+            Shape::Distinct => distinct(constraint),
+            Shape::Cumulative => cumulative(constraint),
         }
     }
 }
 
-/// A relation of two terms.
-fn compare<'m>(relation: Relation, constraint: &'m Constraint) -> Saying<'m>
-    ensures { said_by result ≡ said.compare relation constraint.now.name constraint.now.arguments }
+/// Two terms that are related, or two and a Boolean that says whether they are.
+fn related<'m>(relation: Relation, constraint: &'m Constraint) -> Saying<'m>
+    requires { shape_of constraint.now.name ≡ shapes.Rel relation }
+    ensures { said_by result ≡ said.said (shapes.Rel relation) constraint.now.arguments }
 {
     match constraint.arguments() {
         [Argument::One(x), Argument::One(y)] => Saying::Compare(relation, *x, *y),
-        _ => Saying::Nothing(constraint),
-    }
-}
-
-/// A relation of two terms, and a Boolean that says whether it holds.
-fn compare_if<'m>(relation: Relation, constraint: &'m Constraint) -> Saying<'m>
-    ensures { said_by result ≡ said.compare_if relation constraint.now.name constraint.now.arguments }
-{
-    match constraint.arguments() {
         [Argument::One(x), Argument::One(y), Argument::One(r)] => Saying::CompareIf(
             relation, *x, *y, *r,
         ),
-        _ => Saying::Nothing(constraint),
+        _ => Saying::Other(constraint),
     }
 }
 
-/// Two terms that differ, or two and a Boolean that says whether they do.
-fn differ<'m>(constraint: &'m Constraint) -> Saying<'m>
-    requires { constraint.now.name ≡ BoolXor }
-    ensures { said_by result ≡ said.differ constraint.now.arguments }
-{
-    match constraint.arguments() {
-        [Argument::One(x), Argument::One(y)] => Saying::Compare(Relation::NotEqual, *x, *y),
-        [Argument::One(x), Argument::One(y), Argument::One(r)] => Saying::CompareIf(
-            Relation::NotEqual,
-            *x,
-            *y,
-            *r,
-        ),
-        _ => Saying::Nothing(constraint),
-    }
-}
-
-/// A term in a set.
+/// A term in a set, or one and a Boolean that says whether it is.
 fn member<'m>(constraint: &'m Constraint) -> Saying<'m>
-    requires { constraint.now.name ≡ SetIn }
-    ensures { said_by result ≡ said.member constraint.now.arguments }
+    requires { shape_of constraint.now.name ≡ shapes.Dom }
+    ensures { said_by result ≡ said.said shapes.Dom constraint.now.arguments }
 {
     match constraint.arguments() {
         [Argument::One(x), Argument::Set(set)] => Saying::Member(*x, set),
-        _ => Saying::Nothing(constraint),
-    }
-}
-
-/// A term in a set, and a Boolean that says whether it is.
-fn member_if<'m>(constraint: &'m Constraint) -> Saying<'m>
-    requires { constraint.now.name ≡ SetInReif }
-    ensures { said_by result ≡ said.member_if constraint.now.arguments }
-{
-    match constraint.arguments() {
         [Argument::One(x), Argument::Set(set), Argument::One(r)] => Saying::MemberIf(*x, set, *r),
-        _ => Saying::Nothing(constraint),
+        _ => Saying::Other(constraint),
     }
 }
 
-/// A sum that is related to a term.
-fn sum<'m>(relation: Relation, constraint: &'m Constraint) -> Saying<'m>
-    ensures { said_by result ≡ said.sum relation constraint.now.name constraint.now.arguments }
+/// A sum that is related to a term, or to a number, and a Boolean that says whether it is.
+fn linear<'m>(relation: Relation, constraint: &'m Constraint) -> Saying<'m>
+    requires { shape_of constraint.now.name ≡ shapes.Linear relation }
+    ensures { said_by result ≡ said.said (shapes.Linear relation) constraint.now.arguments }
 {
     match constraint.arguments() {
         [
@@ -198,29 +136,47 @@ fn sum<'m>(relation: Relation, constraint: &'m Constraint) -> Saying<'m>
             Argument::Terms(terms),
             Argument::One(last),
         ] => Saying::Sum(relation, factors.as_slice(), terms.as_slice(), *last),
-        _ => Saying::Nothing(constraint),
-    }
-}
-
-/// A sum that is related to a number, and a Boolean that says whether it is.
-fn sum_if<'m>(relation: Relation, constraint: &'m Constraint) -> Saying<'m>
-    ensures { said_by result ≡ said.sum_if relation constraint.now.name constraint.now.arguments }
-{
-    match constraint.arguments() {
         [
             Argument::Numbers(factors),
             Argument::Terms(terms),
-            Argument::One(Term::Num(number)),
+            Argument::One(last),
             Argument::One(r),
-        ] => Saying::SumIf(relation, factors.as_slice(), terms.as_slice(), *number, *r),
-        _ => Saying::Nothing(constraint),
+        ] => linear_if(
+            relation,
+            constraint,
+            factors.as_slice(),
+            terms.as_slice(),
+            *last,
+            *r,
+        ),
+        _ => Saying::Other(constraint),
     }
 }
 
-/// Terms of which one is true, or one of others is false.
-fn signs<'m>(constraint: &'m Constraint) -> Saying<'m>
-    requires { constraint.now.name ≡ BoolClause }
-    ensures { said_by result ≡ said.signs constraint.now.arguments }
+/// A sum that is related to a number, and a Boolean that says whether it is; of a sum that is related to a variable nothing.
+fn linear_if<'m>(
+    relation: Relation,
+    constraint: &'m Constraint,
+    factors: &'m [i32],
+    terms: &'m [Term],
+    last: Term,
+    r: Term,
+) -> Saying<'m>
+    requires shape { shape_of constraint.now.name ≡ shapes.Linear relation }
+    requires arguments { constraint.now.arguments ≡ Numbers factors.now ∷ Terms terms.now
+        ∷ One last ∷ One r ∷ [] }
+    ensures { said_by result ≡ said.said (shapes.Linear relation) constraint.now.arguments }
+{
+    match last {
+        Term::Num(number) => Saying::SumIf(relation, factors, terms, number, r),
+        Term::Var(_) => Saying::Other(constraint),
+    }
+}
+
+/// Booleans of which one is 1, or one of others 0; or these and a Boolean that says whether it is so.
+fn clause<'m>(constraint: &'m Constraint) -> Saying<'m>
+    requires { shape_of constraint.now.name ≡ shapes.Clause }
+    ensures { said_by result ≡ said.said shapes.Clause constraint.now.arguments }
 {
     match constraint.arguments() {
         [Argument::Terms(positives), Argument::Terms(negatives)] => Saying::Clause(
@@ -228,170 +184,121 @@ fn signs<'m>(constraint: &'m Constraint) -> Saying<'m>
             negatives.as_slice(),
             Term::Num(1),
         ),
-        _ => Saying::Nothing(constraint),
-    }
-}
-
-/// A Boolean that says whether one of these terms is true, or one of others false.
-fn signs_if<'m>(constraint: &'m Constraint) -> Saying<'m>
-    requires { constraint.now.name ≡ BoolClauseReif }
-    ensures { said_by result ≡ said.signs_if constraint.now.arguments }
-{
-    match constraint.arguments() {
         [
             Argument::Terms(positives),
             Argument::Terms(negatives),
             Argument::One(r),
         ] => Saying::Clause(positives.as_slice(), negatives.as_slice(), *r),
-        _ => Saying::Nothing(constraint),
+        _ => Saying::Other(constraint),
     }
 }
 
-/// A Boolean that says whether one of these terms is true.
+/// A Boolean that says whether one of some is 1.
 fn any_of<'m>(constraint: &'m Constraint) -> Saying<'m>
-    ensures { said_by result ≡ said.any_of constraint.now.name constraint.now.arguments }
+    requires { shape_of constraint.now.name ≡ shapes.Or }
+    ensures { said_by result ≡ said.said shapes.Or constraint.now.arguments }
 {
     match constraint.arguments() {
         [Argument::Terms(terms), Argument::One(r)] => Saying::AnyOf(
             Operands::Listed(terms.as_slice()),
             *r,
         ),
-        _ => Saying::Nothing(constraint),
-    }
-}
-
-/// A Boolean that says whether one of two terms is true.
-fn any_of_two<'m>(constraint: &'m Constraint) -> Saying<'m>
-    ensures { said_by result ≡ said.any_of_two constraint.now.name constraint.now.arguments }
-{
-    match constraint.arguments() {
         [Argument::One(x), Argument::One(y), Argument::One(r)] => Saying::AnyOf(
             Operands::Two([*x, *y]),
             *r,
         ),
-        _ => Saying::Nothing(constraint),
+        _ => Saying::Other(constraint),
     }
 }
 
-/// A Boolean that says whether all of these terms are true.
+/// A Boolean that says whether all of some are 1.
 fn all_of<'m>(constraint: &'m Constraint) -> Saying<'m>
-    ensures { said_by result ≡ said.all_of constraint.now.name constraint.now.arguments }
+    requires { shape_of constraint.now.name ≡ shapes.And }
+    ensures { said_by result ≡ said.said shapes.And constraint.now.arguments }
 {
     match constraint.arguments() {
         [Argument::Terms(terms), Argument::One(r)] => Saying::AllOf(
             Operands::Listed(terms.as_slice()),
             *r,
         ),
-        _ => Saying::Nothing(constraint),
-    }
-}
-
-/// A Boolean that says whether two terms are true.
-fn all_of_two<'m>(constraint: &'m Constraint) -> Saying<'m>
-    ensures { said_by result ≡ said.all_of_two constraint.now.name constraint.now.arguments }
-{
-    match constraint.arguments() {
         [Argument::One(x), Argument::One(y), Argument::One(r)] => Saying::AllOf(
             Operands::Two([*x, *y]),
             *r,
         ),
-        _ => Saying::Nothing(constraint),
+        _ => Saying::Other(constraint),
     }
 }
 
-/// What an operation makes of one term.
-fn one_operand<'m>(operation: Operation, constraint: &'m Constraint) -> Saying<'m>
-    ensures { said_by result ≡ said.one_operand operation constraint.now.name constraint.now.arguments }
+/// Booleans an odd number of which are 1.
+fn odd<'m>(constraint: &'m Constraint) -> Saying<'m>
+    requires { shape_of constraint.now.name ≡ shapes.Xor }
+    ensures { said_by result ≡ said.said shapes.Xor constraint.now.arguments }
+{
+    match constraint.arguments() {
+        [Argument::Terms(terms)] => Saying::Odd(terms.as_slice()),
+        _ => Saying::Other(constraint),
+    }
+}
+
+/// What an operation makes of one term, of two, or of a list.
+fn equation<'m>(operation: Operation, constraint: &'m Constraint) -> Saying<'m>
+    requires { shape_of constraint.now.name ≡ shapes.Arithmetic operation }
+    ensures { said_by result ≡ said.said (shapes.Arithmetic operation) constraint.now.arguments }
 {
     match constraint.arguments() {
         [Argument::One(x), Argument::One(z)] => Saying::Equals(operation, Operands::One([*x]), *z),
-        _ => Saying::Nothing(constraint),
-    }
-}
-
-/// What an operation makes of two terms.
-fn two_operands<'m>(operation: Operation, constraint: &'m Constraint) -> Saying<'m>
-    ensures { said_by result ≡ said.two_operands operation constraint.now.name constraint.now.arguments }
-{
-    match constraint.arguments() {
         [Argument::One(x), Argument::One(y), Argument::One(z)] => Saying::Equals(
             operation,
             Operands::Two([*x, *y]),
             *z,
         ),
-        _ => Saying::Nothing(constraint),
-    }
-}
-
-/// What an operation makes of a list of terms.
-fn list_operands<'m>(operation: Operation, constraint: &'m Constraint) -> Saying<'m>
-    ensures { said_by result ≡ said.operands operation constraint.now.name constraint.now.arguments }
-{
-    match constraint.arguments() {
         [Argument::One(z), Argument::Terms(xs)] => Saying::Equals(
             operation,
             Operands::Listed(xs.as_slice()),
             *z,
         ),
-        _ => Saying::Nothing(constraint),
+        _ => Saying::Other(constraint),
     }
 }
 
-/// Terms of which an odd number is true.
-fn odd<'m>(constraint: &'m Constraint) -> Saying<'m>
-    requires { constraint.now.name ≡ ArrayBoolXor }
-    ensures { said_by result ≡ said.odd constraint.now.arguments }
-{
-    match constraint.arguments() {
-        [Argument::Terms(terms)] => Saying::Odd(terms.as_slice()),
-        _ => Saying::Nothing(constraint),
-    }
-}
-
-/// The number that stands at an index.
-fn select<'m>(constraint: &'m Constraint) -> Saying<'m>
-    ensures { said_by result ≡ said.select constraint.now.name constraint.now.arguments }
+/// The number or the term that stands at an index.
+fn element<'m>(constraint: &'m Constraint) -> Saying<'m>
+    requires { shape_of constraint.now.name ≡ shapes.Element }
+    ensures { said_by result ≡ said.said shapes.Element constraint.now.arguments }
 {
     match constraint.arguments() {
         [Argument::One(k), Argument::Numbers(xs), Argument::One(c)] => Saying::Select(xs, *k, *c),
-        _ => Saying::Nothing(constraint),
-    }
-}
-
-/// The term that stands at an index.
-fn select_term<'m>(constraint: &'m Constraint) -> Saying<'m>
-    ensures { said_by result ≡ said.select_term constraint.now.name constraint.now.arguments }
-{
-    match constraint.arguments() {
         [Argument::One(k), Argument::Terms(xs), Argument::One(c)] => Saying::SelectTerm(xs, *k, *c),
-        _ => Saying::Nothing(constraint),
+        _ => Saying::Other(constraint),
     }
 }
 
 /// Terms that are a row of a table.
 fn row<'m>(constraint: &'m Constraint) -> Saying<'m>
-    ensures { said_by result ≡ said.row constraint.now.name constraint.now.arguments }
+    requires { shape_of constraint.now.name ≡ shapes.Extensional }
+    ensures { said_by result ≡ said.said shapes.Extensional constraint.now.arguments }
 {
     match constraint.arguments() {
         [Argument::Terms(xs), Argument::Numbers(table)] => Saying::Row(xs.as_slice(), table),
-        _ => Saying::Nothing(constraint),
+        _ => Saying::Other(constraint),
     }
 }
 
 /// Terms no two of which are equal.
-fn all_different<'m>(constraint: &'m Constraint) -> Saying<'m>
-    ensures { said_by result ≡ said.all_different constraint.now.name constraint.now.arguments }
+fn distinct<'m>(constraint: &'m Constraint) -> Saying<'m>
+    requires { shape_of constraint.now.name ≡ shapes.Distinct }
+    ensures { said_by result ≡ said.said shapes.Distinct constraint.now.arguments }
 {
     match constraint.arguments() {
         [Argument::Terms(xs)] => Saying::Differ(xs.as_slice()),
-        _ => Saying::Nothing(constraint),
+        _ => Saying::Other(constraint),
     }
 }
 
 /// Tasks that share a resource.
-fn share<'m>(constraint: &'m Constraint) -> Saying<'m>
-    requires { constraint.now.name ≡ FznCumulative }
-    ensures { said_by result ≡ said.share constraint.now.arguments }
+fn cumulative<'m>(constraint: &'m Constraint) -> Saying<'m>
+    requires { shape_of constraint.now.name ≡ shapes.Cumulative }
+    ensures { said_by result ≡ said.said shapes.Cumulative constraint.now.arguments }
 {
     match constraint.arguments() {
         [
@@ -405,6 +312,6 @@ fn share<'m>(constraint: &'m Constraint) -> Saying<'m>
             usages.as_slice(),
             *bound,
         ),
-        _ => Saying::Nothing(constraint),
+        _ => Saying::Other(constraint),
     }
 }

@@ -4,7 +4,7 @@ ghost use Rattle.fz_model.specs.Arguments.{argument_of};
 ghost use Rattle.fz_strength.specs.Clauses.{clause, disjunction, conjunction, clause_terms};
 ghost use Rattle.fz_strength.specs.declared.event.Event.TheVariants.{Fixed};
 ghost use Rattle.fz_strength.specs.Events.{wait_for, waits_for};
-ghost use Rattle.fz_strength.specs.Lines.{terms_of, terms_among};
+ghost use Rattle.fz_spec.specs.Constraints.{terms_of, terms_among};
 ghost use Rattle.fz_strength.specs.Operations.{operand_event};
 ghost use Rattle.fz_strength.specs.Relations.{event_of, reified_event};
 ghost use Rattle.fz_strength.specs.Sayings.{waits_of};
@@ -13,10 +13,9 @@ ghost use Rattle.fz_says.specs.Said.{said_by, waits_in};
 
 use crate::saying::Saying;
 use fz_model::constraint::Argument;
+use fz_spec::shape::{Operation, Relation};
 use fz_spec::term::Term;
 use fz_strength::event::Event;
-use fz_strength::operation::Operation;
-use fz_strength::relation::Relation;
 use std::alloc::{AllocError, Global};
 
 /// A variable, and the kind of its changes that is waited for.
@@ -81,7 +80,7 @@ fn add_said(waits: &mut Vec<Wait>, saying: &Saying) -> Result<(), AllocError>
             add(waits, Event::Bound, *bound)
         }
         Saying::SumByNumbers(_, terms, last) => add_left(waits, Event::Any, terms, *last),
-        Saying::Nothing(constraint) => add_arguments(waits, constraint.arguments()),
+        Saying::Other(constraint) => add_arguments(waits, constraint.arguments()),
         Saying::Sum(relation, factors, terms, last) => {
             let event = sum_event(*relation, factors, *last);
             add_left(waits, event, terms, *last)

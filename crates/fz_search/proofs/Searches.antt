@@ -110,7 +110,7 @@ pub begun_printed : (p : Printer) (taken : Option (List ℕ)) → stopped_of p �
 begun_printed p taken none nothing =
     begun_at p.stopped p taken none (sym (with_more-none taken) ∙ ap (λ n. with_more taken (blocks p.book.book.model (take n p.book.book.recorded))) (sym nothing))
 
-filled_ended : (w : Option ℕ) (b : Book) → IsFilledFor w (length b.recorded) ⊎ (b.parts ≡ []) → HasEnded w b
+pub filled_ended : (w : Option ℕ) (b : Book) → IsFilledFor w (length b.recorded) ⊎ (b.parts ≡ []) → HasEnded w b
 filled_ended None b (inl filled) = absurd filled
 filled_ended None b (inr closed) = closed
 filled_ended (Some n) b ended = ended

@@ -4,15 +4,15 @@ use Rattle.std.specs.Prelude.{All}
 use Rattle.std.proofs.lemmas.List.Elements.{All-push}
 use Rattle.fz_spec.specs.Instance.{Instance}
 use Rattle.fz_tree.specs.declared.mode.Mode.{Mode}
-use Rattle.fz_path.specs.Paths.{Pathed, Walked, bare, idle_path}
+use Rattle.fz_path.specs.Paths.{Walked, bare, idle_path}
 
 abbrev pub are_idle : Instance → Mode → ℕ → ℕ → List Walked → Type 0
 are_idle m mode commit adaptive paths = All (λ (p : Walked). bare p ≡ idle_path m mode commit adaptive) paths
 
 -- one more, p, which stands beside an idle one
 pub one_more_idle : (m : Instance) (mode : Mode) (commit adaptive : ℕ) (before after : List Walked) (first p q : Walked) → after ≡ before ++ q ∷ [] → q ≡ p
-    → bare p ≡ idle_path first.model first.mode first.commit_distance first.adaptive_distance → bare first ≡ idle_path m mode commit adaptive → are_idle m mode commit adaptive before → are_idle m mode commit adaptive after
+    → bare p ≡ bare first → bare first ≡ idle_path m mode commit adaptive → are_idle m mode commit adaptive before → are_idle m mode commit adaptive after
 one_more_idle m mode commit adaptive before after first p q more same beside idle all =
     subst (are_idle m mode commit adaptive) (sym more)
     (All-push (λ (p : Walked). bare p ≡ idle_path m mode commit adaptive) before q all
-    (ap bare same ∙ beside ∙ ap (λ (b : Pathed). idle_path b.model b.mode b.commit_distance b.adaptive_distance) idle))
+    (ap bare same ∙ beside ∙ idle))

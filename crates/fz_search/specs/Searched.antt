@@ -1,11 +1,13 @@
 -- What a search leaves of its book, and what is shown of it.
-use Rattle.std.specs.Prelude.{◌≡◌, ℕ, ℤ, ◌<◌, ◌≤◌, ◌⊎◌, All, Bool, true, false, length, take, Option, Some, None, IsSomeAnd, List, []}
-use Rattle.fz_spec.specs.Instance.{Instance}
+use Rattle.std.specs.Prelude.{◌≡◌, ℕ, ℤ, ◌%◌, ◌<◌, ◌≤◌, ◌⊎◌, All, Bool, true, false, length, take, slice_index_or, Option, Some, None, IsSomeAnd, List, []}
+use Rattle.fz_spec.specs.Instance.{Instance, SearchPart}
 use Rattle.fz_spec.specs.declared.goal.Goal.{Goal}
 use Rattle.fz_spec.specs.declared.goal.Goal.TheVariants.{Satisfy, Minimize, Maximize}
 use Rattle.fz_tree.specs.declared.mode.Mode.{Mode}
+use Rattle.fz_tree.specs.declared.mode.Mode.TheVariants as modes
+use Rattle.fz_branch.specs.Plans.{plan_asset, plan_rows}
 use Rattle.fz_tree.specs.Book.{Book, BookLaw, opening}
-use Rattle.fz_path.specs.Paths.{Pathed, Walked, bare, idle_path}
+use Rattle.fz_path.specs.Paths.{Pathed, Walked, bare, idle_path, idle_with}
 use Rattle.fz_solo.specs.Searches.{Searches}
 use Rattle.fz_printer.specs.declared.printer.Printer.{Printer}
 use Rattle.fz_printer.specs.Printed.{book_of, as_found_of, wanted_of, printed_of, stopped_of, due_among, due_of, HasPrinted, IsReady}
@@ -79,6 +81,25 @@ pub record IsByTurns (m : Instance) (o : Options) (seed : ℕ) (b : Book) : Type
 abbrev pub IsSearchedBy : Option ℕ → Instance → Options → Book → Type 0
 IsSearchedBy None m o b = IsAlone m o b
 IsSearchedBy (Some seed) m o b = IsByTurns m o seed b
+
+-- by what an asset divides nodes; where rows are sought there is one plan
+abbrev pub asset_plan : Mode → Instance → ℕ → List SearchPart
+asset_plan modes.All m asset = plan_asset m asset
+asset_plan modes.Rows m asset = plan_rows m
+asset_plan modes.Best m asset = plan_asset m asset
+
+-- how a path of an asset begins: it holds nothing, and keeps copies at the distances that are asked for
+abbrev pub asset_path : Instance → Mode → Options → ℕ → Pathed
+asset_path m mode o asset = idle_with m mode (asset_plan mode m asset) o.commit_distance o.adaptive_distance
+
+-- path w is of asset w mod K
+abbrev pub AreOfAssets : Instance → Mode → Options → List Walked → Type 0
+AreOfAssets m mode o paths = (w : ℕ) (d : Walked) → w < length paths → bare (slice_index_or paths w d) ≡ asset_path m mode o (w % o.assets)
+
+-- as many paths as workers are asked for, by the plans of as many assets as are
+pub record AreOnAssets (m : Instance) (mode : Mode) (o : Options) (paths : List Walked) : Type 0 where
+  pub count : length paths ≡ o.workers
+  pub idle : AreOfAssets m mode o paths
 
 -- as many paths as workers are asked for: each holds nothing, and keeps copies at the distances that are asked for
 pub record AreWorkers (m : Instance) (mode : Mode) (o : Options) (paths : List Walked) : Type 0 where

@@ -8,6 +8,7 @@ ghost use Rattle.fz_collect.specs.Subjects.{IsBookOf};
 ghost use Rattle.fz_path.specs.Paths.{bare, idle_path};
 ghost use Rattle.fz_search.specs.Searched.{AreWorkers, IsOfModel, IsPrinted};
 
+use crate::assets::search_by_assets;
 use crate::searching::{begin, enough_for, mode_for, shows_found};
 use fz_cmd::Options;
 use fz_collect::{Outbox, Subject, gather};
@@ -26,7 +27,7 @@ use std::thread::{Threads, join_mut};
 
 /// Searches a model as `search` does, by as many workers as are asked for, each in a thread of its own where one can be made, and
 /// prints solutions as they are found, where each that is found is shown. What the printer wasn't told of, if anything, one worker
-/// searches at the end.
+/// searches at the end. Workers of several assets print nothing on the way.
 ///
 /// # Errors
 /// `AllocError` where there is no memory to begin with; nothing is printed.
@@ -52,6 +53,9 @@ pub fn search_in_threads<
     ensures untaken { OnErr result (K.taken sink.new ≡ K.taken sink.old) }
     ensures no_fault { OnErr result (K.faults sink.new ≡ K.faults sink.old) }
 {
+    if options.assets() > 1 {
+        return search_by_assets::<T, S, K, G>(rt, alloc, model, options, sink, gate);
+    }
     let distance = options.commit_distance();
     let mode = mode_for(model.goal(), options);
     let book = begin(alloc, model, mode)?;

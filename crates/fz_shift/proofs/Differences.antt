@@ -8,7 +8,7 @@ use Rattle.fz_dom.specs.Shape.{least, greatest}
 use Rattle.fz_dom.specs.declared.change.Change.{Change}
 use Rattle.fz_dom.specs.declared.change.Change.TheVariants.{Same, Changed, Wiped}
 use Rattle.fz_spec.specs.declared.term.Term.TheVariants.{Var}
-use Rattle.fz_strength.specs.declared.relation.Relation.TheVariants.{Equal, NotEqual}
+use Rattle.fz_spec.specs.declared.shape.Relation.TheVariants.{Equal, NotEqual}
 use Rattle.fz_strength.specs.Domains.{dom_at, number_at, AreDomains, Within, IsNarrower}
 use Rattle.fz_strength.specs.Events.{IsOnly, IsFixedIn}
 use Rattle.fz_prop.specs.declared.answer.Answer.TheVariants.{Subsumed, Failed}

@@ -7,7 +7,7 @@ use Rattle.fz_dom.specs.Shape.{least, greatest}
 use Rattle.fz_dom.proofs.Ranges.{least_member, greatest_member}
 use Rattle.fz_spec.specs.declared.term.Term.{Term}
 use Rattle.fz_spec.specs.declared.term.Term.TheVariants.{Var}
-use Rattle.fz_strength.specs.declared.relation.Relation.TheVariants.{Equal}
+use Rattle.fz_spec.specs.declared.shape.Relation.TheVariants.{Equal}
 use Rattle.fz_strength.specs.Domains.{dom_at, AreDomains}
 use Rattle.fz_strength.specs.Sums.{least_product, greatest_product, RestsAtMost, RestsSum}
 use Rattle.fz_shift.specs.declared.plane.Plane.{Plane}

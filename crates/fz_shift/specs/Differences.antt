@@ -5,11 +5,11 @@ use Rattle.fz_sets.specs.Sets.{IsInSet}
 use Rattle.fz_dom.specs.Shape.{least, greatest}
 use Rattle.fz_spec.specs.declared.term.Term.{Term}
 use Rattle.fz_spec.specs.declared.term.Term.TheVariants.{Var}
-use Rattle.fz_strength.specs.declared.relation.Relation.{Relation}
-use Rattle.fz_strength.specs.declared.relation.Relation.TheVariants.{Equal, NotEqual}
+use Rattle.fz_spec.specs.declared.shape.Relation.{Relation}
+use Rattle.fz_spec.specs.declared.shape.Relation.TheVariants.{Equal, NotEqual}
 use Rattle.fz_strength.specs.Domains.{dom_at, number_at, Within}
 use Rattle.fz_strength.specs.Events.{IsFixedIn}
-use Rattle.fz_strength.specs.Relations.{Relates}
+use Rattle.fz_spec.specs.Truth.{Relates}
 use Rattle.fz_shift.specs.declared.difference.Difference.{Difference}
 use Rattle.fz_prop.specs.declared.answer.Answer.{Answer}
 use Rattle.fz_prop.specs.Answers.{IsAnswerOf}

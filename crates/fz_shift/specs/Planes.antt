@@ -6,7 +6,7 @@ use Rattle.fz_dom.specs.Shape.{least, greatest}
 use Rattle.fz_spec.specs.declared.term.Term.{Term}
 use Rattle.fz_spec.specs.Constraints.{term_values}
 use Rattle.fz_spec.specs.Truth.{weighted_sum}
-use Rattle.fz_strength.specs.declared.relation.Relation.TheVariants.{Equal}
+use Rattle.fz_spec.specs.declared.shape.Relation.TheVariants.{Equal}
 use Rattle.fz_strength.specs.Domains.{number_at, dom_at, AreDomains}
 use Rattle.fz_strength.specs.Sums.{RestsSum}
 use Rattle.fz_prop.specs.Stores.{IsTermOf}

@@ -2,7 +2,7 @@
 ghost use Rattle.std.specs.Prelude.{◌≡◌, ◌≢◌, ◌⊎◌, ◌↔◌, ◌<◌, ℤ, [], ◌∷◌, IsNone, MatchOption, neg_ℤ, ◌-ℤ◌, ◌+ℤ◌, List, length, IfOk, IfSome, OnErr};
 ghost use Rattle.fz_sets.specs.Sets.{IsInSet, IsWithinLimits, set_size};
 ghost use Rattle.fz_spec.specs.declared.term.Term.TheVariants.{Var};
-ghost use Rattle.fz_strength.specs.declared.relation.Relation.TheVariants.{Equal, NotEqual};
+ghost use Rattle.fz_spec.specs.declared.shape.Relation.TheVariants.{Equal, NotEqual};
 ghost use Rattle.fz_strength.specs.Domains.{dom_at, AreDomains};
 ghost use Rattle.fz_strength.specs.Events.{IsOnly, IsFixedIn};
 ghost use Rattle.fz_prop.specs.declared.answer.Answer.TheVariants.{Failed};

@@ -1,9 +1,14 @@
 -- Constraints, and when an assignment makes one true (MiniZinc Handbook, "FlatZinc builtins").
-use Rattle.std.specs.Prelude.{◌≡◌, Bool, ℕ, ℤ, pos, List, [], ◌∷◌, length, map, slice_get, unwrap_or}
+use Rattle.std.specs.Prelude.{◌⊎◌, Bool, ℕ, ℤ, pos, List, [], ◌∷◌, length, map, flat_map, slice_get, unwrap_or}
+use Rattle.std.specs.List.{AllByRecursion}
+use Rattle.fz_sets.specs.Sets.{IsInSet}
 use Rattle.fz_spec.specs.declared.builtin.Builtin.{Builtin}
+use Rattle.fz_spec.specs.declared.shape.Shape.{Shape}
+use Rattle.fz_spec.specs.declared.shape.Shape.TheVariants.{Rel, Dom, Linear, Clause, Or, And, Xor, Arithmetic, Element, Extensional, Distinct, Cumulative}
 use Rattle.fz_spec.specs.declared.term.Term.{Term}
 use Rattle.fz_spec.specs.declared.term.Term.TheVariants.{Num, Var}
-use Rattle.fz_spec.specs.Truth.{plain_of, IsReifiedOf, weighted_sum, tasks_of, HoldsOfTwo, HoldsOfThree, HoldsOfSum, HoldsOfExtreme, HoldsOfElement, HoldsOfVarElement, HoldsOfSet, HoldsOfList, HoldsOfListAnd, HoldsOfClause, HoldsOfTable, HoldsOfTasks}
+use Rattle.fz_spec.specs.Signatures.{shape_of}
+use Rattle.fz_spec.specs.Truth.{SomeByRecursion, IsOne, IsZero, IsReified, Relates, weighted_sum, IsResult, IsElement, AreDifferent, IsOdd, IsRowOf, tasks_of, IsCumulative}
 
 -- an argument of a constraint: a term, a list of numbers, a list of terms, or a set
 pub data Argument : Type 0 where
@@ -26,6 +31,16 @@ list_lengths (Numbers ns ∷ arguments) = length ns ∷ list_lengths arguments
 list_lengths (Terms ts ∷ arguments) = length ts ∷ list_lengths arguments
 list_lengths (Set set ∷ arguments) = list_lengths arguments
 
+-- the terms among arguments, in order
+abbrev pub terms_of : Argument → List Term
+terms_of (One t) = t ∷ []
+terms_of (Numbers ns) = []
+terms_of (Terms ts) = ts
+terms_of (Set set) = []
+
+abbrev pub terms_among : List Argument → List Term
+terms_among arguments = flat_map terms_of arguments
+
 -- the value that an assignment gives to a term, and to each of a list
 abbrev pub term_value : List ℤ → Term → ℤ
 term_value a (Num n) = n
@@ -34,25 +49,36 @@ term_value a (Var v) = unwrap_or (slice_get a v) (pos 0)
 abbrev pub term_values : List ℤ → List Term → List ℤ
 term_values a ts = map (term_value a) ts
 
--- Truth by the values of the arguments; with arguments of other forms a constraint is false.
+-- What is said, where no argument is left; and with one Boolean more, that this one is 1 exactly where that is so.
+abbrev pub OrReified : List Argument → List ℤ → Type 0 → Type 0
+OrReified [] a P = P
+OrReified (One r ∷ []) a P = IsReified P (term_value a r)
+OrReified rest a P = ⊥
+
+-- What a shape says of its arguments, by the values that an assignment gives them; of arguments of other forms nothing that is true.
+abbrev pub HoldsAs : Shape → List Argument → List ℤ → Type 0
+HoldsAs (Rel relation) (One x ∷ One y ∷ rest) a = OrReified rest a (Relates relation (term_value a x) (term_value a y))
+HoldsAs Dom (One x ∷ Set set ∷ rest) a = OrReified rest a (IsInSet set (term_value a x))
+HoldsAs (Linear relation) (Numbers ks ∷ Terms ts ∷ One c ∷ rest) a = OrReified rest a (Relates relation (weighted_sum ks (term_values a ts)) (term_value a c))
+HoldsAs Clause (Terms ps ∷ Terms ns ∷ rest) a = OrReified rest a (SomeByRecursion IsOne (term_values a ps) ⊎ SomeByRecursion IsZero (term_values a ns))
+HoldsAs Or (Terms ts ∷ rest) a = OrReified rest a (SomeByRecursion IsOne (term_values a ts))
+HoldsAs Or (One x ∷ One y ∷ rest) a = OrReified rest a (SomeByRecursion IsOne (term_values a (x ∷ y ∷ [])))
+HoldsAs And (Terms ts ∷ rest) a = OrReified rest a (AllByRecursion IsOne (term_values a ts))
+HoldsAs And (One x ∷ One y ∷ rest) a = OrReified rest a (AllByRecursion IsOne (term_values a (x ∷ y ∷ [])))
+HoldsAs Xor (Terms ts ∷ rest) a = OrReified rest a (IsOdd (term_values a ts))
+HoldsAs (Arithmetic operation) (One x ∷ One z ∷ []) a = IsResult operation (term_values a (x ∷ [])) (term_value a z)
+HoldsAs (Arithmetic operation) (One x ∷ One y ∷ One z ∷ rest) a = OrReified rest a (IsResult operation (term_values a (x ∷ y ∷ [])) (term_value a z))
+HoldsAs (Arithmetic operation) (One z ∷ Terms xs ∷ rest) a = OrReified rest a (IsResult operation (term_values a xs) (term_value a z))
+HoldsAs Element (One k ∷ Numbers xs ∷ One c ∷ rest) a = OrReified rest a (IsElement (term_value a k) xs (term_value a c))
+HoldsAs Element (One k ∷ Terms xs ∷ One c ∷ rest) a = OrReified rest a (IsElement (term_value a k) (term_values a xs) (term_value a c))
+HoldsAs Extensional (Terms xs ∷ Numbers table ∷ rest) a = OrReified rest a (IsRowOf (term_values a xs) table)
+HoldsAs Distinct (Terms xs ∷ rest) a = OrReified rest a (AreDifferent (term_values a xs))
+HoldsAs Cumulative (Terms ss ∷ Terms ds ∷ Terms us ∷ One b ∷ rest) a = OrReified rest a (IsCumulative (tasks_of (term_values a ss) (term_values a ds) (term_values a us)) (term_value a b))
+HoldsAs shape arguments a = ⊥
+
+-- a constraint says what its row says
 abbrev pub Holds : Builtin → List Argument → List ℤ → Type 0
-Holds name (One x ∷ One y ∷ []) a = HoldsOfTwo name (term_value a x) (term_value a y)
-Holds name (One x ∷ One y ∷ One z ∷ []) a = HoldsOfThree name (term_value a x) (term_value a y) (term_value a z)
-Holds name (One m ∷ Terms xs ∷ []) a = HoldsOfExtreme name (term_value a m) (term_values a xs)
-Holds name (One k ∷ Numbers xs ∷ One c ∷ []) a = HoldsOfElement name (term_value a k) xs (term_value a c)
-Holds name (One k ∷ Terms xs ∷ One c ∷ []) a = HoldsOfVarElement name (term_value a k) (term_values a xs) (term_value a c)
-Holds name (One x ∷ Set set ∷ []) a = HoldsOfSet name (term_value a x) set
-Holds name (One x ∷ Set set ∷ One r ∷ []) a = IsReifiedOf (plain_of name) (λ plain. HoldsOfSet plain (term_value a x) set) (term_value a r)
-Holds name (Numbers cs ∷ Terms xs ∷ One c ∷ []) a = HoldsOfSum name (weighted_sum cs (term_values a xs)) (term_value a c)
-Holds name (Numbers cs ∷ Terms xs ∷ One c ∷ One r ∷ []) a =
-    IsReifiedOf (plain_of name) (λ plain. HoldsOfSum plain (weighted_sum cs (term_values a xs)) (term_value a c)) (term_value a r)
-Holds name (Terms xs ∷ []) a = HoldsOfList name (term_values a xs)
-Holds name (Terms xs ∷ One r ∷ []) a = HoldsOfListAnd name (term_values a xs) (term_value a r)
-Holds name (Terms ps ∷ Terms ns ∷ []) a = HoldsOfClause name (term_values a ps) (term_values a ns)
-Holds name (Terms ps ∷ Terms ns ∷ One r ∷ []) a = IsReifiedOf (plain_of name) (λ plain. HoldsOfClause plain (term_values a ps) (term_values a ns)) (term_value a r)
-Holds name (Terms xs ∷ Numbers table ∷ []) a = HoldsOfTable name (term_values a xs) table
-Holds name (Terms ss ∷ Terms ds ∷ Terms us ∷ One b ∷ []) a = HoldsOfTasks name (tasks_of (term_values a ss) (term_values a ds) (term_values a us)) (term_value a b)
-Holds name arguments a = ⊥
+Holds name arguments a = HoldsAs (shape_of name) arguments a
 
 abbrev pub IsTrueOf : List ℤ → Constraint → Type 0
 IsTrueOf a c = Holds c.name c.arguments a

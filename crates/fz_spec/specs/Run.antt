@@ -1,5 +1,5 @@
 -- What a run prints (MiniZinc Handbook, "Output": ten dashes after a solution, ten equal signs after a search that is complete).
-use Rattle.std.specs.Prelude.{◌≡◌, ℕ, ℤ, pos, List, [], ◌∷◌, ◌++◌, codes, decimal, flat_map, length, map, if◌then◌else◌}
+use Rattle.std.specs.Prelude.{ℕ, ℤ, pos, List, [], ◌∷◌, ◌++◌, codes, decimal, flat_map, length, map, if◌then◌else◌}
 use Rattle.std.specs.Fmt.{signed_decimal}
 use Rattle.std.specs.Ordering.{int_eq}
 use Rattle.fz_spec.specs.declared.kind.Kind.{Kind}

@@ -1,7 +1,10 @@
 //! Names of constraints.
 
-/// The name of a constraint (MiniZinc Handbook, "FlatZinc builtins"). `specs/Truth.antt` says when each is true, and
-/// `ROWS` what each asks of its arguments.
+use crate::row::{ROWS, shape_at};
+use crate::shape::Shape;
+
+/// The name of a constraint (MiniZinc Handbook, "FlatZinc builtins"). The variants stand as the rows of `ROWS` do, which say what each
+/// asks of its arguments, and what it says.
 #[derive(Clone, Copy, Debug, PartialEq, Eq)]
 pub enum Builtin {
     AllDifferentInt,
@@ -56,4 +59,16 @@ pub enum Builtin {
     IntTimes,
     SetIn,
     SetInReif,
+}
+
+impl Builtin {
+    ghost use Rattle.std.specs.Prelude.{◌≡◌};
+    ghost use Rattle.fz_spec.specs.Signatures.{shape_of};
+
+    /// What it says of its arguments: the shape in its row.
+    pub fn shape(self) -> Shape
+        ensures { result ≡ shape_of self }
+    {
+        shape_at(&ROWS, self as usize)
+    }
 }

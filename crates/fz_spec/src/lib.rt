@@ -14,4 +14,5 @@ pub mod laws;
 pub mod limits;
 pub mod row;
 pub mod search;
+pub mod shape;
 pub mod term;

@@ -1,13 +1,11 @@
 -- Laws of equations on whole domains.
 use Rattle.std.proofs.Common.{◌≡◌, List, [], ◌∷◌, refl, map}
 use Rattle.std.specs.Prelude.{ℤ}
-use Rattle.std.specs.List.{AllByRecursion}
 use Rattle.fz_sets.specs.Sets.{single}
 use Rattle.fz_spec.specs.declared.term.Term.{Term}
-use Rattle.fz_spec.specs.Constraints.{term_value, term_values}
+use Rattle.fz_spec.specs.Constraints.{term_values}
 use Rattle.fz_spec.specs.Truth.{weighted_sum}
 use Rattle.fz_strength.specs.declared.event.Event.TheVariants.{Any}
-use Rattle.fz_strength.specs.Domains.{term_set}
 use Rattle.fz_strength.specs.Events.{AreSingle}
 use Rattle.fz_strength.specs.Equations.{sets_of, RestsByNumbers}
 use Rattle.fz_strength.proofs.Terms.{AreQuietAt}

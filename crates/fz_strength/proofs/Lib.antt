@@ -1,6 +1,7 @@
 pub mod Terms
 pub mod Cumulatives
 pub mod Differences
+pub mod Spreads
 pub mod SumLaws
 pub mod ReifiedSumLaws
 pub mod Equations

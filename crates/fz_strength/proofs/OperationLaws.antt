@@ -1,6 +1,6 @@
 -- The line of an equation: it lasts while the ends of its terms stay, and says the truth where one number is left of each.
 use Rattle.std.proofs.Common.{◌≡◌, ◌≢◌, List, [], ◌∷◌, true, false, refl, sym, ap, subst, arith, map, inl, inr}
-use Rattle.std.specs.Prelude.{ℤ, pos, negsuc, nat_abs, neg_ℤ, ◌+ℤ◌, ◌*ℤ◌, ◌≤ℤ◌, int_div, int_lt, if◌then◌else◌, ◌↔◌, ◌⊎◌, ◌&&◌}
+use Rattle.std.specs.Prelude.{ℤ, pos, negsuc, nat_abs, neg_ℤ, ◌+ℤ◌, ◌*ℤ◌, ◌≤ℤ◌, int_div, int_lt, if◌then◌else◌, ◌⊎◌, ◌&&◌}
 use Rattle.std.specs.Int.{int_min, int_max}
 use Rattle.std.specs.List.{AllByRecursion, fold}
 use Rattle.std.specs.Ordering.{int_eq}
@@ -10,14 +10,14 @@ use Rattle.std.proofs.lemmas.Int.{ints, clamps, by_lt_z}
 use Rattle.fz_dom.specs.Shape.{least, greatest}
 use Rattle.fz_spec.specs.declared.term.Term.{Term}
 use Rattle.fz_spec.specs.Constraints.{term_value, term_values}
-use Rattle.fz_spec.specs.Truth.{IsLeastOf, IsGreatestOf}
+use Rattle.fz_spec.specs.Truth.{IsLeastOf, IsGreatestOf, IsResult, remainder}
 use Rattle.fz_strength.specs.declared.event.Event.TheVariants.{Bound}
-use Rattle.fz_strength.specs.declared.operation.Operation.{Operation}
-use Rattle.fz_strength.specs.declared.operation.Operation.TheVariants.{Plus, Times, Quotient, Remainder, Abs, Min, Max}
-use Rattle.fz_strength.specs.declared.operation.Bounds.{Bounds}
+use Rattle.fz_spec.specs.declared.shape.Operation.{Operation}
+use Rattle.fz_spec.specs.declared.shape.Operation.TheVariants.{Plus, Times, Quotient, Remainder, Abs, Min, Max}
+use Rattle.fz_strength.specs.declared.bounds.Bounds.{Bounds}
 use Rattle.fz_strength.specs.Domains.{term_set, IsNarrower}
 use Rattle.fz_strength.specs.Events.{IsQuiet, IsOnly, AreSingle}
-use Rattle.fz_strength.specs.Operations.{Equation, equation_terms, IsResult, EquationTruth, low_of, high_of, between, no_bounds, own_bounds, corner_bounds, quotient_bounds, remainder, remainder_bounds, divisors_of, LacksZero, result_bounds, operand_bounds, bounds_of, IsBounded, IsEquationLine, operand_event}
+use Rattle.fz_strength.specs.Operations.{Equation, equation_terms, EquationTruth, low_of, high_of, between, no_bounds, own_bounds, corner_bounds, quotient_bounds, remainder_bounds, divisors_of, LacksZero, result_bounds, operand_bounds, bounds_of, IsBounded, IsEquationLine, operand_event}
 use Rattle.fz_strength.proofs.Clauses.{all_with, all_unmap}
 use Rattle.fz_strength.proofs.Terms.{AreQuietAt, term_narrower, in_single, quiet_self}
 
@@ -252,29 +252,3 @@ result_alone operation xs z ds a alone only apart h =
 
 pub equation_alone : (e : Equation) (ds : List (List (ℤ × ℤ))) (a : List ℤ) → AreSingle ds a (equation_terms e) → IsEquationLine e ds → EquationTruth e a
 equation_alone e ds a alone line = result_alone e.operation e.operands e.result ds a alone.1 alone.0 line.divides line.bounded.0
-
--- ---- by its names
-
-pub min_truth : (x y z : ℤ) → IsLeastOf z (x ∷ y ∷ []) ↔ (z ≡ int_min x y)
-min_truth x y z = (
-  (λ h. let first = h.1.0 in let second = h.1.1.0 in elim h.0 [
-    | inl at ↦ omega (arith, ints, clamps, at, first, second)
-    | inr there ↦ elim there [ inl at ↦ omega (arith, ints, clamps, at, first, second) | inr none ↦ absurd none ]
-  ]),
-  (λ is. (
-    elim (min_is x y z (sym is)) [ inl at ↦ inl at | inr at ↦ inr (inl at) ],
-    (omega (arith, ints, clamps, is), (omega (arith, ints, clamps, is), tt)),
-  )),
-)
-
-pub max_truth : (x y z : ℤ) → IsGreatestOf z (x ∷ y ∷ []) ↔ (z ≡ int_max x y)
-max_truth x y z = (
-  (λ h. let first = h.1.0 in let second = h.1.1.0 in elim h.0 [
-    | inl at ↦ omega (arith, ints, clamps, at, first, second)
-    | inr there ↦ elim there [ inl at ↦ omega (arith, ints, clamps, at, first, second) | inr none ↦ absurd none ]
-  ]),
-  (λ is. (
-    elim (max_is x y z (sym is)) [ inl at ↦ inl at | inr at ↦ inr (inl at) ],
-    (omega (arith, ints, clamps, is), (omega (arith, ints, clamps, is), tt)),
-  )),
-)

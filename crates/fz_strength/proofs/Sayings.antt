@@ -1,5 +1,6 @@
 -- What is said lasts while nothing happens that may break its line, and is true where all is fixed: a line for each shape.
-use Rattle.std.proofs.Common.{ℕ, ◌<◌, List, [], ◌∷◌, refl, length}
+use Rattle.std.proofs.Common.{ℕ, ◌<◌, List, [], ◌∷◌, refl, length, arith}
+use Rattle.std.proofs.lemmas.Int.{ints}
 use Rattle.std.specs.Prelude.{ℤ, true, false}
 use Rattle.fz_sets.specs.Sets.{single}
 use Rattle.fz_sets.proofs.Lists.{all_at, all_left, all_right}
@@ -15,7 +16,7 @@ use Rattle.fz_strength.specs.Lines.{LiesIn}
 use Rattle.fz_strength.specs.Relations.{event_of, reified_event}
 use Rattle.fz_strength.specs.Sums.{sum_event_of}
 use Rattle.fz_strength.specs.Operations.{operand_event}
-use Rattle.fz_strength.specs.Sayings.{Saying, saying_of, Compare, CompareIf, Member, MemberIf, Sum, SumIf, Says, Equals, Odd, Select, SelectTerm, Row, Differ, DifferByBounds, SumByNumbers, Share, Nothing, truth_of, line_of, waits_of}
+use Rattle.fz_strength.specs.Sayings.{Saying, saying_of, Compare, CompareIf, Member, MemberIf, Sum, SumIf, Says, Equals, Odd, Select, SelectTerm, Row, Differ, DifferByBounds, SumByNumbers, Share, Other, truth_of, line_of, waits_of}
 use Rattle.fz_strength.proofs.Terms.{in_single, term_narrower, term_quiet, terms_quiet, fixed_before, within_before, term_alone, terms_alone, all_fixed_alone, within_alone}
 use Rattle.fz_strength.specs.Laws.{KeptWhereQuiet, TrueWhereAlone}
 use Rattle.fz_strength.proofs.Says.{says}
@@ -23,7 +24,7 @@ use Rattle.fz_strength.proofs.Keeping.{kept_as, kept_line, kept_once_fixed}
 use Rattle.fz_strength.proofs.Truths as truths
 use Rattle.fz_strength.proofs.Clauses.{all_unmap, clause_kept, some_truth, all_truth}
 use Rattle.fz_strength.proofs.Cumulatives.{all_of_tasks, kept_cumulative, cumulative_true}
-use Rattle.fz_strength.proofs.Differences.{kept_apart, kept_once_all_fixed, different}
+use Rattle.fz_strength.proofs.Differences.{kept_apart, kept_spread, different, different_by_counts}
 use Rattle.fz_strength.proofs.Equations.{numbers_kept, numbers_true}
 use Rattle.fz_strength.proofs.Elements.{matched_single}
 use Rattle.fz_strength.proofs.OperationLaws.{equation_kept, equation_alone}
@@ -68,10 +69,10 @@ kept (Select xs k c) ds es domains narrower quiet h = let q = terms_quiet Any (k
 kept (SelectTerm xs k c) ds es domains narrower quiet h = kept_element xs k c ds es quiet h
 kept (Row xs table) ds es domains narrower quiet h = kept_supported xs table ds es quiet h
 kept (Differ xs) ds es domains narrower quiet h = kept_apart xs ds es narrower (terms_quiet Fixed xs ds es quiet) h
-kept (DifferByBounds xs) ds es domains narrower quiet h = kept_once_all_fixed xs ds es narrower (terms_quiet Bound xs ds es quiet) h
+kept (DifferByBounds xs) ds es domains narrower quiet h = kept_spread xs ds es (terms_quiet Bound xs ds es quiet) h
 kept (SumByNumbers ks ts c) ds es domains narrower quiet h = numbers_kept ks ts c ds es (terms_quiet Any ts ds es quiet) h
 kept (Share ss dd us b) ds es domains narrower quiet h = kept_cumulative ss dd us b ds es (all_of_tasks _ ss dd us b (terms_quiet Bound (terms_of_tasks ss dd us b) ds es quiet)) h
-kept (Nothing name arguments) ds es domains narrower quiet h = kept_once_fixed name arguments ds es narrower quiet h
+kept (Other shape arguments) ds es domains narrower quiet h = kept_once_fixed shape arguments ds es narrower quiet h
 
 abbrev Below : ℕ → Wait → Type 0
 Below n w = w.variable < n
@@ -110,10 +111,10 @@ true_alone (Select xs k c) ds a below alone h =
 true_alone (SelectTerm xs k c) ds a below alone h = true_element xs k c ds a below alone h
 true_alone (Row xs table) ds a below alone h = single_row xs table ds a (terms_alone Any xs ds a below alone) h.some.0 h.some.1
 true_alone (Differ xs) ds a below alone h = different xs ds a (terms_alone Fixed xs ds a below alone) h
-true_alone (DifferByBounds xs) ds a below alone h = let single = terms_alone Bound xs ds a below alone in different xs ds a single (h (all_fixed_alone xs ds a single))
+true_alone (DifferByBounds xs) ds a below alone h = different_by_counts xs ds a (terms_alone Bound xs ds a below alone) (λ n. (h n n (omega (arith, ints))).few)
 true_alone (SumByNumbers ks ts c) ds a below alone h = numbers_true ks ts c ds a (terms_alone Any ts ds a below alone) h
 true_alone (Share ss dd us b) ds a below alone h = cumulative_true ss dd us b ds a (all_of_tasks _ ss dd us b (terms_alone Bound (terms_of_tasks ss dd us b) ds a below alone)) h
-true_alone (Nothing name arguments) ds a below alone h = truths.once_fixed name arguments ds a alone below h
+true_alone (Other shape arguments) ds a below alone h = truths.once_fixed shape arguments ds a alone below h
 
 pub kept_where_quiet : KeptWhereQuiet
 kept_where_quiet c ds es domains narrower quiet h = kept (saying_of c) ds es domains narrower quiet h

@@ -8,7 +8,8 @@ use Rattle.fz_sets.specs.Sets.{IsInSet, IsInRange, AreRanges}
 use Rattle.fz_dom.specs.Shape.{least, greatest}
 use Rattle.fz_dom.proofs.Ranges.{AreRanges-head, AreRanges-tail, least_member, greatest_member}
 use Rattle.fz_strength.specs.Laws.{SizesOfSets}
-use Rattle.fz_strength.specs.Operations.{size_of, size_between, least_size, greatest_size}
+use Rattle.fz_spec.specs.Truth.{size_of}
+use Rattle.fz_strength.specs.Operations.{size_between, least_size, greatest_size}
 
 -- ---- the least
 

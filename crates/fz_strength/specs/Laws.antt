@@ -5,7 +5,8 @@ use Rattle.fz_dom.specs.Shape.{IsDomain}
 use Rattle.fz_spec.specs.Constraints.{Constraint, IsTrueOf}
 use Rattle.fz_strength.specs.Domains.{AreDomains, Alone, IsNarrower}
 use Rattle.fz_strength.specs.Events.{AreQuiet, AreBelow}
-use Rattle.fz_strength.specs.Operations.{size_of, least_size, greatest_size}
+use Rattle.fz_spec.specs.Truth.{size_of}
+use Rattle.fz_strength.specs.Operations.{least_size, greatest_size}
 use Rattle.fz_strength.specs.Sayings.{Rests, waits, saying_of, truth_of}
 
 -- what may break a line is all that does

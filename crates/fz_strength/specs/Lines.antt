@@ -1,11 +1,11 @@
 -- Lines that hold of domains where a propagator rests: of any constraint, of a set, of a parity, and of what a Boolean says.
-use Rattle.std.specs.Prelude.{◌≡◌, ◌≢◌, ℕ, ℤ, pos, List, [], ◌∷◌, flat_map, Some}
+use Rattle.std.specs.Prelude.{◌≡◌, ◌≢◌, ℕ, ℤ, pos, List, Some}
 use Rattle.std.specs.List.{slice_get}
 use Rattle.fz_sets.specs.Sets.{IsInSet}
-use Rattle.fz_spec.specs.declared.builtin.Builtin.{Builtin}
+use Rattle.fz_spec.specs.declared.shape.Shape.{Shape}
 use Rattle.fz_spec.specs.declared.term.Term.{Term}
-use Rattle.fz_spec.specs.Constraints.{Argument, One, Numbers, Terms, Set, Holds}
-use Rattle.fz_strength.specs.declared.relation.Relation.{Relation}
+use Rattle.fz_spec.specs.Constraints.{Argument, HoldsAs, terms_among}
+use Rattle.fz_spec.specs.declared.shape.Relation.{Relation}
 use Rattle.fz_strength.specs.Domains.{Within}
 use Rattle.fz_strength.specs.Events.{IsOnly, IsFixedIn, AllFixed}
 use Rattle.fz_strength.specs.Relations.{RestsAs, RestsAgainst, IsShown, IsRefuted}
@@ -19,19 +19,9 @@ pub record IsReifiedLine (shown refuted line against : Type 0) (r : List (ℤ ×
   pub line_if_one : IsOnly r (pos 1) → line
   pub against_if_zero : IsOnly r (pos 0) → against
 
--- the terms among arguments
-abbrev pub terms_of : Argument → List Term
-terms_of (One t) = t ∷ []
-terms_of (Numbers ns) = []
-terms_of (Terms ts) = ts
-terms_of (Set set) = []
-
-abbrev pub terms_among : List Argument → List Term
-terms_among arguments = flat_map terms_of arguments
-
 -- The line of any constraint: where one number is left of each of its terms, it is true.
-abbrev pub RestsOnceFixed : Builtin → List Argument → List (List (ℤ × ℤ)) → Type 0
-RestsOnceFixed name arguments ds = AllFixed ds (terms_among arguments) → (a : List ℤ) → Within ds a → Holds name arguments a
+abbrev pub RestsOnceFixed : Shape → List Argument → List (List (ℤ × ℤ)) → Type 0
+RestsOnceFixed shape arguments ds = AllFixed ds (terms_among arguments) → (a : List ℤ) → Within ds a → HoldsAs shape arguments a
 
 -- all numbers of d are in the set, and none is
 abbrev pub LiesIn : List (ℤ × ℤ) → List (ℤ × ℤ) → Type 0

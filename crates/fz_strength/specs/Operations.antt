@@ -1,6 +1,6 @@
 -- A term that is what an operation makes of other terms, and the bounds that the ends of all of them give to each
 -- (Apt, Zoeteweij: "An Analysis of Arithmetic Constraints on Integer Intervals").
-use Rattle.std.specs.Prelude.{◌≡◌, ◌≢◌, ℤ, pos, nat_abs, neg_ℤ, ◌+ℤ◌, ◌-ℤ◌, ◌*ℤ◌, ◌≤ℤ◌, int_div, int_lt, List, [], ◌∷◌, ◌++◌, map, if◌then◌else◌, ◌&&◌}
+use Rattle.std.specs.Prelude.{ℤ, pos, neg_ℤ, ◌+ℤ◌, ◌-ℤ◌, ◌*ℤ◌, ◌≤ℤ◌, int_div, int_lt, List, [], ◌∷◌, ◌++◌, map, if◌then◌else◌, ◌&&◌}
 use Rattle.std.specs.Int.{int_min, int_max}
 use Rattle.std.specs.List.{AllByRecursion, fold}
 use Rattle.std.specs.Ordering.{int_eq}
@@ -8,10 +8,10 @@ use Rattle.fz_sets.specs.Sets.{IsInSet}
 use Rattle.fz_dom.specs.Shape.{least, greatest}
 use Rattle.fz_spec.specs.declared.term.Term.{Term}
 use Rattle.fz_spec.specs.Constraints.{term_value, term_values}
-use Rattle.fz_spec.specs.Truth.{IsLeastOf, IsGreatestOf}
-use Rattle.fz_strength.specs.declared.operation.Operation.{Operation}
-use Rattle.fz_strength.specs.declared.operation.Operation.TheVariants.{Plus, Times, Quotient, Remainder, Abs, Min, Max}
-use Rattle.fz_strength.specs.declared.operation.Bounds.{Bounds}
+use Rattle.fz_spec.specs.Truth.{IsResult, remainder}
+use Rattle.fz_spec.specs.declared.shape.Operation.{Operation}
+use Rattle.fz_spec.specs.declared.shape.Operation.TheVariants.{Plus, Times, Quotient, Remainder, Abs, Min, Max}
+use Rattle.fz_strength.specs.declared.bounds.Bounds.{Bounds}
 use Rattle.fz_strength.specs.declared.event.Event.{Event}
 use Rattle.fz_strength.specs.declared.event.Event.TheVariants.{Any, Bound}
 use Rattle.fz_strength.specs.Domains.{term_set}
@@ -39,25 +39,6 @@ operand_event operation = Bound
 
 abbrev pub equation_waits : Equation → List Wait
 equation_waits e = wait_for Bound e.result ++ waits_for (operand_event e.operation) e.operands
-
--- the size of a number
-abbrev pub size_of : ℤ → ℤ
-size_of x = pos (nat_abs x)
-
--- what a truncated quotient leaves
-abbrev pub remainder : ℤ → ℤ → ℤ
-remainder x y = x -ℤ (int_div x y *ℤ y)
-
--- z is what the operation makes of these; of another count of numbers it makes none
-abbrev pub IsResult : Operation → List ℤ → ℤ → Type 0
-IsResult Plus (x ∷ y ∷ []) z = (x +ℤ y) ≡ z
-IsResult Times (x ∷ y ∷ []) z = (x *ℤ y) ≡ z
-IsResult Quotient (x ∷ y ∷ []) z = (y ≢ pos 0) × (int_div x y ≡ z)
-IsResult Remainder (x ∷ y ∷ []) z = (y ≢ pos 0) × (remainder x y ≡ z)
-IsResult Abs (x ∷ []) z = z ≡ size_of x
-IsResult Min xs z = IsLeastOf z xs
-IsResult Max xs z = IsGreatestOf z xs
-IsResult operation xs z = ⊥
 
 -- an assignment makes it true
 abbrev pub EquationTruth : Equation → List ℤ → Type 0

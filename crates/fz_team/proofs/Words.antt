@@ -1,6 +1,6 @@
 -- The word and the assignments that were put, one after the other.
-use Rattle.std.proofs.Common.{◌≡◌, ℕ, ◌+◌, ◌≤◌, ◌<◌, min, zero, suc, List, [], ◌∷◌, ◌++◌, length, refl, sym, ap, ◌∙◌, subst, arith, Option, Some, None, IfSome, ◌⊎◌, inl, inr}
-use Rattle.std.specs.Prelude.{ℤ, nat_abs, All}
+use Rattle.std.proofs.Common.{◌≡◌, ℕ, ◌+◌, ◌-◌, ◌≤◌, ◌<◌, min, zero, suc, List, [], ◌∷◌, ◌++◌, length, refl, sym, ap, ◌∙◌, subst, arith, Option, Some, None, IfSome, ◌⊎◌, inl, inr}
+use Rattle.std.specs.Prelude.{ℤ, nat_abs, All, Any, slice_index_or}
 use Rattle.fz_spec.specs.Instance.{Instance, Satisfies, score}
 use Rattle.fz_bound.specs.Rule.{UNSET, PARTS}
 use Rattle.fz_team.specs.Members.{IsScoreOf, least_score, listed}
@@ -11,10 +11,10 @@ use Rattle.fz_team.specs.declared.member.Member.{Member}
 use Rattle.fz_path.specs.Tasks.{Tasked}
 use Rattle.fz_team.specs.Members.{IsMember, IsTaskOf}
 use Rattle.fz_tree.specs.declared.mode.Mode.{Mode}
-use Rattle.fz_tree.specs.Book.{Book}
 use Rattle.fz_team.specs.declared.end.End.{End}
-use Rattle.fz_team.specs.declared.end.End.TheVariants.{Short}
-use Rattle.fz_team.specs.Ends.{Ends, IsWordOf, IsTeam}
+use Rattle.fz_team.specs.declared.end.End.TheVariants.{Enough, Closed, Short, Stopped}
+use Rattle.fz_book.specs.Room.{Roomy}
+use Rattle.fz_team.specs.Ends.{Ends, EndsOne, IsWordOf, IsTeam}
 
 pub least_small : (m : Instance) (l : List (List ℤ)) → least_score m l ≤ UNSET
 least_small m [] = omega arith
@@ -83,7 +83,38 @@ round_back {S} m word n left before {V} items o after is team all len =
     came_back m word n left before (items after) team (subst (λ (p : Option V). IfSome p (λ (v : V). All (IsMember m word n) (items v))) is all)
     (subst (λ (p : Option V). IfSome p (λ (v : V). length (items v) ≡ length before)) is len)
 
--- an end that a book shows, or being out of memory
-pub ends_again : (shown end : End) (enough : Option ℕ) (m : Instance) (mode : Mode) (b c : Book) → (shown ≡ end) ⊎ (shown ≡ Short) → c ≡ b → Ends end enough m mode b → Ends shown enough m mode c
-ends_again shown end enough m mode b c (inl same) is ends = subst (λ (e : End). Ends e enough m mode c) (sym same) (subst (λ (x : Book). Ends end enough m mode x) (sym is) ends)
-ends_again shown end enough m mode b c (inr short) is ends = subst (λ (e : End). Ends e enough m mode c) (sym short) tt
+-- one of several books shows an end
+pub ends_one : (end : End) (enough : Option ℕ) (m : Instance) (mode : Mode) (books : List Roomy) (k : ℕ) (b : Roomy) → k < length books → slice_index_or books k b ≡ b → Ends end enough m mode b.book → EndsOne end enough m mode books
+ends_one Enough enough m mode books k b low is ends = (k, b, low, is, ends)
+ends_one Closed enough m mode books k b low is ends = (k, b, low, is, ends)
+ends_one Short enough m mode books k b low is ends = tt
+ends_one Stopped enough m mode books k b low is ends = tt
+
+-- that end, or being out of memory
+pub ends_one_again : (shown end : End) (enough : Option ℕ) (m : Instance) (mode : Mode) (books after : List Roomy) → (shown ≡ end) ⊎ (shown ≡ Short) → after ≡ books → EndsOne end enough m mode books → EndsOne shown enough m mode after
+ends_one_again shown end enough m mode books after (inl same) is ends = subst (λ (e : End). EndsOne e enough m mode after) (sym same) (subst (λ (l : List Roomy). EndsOne end enough m mode l) (sym is) ends)
+ends_one_again shown end enough m mode books after (inr short) is ends = subst (λ (e : End). EndsOne e enough m mode after) (sym short) tt
+
+-- the one of a list of one
+one_of_one : (P : Roomy → Type 0) (books : List Roomy) (b : Roomy) → length books ≡ 1 → ((d : Roomy) → b ≡ slice_index_or books 0 d) → Any P books → P b
+one_of_one P books b one first (k, x, low, is, holds) =
+    let none : k ≡ 0 = omega arith in
+    let same : slice_index_or books 0 x ≡ x = subst (λ (i : ℕ). slice_index_or books i x ≡ x) none is in
+    subst P (sym (first x ∙ same)) holds
+
+-- the end that the one book shows, which was taken from its list
+pub ends_alone : (end : End) (enough : Option ℕ) (m : Instance) (mode : Mode) (books : List Roomy) (n : ℕ) (o : Option Roomy) (b c : Roomy) → n ≡ length books → n ≡ 1 → o ≡ Some b → ((d : Roomy) → 0 < n → o ≡ Some (slice_index_or books (n - 1) d)) → c ≡ b
+    → EndsOne end enough m mode books → Ends end enough m mode c.book
+ends_alone end enough m mode books n o b c len one is last same ends =
+    subst (λ (x : Roomy). Ends end enough m mode x.book) (sym same) (elim end as (λ (e : End). EndsOne e enough m mode books → Ends e enough m mode b.book) [
+      | Enough ↦ λ any. one_of_one (λ (x : Roomy). Ends Enough enough m mode x.book) books b (sym len ∙ one) first any
+      | Closed ↦ λ any. one_of_one (λ (x : Roomy). Ends Closed enough m mode x.book) books b (sym len ∙ one) first any
+      | Short ↦ λ any. tt
+      | Stopped ↦ λ any. tt
+    ] ends)
+  where
+    first : (d : Roomy) → b ≡ slice_index_or books 0 d
+    first d =
+        let none : n - 1 ≡ 0 = omega (arith, one) in
+        let e : Some b ≡ Some (slice_index_or books 0 d) = sym is ∙ last d (omega (arith, one)) ∙ ap (λ (k : ℕ). Some (slice_index_or books k d)) none in
+        cc e

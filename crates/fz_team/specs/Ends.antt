@@ -1,8 +1,9 @@
--- How a team ends.
-use Rattle.std.specs.Prelude.{◌≡◌, ℕ, ◌+◌, ◌≤◌, ℤ, List, [], length, Option, All, IsSomeAnd}
+-- How a team ends, and a portfolio.
+use Rattle.std.specs.Prelude.{◌≡◌, ℕ, ◌+◌, ◌≤◌, ℤ, List, [], length, Option, All, Any, IsSomeAnd}
 use Rattle.fz_spec.specs.Instance.{Instance, Satisfies}
 use Rattle.fz_tree.specs.declared.mode.Mode.{Mode}
 use Rattle.fz_tree.specs.Book.{Book}
+use Rattle.fz_book.specs.Room.{Roomy}
 use Rattle.atomic_table.specs.Seated.{TableId}
 use Rattle.fz_bound.specs.Rule.{UNSET, PARTS}
 use Rattle.fz_bound.specs.Seats.{Seated}
@@ -22,6 +23,13 @@ Ends Stopped enough m mode b = Unit {0}
 pub record IsWordOf (m : Instance) (bests : List (List ℤ)) (word : ℕ) : Type 0 where
   pub sound : All (Satisfies m) bests
   pub least : word ≡ least_score m bests
+
+-- Of several books, Enough and Closed come only with one that shows it.
+abbrev pub EndsOne : End → Option ℕ → Instance → Mode → List Roomy → Type 0
+EndsOne Enough enough m mode books = Any (λ (b : Roomy). Ends Enough enough m mode b.book) books
+EndsOne Closed enough m mode books = Any (λ (b : Roomy). Ends Closed enough m mode b.book) books
+EndsOne Short enough m mode books = Unit {0}
+EndsOne Stopped enough m mode books = Unit {0}
 
 abbrev pub HasBests : End → Instance → List (List ℤ) → ℕ → Type 0
 HasBests Enough m bests word = IsWordOf m bests word

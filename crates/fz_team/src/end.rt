@@ -1,5 +1,7 @@
-//! How a team ends.
+//! How a team ends, and a portfolio.
+use crate::own::OwnBook;
 use fz_book::Book;
+use fz_collect::Subject;
 use fz_model::Assignment;
 
 /// Why a team stopped.
@@ -19,6 +21,15 @@ pub enum End {
 #[derive(Drop)]
 pub struct TeamEnd {
     pub book: Book,
+    pub bests: Vec<Assignment>,
+    pub word: u64,
+    pub end: End,
+}
+
+/// What a portfolio leaves: its books in their order, the best that each worker found or learnt, and the least of their scores.
+#[derive(Drop)]
+pub struct PortfolioEnd<T: Subject> {
+    pub books: Vec<OwnBook<T>>,
     pub bests: Vec<Assignment>,
     pub word: u64,
     pub end: End,

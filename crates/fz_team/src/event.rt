@@ -1,9 +1,9 @@
 //! One event of one worker: the lock, the call, the gate.
-ghost use Rattle.std.specs.Prelude.{length, ◌≡◌, ◌≤◌, ◌<◌, IfOk, IfSome, OnOk, OnErr};
+ghost use Rattle.std.specs.Prelude.{length, ◌≡◌, ◌≢◌, ◌≤◌, ◌<◌, IfOk, IfSome, OnOk, OnErr};
 ghost use Rattle.fz_team.specs.Members.{IsMember, IsTaskOf};
 ghost use Rattle.fz_team.specs.Shares.{IsShare};
 
-use crate::crew::Crew;
+use crate::crew::{Asset, Crew};
 use crate::member::Member;
 use crate::own::{OwnBook, Scored};
 use crate::section;
@@ -31,6 +31,7 @@ pub enum Next {
 /// What a path asks for, whose worker was asked so often for what it found when it last reported.
 fn next_of<S: SearchSpace, G: Gate, T: Subject>(
     crew: &Crew<S, G, T>,
+    worker: u32,
     path: &Path<S>,
     heard: u64,
 ) -> Next
@@ -39,7 +40,7 @@ fn next_of<S: SearchSpace, G: Gate, T: Subject>(
     if path.is_idle() {
         return Next::Gain;
     }
-    if path.is_spent() || is_to_tell(crew, path, heard) {
+    if path.is_spent() || is_to_tell(crew, worker, path, heard) {
         return Next::Report;
     }
     Next::Step
@@ -48,21 +49,25 @@ fn next_of<S: SearchSpace, G: Gate, T: Subject>(
 /// Whether what a path found is to be reported: in batches, of at most its share of what is still wanted, or where it has waited.
 fn is_to_tell<S: SearchSpace, G: Gate, T: Subject>(
     crew: &Crew<S, G, T>,
+    worker: u32,
     path: &Path<S>,
     heard: u64,
 ) -> bool
     requires { 1 ≤ length crew.now.paths.now }
 {
     let waited = crew.outbox.asks().saturating_sub(heard);
-    is_report_due(path, waited, wanted_of_each(crew))
+    is_report_due(path, waited, wanted_of_each(crew, worker))
 }
 
 /// How many are still wanted of each worker, if a number is.
-fn wanted_of_each<S: SearchSpace, G: Gate, T: Subject>(crew: &Crew<S, G, T>) -> Option<u64>
+fn wanted_of_each<S: SearchSpace, G: Gate, T: Subject>(
+    crew: &Crew<S, G, T>,
+    worker: u32,
+) -> Option<u64>
     requires { 1 ≤ length crew.now.paths.now }
 {
     let enough = crew.enough? as u64;
-    let recorded = crew.recorded.load(Ordering::SeqCst);
+    let recorded = crew.asset_of(worker).recorded.load(Ordering::SeqCst);
     Some(share(enough, recorded, crew.paths.len() as u64))
 }
 
@@ -74,7 +79,7 @@ fn share(enough: u64, recorded: u64, workers: u64) -> u64
     enough.saturating_sub(recorded).div_ceil(workers)
 }
 
-/// What a worker is to do first: in a later round its path may hold something.
+/// What a worker is to do first: its path may hold something.
 pub fn first<R: Wait, S: SearchSpace, G: Gate, T: Subject>(
     rt: &R,
     crew: &Crew<S, G, T>,
@@ -83,7 +88,12 @@ pub fn first<R: Wait, S: SearchSpace, G: Gate, T: Subject>(
 ) -> Next
     requires { worker < length crew.now.paths.now }
 {
-    next_of(crew, crew.paths[worker as usize].lock(rt).path(), heard)
+    next_of(
+        crew,
+        worker,
+        crew.paths[worker as usize].lock(rt).path(),
+        heard,
+    )
 }
 
 /// Whether nothing more is to be done on a book.
@@ -91,7 +101,8 @@ fn is_done(book: &Book, enough: Option<u32>) -> bool {
     book.is_closed() || has_enough(book, enough)
 }
 
-/// A step of the worker's path. What it found is put where a best one is sought.
+/// A step of the worker's path. Where a best one is sought, what it found is offered to each book, and then put: whoever sees the
+/// bound finds an incumbent as good.
 pub fn step<R: Wait, S: SearchSpace, G: Gate, T: Subject>(
     rt: &R,
     crew: &Crew<S, G, T>,
@@ -102,7 +113,8 @@ pub fn step<R: Wait, S: SearchSpace, G: Gate, T: Subject>(
 {
     let (found, next) = look(rt, crew, member.worker, member.heard)?;
     if let Some(found) = found {
-        offer(rt, crew, &found.solution)?;
+        offer(rt, crew, member.worker, &found.solution)?;
+        share_best(rt, crew, member.worker)?;
         put(crew, member, found);
     }
     Ok(next)
@@ -128,21 +140,74 @@ fn look<R: Wait, S: SearchSpace, G: Gate, T: Subject>(
     } else {
         None
     };
-    Ok((found, next_of(crew, path.path(), heard)))
+    Ok((found, next_of(crew, worker, path.path(), heard)))
 }
 
-/// The book records it, if it is better than its incumbent; then it is told.
+/// The worker's book records it, if it is better than its incumbent; then it is told.
 fn offer<R: Wait, S: SearchSpace, G: Gate, T: Subject>(
     rt: &R,
     crew: &Crew<S, G, T>,
+    worker: u32,
     found: &Solution<T>,
 ) -> Result<(), AllocError> {
     let (found, copy) = (found.copy()?, found.copy()?);
-    let mut book = crew.book.lock(rt);
+    let mut book = crew.asset_of(worker).book.lock(rt);
     match book.offer(found)? {
         Offered::Better => crew.outbox.tell(rt, Told::Better(copy)),
         Offered::NotBetter(_) => Ok(()),
     }
+}
+
+/// Each other book is offered the incumbent of the worker's own, one after the other.
+fn share_best<R: Wait, S: SearchSpace, G: Gate, T: Subject>(
+    rt: &R,
+    crew: &Crew<S, G, T>,
+    worker: u32,
+) -> Result<(), AllocError> {
+    let (own, count) = (crew.number_of(worker as usize), crew.assets.len());
+    if count < 2 {
+        return Ok(());
+    }
+    let Some(best) = crew.assets[own].book.lock(rt).incumbent()? else {
+        return Ok(());
+    };
+    'others: for steps in 1..count {
+        let other = &crew.assets[behind(own, steps, count)];
+        share_with(rt, crew, worker, other, &best.solution)?;
+    }
+    Ok(())
+}
+
+/// The place that many steps behind one, around.
+fn behind(own: usize, steps: usize, count: usize) -> usize
+    requires own { own < count }
+    requires some { 1 ≤ steps }
+    requires few { steps < count }
+    ensures within { result < count }
+    ensures other { result ≢ own }
+{
+    let left = count - own;
+    if steps < left {
+        own + steps
+    } else {
+        steps - left
+    }
+}
+
+/// Another book is offered a copy, under its lock alone.
+fn share_with<R: Wait, S: SearchSpace, G: Gate, T: Subject>(
+    rt: &R,
+    crew: &Crew<S, G, T>,
+    worker: u32,
+    other: &Asset<T>,
+    best: &Solution<T>,
+) -> Result<(), AllocError> {
+    let best = best.copy()?;
+    crew.gate.before(worker, EventKind::Share);
+    let mut book = other.book.lock(rt);
+    let _whether_it_is_better = book.offer(best)?;
+    crew.gate.at(worker, EventKind::Share);
+    Ok(())
 }
 
 /// Puts the score of a solution, and keeps the solution where its score is the least that this worker put.
@@ -163,7 +228,7 @@ fn put<S: SearchSpace, G: Gate, T: Subject>(
     }
 }
 
-/// The worker's path learns the incumbent, where the word says that there is a better one than it knows.
+/// The worker's path learns its book's incumbent, where the word says that there is a better one than it knows.
 pub fn learn<R: Wait, S: SearchSpace, G: Gate, T: Subject>(
     rt: &R,
     crew: &Crew<S, G, T>,
@@ -175,7 +240,8 @@ pub fn learn<R: Wait, S: SearchSpace, G: Gate, T: Subject>(
     if member.known <= crew.bound.load(&mut member.seat) {
         return Ok(());
     }
-    let Some(best) = crew.book.lock(rt).incumbent()? else {
+    let asset = crew.asset_of(member.worker);
+    let Some(best) = asset.book.lock(rt).incumbent()? else {
         return Ok(());
     };
     tell(rt, crew, member.worker, &best.solution)?;
@@ -210,30 +276,32 @@ pub fn report<R: Wait, S: SearchSpace, G: Gate, T: Subject>(
 {
     member.heard = crew.outbox.asks();
     crew.gate.before(member.worker, EventKind::Report);
+    let asset = crew.asset_of(member.worker);
     let mut path = crew.paths[member.worker as usize].lock(rt);
-    let mut book = crew.book.lock(rt);
+    let mut book = asset.book.lock(rt);
     if let Some(Reported { handed, copy }) = section::report(&mut path, &mut book)? {
         taken(handed)?;
         crew.gate.at(member.worker, EventKind::Report);
-        tell_account(rt, crew, &mut book, copy)?;
+        tell_account(rt, crew, asset, &mut book, copy)?;
     }
     if is_done(book.book(), crew.enough) {
         crew.stop.store(true, Ordering::SeqCst);
     }
-    Ok(next_of(crew, path.path(), member.heard))
+    Ok(next_of(crew, member.worker, path.path(), member.heard))
 }
 
 /// What the book took is told, by whoever holds its lock; where somebody prints it, the book lets go of it.
 fn tell_account<R: Wait, S: SearchSpace, G: Gate, T: Subject>(
     rt: &R,
     crew: &Crew<S, G, T>,
+    asset: &Asset<T>,
     book: &mut OwnBook<T>,
     copy: Result<OwnAccount<T>, AllocError>,
 ) -> Result<(), AllocError>
     ensures { book.new.book ≡ book.old.book }
 {
     let recorded = book.book().recorded_count() as u64;
-    crew.recorded.store(recorded, Ordering::SeqCst);
+    asset.recorded.store(recorded, Ordering::SeqCst);
     crew.outbox.tell(rt, Told::Taken(copy?))?;
     if crew.outbox.is_read() {
         book.keep_last();
@@ -288,11 +356,17 @@ fn take_up<R: Wait, S: SearchSpace, G: Gate, T: Subject>(
         Start::Started => {
             crew.gate.at(member.worker, EventKind::Start);
             let known = path.known()?;
-            Ok((known, next_of(crew, path.path(), member.heard)))
+            Ok((
+                known,
+                next_of(crew, member.worker, path.path(), member.heard),
+            ))
         }
         Start::Busy(task) => {
             member.hand = Some(task);
-            Ok((None, next_of(crew, path.path(), member.heard)))
+            Ok((
+                None,
+                next_of(crew, member.worker, path.path(), member.heard),
+            ))
         }
         Start::NoMemory(task) => {
             member.hand = Some(task);
@@ -310,7 +384,7 @@ pub fn gain<R: Wait, S: SearchSpace, G: Gate, T: Subject>(
     requires { IsMember T.model crew.now.bound.now (length crew.now.paths.now) member.old }
     ensures { IsMember T.model crew.now.bound.now (length crew.now.paths.now) member.new }
 {
-    let task = if has_unclaimed(rt, crew) {
+    let task = if has_unclaimed(rt, crew, member.worker) {
         claim(rt, crew, member.worker)?
     } else {
         steal_any(rt, crew, member.worker)?
@@ -322,12 +396,13 @@ pub fn gain<R: Wait, S: SearchSpace, G: Gate, T: Subject>(
     Ok(full)
 }
 
-/// Whether something is unclaimed. Where nothing is left to do, workers are told to stop.
+/// Whether something is unclaimed in the worker's book. Where nothing is left to do there, all are told to stop.
 fn has_unclaimed<R: Wait, S: SearchSpace, G: Gate, T: Subject>(
     rt: &R,
     crew: &Crew<S, G, T>,
+    worker: u32,
 ) -> bool {
-    let book = crew.book.lock(rt);
+    let book = crew.asset_of(worker).book.lock(rt);
     if is_done(book.book(), crew.enough) {
         crew.stop.store(true, Ordering::SeqCst);
         return false;
@@ -343,7 +418,7 @@ fn claim<R: Wait, S: SearchSpace, G: Gate, T: Subject>(
     ensures { IfOk result (λ o. IfSome o (IsTaskOf T.model)) }
 {
     crew.gate.before(worker, EventKind::Claim);
-    let mut book = crew.book.lock(rt);
+    let mut book = crew.asset_of(worker).book.lock(rt);
     let Some(frontier) = book.claim()? else {
         return Ok(None);
     };
@@ -376,7 +451,7 @@ fn steal_any<R: Wait, S: SearchSpace, G: Gate, T: Subject>(
     Ok(None)
 }
 
-/// Tries one path: its lock first, the book's inside.
+/// Tries one path, if its worker serves the same book: the path's lock first, the book's inside.
 fn steal<R: Wait, S: SearchSpace, G: Gate, T: Subject>(
     rt: &R,
     crew: &Crew<S, G, T>,
@@ -386,18 +461,20 @@ fn steal<R: Wait, S: SearchSpace, G: Gate, T: Subject>(
     requires { victim < length crew.now.paths.now }
     ensures { IfOk result (λ o. IfSome o (IsTaskOf T.model)) }
 {
-    if !can_cut(rt, crew, victim) {
+    let is_of_one = crew.number_of(worker as usize) == crew.number_of(victim);
+    if !is_of_one || !can_cut(rt, crew, victim) {
         return Ok(None);
     }
     crew.gate.before(worker, EventKind::Steal);
+    let asset = crew.asset_of(worker);
     let mut path = crew.paths[victim].lock(rt);
-    let mut book = crew.book.lock(rt);
+    let mut book = asset.book.lock(rt);
     let Some(CutOff { task, handed, copy }) = section::cut(&mut path, &mut book)? else {
         return Ok(None);
     };
     taken(handed)?;
     crew.gate.at(worker, EventKind::Steal);
-    tell_account(rt, crew, &mut book, copy)?;
+    tell_account(rt, crew, asset, &mut book, copy)?;
     Ok(Some(task))
 }
 

@@ -1,4 +1,4 @@
-//! Workers between two rounds.
+//! Workers before and after their threads.
 use fz_bound::Seat;
 use fz_model::Assignment;
 use fz_path::Task;

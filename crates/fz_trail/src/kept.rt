@@ -3,9 +3,6 @@
 /// The most copies that stand beside a path.
 pub const COPIES_MOST: usize = 64;
 
-/// How many go where as many stand as may: every second of the older half.
-pub const COPIES_GONE: usize = 16;
-
 /// How many edges below a node that a path came back to each node gets a copy.
 pub const CLOSE: usize = 8;
 

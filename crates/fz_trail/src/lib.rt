@@ -3,8 +3,8 @@
 //! `search/seq/path.hh`).
 //!
 //! A copy is kept if none stands within the commit distance above, at a node that the path came back to, and at those up to
-//! seven edges below it. A node that is remade by several decisions gets a copy in the middle of the way. Of more than 64
-//! copies every second of the older half goes.
+//! seven edges below it. A node that is remade by several decisions gets a copy in the middle of the way. Where 64 copies stand,
+//! the one whose neighbours stand nearest to each other goes before another is kept.
 #![tactic(auto)]
 
 pub mod kept;

@@ -1,5 +1,5 @@
 //! The spaces beside a path.
-ghost use Rattle.std.specs.Prelude.{◌≡◌, ◌⊎◌, ◌↔◌, ◌≤◌, ◌<◌, ◌+◌, ◌-◌, ◌*◌, ◌++◌, ◌∷◌, [], ℕ, ℤ, List, length, take, false, IsTrue, Option, Some, None, IfNone, is_some, option_map, MatchOption, IfOk, IfSome, IsSomeAnd, OnOk, OnErr};
+ghost use Rattle.std.specs.Prelude.{◌≡◌, ◌⊎◌, ◌↔◌, ◌≤◌, ◌<◌, ◌+◌, ◌-◌, max, ◌++◌, ◌∷◌, [], ℕ, ℤ, List, length, take, false, IsTrue, Option, Some, None, IfNone, is_some, option_map, MatchOption, IfOk, IfSome, IsSomeAnd, OnOk, OnErr};
 ghost use Rattle.std.specs.List.{AllByRecursion, slice_range};
 ghost use Rattle.std.specs.Arc.{arc_value};
 ghost use Rattle.std.specs.Vec.{vec_len, vec_capacity};
@@ -9,11 +9,11 @@ ghost use Rattle.fz_tree.specs.Frontier as frontier;
 ghost use Rattle.fz_tree.specs.Frontier.{AreEdges, next_edges};
 ghost use Rattle.fz_search_space.specs.Spaces.{Covers};
 ghost use Rattle.fz_trail.specs.Nodes.{IsAt, AreDecidedAlike, decisions_of};
-ghost use Rattle.fz_trail.specs.Places.{IsNear, AreLeftDownTo, IsOneMore, IsUsedUp, HasUsedCopy, IsClose, with_room, without_seconds, IsWayLong, IsOneBetween, IsDueBetween, AreBehind, half_down, nearest_node, last_of, IsDue, commits_for, depths_of, deepest_to, AreBelow, IsLastAbove};
+ghost use Rattle.fz_trail.specs.Places.{IsNear, AreLeftDownTo, IsOneMore, IsUsedUp, HasUsedCopy, IsClose, gap_at, IsLeastMissed, HasRoom, HasOneMore, IsWayLong, IsOneBetween, IsDueBetween, AreBehind, half_down, nearest_node, last_of, IsDue, commits_for, depths_of, deepest_to, AreBelow, IsLastAbove};
 ghost use Rattle.fz_trail.specs.Trails.{IsTrail, IsKept, AreKept};
-ghost use Rattle.fz_trail.specs.declared.kept.TheConstants.{COPIES_MOST, COPIES_GONE};
+ghost use Rattle.fz_trail.specs.declared.kept.TheConstants.{COPIES_MOST};
 
-use crate::kept::{CLOSE, COPIES_GONE, COPIES_MOST, Kept};
+use crate::kept::{CLOSE, COPIES_MOST, Kept};
 use crate::steps::Steps;
 use fz_region::Edges;
 use fz_search_space::SearchSpace;
@@ -31,8 +31,10 @@ pub struct Trail<S> {
     pub spare: Vec<S>,
     pub distance: u32,
     pub adaptive: u32,
-    /// Copies above this node may have been thinned out.
+    /// Copies above this node may be missing.
     pub sparse: usize,
+    /// The most edges that the path has had since it was begun.
+    pub longest: usize,
     /// The node that the path came back to last.
     pub back: Option<usize>,
 }
@@ -44,6 +46,7 @@ impl<S: SearchSpace> Trail<S> {
         ensures distances { (result.distance ≡ distance) × (result.adaptive ≡ adaptive) }
         ensures begun { (result.copies.items ≡ []) × (result.current ≡ None)
             × (result.sparse ≡ 0) }
+        ensures longest { result.longest ≡ 0 }
         ensures trail { (m : Instance) (known : Option (List ℤ))
             → IsAt m known [] (S.spaced (arc_value root))
             → IsTrail S.spaced m known [] result }
@@ -56,6 +59,7 @@ impl<S: SearchSpace> Trail<S> {
             distance,
             adaptive,
             sparse: 0,
+            longest: 0,
             back: None,
         }
     }
@@ -70,6 +74,7 @@ impl<S: SearchSpace> Trail<S> {
             × (t.adaptive ≡ self.now.adaptive)) }
         ensures begun { IfOk result (λ t. (t.copies.items ≡ []) × (t.current ≡ None)
             × (t.sparse ≡ 0)) }
+        ensures longest { IfOk result (λ t. t.longest ≡ 0) }
         ensures trail { IfOk result (λ t. (m : Instance) (known : Option (List ℤ))
             (es : List frontier.Edge) → IsTrail S.spaced m known es self.now
             → IsTrail S.spaced m known [] t) }
@@ -85,6 +90,7 @@ impl<S: SearchSpace> Trail<S> {
             × (self.new.adaptive ≡ self.old.adaptive) }
         ensures begun { (self.new.copies.items ≡ []) × (self.new.current ≡ None)
             × (self.new.sparse ≡ edges) }
+        ensures longest { self.new.longest ≡ edges }
         ensures back { self.new.back ≡ None }
         ensures trail { (m : Instance) (known : Option (List ℤ))
             (es fs : List frontier.Edge) → IsTrail S.spaced m known es self.old
@@ -93,6 +99,7 @@ impl<S: SearchSpace> Trail<S> {
         self.copies.clear();
         self.current = None;
         self.sparse = edges;
+        self.longest = edges;
         self.back = None;
     }
 
@@ -113,6 +120,7 @@ impl<S: SearchSpace> Trail<S> {
             × (self.new.adaptive ≡ self.old.adaptive) }
         ensures copies { self.new.copies.items ≡ kept ∷ [] }
         ensures begun { (self.new.current ≡ None) × (self.new.sparse ≡ edges) }
+        ensures longest { self.new.longest ≡ edges }
         ensures back { self.new.back ≡ Some edges }
         ensures trail { (m : Instance) (known : Option (List ℤ))
             (es fs : List frontier.Edge) → IsTrail S.spaced m known es self.old
@@ -124,6 +132,7 @@ impl<S: SearchSpace> Trail<S> {
         self.copies = copies;
         self.current = None;
         self.sparse = edges;
+        self.longest = edges;
         self.back = Some(edges);
     }
 
@@ -181,6 +190,7 @@ impl<S: SearchSpace> Trail<S> {
         ensures distances { (self.new.distance ≡ self.old.distance)
             × (self.new.adaptive ≡ self.old.adaptive) }
         ensures sparse { self.new.sparse ≡ self.old.sparse }
+        ensures longest { self.new.longest ≡ self.old.longest }
         ensures left { AreLeftDownTo
             (length edges.now - 1) self.old.copies.items self.new.copies.items }
         ensures above { (m : Instance) (known : Option (List ℤ)) (es : List frontier.Edge)
@@ -210,6 +220,7 @@ impl<S: SearchSpace> Trail<S> {
         drop_current(&mut self.current, &mut self.spare);
         drop_below(&mut self.copies, &mut self.spare, edges);
         self.sparse = edges;
+        self.longest = self.longest.max(edges);
     }
 
     /// The space of the node below the edges. A tick is a commit.
@@ -227,6 +238,7 @@ impl<S: SearchSpace> Trail<S> {
         ensures distances { (self.new.distance ≡ self.old.distance)
             × (self.new.adaptive ≡ self.old.adaptive) }
         ensures sparse { self.new.sparse ≡ self.old.sparse }
+        ensures longest { self.new.longest ≡ self.old.longest }
         ensures back { self.new.back ≡ self.old.back }
         ensures copies { AreBehind
             self.old.adaptive edges.now self.old.copies.items self.new.copies.items }
@@ -259,6 +271,7 @@ impl<S: SearchSpace> Trail<S> {
         ensures distances { (self.new.distance ≡ self.old.distance)
             × (self.new.adaptive ≡ self.old.adaptive) }
         ensures sparse { self.new.sparse ≡ self.old.sparse }
+        ensures longest { self.new.longest ≡ self.old.longest }
         ensures back { self.new.back ≡ self.old.back }
         ensures current { self.new.current ≡ self.old.current }
         ensures copies { AreBehind
@@ -295,6 +308,7 @@ impl<S: SearchSpace> Trail<S> {
         ensures distances { (self.new.distance ≡ self.old.distance)
             × (self.new.adaptive ≡ self.old.adaptive) }
         ensures sparse { self.new.sparse ≡ self.old.sparse }
+        ensures longest { self.new.longest ≡ self.old.longest }
         ensures back { self.new.back ≡ self.old.back }
         ensures current { self.new.current ≡ self.old.current }
         ensures copies { AreBehind
@@ -330,6 +344,7 @@ impl<S: SearchSpace> Trail<S> {
         ensures distances { (self.new.distance ≡ self.old.distance)
             × (self.new.adaptive ≡ self.old.adaptive) }
         ensures sparse { self.new.sparse ≡ self.old.sparse }
+        ensures longest { self.new.longest ≡ self.old.longest }
         ensures back { self.new.back ≡ self.old.back }
         ensures current { self.new.current ≡ self.old.current }
         ensures copies { (self.new.copies.items ≡ self.old.copies.items)
@@ -380,6 +395,7 @@ impl<S: SearchSpace> Trail<S> {
         ensures distances { (self.new.distance ≡ self.old.distance)
             × (self.new.adaptive ≡ self.old.adaptive) }
         ensures sparse { self.new.sparse ≡ self.old.sparse }
+        ensures longest { self.new.longest ≡ self.old.longest }
         ensures back { self.new.back ≡ self.old.back }
         ensures current { self.new.current ≡ self.old.current }
         ensures copies { (self.new.copies.items ≡ self.old.copies.items)
@@ -415,6 +431,7 @@ impl<S: SearchSpace> Trail<S> {
         ensures none { OnErr result (self.new.copies.items ≡ self.old.copies.items) }
         ensures rest { (self.new.root ≡ self.old.root) × (self.new.current ≡ self.old.current)
             × (self.new.sparse ≡ self.old.sparse) }
+        ensures longest { self.new.longest ≡ self.old.longest }
         ensures back { self.new.back ≡ self.old.back }
     {
         let space = copied(&mut self.spare, space)?;
@@ -427,6 +444,7 @@ impl<S: SearchSpace> Trail<S> {
         ensures distances { (self.new.distance ≡ self.old.distance)
             × (self.new.adaptive ≡ self.old.adaptive) }
         ensures sparse { self.new.sparse ≡ self.old.sparse }
+        ensures longest { self.new.longest ≡ self.old.longest }
         ensures back { self.new.back ≡ self.old.back }
         ensures current { self.new.current ≡ self.old.current }
         ensures copies { (self.new.copies.items ≡ self.old.copies.items)
@@ -450,6 +468,7 @@ impl<S: SearchSpace> Trail<S> {
         ensures distances { (self.new.distance ≡ self.old.distance)
             × (self.new.adaptive ≡ self.old.adaptive) }
         ensures sparse { self.new.sparse ≡ self.old.sparse }
+        ensures longest { self.new.longest ≡ self.old.longest }
         ensures back { self.new.back ≡ self.old.back }
         ensures current { self.new.current ≡ self.old.current }
         ensures copies { (self.new.copies.items ≡ self.old.copies.items)
@@ -475,6 +494,7 @@ impl<S: SearchSpace> Trail<S> {
         ensures distances { (self.new.distance ≡ self.old.distance)
             × (self.new.adaptive ≡ self.old.adaptive) }
         ensures sparse { self.new.sparse ≡ self.old.sparse }
+        ensures longest { self.new.longest ≡ self.old.longest }
         ensures back { self.new.back ≡ self.old.back }
         ensures current { self.new.current ≡ self.old.current }
         ensures copies { self.new.copies.items ≡ self.old.copies.items }
@@ -509,22 +529,20 @@ impl<S: SearchSpace> Trail<S> {
     pub fn keep(&mut self, depth: usize, space: &S) -> Result<(), AllocError>
         ensures distances { (self.new.distance ≡ self.old.distance)
             × (self.new.adaptive ≡ self.old.adaptive) }
-        ensures sparse { length self.old.copies.items < COPIES_MOST
-            → self.new.sparse ≡ self.old.sparse }
-        ensures copies { (self.new.copies.items ≡ with_room self.old.copies.items)
-            ⊎ IsOneMore S.spaced depth space.now
-            (with_room self.old.copies.items) self.new.copies.items }
+        ensures sparse { self.new.sparse ≡ self.old.sparse }
+        ensures longest { self.new.longest ≡ self.old.longest }
+        ensures copies { HasRoom self.old.copies.items self.new.copies.items
+            ⊎ HasOneMore S.spaced depth space.now self.old.copies.items self.new.copies.items }
         ensures due { OnOk result (IsDue self.old.back self.old.distance
-            (with_room self.old.copies.items) depth
-            → IsOneMore S.spaced depth space.now
-            (with_room self.old.copies.items) self.new.copies.items) }
+            self.old.copies.items depth → HasOneMore
+            S.spaced depth space.now self.old.copies.items self.new.copies.items) }
         ensures undue { (IsDue self.old.back self.old.distance
-            (with_room self.old.copies.items) depth → ⊥)
-            → self.new.copies.items ≡ with_room self.old.copies.items }
+            self.old.copies.items depth → ⊥)
+            → HasRoom self.old.copies.items self.new.copies.items }
         ensures near { OnOk result ((m : Instance) (known : Option (List ℤ))
             (es : List frontier.Edge) → depth ≡ length es → IsTrail S.spaced m known es self.old
             → IsNear self.new.distance self.new.copies.items depth) }
-        ensures none { OnErr result (self.new.copies.items ≡ with_room self.old.copies.items) }
+        ensures none { OnErr result (HasRoom self.old.copies.items self.new.copies.items) }
         ensures trail { (m : Instance) (known : Option (List ℤ)) (es : List frontier.Edge)
             → depth ≡ length es
             → IsAt m known es (S.spaced space.now) → IsTrail S.spaced m known es self.old
@@ -538,13 +556,13 @@ impl<S: SearchSpace> Trail<S> {
         Ok(())
     }
 
-    /// Where as many copies stand as may, every second of the older half goes, so that their distances grow upwards.
+    /// Where as many copies stand as may, the one goes that is missed least.
     fn make_room(&mut self)
         ensures distances { (self.new.distance ≡ self.old.distance)
             × (self.new.adaptive ≡ self.old.adaptive) }
-        ensures sparse { length self.old.copies.items < COPIES_MOST
-            → self.new.sparse ≡ self.old.sparse }
-        ensures copies { self.new.copies.items ≡ with_room self.old.copies.items }
+        ensures sparse { self.new.sparse ≡ self.old.sparse }
+        ensures longest { self.new.longest ≡ self.old.longest }
+        ensures copies { HasRoom self.old.copies.items self.new.copies.items }
         ensures back { self.new.back ≡ self.old.back }
         ensures room { length self.old.copies.items ≤ COPIES_MOST
             → length self.new.copies.items < COPIES_MOST }
@@ -554,8 +572,9 @@ impl<S: SearchSpace> Trail<S> {
         if self.copies.len() < COPIES_MOST {
             return;
         }
-        self.sparse = self.sparse.max(self.copies[2 * COPIES_GONE].depth);
-        thin(&mut self.copies, &mut self.spare);
+        let place = least_missed(&self.copies);
+        let kept = self.copies.remove(place);
+        let _ = self.spare.push(kept.space);
     }
 
     /// Whether a copy is due at the node below that many edges.
@@ -585,20 +604,23 @@ impl<S: SearchSpace> Trail<S> {
         }
     }
 
-    /// The path goes on below one edge more, and this is the space above it.
-    pub fn descend(&mut self, space: S)
+    /// The path goes on below one edge more, and has that many then. This is the space above the last one.
+    pub fn descend(&mut self, edges: usize, space: S)
         ensures distances { (self.new.distance ≡ self.old.distance)
             × (self.new.adaptive ≡ self.old.adaptive) }
         ensures sparse { self.new.sparse ≡ self.old.sparse }
+        ensures longest { self.new.longest ≡ max self.old.longest edges }
         ensures copies { self.new.copies.items ≡ self.old.copies.items }
         ensures current { self.new.current ≡ Some space }
         ensures trail { (m : Instance) (known : Option (List ℤ))
             (es : List frontier.Edge) (e : frontier.Edge)
+            → length (es ++ e ∷ []) ≤ edges
             → IsAt m known es (S.spaced space)
             → IsNear self.old.distance self.old.copies.items (length es)
             → IsTrail S.spaced m known es self.old
             → IsTrail S.spaced m known (es ++ e ∷ []) self.new }
     {
+        self.longest = self.longest.max(edges);
         self.current = Some(space);
     }
 
@@ -607,6 +629,7 @@ impl<S: SearchSpace> Trail<S> {
         ensures distances { (self.new.distance ≡ self.old.distance)
             × (self.new.adaptive ≡ self.old.adaptive) }
         ensures sparse { self.new.sparse ≡ self.old.sparse }
+        ensures longest { self.new.longest ≡ self.old.longest }
         ensures copies { self.new.copies.items ≡ self.old.copies.items }
         ensures current { self.new.current ≡ self.old.current }
         ensures spare { (self.new.spare.items ≡ self.old.spare.items)
@@ -659,15 +682,28 @@ fn drop_below<S: SearchSpace>(copies: &mut Vec<Kept<S>>, spare: &mut Vec<S>, dep
     }
 }
 
-/// Drops every second of the older half of the copies.
-fn thin<S: SearchSpace>(copies: &mut Vec<Kept<S>>, spare: &mut Vec<S>)
-    requires { 2 * COPIES_GONE ≤ length copies.old.items }
-    ensures { copies.new.items ≡ without_seconds COPIES_GONE copies.old.items }
+/// The place of the copy that is missed least: no other has neighbours that stand nearer to each other.
+fn least_missed<S>(copies: &[Kept<S>]) -> usize
+    requires { 3 ≤ length copies.now }
+    ensures { IsLeastMissed copies.now result }
 {
-    'places: for place in 0..COPIES_GONE {
-        let kept = copies.remove(place + 1);
-        let _ = spare.push(kept.space);
+    let mut least = 1;
+    'places: for place in 2..copies.len() - 1 {
+        if gap_at(copies, place) < gap_at(copies, least) {
+            least = place;
+        }
     }
+    least
+}
+
+/// How far apart the neighbours of the copy at a place stand.
+fn gap_at<S>(copies: &[Kept<S>], place: usize) -> usize
+    requires { (1 ≤ place) × (place + 1 < length copies.now) }
+    ensures { result ≡ gap_at copies.now place }
+{
+    copies[place + 1]
+        .depth
+        .saturating_sub(copies[place - 1].depth)
 }
 
 /// Whether the last copy is below a depth.

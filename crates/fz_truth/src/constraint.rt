@@ -1,25 +1,26 @@
 //! The truth of one constraint (MiniZinc Handbook, "FlatZinc builtins").
+#![tactic(auto, using(crate::proofs::Exchanges::reified_like))]
+
 ghost use Rattle.std.specs.Prelude.{◌≡◌, ◌↔◌, ◌∷◌, IsTrue, map};
 ghost use Rattle.fz_spec.specs.Constraints as meaning;
-ghost use Rattle.fz_spec.specs.Constraints.{IsTrueOf, Holds, term_value, term_values};
-ghost use Rattle.fz_spec.specs.Truth.{plain_of, IsReifiedOf, HoldsOfThree, HoldsOfExtreme, HoldsOfElement, HoldsOfVarElement, HoldsOfSet, HoldsOfList, HoldsOfListAnd, HoldsOfClause, HoldsOfTable, HoldsOfTasks, tasks_of};
+ghost use Rattle.fz_spec.specs.Constraints.{IsTrueOf, HoldsAs, OrReified, term_value, term_values};
+ghost use Rattle.fz_spec.specs.Truth.{IsOne, IsResult, SomeByRecursion};
+ghost use Rattle.std.specs.List.{AllByRecursion};
+ghost use Rattle.fz_spec.specs.declared.shape.Shape.TheVariants as shapes;
 ghost use Rattle.fz_model.specs.Arguments.{argument_of};
 ghost use Rattle.fz_model.specs.Groups.{constraint_at};
 
-use crate::element::{is_true_of_element, is_true_of_var_element};
-use crate::lists::{
-    is_true_of_clause, is_true_of_extreme, is_true_of_list, is_true_of_list_and,
-    is_true_of_reified_clause, is_true_of_table,
-};
-use crate::numbers::{is_true_of_three, is_true_of_two};
-use crate::reified::{is_reified, plain_of};
-use crate::sums::{is_true_of_reified_sum, is_true_of_sum, weighted_sum};
-use crate::tasks::{Tasks, is_true_of_tasks};
-use fz_dom::Dom;
+use crate::element::{is_number_at, is_term_at};
+use crate::numbers::{is_result, relates};
+use crate::reified::or_reified;
+use crate::sums::weighted_sum;
+use crate::table::is_row_of;
+use crate::tasks::{Tasks, is_cumulative};
+use crate::terms::{all_are, are_different, is_odd, is_satisfied, some_is};
 use fz_model::constraint::{Argument, Constraint};
 use fz_model::constraints::ConstraintAt;
 use fz_model::value_of;
-use fz_spec::builtin::Builtin;
+use fz_spec::shape::{Operation, Relation, Shape};
 use fz_spec::term::Term;
 
 /// Whether the numbers make a constraint of a model true.
@@ -36,316 +37,298 @@ pub(crate) fn is_true_at(constraint: ConstraintAt<'_>, values: &[i32]) -> bool
 pub fn is_true(constraint: &Constraint, values: &[i32]) -> bool
     ensures { IsTrue result ↔ IsTrueOf values.now constraint.now }
 {
-    let name = constraint.name();
-    match constraint.arguments() {
-        [Argument::One(first), rest @ ..] => is_true_of_term(name, *first, rest, values),
-        [Argument::Numbers(first), rest @ ..] => is_true_of_numbers(
-            name,
-            first.as_slice(),
-            rest,
-            values,
-        ),
-        [Argument::Terms(first), rest @ ..] => is_true_of_terms(
-            name,
-            first.as_slice(),
-            rest,
-            values,
-        ),
+    holds_as(constraint.name().shape(), constraint.arguments(), values)
+}
+
+/// Whether the numbers make true what a shape says of its arguments.
+fn holds_as(shape: Shape, arguments: &[Argument], values: &[i32]) -> bool
+    ensures { IsTrue result ↔ HoldsAs shape (map argument_of arguments.now) values.now }
+{
+    match shape {
+        Shape::Rel(relation) => is_related(relation, arguments, values),
+        Shape::Dom => is_member(arguments, values),
+        Shape::Linear(relation) => is_linear(relation, arguments, values),
+        Shape::Clause => is_clause(arguments, values),
+        Shape::Or => is_any(arguments, values),
+        Shape::And => are_all(arguments, values),
+        Shape::Xor => are_odd(arguments, values),
+        Shape::Arithmetic(operation) => is_equation(operation, arguments, values),
+        Shape::Element => is_element(arguments, values),
+        Shape::Extensional => is_extensional(arguments, values),
+        Shape::Distinct => are_distinct(arguments, values),
+        Shape::Cumulative => are_cumulative(arguments, values),
+    }
+}
+
+fn is_related(relation: Relation, arguments: &[Argument], values: &[i32]) -> bool
+    ensures { IsTrue result
+        ↔ HoldsAs (shapes.Rel relation) (map argument_of arguments.now) values.now }
+{
+    match arguments {
+        [Argument::One(x), Argument::One(y), rest @ ..] => {
+            let (x, y) = (value_of(*x, values), value_of(*y, values));
+            or_reified(
+                rest,
+                relates(relation, i128::from(x), i128::from(y)),
+                values,
+            )
+        }
         _ => false,
     }
 }
 
-/// Whether the numbers make a constraint true, of a term and further arguments.
-fn is_true_of_term(name: Builtin, first: Term, rest: &[Argument], values: &[i32]) -> bool
-    ensures { IsTrue result ↔ Holds name (meaning.One first ∷ map argument_of rest.now) values.now }
+fn is_member(arguments: &[Argument], values: &[i32]) -> bool
+    ensures { IsTrue result ↔ HoldsAs shapes.Dom (map argument_of arguments.now) values.now }
+{
+    match arguments {
+        [Argument::One(x), Argument::Set(set), rest @ ..] => {
+            or_reified(rest, set.contains(value_of(*x, values)), values)
+        }
+        _ => false,
+    }
+}
+
+fn is_linear(relation: Relation, arguments: &[Argument], values: &[i32]) -> bool
+    ensures { IsTrue result
+        ↔ HoldsAs (shapes.Linear relation) (map argument_of arguments.now) values.now }
+{
+    match arguments {
+        [
+            Argument::Numbers(factors),
+            Argument::Terms(terms),
+            Argument::One(last),
+            rest @ ..,
+        ] => {
+            let sum = weighted_sum(factors.as_slice(), terms.as_slice(), values);
+            let last = i128::from(value_of(*last, values));
+            or_reified(rest, relates(relation, sum, last), values)
+        }
+        _ => false,
+    }
+}
+
+fn is_clause(arguments: &[Argument], values: &[i32]) -> bool
+    ensures { IsTrue result ↔ HoldsAs shapes.Clause (map argument_of arguments.now) values.now }
+{
+    match arguments {
+        [
+            Argument::Terms(positives),
+            Argument::Terms(negatives),
+            rest @ ..,
+        ] => {
+            let holds = is_satisfied(positives.as_slice(), negatives.as_slice(), values);
+            or_reified(rest, holds, values)
+        }
+        _ => false,
+    }
+}
+
+fn is_any(arguments: &[Argument], values: &[i32]) -> bool
+    ensures { IsTrue result ↔ HoldsAs shapes.Or (map argument_of arguments.now) values.now }
+{
+    match arguments {
+        [Argument::Terms(terms), rest @ ..] => some_or_reified(terms.as_slice(), rest, values),
+        [Argument::One(first), rest @ ..] => is_any_of_two(*first, rest, values),
+        _ => false,
+    }
+}
+
+fn is_any_of_two(first: Term, rest: &[Argument], values: &[i32]) -> bool
+    ensures { IsTrue result ↔ HoldsAs shapes.Or
+        (meaning.One first ∷ map argument_of rest.now) values.now }
 {
     match rest {
-        [Argument::One(second), tail @ ..] => {
-            is_true_of_two_terms(name, first, *second, tail, values)
-        }
-        [Argument::Set(set), tail @ ..] => {
-            is_true_of_term_and_set(name, first, set, tail, values)
-        }
-        [Argument::Terms(terms), tail @ ..] => {
-            is_true_of_term_and_terms(name, first, terms.as_slice(), tail, values)
-        }
-        [Argument::Numbers(numbers), tail @ ..] => {
-            is_true_of_term_and_numbers(name, first, numbers.as_slice(), tail, values)
-        }
+        [Argument::One(second), rest @ ..] => { some_or_reified(&[first, *second], rest, values) }
         _ => false,
     }
 }
 
-/// Whether the numbers make a constraint true, of a term, a list of terms and further arguments.
-fn is_true_of_term_and_terms(
-    name: Builtin,
-    first: Term,
-    terms: &[Term],
-    rest: &[Argument],
-    values: &[i32],
-) -> bool
-    ensures { IsTrue result ↔ Holds name
-        (meaning.One first ∷ meaning.Terms terms.now ∷ map argument_of rest.now) values.now }
+/// Whether one of some terms is 1; with one Boolean more, whether this one is 1 exactly where that is so.
+fn some_or_reified(terms: &[Term], rest: &[Argument], values: &[i32]) -> bool
+    ensures { IsTrue result ↔ OrReified (map argument_of rest.now) values.now
+        (SomeByRecursion IsOne (term_values values.now terms.now)) }
 {
-    let x = value_of(first, values);
-    match rest {
-        [] => is_true_of_extreme(name, x, terms, values),
-        [Argument::One(third)] => {
-            is_true_of_var_element(name, x, terms, value_of(*third, values), values)
-        }
+    or_reified(rest, some_is(terms, 1, values), values)
+}
+
+fn are_all(arguments: &[Argument], values: &[i32]) -> bool
+    ensures { IsTrue result ↔ HoldsAs shapes.And (map argument_of arguments.now) values.now }
+{
+    match arguments {
+        [Argument::Terms(terms), rest @ ..] => all_or_reified(terms.as_slice(), rest, values),
+        [Argument::One(first), rest @ ..] => are_all_of_two(*first, rest, values),
         _ => false,
     }
 }
 
-/// Whether the numbers make a constraint true, of a term, a list of numbers and further arguments.
-fn is_true_of_term_and_numbers(
-    name: Builtin,
-    first: Term,
-    numbers: &[i32],
-    rest: &[Argument],
-    values: &[i32],
-) -> bool
-    ensures { IsTrue result ↔ Holds name
-        (meaning.One first ∷ meaning.Numbers numbers.now ∷ map argument_of rest.now) values.now }
+fn are_all_of_two(first: Term, rest: &[Argument], values: &[i32]) -> bool
+    ensures { IsTrue result ↔ HoldsAs shapes.And
+        (meaning.One first ∷ map argument_of rest.now) values.now }
 {
     match rest {
-        [Argument::One(third)] => {
-            let (index, number) = (value_of(first, values), value_of(*third, values));
-            is_true_of_element(name, index, numbers, number)
+        [Argument::One(second), rest @ ..] => { all_or_reified(&[first, *second], rest, values) }
+        _ => false,
+    }
+}
+
+/// Whether all of some terms are 1; with one Boolean more, whether this one is 1 exactly where that is so.
+fn all_or_reified(terms: &[Term], rest: &[Argument], values: &[i32]) -> bool
+    ensures { IsTrue result ↔ OrReified (map argument_of rest.now) values.now
+        (AllByRecursion IsOne (term_values values.now terms.now)) }
+{
+    or_reified(rest, all_are(terms, 1, values), values)
+}
+
+fn are_odd(arguments: &[Argument], values: &[i32]) -> bool
+    ensures { IsTrue result ↔ HoldsAs shapes.Xor (map argument_of arguments.now) values.now }
+{
+    match arguments {
+        [Argument::Terms(terms), rest @ ..] => {
+            or_reified(rest, is_odd(terms.as_slice(), values), values)
         }
         _ => false,
     }
 }
 
-/// Whether the numbers make a constraint true, of two terms and further arguments.
-fn is_true_of_two_terms(
-    name: Builtin,
+fn is_equation(operation: Operation, arguments: &[Argument], values: &[i32]) -> bool
+    ensures { IsTrue result
+        ↔ HoldsAs (shapes.Arithmetic operation) (map argument_of arguments.now) values.now }
+{
+    match arguments {
+        [Argument::One(first), rest @ ..] => is_equation_of(operation, *first, rest, values),
+        _ => false,
+    }
+}
+
+fn is_equation_of(operation: Operation, first: Term, rest: &[Argument], values: &[i32]) -> bool
+    ensures { IsTrue result ↔ HoldsAs (shapes.Arithmetic operation)
+        (meaning.One first ∷ map argument_of rest.now) values.now }
+{
+    match rest {
+        [Argument::One(second), rest @ ..] => {
+            is_equation_of_two(operation, first, *second, rest, values)
+        }
+        [Argument::Terms(terms), rest @ ..] => {
+            result_or_reified(operation, terms.as_slice(), first, rest, values)
+        }
+        _ => false,
+    }
+}
+
+fn is_equation_of_two(
+    operation: Operation,
     first: Term,
     second: Term,
     rest: &[Argument],
     values: &[i32],
 ) -> bool
-    ensures { IsTrue result ↔ Holds name
+    ensures { IsTrue result ↔ HoldsAs (shapes.Arithmetic operation)
         (meaning.One first ∷ meaning.One second ∷ map argument_of rest.now) values.now }
 {
     match rest {
-        [] => is_true_of_two(name, value_of(first, values), value_of(second, values)),
-        [Argument::One(third)] => is_true_of_three_terms(name, first, second, *third, values),
+        [] => is_result(operation, &[first], second, values),
+        [Argument::One(third), rest @ ..] => {
+            result_or_reified(operation, &[first, second], *third, rest, values)
+        }
         _ => false,
     }
 }
 
-fn is_true_of_three_terms(
-    name: Builtin,
-    first: Term,
-    second: Term,
-    third: Term,
-    values: &[i32],
-) -> bool
-    ensures { IsTrue result ↔ HoldsOfThree name
-        (term_value values.now first) (term_value values.now second) (term_value values.now third) }
-{
-    let (a, b, c) = (
-        value_of(first, values),
-        value_of(second, values),
-        value_of(third, values),
-    );
-    is_true_of_three(name, a, b, c)
-}
-
-/// Whether the numbers make a constraint true, of a term, a set and further arguments.
-fn is_true_of_term_and_set(
-    name: Builtin,
-    first: Term,
-    set: &Dom,
+/// Whether a term is what the operation makes of others; with one Boolean more, whether this one is 1 exactly where that is so.
+fn result_or_reified(
+    operation: Operation,
+    operands: &[Term],
+    value: Term,
     rest: &[Argument],
     values: &[i32],
 ) -> bool
-    ensures { IsTrue result ↔ Holds name
-        (meaning.One first ∷ meaning.Set set.now ∷ map argument_of rest.now) values.now }
+    ensures { IsTrue result ↔ OrReified (map argument_of rest.now) values.now
+        (IsResult operation (term_values values.now operands.now) (term_value values.now value)) }
 {
-    let x = value_of(first, values);
+    or_reified(rest, is_result(operation, operands, value, values), values)
+}
+
+fn is_element(arguments: &[Argument], values: &[i32]) -> bool
+    ensures { IsTrue result ↔ HoldsAs shapes.Element (map argument_of arguments.now) values.now }
+{
+    match arguments {
+        [Argument::One(index), Argument::Numbers(numbers), rest @ ..] => {
+            is_element_of_numbers(*index, numbers.as_slice(), rest, values)
+        }
+        [Argument::One(index), Argument::Terms(terms), rest @ ..] => {
+            is_element_of_terms(*index, terms.as_slice(), rest, values)
+        }
+        _ => false,
+    }
+}
+
+fn is_element_of_numbers(index: Term, numbers: &[i32], rest: &[Argument], values: &[i32]) -> bool
+    ensures { IsTrue result ↔ HoldsAs shapes.Element
+        (meaning.One index ∷ meaning.Numbers numbers.now ∷ map argument_of rest.now) values.now }
+{
     match rest {
-        [] => is_true_of_set(name, x, set),
-        [Argument::One(r)] => is_true_of_reified_set(name, x, set, value_of(*r, values)),
+        [Argument::One(value), rest @ ..] => {
+            or_reified(rest, is_number_at(index, numbers, *value, values), values)
+        }
         _ => false,
     }
 }
 
-fn is_true_of_reified_set(name: Builtin, x: i32, set: &Dom, r: i32) -> bool
-    ensures { IsTrue result ↔ IsReifiedOf (plain_of name) (λ plain. HoldsOfSet plain x set.now) r }
+fn is_element_of_terms(index: Term, terms: &[Term], rest: &[Argument], values: &[i32]) -> bool
+    ensures { IsTrue result ↔ HoldsAs shapes.Element
+        (meaning.One index ∷ meaning.Terms terms.now ∷ map argument_of rest.now) values.now }
 {
-    match plain_of(name) {
-        Some(plain) => is_reified(is_true_of_set(plain, x, set), r),
-        None => false,
-    }
-}
-
-fn is_true_of_set(name: Builtin, x: i32, set: &Dom) -> bool
-    ensures { IsTrue result ↔ HoldsOfSet name x set.now }
-{
-    match name {
-        Builtin::SetIn => set.contains(x),
+    match rest {
+        [Argument::One(value), rest @ ..] => {
+            or_reified(rest, is_term_at(index, terms, *value, values), values)
+        }
         _ => false,
     }
 }
 
-/// Whether the numbers make a constraint true, of a list of numbers and further arguments.
-fn is_true_of_numbers(name: Builtin, first: &[i32], rest: &[Argument], values: &[i32]) -> bool
+fn is_extensional(arguments: &[Argument], values: &[i32]) -> bool
     ensures { IsTrue result
-        ↔ Holds name (meaning.Numbers first.now ∷ map argument_of rest.now) values.now }
+        ↔ HoldsAs shapes.Extensional (map argument_of arguments.now) values.now }
 {
-    match rest {
-        [Argument::Terms(terms), tail @ ..] => {
-            is_true_of_numbers_and_terms(name, first, terms.as_slice(), tail, values)
+    match arguments {
+        [Argument::Terms(terms), Argument::Numbers(table), rest @ ..] => {
+            let holds = is_row_of(terms.as_slice(), table.as_slice(), values);
+            or_reified(rest, holds, values)
         }
         _ => false,
     }
 }
 
-/// Whether the numbers make a constraint true, of a list of numbers, a list of terms and further arguments.
-fn is_true_of_numbers_and_terms(
-    name: Builtin,
-    coefficients: &[i32],
-    terms: &[Term],
-    rest: &[Argument],
-    values: &[i32],
-) -> bool
-    ensures { IsTrue result ↔ Holds name
-        (meaning.Numbers coefficients.now ∷ meaning.Terms terms.now ∷ map argument_of rest.now)
-        values.now }
+fn are_distinct(arguments: &[Argument], values: &[i32]) -> bool
+    ensures { IsTrue result ↔ HoldsAs shapes.Distinct (map argument_of arguments.now) values.now }
 {
-    match rest {
-        [Argument::One(bound), tail @ ..] => {
-            is_true_of_linear(name, coefficients, terms, *bound, tail, values)
+    match arguments {
+        [Argument::Terms(terms), rest @ ..] => {
+            or_reified(rest, are_different(terms.as_slice(), values), values)
         }
         _ => false,
     }
 }
 
-/// Whether the numbers make a constraint true, of coefficients, terms, a bound and further arguments.
-fn is_true_of_linear(
-    name: Builtin,
-    coefficients: &[i32],
-    terms: &[Term],
-    bound: Term,
-    rest: &[Argument],
-    values: &[i32],
-) -> bool
-    ensures { IsTrue result ↔ Holds name
-        (meaning.Numbers coefficients.now ∷ meaning.Terms terms.now ∷ meaning.One bound
-        ∷ map argument_of rest.now)
-        values.now }
-{
-    let sum = weighted_sum(coefficients, terms, values);
-    let bound = value_of(bound, values);
-    match rest {
-        [] => is_true_of_sum(name, sum, bound),
-        [Argument::One(r)] => is_true_of_reified_sum(name, sum, bound, value_of(*r, values)),
-        _ => false,
-    }
-}
-
-/// Whether the numbers make a constraint true, of a list of terms and further arguments.
-fn is_true_of_terms(name: Builtin, first: &[Term], rest: &[Argument], values: &[i32]) -> bool
+fn are_cumulative(arguments: &[Argument], values: &[i32]) -> bool
     ensures { IsTrue result
-        ↔ Holds name (meaning.Terms first.now ∷ map argument_of rest.now) values.now }
+        ↔ HoldsAs shapes.Cumulative (map argument_of arguments.now) values.now }
 {
-    match rest {
-        [] => is_true_of_list(name, first, values),
-        [Argument::One(r), tail @ ..] => is_true_of_list_and_term(name, first, *r, tail, values),
-        [Argument::Numbers(table), tail @ ..] => {
-            is_true_of_list_and_numbers(name, first, table.as_slice(), tail, values)
-        }
-        [Argument::Terms(second), tail @ ..] => {
-            is_true_of_two_lists(name, first, second.as_slice(), tail, values)
-        }
-        _ => false,
-    }
-}
-
-/// Whether the numbers make a constraint true, of a list of terms, a term and further arguments.
-fn is_true_of_list_and_term(
-    name: Builtin,
-    first: &[Term],
-    second: Term,
-    rest: &[Argument],
-    values: &[i32],
-) -> bool
-    ensures { IsTrue result ↔ Holds name
-        (meaning.Terms first.now ∷ meaning.One second ∷ map argument_of rest.now) values.now }
-{
-    match rest {
-        [] => is_true_of_list_and(name, first, value_of(second, values), values),
-        _ => false,
-    }
-}
-
-/// Whether the numbers make a constraint true, of a list of terms, a list of numbers and further arguments.
-fn is_true_of_list_and_numbers(
-    name: Builtin,
-    first: &[Term],
-    second: &[i32],
-    rest: &[Argument],
-    values: &[i32],
-) -> bool
-    ensures { IsTrue result ↔ Holds name
-        (meaning.Terms first.now ∷ meaning.Numbers second.now ∷ map argument_of rest.now)
-        values.now }
-{
-    match rest {
-        [] => is_true_of_table(name, first, second, values),
-        _ => false,
-    }
-}
-
-/// Whether the numbers make a constraint true, of two lists of terms and further arguments.
-fn is_true_of_two_lists(
-    name: Builtin,
-    first: &[Term],
-    second: &[Term],
-    rest: &[Argument],
-    values: &[i32],
-) -> bool
-    ensures { IsTrue result ↔ Holds name
-        (meaning.Terms first.now ∷ meaning.Terms second.now ∷ map argument_of rest.now)
-        values.now }
-{
-    match rest {
-        [] => is_true_of_clause(name, first, second, values),
-        [Argument::One(r)] => {
-            is_true_of_reified_clause(name, first, second, value_of(*r, values), values)
-        }
-        [Argument::Terms(third), tail @ ..] => {
-            is_true_of_three_lists(name, first, second, third.as_slice(), tail, values)
-        }
-        _ => false,
-    }
-}
-
-/// Whether the numbers make a constraint true, of three lists of terms and further arguments.
-fn is_true_of_three_lists(
-    name: Builtin,
-    first: &[Term],
-    second: &[Term],
-    third: &[Term],
-    rest: &[Argument],
-    values: &[i32],
-) -> bool
-    ensures { IsTrue result ↔ Holds name
-        (meaning.Terms first.now ∷ meaning.Terms second.now ∷ meaning.Terms third.now
-        ∷ map argument_of rest.now)
-        values.now }
-{
-    match rest {
-        [Argument::One(bound)] => {
+    match arguments {
+        [
+            Argument::Terms(starts),
+            Argument::Terms(durations),
+            Argument::Terms(usages),
+            Argument::One(bound),
+            rest @ ..,
+        ] => {
             let tasks = Tasks {
-                starts: first,
-                durations: second,
-                usages: third,
+                starts: starts.as_slice(),
+                durations: durations.as_slice(),
+                usages: usages.as_slice(),
                 values,
             };
-            is_true_of_tasks(name, tasks, value_of(*bound, values))
+            or_reified(rest, is_cumulative(tasks, value_of(*bound, values)), values)
         }
         _ => false,
     }

@@ -1,13 +1,33 @@
-//! The truth of elements of lists.
+//! Elements of lists.
 ghost use Rattle.std.specs.Prelude.{◌≡◌, ◌↔◌, ◌+◌, ℕ, pos, IsTrue, MatchOption};
-ghost use Rattle.fz_spec.specs.Constraints.{term_values};
-ghost use Rattle.fz_spec.specs.Truth.{IsElement, HoldsOfElement, HoldsOfVarElement};
+ghost use Rattle.fz_spec.specs.Constraints.{term_value, term_values};
+ghost use Rattle.fz_spec.specs.Truth.{IsElement};
 
 use crate::terms::has_value;
-use fz_spec::builtin::Builtin;
+use fz_model::value_of;
 use fz_spec::term::Term;
 
-/// Whether a number stands in a list at this place, counted from 1.
+/// Whether a number stands in a list at an index, counted from 1.
+pub(crate) fn is_number_at(index: Term, numbers: &[i32], value: Term, values: &[i32]) -> bool
+    ensures { IsTrue result ↔ IsElement
+        (term_value values.now index) numbers.now (term_value values.now value) }
+{
+    is_element(value_of(index, values), numbers, value_of(value, values))
+}
+
+/// Whether a term of this value stands in a list at an index, counted from 1.
+pub(crate) fn is_term_at(index: Term, terms: &[Term], value: Term, values: &[i32]) -> bool
+    ensures { IsTrue result ↔ IsElement (term_value values.now index)
+        (term_values values.now terms.now) (term_value values.now value) }
+{
+    is_term_element(
+        value_of(index, values),
+        terms,
+        value_of(value, values),
+        values,
+    )
+}
+
 fn is_element(index: i32, numbers: &[i32], number: i32) -> bool
     ensures { IsTrue result ↔ IsElement index numbers.now number }
 {
@@ -17,7 +37,6 @@ fn is_element(index: i32, numbers: &[i32], number: i32) -> bool
     }
 }
 
-/// Whether a term of this value stands in a list at this place, counted from 1.
 fn is_term_element(index: i32, terms: &[Term], number: i32, values: &[i32]) -> bool
     ensures { IsTrue result ↔ IsElement index (term_values values.now terms.now) number }
 {
@@ -39,34 +58,5 @@ fn place_of(index: i32) -> Option<usize>
         None
     } else {
         Some((index - 1) as usize)
-    }
-}
-
-/// Whether a constraint is true of an index, a list of numbers and a number.
-pub(crate) fn is_true_of_element(name: Builtin, index: i32, numbers: &[i32], number: i32) -> bool
-    ensures { IsTrue result ↔ HoldsOfElement name index numbers.now number }
-{
-    match name {
-        Builtin::ArrayIntElement | Builtin::ArrayBoolElement => is_element(index, numbers, number),
-        _ => false,
-    }
-}
-
-/// Whether a constraint is true of an index, a list of terms and a number.
-pub(crate) fn is_true_of_var_element(
-    name: Builtin,
-    index: i32,
-    terms: &[Term],
-    number: i32,
-    values: &[i32],
-) -> bool
-    ensures { IsTrue result
-        ↔ HoldsOfVarElement name index (term_values values.now terms.now) number }
-{
-    match name {
-        Builtin::ArrayVarIntElement | Builtin::ArrayVarBoolElement => {
-            is_term_element(index, terms, number, values)
-        }
-        _ => false,
     }
 }

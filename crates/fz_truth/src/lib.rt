@@ -4,7 +4,6 @@
 
 mod constraint;
 mod element;
-mod lists;
 pub mod model;
 mod numbers;
 mod reified;

@@ -1,34 +1,19 @@
 //! Reified constraints.
-ghost use Rattle.std.specs.Prelude.{◌≡◌, ◌↔◌, IsTrue};
-ghost use Rattle.fz_spec.specs.Truth as truth;
-ghost use Rattle.fz_spec.specs.Truth.{IsReified};
+ghost use Rattle.std.specs.Prelude.{◌≡◌, ◌↔◌, IsTrue, map};
+ghost use Rattle.fz_spec.specs.Constraints.{OrReified};
+ghost use Rattle.fz_model.specs.Arguments.{argument_of};
 
-use fz_spec::builtin::Builtin;
+use fz_model::constraint::Argument;
+use fz_model::value_of;
 
-/// The constraint that a reified one speaks of.
-pub(crate) fn plain_of(name: Builtin) -> Option<Builtin>
-    ensures { result ≡ truth.plain_of name }
+/// Whether what is said holds; with one Boolean more, whether this one is 1 exactly where that is so.
+pub(crate) fn or_reified(rest: &[Argument], holds: bool, values: &[i32]) -> bool
+    ensures { IsTrue result
+        ↔ OrReified (map argument_of rest.now) values.now (IsTrue holds) }
 {
-    match name {
-        Builtin::BoolClauseReif => Some(Builtin::BoolClause),
-        Builtin::BoolEqReif => Some(Builtin::BoolEq),
-        Builtin::BoolLeReif => Some(Builtin::BoolLe),
-        Builtin::BoolLtReif => Some(Builtin::BoolLt),
-        Builtin::IntEqReif => Some(Builtin::IntEq),
-        Builtin::IntLeReif => Some(Builtin::IntLe),
-        Builtin::IntLinEqReif => Some(Builtin::IntLinEq),
-        Builtin::IntLinLeReif => Some(Builtin::IntLinLe),
-        Builtin::IntLinNeReif => Some(Builtin::IntLinNe),
-        Builtin::IntLtReif => Some(Builtin::IntLt),
-        Builtin::IntNeReif => Some(Builtin::IntNe),
-        Builtin::SetInReif => Some(Builtin::SetIn),
-        _ => None,
+    match rest {
+        [] => holds,
+        [Argument::One(r)] => (value_of(*r, values) == 1) == holds,
+        _ => false,
     }
-}
-
-/// Whether r is 1 exactly where this holds.
-pub(crate) fn is_reified(holds: bool, r: i32) -> bool
-    ensures { IsTrue result ↔ IsReified (IsTrue holds) r }
-{
-    (r == 1) == holds
 }

@@ -1,4 +1,4 @@
-//! The truth of tables.
+//! Rows of tables.
 ghost use Rattle.std.specs.Prelude.{◌≡◌, ◌↔◌, IsTrue};
 ghost use Rattle.fz_spec.specs.Constraints.{term_values};
 ghost use Rattle.fz_spec.specs.Truth.{IsRowOf};

@@ -1,13 +1,12 @@
-//! The truth of cumulative constraints.
+//! Tasks that share a resource.
 ghost use Rattle.std.specs.Prelude.{◌≡◌, ◌↔◌, ◌<◌, ◌≤◌, ◌*◌, ◌^◌, pos, ◌≤ℤ◌, ◌<ℤ◌, IsTrue, length, slice_index_or};
 ghost use Rattle.std.specs.List.{AllByRecursion};
 ghost use Rattle.std.specs.Int.RustNames.{unsigned_abs};
 ghost use Rattle.fz_spec.specs.Truth as truth;
-ghost use Rattle.fz_spec.specs.Truth.{HoldsOfTasks, IsCumulative, IsTask, load_at};
+ghost use Rattle.fz_spec.specs.Truth.{IsCumulative, IsTask, load_at};
 ghost use Rattle.fz_truth.specs.Listed.{task_of, listed};
 
 use fz_model::value_of;
-use fz_spec::builtin::Builtin;
 use fz_spec::term::Term;
 
 /// The tasks of three lists of terms, one by one to the end of the shortest, and the values of variables.
@@ -27,19 +26,9 @@ struct Task {
     usage: i32,
 }
 
-/// Whether a constraint is true of tasks and a number.
-pub(crate) fn is_true_of_tasks(name: Builtin, tasks: Tasks<'_>, bound: i32) -> bool
-    ensures { IsTrue result ↔ HoldsOfTasks name (listed tasks.entry) bound }
-{
-    match name {
-        Builtin::FznCumulative => is_cumulative(tasks, bound),
-        _ => false,
-    }
-}
-
 /// Whether nothing is negative, and where a task that lasts starts the load is at most the bound. The time is the square of the
 /// number of tasks.
-fn is_cumulative(tasks: Tasks<'_>, bound: i32) -> bool
+pub(crate) fn is_cumulative(tasks: Tasks<'_>, bound: i32) -> bool
     ensures { IsTrue result ↔ IsCumulative (listed tasks.entry) bound }
 {
     if bound < 0 {

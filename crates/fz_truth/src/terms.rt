@@ -1,9 +1,9 @@
 //! The values of terms, and what is true of lists of them.
-ghost use Rattle.std.specs.Prelude.{◌≡◌, ◌↔◌, IsTrue, ◌≤ℤ◌, pos, count_by};
+ghost use Rattle.std.specs.Prelude.{◌≡◌, ◌↔◌, ◌⊎◌, IsTrue, ◌≤ℤ◌, pos, count_by};
 ghost use Rattle.std.specs.List.{AllByRecursion};
 ghost use Rattle.std.specs.Ordering.{int_eq};
 ghost use Rattle.fz_spec.specs.Constraints.{term_value, term_values};
-ghost use Rattle.fz_spec.specs.Truth.{SomeByRecursion, AreDifferent, is_one};
+ghost use Rattle.fz_spec.specs.Truth.{SomeByRecursion, AreDifferent, IsOdd, IsOne, IsZero, is_one};
 
 use fz_model::value_of;
 use fz_spec::term::Term;
@@ -29,6 +29,14 @@ pub(crate) fn all_are(terms: &[Term], number: i32, values: &[i32]) -> bool
     terms.iter().all(|term| value_of(*term, values) == number)
 }
 
+/// Whether one of some terms is 1, or one of others 0.
+pub(crate) fn is_satisfied(positives: &[Term], negatives: &[Term], values: &[i32]) -> bool
+    ensures { IsTrue result ↔ (SomeByRecursion IsOne (term_values values.now positives.now)
+        ⊎ SomeByRecursion IsZero (term_values values.now negatives.now)) }
+{
+    some_is(positives, 1, values) || some_is(negatives, 0, values)
+}
+
 /// Whether no value is below this one.
 pub(crate) fn none_is_below(terms: &[Term], least: i32, values: &[i32]) -> bool
     ensures { IsTrue result ↔ AllByRecursion (λ x. least ≤ℤ x) (term_values values.now terms.now) }
@@ -44,8 +52,15 @@ pub(crate) fn none_is_above(terms: &[Term], greatest: i32, values: &[i32]) -> bo
     terms.iter().all(|term| value_of(*term, values) <= greatest)
 }
 
+/// Whether an odd number of terms are 1.
+pub(crate) fn is_odd(terms: &[Term], values: &[i32]) -> bool
+    ensures { IsTrue result ↔ IsOdd (term_values values.now terms.now) }
+{
+    count_of_ones(terms, values) % 2 == 1
+}
+
 /// How many terms are 1.
-pub(crate) fn count_of_ones(terms: &[Term], values: &[i32]) -> usize
+fn count_of_ones(terms: &[Term], values: &[i32]) -> usize
     ensures { result ≡ count_by is_one (term_values values.now terms.now) }
 {
     terms

@@ -43,8 +43,9 @@ use std::thread::Threads;
 /// `words` are the arguments of the program: `-a` for all solutions, `-n N` for N of them (0 for all), one where neither is given;
 /// `--distinct` for one of those of which the same is printed, where the model has no goal;
 /// `--commit-distance N` for how often a copy of a node is kept, `--adaptive-distance N` for how long a way has a copy in its
-/// middle; `-p N` for a search by that many workers (1 where it isn't given); `--interleave SEED` for workers that take turns on one
-/// thread by a schedule which the seed begins; `-s` for statistics; `--certificate` for a certificate; `--generate N` for a model that is generated, a knapsack of N
+/// middle; `-p N` for a search by that many workers (1 where it isn't given); `--assets N` for a search in that many ways side by
+/// side; `--interleave SEED` for workers that take turns on one thread by a schedule which the seed begins; `-s` for statistics;
+/// `--certificate` for a certificate; `--generate N` for a model that is generated, a knapsack of N
 /// items, in place of one that is read; and FILE. The text is that of FILE; no FILE is `-`, standard input. A text may have
 /// 67,108,864 bytes. Printed is a block for each satisfying assignment, in any order, and
 /// `==========`; of `-n N` N blocks of different assignments alone, where that many satisfy; with

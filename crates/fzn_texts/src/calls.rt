@@ -2,8 +2,10 @@
 use crate::answer::Answer;
 use crate::case::Case;
 use crate::models::{divide, generated, truth};
-use crate::runs::{check, run, run_learning, run_meeting, run_showing, words_of};
-use crate::{books, collecting, domains, frontiers, machines, paths, seeds, spaces, words};
+use crate::runs::{check, run, run_abreast, run_learning, run_meeting, run_showing, words_of};
+use crate::{
+    books, collecting, domains, frontiers, machines, paths, portfolios, seeds, spaces, words,
+};
 use std::alloc::{AllocError, Global};
 use std::sync::Wait;
 use std::thread::Threads;
@@ -112,11 +114,13 @@ fn answer_of<R: Threads + Wait + Sync>(
         b"fzcheck" => check(alloc, case, &words)?,
         b"meeting" => run_meeting(rt, alloc, case, &words)?,
         b"learning" => run_learning(rt, alloc, case, &words)?,
+        b"abreast" => run_abreast(rt, alloc, case, &words)?,
         b"showing" => run_showing(rt, alloc, case, &words)?,
         b"words" => words::read(alloc, &words)?,
         b"divide" => divide(alloc, &case.text)?,
         b"knapsack" => generated(alloc, rest)?,
         b"machine" => machines::run(alloc, &case.text, &case.steps)?,
+        b"portfolio" => portfolios::run(alloc, &case.text, &case.steps)?,
         b"path" => paths::run(alloc, &case.text, false, &case.steps)?,
         b"rows" => paths::run(alloc, &case.text, true, &case.steps)?,
         b"space" => spaces::run(alloc, &case.text, &case.steps)?,

@@ -33,7 +33,7 @@ impl Stepped for Machine<Space> {
 }
 
 /// The event of a word and its numbers, as `steal 0 1`.
-fn event_of(word: &str, rest: &str) -> Option<Event> {
+pub fn event_of(word: &str, rest: &str) -> Option<Event> {
     let (first, second) = rest.split_once(' ').unwrap_or((rest, "0"));
     let first = first.parse::<u32>().ok()?;
     let second = second.parse::<u32>().ok()?;
@@ -50,11 +50,15 @@ fn event_of(word: &str, rest: &str) -> Option<Event> {
 
 /// What comes of an event.
 fn happen(alloc: Global, machine: &mut Machine<Space>, event: Event) -> Result<String, AllocError> {
-    let word = match machine.apply(event)? {
+    String::from_str(alloc, word_of_answer(machine.apply(event)?))
+}
+
+/// The word of what came of an event.
+pub fn word_of_answer(answer: Applied) -> &'static str {
+    match answer {
         Applied::Unlawful(_) => "unlawful",
         Applied::Applied(outcome) => outcome_of(outcome),
-    };
-    String::from_str(alloc, word)
+    }
 }
 
 fn outcome_of(outcome: Outcome) -> &'static str {

@@ -3,6 +3,7 @@
 //! stands in the first lines of `data/solutions`.
 #![tactic(auto)]
 
+mod abreast;
 mod answer;
 mod books;
 mod calls;
@@ -15,6 +16,7 @@ mod machines;
 mod meeting;
 mod models;
 mod paths;
+mod portfolios;
 mod runs;
 mod seeds;
 mod spaces;

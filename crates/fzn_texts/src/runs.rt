@@ -2,6 +2,7 @@
 ghost use Rattle.std.specs.Prelude.{◌<◌, ◌-◌, ◌^◌, IfOk};
 ghost use Rattle.fz_io.specs.Memory.{sink_faults, source_faults};
 
+use crate::abreast::Abreast;
 use crate::answer::Answer;
 use crate::case::{Case, Faults};
 use crate::learning::Learning;
@@ -159,6 +160,21 @@ pub fn run_learning<R: Threads + Wait + Sync>(
     let answer = run_watched(rt, alloc, case, words, &learning)?;
     Ok(Answer {
         is_sound: answer.is_sound && learning.has_learned(),
+        ..answer
+    })
+}
+
+/// A run of `fzn` by two workers that are in their first steps at once.
+pub fn run_abreast<R: Threads + Wait + Sync>(
+    rt: &R,
+    alloc: Global,
+    case: &Case,
+    words: &[String],
+) -> Result<Answer, AllocError> {
+    let abreast = Abreast::new();
+    let answer = run_watched(rt, alloc, case, words, &abreast)?;
+    Ok(Answer {
+        is_sound: answer.is_sound && abreast.have_met(),
         ..answer
     })
 }

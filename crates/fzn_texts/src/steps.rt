@@ -1,4 +1,5 @@
 //! Steps with a value, and what each of them answers.
+ghost use Rattle.std.specs.Prelude.{◌≢◌};
 ghost use Rattle.fz_sets.specs.Sets.{IsWithinLimits};
 ghost use Rattle.fz_tree.specs.Better.{IsModeOf};
 
@@ -59,7 +60,8 @@ pub fn shared_model(alloc: Global, text: &str) -> Result<Option<Arc<Model>>, All
 
 /// What is sought of a goal: all solutions, or a best one.
 pub fn mode(goal: &Goal) -> Mode
-    ensures { IsModeOf goal.now result }
+    ensures mode { IsModeOf goal.now result }
+    ensures no_rows { result ≢ Mode.Rows }
 {
     match goal {
         Goal::Satisfy => Mode::All,

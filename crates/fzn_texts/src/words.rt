@@ -35,6 +35,9 @@ fn shown(alloc: Global, options: &Options) -> Result<String, AllocError> {
 }
 
 fn push_numbers(alloc: Global, text: &mut String, options: &Options) -> Result<(), AllocError> {
+    if 1 < options.assets() {
+        text.push_str(&format!(in alloc; " assets={}", options.assets())?)?;
+    }
     if let Some(limit) = options.limit() {
         text.push_str(&format!(in alloc; " limit={limit}")?)?;
     }

@@ -2,7 +2,7 @@ use Rattle.std.proofs.Common.{[], ◌∷◌, length, sym, subst}
 use Rattle.std.specs.Prelude.{IfOk}
 use Rattle.fz_dom.specs.Changes.{IsFromTo}
 use Rattle.fz_spec.specs.declared.term.Term.{Term}
-use Rattle.fz_strength.specs.declared.operation.Operation.TheVariants.{Plus}
+use Rattle.fz_spec.specs.declared.shape.Operation.TheVariants.{Plus}
 use Rattle.fz_strength.specs.Operations.{equation}
 use Rattle.fz_prop.specs.Stores.{IsTermOf, IsTermChange}
 use Rattle.fz_arith.proofs.Sizing.{needs_half, kept_correct, all_help}

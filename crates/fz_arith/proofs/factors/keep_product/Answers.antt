@@ -1,5 +1,5 @@
 use Rattle.std.proofs.Common.{[], ◌∷◌}
-use Rattle.fz_strength.specs.declared.operation.Operation.TheVariants.{Times}
+use Rattle.fz_spec.specs.declared.shape.Operation.TheVariants.{Times}
 use Rattle.fz_strength.specs.Operations.{equation}
 use Rattle.fz_arith.proofs.Helping.{wiped_only}
 use Rattle.fz_arith.proofs.factors.keep_product.Goals as goal

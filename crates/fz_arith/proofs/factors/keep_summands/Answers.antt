@@ -1,7 +1,7 @@
 use Rattle.std.proofs.Common.{◌≡◌, [], ◌∷◌, refl, subst}
 use Rattle.std.specs.Prelude.{IfOk}
 use Rattle.fz_spec.specs.declared.term.Term.{Term}
-use Rattle.fz_strength.specs.declared.operation.Operation.TheVariants.{Plus}
+use Rattle.fz_spec.specs.declared.shape.Operation.TheVariants.{Plus}
 use Rattle.fz_strength.specs.Operations.{equation, EquationTruth}
 use Rattle.fz_prop.specs.Answers.{IsCorrectOf}
 use Rattle.fz_arith.specs.Narrowing.{IsHelped}

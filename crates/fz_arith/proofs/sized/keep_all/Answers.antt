@@ -5,7 +5,7 @@ use Rattle.std.proofs.lemmas.Option.{slice_get-get_or}
 use Rattle.fz_sets.proofs.Lists.{all_at}
 use Rattle.fz_dom.specs.Changes.{IsFromTo}
 use Rattle.fz_spec.specs.declared.term.Term.TheVariants.{Num}
-use Rattle.fz_strength.specs.declared.operation.Bounds.{Bounds}
+use Rattle.fz_strength.specs.declared.bounds.Bounds.{Bounds}
 use Rattle.fz_prop.specs.Answers.{IsCorrectOf}
 use Rattle.fz_prop.proofs.Keeping.{change_correct, kept_changed, kept_same}
 use Rattle.fz_prop.proofs.TermChanges.{falls_of, same_store}

@@ -1,7 +1,7 @@
 use Rattle.std.proofs.Common.{◌≡◌, take}
 use Rattle.std.specs.Prelude.{flat_map}
 use Rattle.fz_model.specs.Arguments.{argument_of}
-use Rattle.fz_refutes.specs.Refuted.{terms_of}
+use Rattle.fz_spec.specs.Constraints.{terms_of}
 use Rattle.fz_cert.proofs.variables.terms_of.Given as goal
 
 -- the terms so far

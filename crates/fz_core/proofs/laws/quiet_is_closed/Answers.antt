@@ -1,6 +1,5 @@
-use Rattle.fz_core.proofs.Reaching.{reaches_law}
 use Rattle.fz_core.proofs.Ends.{closes}
 use Rattle.fz_core.proofs.laws.quiet_is_closed.Goals as goal
 
 pub returns : goal.returns
-returns c = λ s reaches quiet. closes s (reaches_law s reaches) quiet
+returns c = closes

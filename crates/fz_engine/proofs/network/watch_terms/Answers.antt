@@ -1,4 +1,4 @@
-use Rattle.std.proofs.Common.{◌⊎◌, ◌∙◌, ℕ, ℤ, sym, subst, arith}
+use Rattle.std.proofs.Common.{true, ◌⊎◌, ◌∙◌, ℕ, ℤ, sym, subst, arith}
 use Rattle.std.proofs.lemmas.Option.{slice_get-get_or, slice_get_within}
 use Rattle.fz_spec.specs.declared.term.Term.TheVariants.{Var}
 use Rattle.fz_strength.specs.declared.event.Event.TheVariants.{Any}
@@ -24,5 +24,5 @@ pub returns-clause-watched : goal.returns-clause-watched
 returns-clause-watched c = λ v n stands.
     let within = slice_get_within c.args.terms.now stands.0 (Var v) stands.2 in
     let test = c.loop-i-test.false in
-    subst (λ (m : ℤ). IsWatch c.loop-i.wakes v (watch c.args.place c.args.index m) ⊎ IsListed (waiting_at c.loop-i.wakes Any v) c.args.place) (sym stands.1)
+    subst (λ (m : ℤ). IsWatch c.loop-i.wakes v (watch c.args.place c.args.index m true) ⊎ IsListed (waiting_at c.loop-i.wakes Any v) c.args.place) (sym stands.1)
     (c.loop-i.invariant.watched stands.0 v (omega (arith, within, test)) stands.2)

@@ -1,6 +1,6 @@
 use Rattle.std.proofs.Common.{take}
 use Rattle.std.specs.Prelude.{◌≡◌, ◌≤◌, count_by}
-use Rattle.fz_hall.specs.Intervals.{is_confined}
+use Rattle.fz_strength.specs.Differences.{is_confined}
 use Rattle.fz_hall.proofs.interval.count_confined.Given as goal
 
 -- those so far

@@ -1,6 +1,6 @@
 use Rattle.std.proofs.lemmas.Result.{IfOk-weaker}
 use Rattle.std.proofs.Math.Facts.{to_z-of_z}
-use Rattle.fz_strength.specs.declared.relation.Relation.TheVariants.{Equal, NotEqual}
+use Rattle.fz_spec.specs.declared.shape.Relation.TheVariants.{Equal, NotEqual}
 use Rattle.fz_prop.specs.declared.answer.Answer.{Answer}
 use Rattle.fz_prop.proofs.Answering.{same_answer, same_correct}
 use Rattle.fz_linear.specs.Sums.{SumTruth, SumLine, SumFalse, AgainstLine, IsAnswerSum, IsAnswerAgainst}

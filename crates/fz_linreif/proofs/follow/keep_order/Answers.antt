@@ -1,6 +1,6 @@
 use Rattle.std.proofs.lemmas.Result.{IfOk-weaker}
 use Rattle.std.proofs.Math.Facts.{to_z-of_z}
-use Rattle.fz_strength.specs.declared.relation.Relation.TheVariants.{AtMost}
+use Rattle.fz_spec.specs.declared.shape.Relation.TheVariants.{AtMost}
 use Rattle.fz_prop.specs.declared.answer.Answer.{Answer}
 use Rattle.fz_prop.specs.Answers.{IsAnswerOf}
 use Rattle.fz_prop.specs.Truths.{TruthWith, LineWith}

@@ -1,6 +1,6 @@
 use Rattle.std.proofs.Common.{sym, length}
 use Rattle.std.proofs.Math.Facts.{to_z-of_z}
-use Rattle.fz_strength.specs.declared.relation.Relation.TheVariants.{AtMost}
+use Rattle.fz_spec.specs.declared.shape.Relation.TheVariants.{AtMost}
 use Rattle.fz_prop.specs.declared.answer.Answer.TheVariants.{Subsumed, Failed}
 use Rattle.fz_prop.proofs.Answering.{answer_twice, correct_twice}
 use Rattle.fz_prop.proofs.Steps.{same_shrinks}

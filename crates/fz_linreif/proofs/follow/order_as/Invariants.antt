@@ -1,4 +1,4 @@
-use Rattle.fz_strength.specs.declared.relation.Relation.TheVariants.{AtMost}
+use Rattle.fz_spec.specs.declared.shape.Relation.TheVariants.{AtMost}
 use Rattle.fz_strength.specs.Domains.{room}
 use Rattle.fz_prop.specs.Answers.{IsCorrectOf}
 use Rattle.fz_prop.specs.Stores.{Shrinks}

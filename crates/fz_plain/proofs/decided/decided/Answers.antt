@@ -1,6 +1,6 @@
 use Rattle.std.proofs.Common.{◌≡◌, ◌<◌, inl, inr, pos, true, false, rules}
 use Rattle.std.proofs.Math.Facts.{to_z-of_z}
-use Rattle.fz_strength.specs.declared.relation.Relation.TheVariants.{Equal, NotEqual}
+use Rattle.fz_spec.specs.declared.shape.Relation.TheVariants.{Equal, NotEqual}
 use Rattle.fz_plain.specs.Plain.{IsMultipleOf}
 use Rattle.fz_plain.proofs.Told.{multiples_zeros, told_decided, untold}
 use Rattle.fz_plain.proofs.decided.decided.Goals as goal

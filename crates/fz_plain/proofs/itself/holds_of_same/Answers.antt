@@ -1,7 +1,7 @@
 use Rattle.std.proofs.Common.{pos, subst, refl, arith, inl, inr}
 use Rattle.std.proofs.lemmas.Int.{ints}
-use Rattle.fz_strength.specs.declared.relation.Relation.{Relation}
-use Rattle.fz_strength.specs.Relations.{Relates}
+use Rattle.fz_spec.specs.declared.shape.Relation.{Relation}
+use Rattle.fz_spec.specs.Truth.{Relates}
 use Rattle.fz_plain.proofs.itself.holds_of_same.Goals as goal
 
 pub returns-in-NotEqual : goal.returns-in-NotEqual

@@ -1,5 +1,5 @@
 use Rattle.std.proofs.Common.{◌≡◌, ℤ, List, true, false, rules}
-use Rattle.fz_strength.specs.Relations.{Relates}
+use Rattle.fz_spec.specs.Truth.{Relates}
 use Rattle.fz_plain.specs.Plain.{IsDecided, IsTwice}
 use Rattle.fz_plain.proofs.Plainness.{itself_never, itself_always}
 use Rattle.fz_plain.proofs.itself.plain_comparison.Goals as goal

@@ -1,5 +1,5 @@
 use Rattle.std.proofs.Common.{ℕ, subst}
-use Rattle.fz_strength.specs.declared.operation.Operation.{Operation}
+use Rattle.fz_spec.specs.declared.shape.Operation.{Operation}
 use Rattle.fz_ranges.specs.Sizes.{IsParted, IsSizedBy}
 use Rattle.fz_ranges.proofs.sizes.sizes_by.Goals as goal
 

@@ -1,7 +1,7 @@
 use Rattle.std.proofs.Common.{◌≡◌, subst}
 use Rattle.std.specs.Prelude.{ℤ}
 use Rattle.std.proofs.Math.Facts.{to_z-of_z}
-use Rattle.fz_strength.specs.declared.relation.Relation.TheVariants.{Equal}
+use Rattle.fz_spec.specs.declared.shape.Relation.TheVariants.{Equal}
 use Rattle.fz_prop.specs.Stores.{IsTermChange}
 use Rattle.fz_prop.proofs.Settling.{settled_correct, settled_answer}
 use Rattle.fz_rel.specs.Truths.{TruthOf, LineOf}

@@ -1,5 +1,5 @@
 use Rattle.std.proofs.lemmas.Result.{IfOk-weaker}
-use Rattle.fz_strength.specs.declared.relation.Relation.TheVariants.{AtMost, Below}
+use Rattle.fz_spec.specs.declared.shape.Relation.TheVariants.{AtMost, Below}
 use Rattle.fz_prop.specs.declared.answer.Answer.{Answer}
 use Rattle.fz_prop.specs.Answers.{IsAnswerOf}
 use Rattle.fz_prop.proofs.Answering.{same_answer}

@@ -5,7 +5,7 @@ use Rattle.std.proofs.Math.Facts.{to_z-of_z}
 use mir.Val.{SFits}
 use mir.Syntax.{w32}
 use Rattle.fz_spec.specs.declared.term.Term.TheVariants.{Var}
-use Rattle.fz_strength.specs.declared.relation.Relation.TheVariants.{NotEqual}
+use Rattle.fz_spec.specs.declared.shape.Relation.TheVariants.{NotEqual}
 use Rattle.fz_prop.specs.Stores.{IsChangeAt}
 use Rattle.fz_prop.specs.Truths.{IsAbout}
 use Rattle.fz_prop.proofs.Settling.{settled_correct, settled_answer}

@@ -1,6 +1,6 @@
 use Rattle.std.proofs.Common.{◌≢◌}
 use Rattle.std.proofs.lemmas.Result.{IfOk-weaker}
-use Rattle.fz_strength.specs.declared.relation.Relation.TheVariants.{Equal}
+use Rattle.fz_spec.specs.declared.shape.Relation.TheVariants.{Equal}
 use Rattle.fz_prop.specs.declared.answer.Answer.{Answer}
 use Rattle.fz_prop.specs.declared.answer.Answer.TheVariants.{Failed}
 use Rattle.fz_prop.proofs.Answering.{same_answer}

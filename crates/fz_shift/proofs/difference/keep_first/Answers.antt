@@ -5,7 +5,7 @@ use Rattle.std.proofs.Common.{rules, ◌≡◌, arith}
 use Rattle.std.specs.Prelude.{ℤ, ◌-ℤ◌}
 use Rattle.std.proofs.lemmas.Int.{ints}
 use Rattle.std.proofs.lemmas.Result.{IfOk-weaker}
-use Rattle.fz_strength.specs.declared.relation.Relation.TheVariants.{Equal}
+use Rattle.fz_spec.specs.declared.shape.Relation.TheVariants.{Equal}
 use Rattle.fz_strength.specs.Domains.{number_at}
 use Rattle.fz_prop.specs.declared.answer.Answer.{Answer}
 use Rattle.fz_prop.specs.Answers.{IsCorrectOf}

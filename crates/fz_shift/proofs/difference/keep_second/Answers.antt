@@ -4,7 +4,7 @@ use mir.Syntax.{w32}
 use Rattle.std.proofs.Common.{rules, ◌≡◌, sym, arith}
 use Rattle.std.specs.Prelude.{ℤ, ◌+ℤ◌, ◌-ℤ◌, neg_ℤ}
 use Rattle.std.proofs.lemmas.Int.{ints}
-use Rattle.fz_strength.specs.declared.relation.Relation.TheVariants.{Equal}
+use Rattle.fz_spec.specs.declared.shape.Relation.TheVariants.{Equal}
 use Rattle.fz_spec.specs.declared.term.Term.TheVariants.{Var}
 use Rattle.fz_strength.specs.Domains.{dom_at, number_at}
 use Rattle.fz_prop.specs.Answers.{IsCorrectOf}

@@ -2,7 +2,7 @@ use Rattle.std.proofs.Common.{◌≡◌, ◌∙◌, false, ap, sym, subst, Optio
 use Rattle.std.specs.Prelude.{MatchOption}
 use Rattle.fz_tree.specs.Frontier.{Frontier}
 use Rattle.fz_tree.specs.Account.{Account}
-use Rattle.fz_tree.specs.Book.{Part, Book, IsAt}
+use Rattle.fz_tree.specs.Book.{Book, IsAt}
 use Rattle.fz_book.specs.Reports.{IsReportable}
 use Rattle.fz_core.specs.Cores.{Worker}
 use Rattle.fz_path.specs.declared.task.Cut.{Cut}

@@ -20,6 +20,7 @@ returns-clause-trail g c = λ m known es fs size alike t.
       root = t.root;
       copies = kept_decided spaced m known es fs depth 0 new size alike (c.drop_below.ensures.above m known fs t.copies) front;
       few = few_left depth old new left t.few;
+      longest = omega (arith, size, c.max-self.ensures);
       near = λ n rest below. absurd (let within = rest_within es n rest in omega (arith, within, below, size));
       current = subst (λ (o : Option _). IfSome o (λ s. IsAt m known (take (length es - 1) es) (spaced s))) (sym c.drop_current.ensures) tt;
     }

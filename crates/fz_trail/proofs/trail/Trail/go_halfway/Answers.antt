@@ -20,5 +20,5 @@ returns-clause-space g c = λ m known kept. record {
 
 pub returns-clause-kept : goal.returns-clause-kept
 returns-clause-kept g c = λ m known kept above t.
-    trail_between g.S.SearchSpace.spaced m known c.args.edges.now c.args.self.now c.put.new.self c.args.kept.depth c.half_way-depth.result c.in_ok-space.space c.put.ensures.rest c.put.ensures.distances
+    trail_between g.S.SearchSpace.spaced m known c.args.edges.now c.args.self.now c.put.new.self c.args.kept.depth c.half_way-depth.result c.in_ok-space.space c.put.ensures.rest c.put.ensures.longest c.put.ensures.distances
     c.in_ok-put.ensures.copies c.requires.long c.half_way-depth.ensures (c.in_ok-space.ensures.space m known kept) above t
