@@ -3,9 +3,9 @@ use Rattle.std.proofs.Common.{◌≡◌, inl, inr, ℕ, zero, suc, ◌+◌, ◌<
 use Rattle.std.specs.Prelude.{ℤ, slice_index, slice_index_or}
 use Rattle.std.specs.List.{AllByRecursion}
 use Rattle.fz_strength.specs.declared.cost.Cost.{Cost}
+use Rattle.fz_strength.specs.Domains.{IsTermOf}
 use Rattle.fz_agenda.specs.declared.watches.Watch.{Watch}
 use Rattle.fz_agenda.specs.Queues.{Lineup, IsWoken}
-use Rattle.fz_prop.specs.Stores.{IsTermOf}
 use Rattle.fz_agenda.specs.Wakes.{Waking, watches_at, AreWatchersAwake, AreWatchesOf, Heeds, IsWatching, WaitsFor}
 use Rattle.fz_agenda.specs.Watches.{IsSeen}
 use Rattle.fz_agenda.proofs.Woken.{woken_twice, woken_by_more, still_awake}

@@ -6,9 +6,10 @@ use Rattle.fz_spec.specs.Truth.{SomeByRecursion}
 use Rattle.fz_strength.specs.declared.cost.Cost.{Cost}
 use Rattle.fz_strength.specs.declared.event.Event.{Event}
 use Rattle.fz_strength.specs.declared.event.Event.TheVariants.{Any, Bound, Fixed}
+use Rattle.fz_strength.specs.Domains.{term_set, IsTermOf}
 use Rattle.fz_strength.specs.Events.{Wait}
 use Rattle.fz_strength.specs.Sayings.{Saying, line_of}
-use Rattle.fz_prop.specs.Stores.{Stored, IsStore, IsListed, IsTermOf, mark_at}
+use Rattle.fz_prop.specs.Stores.{Stored, IsStore, IsListed, mark_at}
 use Rattle.fz_agenda.specs.Agendas.{IsSettled}
 use Rattle.fz_agenda.specs.declared.watches.Watch.{Watch}
 use Rattle.fz_agenda.specs.Queues.{Lineup, rested, AreAwake, IsWoken}

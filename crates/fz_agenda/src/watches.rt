@@ -1,6 +1,6 @@
 //! Who looks at a variable only for a while.
 ghost use Rattle.std.specs.Prelude.{◌≡◌, ◌<◌, ◌↔◌, ◌++◌, ◌∷◌, [], length, slice_index, IsTrue, OnOk, OnErr};
-ghost use Rattle.fz_prop.specs.Stores.{IsTermOf};
+ghost use Rattle.fz_strength.specs.Domains.{IsTermOf};
 ghost use Rattle.fz_agenda.specs.Queues.{IsWoken};
 ghost use Rattle.fz_agenda.specs.Wakes.{AreWatchersAwake, AreWatchesOf, IsWatching};
 ghost use Rattle.fz_agenda.specs.Watches.{IsSeen};

@@ -8,14 +8,14 @@ use Rattle.fz_spec.specs.declared.term.Term.{Term}
 use Rattle.fz_spec.specs.Constraints.{term_value}
 use Rattle.fz_sets.proofs.Lists.{all_at}
 use Rattle.fz_strength.specs.Differences.{AreApart}
-use Rattle.fz_strength.specs.Domains.{term_set, Within, IsNarrower}
+use Rattle.fz_strength.specs.Domains.{term_set, Within, IsNarrower, IsTermOf}
 use Rattle.fz_strength.specs.Events.{IsOnly}
 use Rattle.fz_kept.specs.Told.{AreEndsDone, IsAlone}
 use Rattle.fz_kept.proofs.Lasting.{alone_lasts}
 use Rattle.fz_prop.specs.declared.answer.Answer.{Answer}
 use Rattle.fz_prop.specs.declared.answer.Answer.TheVariants.{Fix, NoFix, Subsumed, Failed}
 use Rattle.fz_prop.specs.Answers.{IsAnswerOf, Narrows}
-use Rattle.fz_prop.specs.Stores.{Stored, IsTermOf}
+use Rattle.fz_prop.specs.Stores.{Stored}
 use Rattle.fz_prop.proofs.TermChanges.{term_within, only_in}
 use Rattle.fz_alldiff.specs.Differing.{IsDifferent}
 use Rattle.fz_alldiff.specs.Ends.{AreAloneBelow, AreAloneBehind, IsBetween}

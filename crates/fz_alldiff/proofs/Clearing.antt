@@ -5,12 +5,10 @@ use Rattle.std.specs.List.{AllByRecursion}
 use Rattle.fz_sets.specs.Sets.{IsInSet}
 use Rattle.fz_dom.specs.Shape.{least}
 use Rattle.fz_spec.specs.declared.term.Term.{Term}
-use Rattle.fz_strength.specs.Domains.{term_set, AreDomains, IsNarrower}
+use Rattle.fz_strength.specs.Domains.{term_set, AreDomains, IsNarrower, IsTermOf}
 use Rattle.fz_strength.specs.Events.{IsOnly}
 use Rattle.fz_sets.proofs.Lists.{all_at}
-use Rattle.fz_strength.proofs.Truths.{in_single}
-use Rattle.fz_strength.proofs.Terms.{only_number}
-use Rattle.fz_prop.specs.Stores.{IsTermOf}
+use Rattle.fz_strength.proofs.Terms.{only_number, in_single}
 use Rattle.fz_prop.proofs.Filled.{still_only}
 use Rattle.fz_prop.proofs.TermChanges.{narrower_term, only_in}
 use Rattle.fz_alldiff.specs.Differing.{IsFixedPlace, IsOnlyAt, IsCleared, AreCleared, IsOutside}

@@ -12,11 +12,11 @@ use Rattle.fz_spec.specs.declared.term.Term.TheVariants.{Num, Var}
 use Rattle.fz_spec.specs.Constraints.{term_value, term_values}
 use Rattle.fz_spec.specs.Truth.{AreDifferent}
 use Rattle.fz_strength.specs.Differences.{AreApart}
-use Rattle.fz_strength.specs.Domains.{term_set, AreDomains, Within, IsNarrower, room}
+use Rattle.fz_strength.specs.Domains.{term_set, AreDomains, Within, IsNarrower, room, IsTermOf}
 use Rattle.fz_strength.specs.Events.{IsOnly, IsFixedIn, AllFixed}
 use Rattle.fz_prop.specs.declared.answer.Answer.TheVariants.{Subsumed}
 use Rattle.fz_prop.specs.Answers.{IsAnswerOf, IsCorrectOf}
-use Rattle.fz_prop.specs.Stores.{Stored, Shrinks, IsTermOf, IsTermChange}
+use Rattle.fz_prop.specs.Stores.{Stored, Shrinks, IsTermChange}
 use Rattle.fz_prop.proofs.Filled.{still_only}
 use Rattle.fz_prop.proofs.Steps.{same_shrinks}
 use Rattle.fz_prop.proofs.TermChanges.{term_within, narrower_term, only_in, kept_term, falls_of, fixed_stays}

@@ -12,9 +12,8 @@ use Rattle.fz_sets.proofs.Lists.{all_at}
 use Rattle.fz_dom.specs.Changes.{IsFromTo}
 use Rattle.fz_spec.specs.declared.term.Term.{Term}
 use Rattle.fz_spec.specs.Constraints.{term_value}
-use Rattle.fz_strength.specs.Domains.{term_set}
+use Rattle.fz_strength.specs.Domains.{term_set, IsTermOf}
 use Rattle.fz_strength.specs.Events.{IsOnly, IsFixedIn, AllFixed}
-use Rattle.fz_prop.specs.Stores.{IsTermOf}
 use Rattle.fz_alldiff.specs.Differing.{AreNeverDifferent, IsOnlyAt}
 use Rattle.fz_alldiff.specs.Freeing.{AreBetween, AreFree, AreOpen, IsTaken}
 use Rattle.fz_alldiff.proofs.Clearing.{has_only, same_term}

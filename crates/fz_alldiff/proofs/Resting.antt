@@ -9,13 +9,13 @@ use Rattle.std.proofs.lemmas.Option.{slice_get_within, slice_get_cases}
 use Rattle.fz_spec.specs.declared.term.Term.{Term}
 use Rattle.fz_spec.specs.Constraints.{term_value}
 use Rattle.fz_strength.specs.Differences.{AreApart}
-use Rattle.fz_strength.specs.Domains.{term_set, AreDomains, Within, IsNarrower}
+use Rattle.fz_strength.specs.Domains.{term_set, AreDomains, Within, IsNarrower, IsTermOf}
 use Rattle.fz_strength.specs.Events.{IsOnly, IsFixedIn, AllFixed, AreSingle}
 use Rattle.fz_strength.proofs.Differences.{different}
 use Rattle.fz_sets.proofs.Lists.{all_at}
 use Rattle.fz_prop.specs.Answers.{IsAnswerOf, IsCorrectOf}
 use Rattle.fz_prop.specs.Outcomes.{rested_by}
-use Rattle.fz_prop.specs.Stores.{Stored, Shrinks, IsTermOf}
+use Rattle.fz_prop.specs.Stores.{Stored, Shrinks}
 use Rattle.fz_prop.proofs.TermChanges.{term_within, only_in}
 use Rattle.fz_prop.proofs.Twice.{shrinks_twice}
 use Rattle.fz_prop.proofs.Steps.{same_shrinks}

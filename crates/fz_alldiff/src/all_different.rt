@@ -2,11 +2,10 @@
 ghost use Rattle.std.specs.Prelude.{◌≡◌, ◌↔◌, length, IfOk, IsTrue};
 ghost use Rattle.std.specs.List.{AllByRecursion};
 ghost use Rattle.fz_strength.specs.Differences.{AreApart};
-ghost use Rattle.fz_strength.specs.Domains.{AreDomains};
+ghost use Rattle.fz_strength.specs.Domains.{AreDomains, IsTermOf};
 ghost use Rattle.fz_strength.specs.Sayings.{Differ, line_of, said_terms, truth_of};
 ghost use Rattle.fz_kept.specs.Told.{AreEndsDone, IsAlone, IsLong, IsTold};
 ghost use Rattle.fz_prop.specs.Answers.{Narrows};
-ghost use Rattle.fz_prop.specs.Stores.{IsTermOf};
 ghost use Rattle.fz_alldiff.specs.Differing.{IsDifferent};
 
 use crate::differ::keep_different;

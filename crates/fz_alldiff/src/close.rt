@@ -5,11 +5,11 @@ ghost use Rattle.fz_bits.specs.Windows.{IsBit};
 ghost use Rattle.fz_sets.specs.Sets.{IsInSet, LEAST, GREATEST};
 ghost use Rattle.fz_spec.specs.Constraints.{term_value};
 ghost use Rattle.fz_strength.specs.Differences.{AreApart};
-ghost use Rattle.fz_strength.specs.Domains.{term_set, Within};
+ghost use Rattle.fz_strength.specs.Domains.{term_set, Within, IsTermOf};
 ghost use Rattle.fz_strength.specs.Events.{IsFixedIn};
 ghost use Rattle.fz_prop.specs.declared.answer.Answer.TheVariants as answers;
 ghost use Rattle.fz_prop.specs.Answers.{IsAnswerOf, IsCorrectOf};
-ghost use Rattle.fz_prop.specs.Stores.{Shrinks, IsTermOf};
+ghost use Rattle.fz_prop.specs.Stores.{Shrinks};
 ghost use Rattle.fz_alldiff.specs.Differing.{IsDifferent, AreNeverDifferent};
 ghost use Rattle.fz_alldiff.specs.Freeing.{AreBetween, IsSpan, AreFree, AreFixedButOne, AreOpen, IsKept, IsLast, IsTaken};
 

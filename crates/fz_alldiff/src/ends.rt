@@ -3,7 +3,7 @@ ghost use Rattle.std.specs.Prelude.{◌↔◌, ◌<◌, length, IsTrue};
 ghost use Rattle.std.specs.List.{AllByRecursion};
 ghost use Rattle.fz_strength.specs.Differences.{AreApart};
 ghost use Rattle.fz_kept.specs.Told.{AreEndsDone, IsAlone};
-ghost use Rattle.fz_prop.specs.Stores.{IsTermOf};
+ghost use Rattle.fz_strength.specs.Domains.{IsTermOf};
 ghost use Rattle.fz_alldiff.specs.Ends.{AreAloneBelow, AreAloneBehind, IsBetween};
 
 use fz_kept::{Kept, count_of};

@@ -3,7 +3,8 @@ ghost use Rattle.std.specs.Prelude.{◌≡◌, ◌≢◌, ◌<◌, true, false, 
 ghost use Rattle.std.specs.List.{AllByRecursion};
 ghost use Rattle.fz_strength.specs.Differences.{AreApart};
 ghost use Rattle.fz_prop.specs.Answers.{IsAnswerOf, IsCorrectOf};
-ghost use Rattle.fz_prop.specs.Stores.{Shrinks, IsTermOf, IsTermChange};
+ghost use Rattle.fz_strength.specs.Domains.{IsTermOf};
+ghost use Rattle.fz_prop.specs.Stores.{Shrinks, IsTermChange};
 ghost use Rattle.fz_alldiff.specs.Differing.{IsDifferent, AreNeverDifferent, IsFixedPlace, IsOnlyAt, IsDone, IsCleared, AreCleared, IsOutside};
 
 use crate::settled::settle;

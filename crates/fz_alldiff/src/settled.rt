@@ -3,9 +3,9 @@ ghost use Rattle.std.specs.Prelude.{◌≡◌, ◌↔◌, true, false, ℕ, ℤ,
 ghost use Rattle.std.specs.List.{AllByRecursion};
 ghost use Rattle.fz_sets.specs.Sets.{IsInSet};
 ghost use Rattle.fz_spec.specs.Constraints.{term_value};
-ghost use Rattle.fz_strength.specs.Domains.{term_set, Within};
+ghost use Rattle.fz_strength.specs.Domains.{term_set, Within, IsTermOf};
 ghost use Rattle.fz_prop.specs.Answers.{IsCorrectOf};
-ghost use Rattle.fz_prop.specs.Stores.{IsTermOf, Shrinks};
+ghost use Rattle.fz_prop.specs.Stores.{Shrinks};
 ghost use Rattle.fz_alldiff.specs.Differing.{AreCleared, AreNeverDifferent, IsDifferent, IsDone, IsFixedPlace};
 ghost use Rattle.fz_alldiff.specs.Settled.{AreEntriesOf, AreRising, IsFreeOf};
 

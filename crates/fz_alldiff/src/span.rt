@@ -1,7 +1,7 @@
 //! The numbers that are left of terms, where they lie close together.
 ghost use Rattle.std.specs.Prelude.{◌≡◌, length, IfSome};
 ghost use Rattle.std.specs.List.{AllByRecursion};
-ghost use Rattle.fz_prop.specs.Stores.{IsTermOf};
+ghost use Rattle.fz_strength.specs.Domains.{IsTermOf};
 ghost use Rattle.fz_alldiff.specs.Freeing.{AreBetween, IsSpan};
 
 use fz_prop::Store;

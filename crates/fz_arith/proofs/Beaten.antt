@@ -13,7 +13,7 @@ use Rattle.fz_spec.specs.Constraints.{term_value}
 use Rattle.fz_spec.specs.Truth.{SomeByRecursion}
 use Rattle.fz_spec.specs.declared.shape.Operation.{Operation}
 use Rattle.fz_spec.specs.declared.shape.Operation.TheVariants.{Min, Max}
-use Rattle.fz_strength.specs.Domains.{term_set, AreDomains, Within, IsNarrower}
+use Rattle.fz_strength.specs.Domains.{term_set, AreDomains, Within, IsNarrower, IsTermOf}
 use Rattle.fz_strength.specs.Operations.{equation, EquationTruth, IsEquationLine, IsBounded, low_of, high_of, between, result_bounds}
 use Rattle.fz_strength.proofs.Clauses.{all_unmap, some_map, some_append}
 use Rattle.fz_strength.proofs.OperationLaws.{least_is, greatest_is}
@@ -23,7 +23,6 @@ use Rattle.fz_kept.proofs.Lasting.{done_lasts, beaten_lasts}
 use Rattle.fz_prop.specs.declared.answer.Answer.{Answer}
 use Rattle.fz_prop.specs.declared.answer.Answer.TheVariants.{Fix, NoFix, Subsumed, Failed}
 use Rattle.fz_prop.specs.Answers.{IsAnswerOf, IsCorrectOf}
-use Rattle.fz_prop.specs.Stores.{IsTermOf}
 use Rattle.fz_prop.proofs.Filled.{term_ranges}
 use Rattle.fz_prop.proofs.TermChanges.{term_within}
 use Rattle.fz_prop.proofs.Twice.{narrower_twice}

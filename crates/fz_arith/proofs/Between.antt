@@ -15,11 +15,10 @@ use Rattle.fz_spec.specs.Constraints.{term_value, term_values}
 use Rattle.fz_spec.specs.Truth.{SomeByRecursion, IsResult, remainder}
 use Rattle.fz_spec.specs.declared.shape.Operation.{Operation}
 use Rattle.fz_spec.specs.declared.shape.Operation.TheVariants.{Plus, Times, Quotient, Remainder, Abs, Min, Max}
-use Rattle.fz_strength.specs.Domains.{term_set, AreDomains, Within}
+use Rattle.fz_strength.specs.Domains.{term_set, AreDomains, Within, IsTermOf}
 use Rattle.fz_strength.specs.Operations.{Equation, equation_terms, EquationTruth, low_of, high_of, between, own_bounds, corner_bounds, result_bounds, quotient_bounds, remainder_bounds, operand_bounds, bounds_of}
 use Rattle.fz_strength.proofs.OperationLaws.{least_is, greatest_is}
 use Rattle.fz_strength.proofs.Sizes.{least_below, greatest_above}
-use Rattle.fz_prop.specs.Stores.{IsTermOf}
 use Rattle.fz_prop.proofs.Filled.{HasRanges, term_ranges}
 use Rattle.fz_prop.proofs.TermChanges.{term_within}
 use Rattle.fz_arith.specs.Narrowing.{LiesBetween}

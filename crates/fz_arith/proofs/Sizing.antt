@@ -8,10 +8,10 @@ use Rattle.fz_dom.specs.declared.change.Change.TheVariants.{Same, Changed, Wiped
 use Rattle.fz_spec.specs.declared.term.Term.{Term}
 use Rattle.fz_spec.specs.Constraints.{term_value}
 use Rattle.fz_spec.specs.declared.shape.Operation.TheVariants.{Plus, Times}
-use Rattle.fz_strength.specs.Domains.{term_set, Within}
+use Rattle.fz_strength.specs.Domains.{term_set, Within, IsTermOf}
 use Rattle.fz_strength.specs.Operations.{Equation, equation, EquationTruth}
 use Rattle.fz_prop.specs.Answers.{IsCorrectOf}
-use Rattle.fz_prop.specs.Stores.{Stored, Shrinks, IsTermOf, IsTermChange}
+use Rattle.fz_prop.specs.Stores.{Stored, Shrinks, IsTermChange}
 use Rattle.fz_prop.proofs.TermChanges.{term_within, within_kept, none_kept, falls_of}
 use Rattle.fz_arith.specs.Narrowing.{IsHelped}
 

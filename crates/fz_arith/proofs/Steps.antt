@@ -18,7 +18,7 @@ use Rattle.fz_strength.specs.declared.event.Event.TheVariants.{Bound}
 use Rattle.fz_spec.specs.declared.shape.Operation.{Operation}
 use Rattle.fz_spec.specs.declared.shape.Operation.TheVariants.{Quotient, Remainder}
 use Rattle.fz_strength.specs.declared.bounds.Bounds.{Bounds}
-use Rattle.fz_strength.specs.Domains.{dom_at, term_set, AreDomains, Within, IsNarrower}
+use Rattle.fz_strength.specs.Domains.{dom_at, term_set, AreDomains, Within, IsNarrower, IsTermOf}
 use Rattle.fz_strength.specs.Events.{IsOnly, AllFixed, AreSingle, IsQuiet}
 use Rattle.fz_spec.specs.Truth.{IsResult}
 use Rattle.fz_strength.specs.Operations.{Equation, equation_terms, EquationTruth, bounds_of, operand_event, IsBounded, IsEquationLine, LacksZero, divisors_of}
@@ -28,7 +28,7 @@ use Rattle.fz_strength.proofs.Terms.{AreQuietAt, quiet_self}
 use Rattle.fz_strength.proofs.OperationLaws.{bounds_terms, equation_kept, equation_alone}
 use Rattle.fz_prop.specs.declared.answer.Answer.TheVariants.{NoFix}
 use Rattle.fz_prop.specs.Answers.{IsAnswerOf, IsCorrectOf}
-use Rattle.fz_prop.specs.Stores.{Stored, Shrinks, IsChangeAt, IsTermOf, IsTermChange}
+use Rattle.fz_prop.specs.Stores.{Stored, Shrinks, IsChangeAt, IsTermChange}
 use Rattle.fz_prop.proofs.Answering.{correct_twice}
 use Rattle.fz_prop.proofs.Filled.{term_ranges, still_only}
 use Rattle.fz_prop.proofs.TermChanges.{term_within, only_in, within_kept, kept_term, none_kept, same_store, falls_of}

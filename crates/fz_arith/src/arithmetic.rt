@@ -1,13 +1,12 @@
 //! Equations of terms.
 ghost use Rattle.std.specs.Prelude.{◌≡◌, ◌↔◌, length, IsTrue};
 ghost use Rattle.std.specs.List.{AllByRecursion};
-ghost use Rattle.fz_strength.specs.Domains.{AreDomains};
+ghost use Rattle.fz_strength.specs.Domains.{AreDomains, IsTermOf};
 ghost use Rattle.fz_strength.specs.Operations.{equation};
 ghost use Rattle.fz_strength.specs.Promises.{Suits};
 ghost use Rattle.fz_strength.specs.Sayings.{Equals, line_of, said_terms, truth_of};
 ghost use Rattle.fz_kept.specs.Told.{IsLong, IsTold};
 ghost use Rattle.fz_prop.specs.Answers.{Narrows};
-ghost use Rattle.fz_prop.specs.Stores.{IsTermOf};
 
 use crate::extremes::{is_long, keep_between_ends};
 use fz_kept::Kept;

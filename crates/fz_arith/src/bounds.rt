@@ -3,7 +3,7 @@ ghost use Rattle.std.specs.Prelude.{◌≡◌, ◌≤◌, ◌<◌, ◌∷◌, Li
 ghost use Rattle.std.specs.List.{AllByRecursion};
 ghost use Rattle.fz_spec.specs.declared.shape.Operation.TheVariants.{Plus, Times, Quotient, Remainder, Abs};
 ghost use Rattle.fz_strength.specs.Operations.{equation, low_of, high_of, between, no_bounds, result_bounds, operand_bounds, bounds_of};
-ghost use Rattle.fz_prop.specs.Stores.{IsTermOf};
+ghost use Rattle.fz_strength.specs.Domains.{IsTermOf};
 
 use crate::ends::{
     difference_bounds, extreme_bounds, own_bounds, product_bounds, quotient_bounds,

@@ -4,10 +4,9 @@ ghost use Rattle.std.specs.Int.{int_min, int_max};
 ghost use Rattle.std.specs.List.{AllByRecursion, fold};
 ghost use Rattle.fz_sets.specs.Sets.{IsInSet};
 ghost use Rattle.fz_dom.specs.Changes.{IsFromTo};
-ghost use Rattle.fz_strength.specs.Domains.{term_set};
+ghost use Rattle.fz_strength.specs.Domains.{term_set, IsTermOf};
 ghost use Rattle.fz_strength.specs.Operations.{size_between, least_size, low_of, high_of, between, own_bounds, corner_bounds, difference_bounds, quotient_bounds, remainder_bounds, signed_bounds, result_bounds};
 ghost use Rattle.fz_spec.specs.declared.shape.Operation.TheVariants.{Plus, Times, Abs};
-ghost use Rattle.fz_prop.specs.Stores.{IsTermOf};
 ghost use Rattle.fz_arith.specs.Extremes.{pick};
 
 use fz_dom::Dom;

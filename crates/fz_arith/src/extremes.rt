@@ -4,7 +4,8 @@ ghost use Rattle.std.specs.List.{AllByRecursion};
 ghost use Rattle.fz_strength.specs.Operations.{equation, EquationTruth, IsEquationLine};
 ghost use Rattle.fz_kept.specs.Told.{AreDoneBehind, AreDoneBelow, IsBeaten};
 ghost use Rattle.fz_prop.specs.Answers.{IsAnswerOf, IsCorrectOf};
-ghost use Rattle.fz_prop.specs.Stores.{IsTermOf, Shrinks};
+ghost use Rattle.fz_strength.specs.Domains.{IsTermOf};
+ghost use Rattle.fz_prop.specs.Stores.{Shrinks};
 ghost use Rattle.fz_arith.specs.Extremes.{AreEndsBeaten, IsExtreme};
 
 use crate::narrow::keep_equation;

@@ -6,7 +6,8 @@ ghost use Rattle.fz_dom.specs.declared.change.Change.TheVariants as changes;
 ghost use Rattle.fz_strength.specs.Events.{AllFixed};
 ghost use Rattle.fz_strength.specs.Operations.{equation, divisors_of, EquationTruth, IsEquationLine};
 ghost use Rattle.fz_prop.specs.Answers.{IsAnswerOf, IsCorrectOf};
-ghost use Rattle.fz_prop.specs.Stores.{Shrinks, IsStore, IsTermOf, IsTermChange, IsChangeAt};
+ghost use Rattle.fz_strength.specs.Domains.{IsTermOf};
+ghost use Rattle.fz_prop.specs.Stores.{Shrinks, IsStore, IsTermChange, IsChangeAt};
 ghost use Rattle.fz_arith.specs.Narrowing.{IsClamped, IsDivided, IsStep, answer_after};
 
 use crate::bounds::bounds_at;

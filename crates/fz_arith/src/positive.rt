@@ -3,7 +3,7 @@ ghost use Rattle.std.specs.Prelude.{◌≡◌, ◌∷◌, [], pos, ◌*ℤ◌, �
 ghost use Rattle.std.specs.List.{AllByRecursion};
 ghost use Rattle.fz_spec.specs.declared.shape.Operation.TheVariants.{Times};
 ghost use Rattle.fz_strength.specs.Operations.{equation, IsEquationLine};
-ghost use Rattle.fz_prop.specs.Stores.{IsTermOf};
+ghost use Rattle.fz_strength.specs.Domains.{IsTermOf};
 
 use fz_prop::Store;
 use fz_prop::terms::{greatest_of, least_of};

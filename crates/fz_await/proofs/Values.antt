@@ -6,9 +6,8 @@ use Rattle.fz_sets.specs.Sets.{IsInSet}
 use Rattle.fz_spec.specs.declared.term.Term.{Term}
 use Rattle.fz_spec.specs.declared.term.Term.TheVariants.{Num, Var}
 use Rattle.fz_spec.proofs.Agreeing.{Agree}
-use Rattle.fz_strength.specs.Domains.{dom_at, Within, number_at}
+use Rattle.fz_strength.specs.Domains.{dom_at, Within, number_at, IsTermOf}
 use Rattle.fz_strength.specs.Events.{AllFixed}
-use Rattle.fz_prop.specs.Stores.{IsTermOf}
 use Rattle.fz_strength.proofs.Terms.{is_single}
 
 only_number : (ds : List (List (ℤ × ℤ))) (a : List ℤ) (v : ℕ) (x : ℤ) → v < length ds → dom_at ds v ≡ (x, x) ∷ [] → Within ds a → number_at a v ≡ x

@@ -4,13 +4,12 @@ use Rattle.std.specs.Prelude.{ℤ}
 use Rattle.std.specs.List.{AllByRecursion}
 use Rattle.fz_spec.specs.declared.shape.Shape.{Shape}
 use Rattle.fz_spec.specs.Constraints.{Argument, HoldsAs, terms_among}
-use Rattle.fz_strength.specs.Domains.{Within}
+use Rattle.fz_strength.specs.Domains.{Within, IsTermOf}
 use Rattle.fz_strength.specs.Events.{AllFixed}
 use Rattle.fz_strength.specs.Sayings.{Other, truth_of, line_of}
 use Rattle.fz_strength.proofs.Terms.{within_before}
 use Rattle.fz_prop.specs.Answers.{IsAnswerOf}
 use Rattle.fz_prop.specs.declared.answer.Answer.TheVariants.{Subsumed, Failed}
-use Rattle.fz_prop.specs.Stores.{IsTermOf}
 use Rattle.fz_spec.proofs.Agreeing.{truth_agrees}
 use Rattle.fz_await.proofs.Values.{fixed_agree}
 

@@ -6,12 +6,12 @@ use Rattle.fz_dom.specs.declared.change.Change.{Change}
 use Rattle.fz_dom.specs.declared.change.Change.TheVariants.{Wiped}
 use Rattle.fz_spec.specs.Constraints.{term_value}
 use Rattle.fz_strength.specs.declared.literal.Literal.{Literal}
-use Rattle.fz_strength.specs.Domains.{term_set, Within}
+use Rattle.fz_strength.specs.Domains.{term_set, Within, IsTermOf}
 use Rattle.fz_strength.specs.Clauses.{false_number, MakesFalse, IsFalseIn}
 use Rattle.fz_strength.proofs.Clauses.{only_still}
 use Rattle.fz_prop.specs.declared.answer.Answer.TheVariants.{Subsumed}
 use Rattle.fz_prop.specs.Answers.{IsAnswerOf, IsCorrectOf}
-use Rattle.fz_prop.specs.Stores.{Stored, IsStore, Shrinks, IsTermOf, IsTermChange}
+use Rattle.fz_prop.specs.Stores.{Stored, IsStore, Shrinks, IsTermChange}
 use Rattle.fz_prop.proofs.Filled.{term_ranges, one_left}
 use Rattle.fz_prop.proofs.TermChanges.{term_within, within_kept, kept_term, none_kept}
 use Rattle.fz_prop.proofs.Twice.{shrinks_twice}

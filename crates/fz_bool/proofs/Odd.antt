@@ -10,7 +10,7 @@ use Rattle.fz_spec.specs.declared.term.Term.{Term}
 use Rattle.fz_spec.specs.declared.term.Term.TheVariants.{Num}
 use Rattle.fz_spec.specs.Constraints.{term_value, term_values}
 use Rattle.fz_spec.specs.Truth.{is_one}
-use Rattle.fz_strength.specs.Domains.{Within}
+use Rattle.fz_strength.specs.Domains.{Within, IsTermOf}
 use Rattle.fz_strength.specs.Events.{IsFixedIn}
 use Rattle.fz_strength.specs.Clauses.{positive, IsTrueIn, IsUntrueIn}
 use Rattle.fz_strength.specs.Promises.{IsTruth}
@@ -19,7 +19,6 @@ use Rattle.std.proofs.lemmas.List.{take_all}
 use Rattle.fz_strength.proofs.Terms.{within_before}
 use Rattle.fz_prop.specs.declared.answer.Answer.TheVariants.{Subsumed, Failed}
 use Rattle.fz_prop.specs.Answers.{IsAnswerOf}
-use Rattle.fz_prop.specs.Stores.{IsTermOf}
 use Rattle.fz_prop.specs.Truths.{IsAbout}
 use Rattle.fz_prop.proofs.TermChanges.{term_within}
 use Rattle.fz_bool.specs.Parity.{flip, is_odd, OddTruth, OddLine, AreBooleansOf, IsLastTerm, AreTwoOpen, missing_number}

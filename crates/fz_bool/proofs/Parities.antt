@@ -12,7 +12,8 @@ use Rattle.fz_strength.specs.Sayings.{Odd, truth_of, line_of}
 use Rattle.fz_strength.proofs.Clauses.{all_with}
 use Rattle.fz_prop.specs.declared.answer.Answer.{Answer}
 use Rattle.fz_prop.specs.Answers.{IsAnswerOf, IsCorrectOf, Narrows}
-use Rattle.fz_prop.specs.Stores.{IsTermOf, Stored, Shrinks}
+use Rattle.fz_strength.specs.Domains.{IsTermOf}
+use Rattle.fz_prop.specs.Stores.{Stored, Shrinks}
 use Rattle.fz_prop.proofs.Answering.{IsSame, same_answer, same_correct}
 use Rattle.fz_bool.specs.Parity.{flip, is_odd, OddTruth, OddLine, AreBooleansOf}
 

@@ -8,13 +8,13 @@ use Rattle.fz_spec.specs.Constraints.{term_value}
 use Rattle.fz_spec.specs.Truth.{SomeByRecursion}
 use Rattle.fz_strength.specs.declared.literal.Literal.{Literal}
 use Rattle.fz_strength.specs.Clauses.{Clause, AllTruth, MakesTrue, MakesFalse, true_number, clause_terms}
-use Rattle.fz_strength.specs.Domains.{AreDomains, Within}
+use Rattle.fz_strength.specs.Domains.{AreDomains, Within, IsTermOf}
 use Rattle.fz_strength.specs.Promises.{IsTruth, Suits}
 use Rattle.fz_strength.specs.Sayings.{Says, truth_of, line_of}
 use Rattle.fz_strength.proofs.Clauses.{some_or_none, apart, all_with, all_unmap}
 use Rattle.fz_prop.specs.declared.answer.Answer.{Answer}
 use Rattle.fz_prop.specs.Answers.{IsAnswerOf, IsCorrectOf, Narrows}
-use Rattle.fz_prop.specs.Stores.{IsTermOf, Stored, Shrinks}
+use Rattle.fz_prop.specs.Stores.{Stored, Shrinks}
 use Rattle.fz_bool.specs.Clausal.{TruthOf, LineOf}
 use Rattle.fz_bool.specs.Looks.{IsLiteralOf, AreLiteralsOf}
 use Rattle.fz_bool.proofs.Within.{IsSameWithin, same_answer, same_correct, made_false, none_true, all_or_some}

@@ -7,14 +7,13 @@ use Rattle.fz_sets.specs.Sets.{IsInSet, IsInRange}
 use Rattle.fz_spec.specs.Truth.{SomeByRecursion}
 use Rattle.fz_spec.specs.Constraints.{term_value}
 use Rattle.fz_strength.specs.declared.literal.Literal.{Literal}
-use Rattle.fz_strength.specs.Domains.{term_set, AreDomains, Within, IsNarrower}
+use Rattle.fz_strength.specs.Domains.{term_set, AreDomains, Within, IsNarrower, IsTermOf}
 use Rattle.fz_strength.specs.Events.{IsOnly}
 use Rattle.fz_strength.specs.Clauses.{true_number, false_number, MakesTrue, MakesFalse, IsTrueIn, IsFalseIn, IsUntrueIn}
 use Rattle.fz_strength.proofs.Clauses.{only_still, all_with, some_with, apart}
 use Rattle.fz_prop.specs.declared.answer.Answer.{Answer}
 use Rattle.fz_prop.specs.declared.answer.Answer.TheVariants.{Fix, NoFix, Subsumed, Failed}
 use Rattle.fz_prop.specs.Answers.{IsAnswerOf, IsCorrectOf}
-use Rattle.fz_prop.specs.Stores.{IsTermOf}
 use Rattle.fz_prop.proofs.TermChanges.{term_within, only_in}
 use Rattle.fz_strength.proofs.Terms.{within_before, in_single}
 use Rattle.fz_prop.proofs.Twice.{narrower_twice}

@@ -6,7 +6,7 @@ use Rattle.fz_strength.specs.declared.literal.Literal.{Literal}
 use Rattle.fz_strength.specs.Events.{IsFixedIn}
 use Rattle.fz_strength.specs.Promises.{IsTruth}
 use Rattle.fz_strength.specs.Clauses.{IsTrueIn, IsUntrueIn, AreOthersUntrue}
-use Rattle.fz_prop.specs.Stores.{IsTermOf}
+use Rattle.fz_strength.specs.Domains.{IsTermOf}
 use Rattle.fz_bool.specs.declared.literals.State.{State}
 use Rattle.fz_bool.specs.declared.literals.State.TheVariants.{True, False, Open}
 use Rattle.fz_bool.specs.declared.literals.Left.{Left}

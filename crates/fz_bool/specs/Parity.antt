@@ -5,12 +5,11 @@ use Rattle.std.specs.Ordering.{int_eq}
 use Rattle.fz_spec.specs.declared.term.Term.{Term}
 use Rattle.fz_spec.specs.Constraints.{term_value, term_values}
 use Rattle.fz_spec.specs.Truth.{is_one}
-use Rattle.fz_strength.specs.Domains.{Within}
+use Rattle.fz_strength.specs.Domains.{Within, IsTermOf}
 use Rattle.fz_strength.specs.Events.{IsFixedIn}
-use Rattle.fz_strength.specs.Lines.{AreOthersFixed}
+use Rattle.fz_strength.specs.Parities.{AreOthersFixed}
 use Rattle.fz_strength.specs.Promises.{IsTruth}
 use Rattle.fz_kept.specs.declared.kept.Kept.{Kept}
-use Rattle.fz_prop.specs.Stores.{IsTermOf}
 use Rattle.fz_bool.specs.declared.parity.Seen.{Seen}
 use Rattle.fz_bool.specs.declared.parity.Seen.TheVariants.{All, Last, More}
 

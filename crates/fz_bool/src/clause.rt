@@ -2,12 +2,12 @@
 ghost use Rattle.std.specs.Prelude.{◌≡◌, ◌↔◌, ◌++◌, map, true, false, length, IfOk, IsTrue, OnOk};
 ghost use Rattle.std.specs.List.{AllByRecursion};
 ghost use Rattle.fz_strength.specs.Clauses.{clause, conjunction, disjunction, negative, positive, IsTrueIn, IsUntrueIn};
-ghost use Rattle.fz_strength.specs.Domains.{AreDomains};
+ghost use Rattle.fz_strength.specs.Domains.{AreDomains, IsTermOf};
 ghost use Rattle.fz_strength.specs.Promises.{Suits};
 ghost use Rattle.fz_strength.specs.Sayings.{Says, line_of, said_terms, truth_of};
 ghost use Rattle.fz_kept.specs.Told.{AreEndsUntrue, IsLong, IsTold};
 ghost use Rattle.fz_prop.specs.Answers.{IsAnswerOf, IsCorrectOf, Narrows};
-ghost use Rattle.fz_prop.specs.Stores.{IsTermOf, Shrinks};
+ghost use Rattle.fz_prop.specs.Stores.{Shrinks};
 ghost use Rattle.fz_bool.specs.Looks.{IsLiteralOf, AreLiteralsOf, IsOpen};
 ghost use Rattle.fz_bool.specs.Clausal.{TruthOf, LineOf};
 

@@ -2,7 +2,8 @@
 ghost use Rattle.std.specs.Prelude.{◌≡◌, ◌↔◌, ◌<◌, length, IfOk, IsTrue, OnErr};
 ghost use Rattle.fz_strength.specs.Clauses.{true_number, false_number};
 ghost use Rattle.fz_prop.specs.Answers.{IsAnswerOf, IsCorrectOf};
-ghost use Rattle.fz_prop.specs.Stores.{Shrinks, IsStore, IsTermOf, IsTermChange};
+ghost use Rattle.fz_strength.specs.Domains.{IsTermOf};
+ghost use Rattle.fz_prop.specs.Stores.{Shrinks, IsStore, IsTermChange};
 ghost use Rattle.fz_kept.specs.Told.{AreUntrueBelow, AreUntrueBehind, AreEndsUntrue};
 ghost use Rattle.fz_bool.specs.Looks.{AreTermsOf, IsStateOf, IsLeft, IsTruthAmong};
 ghost use Rattle.fz_bool.specs.Clausal.{AreMadeFalse, AreFalseIn};

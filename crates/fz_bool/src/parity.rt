@@ -2,12 +2,12 @@
 ghost use Rattle.std.specs.Prelude.{◌≡◌, ◌↔◌, ◌<◌, ◌-◌, pos, length, true, IfOk, IsTrue, OnErr};
 ghost use Rattle.std.specs.List.{AllByRecursion};
 ghost use Rattle.fz_strength.specs.Clauses.{positive};
-ghost use Rattle.fz_strength.specs.Domains.{AreDomains};
+ghost use Rattle.fz_strength.specs.Domains.{AreDomains, IsTermOf};
 ghost use Rattle.fz_strength.specs.Promises.{Suits};
 ghost use Rattle.fz_strength.specs.Sayings.{Odd, line_of, said_terms, truth_of};
 ghost use Rattle.fz_kept.specs.Told.{AreEndsOdd, IsLong, IsTold};
 ghost use Rattle.fz_prop.specs.Answers.{IsAnswerOf, IsCorrectOf, Narrows};
-ghost use Rattle.fz_prop.specs.Stores.{Shrinks, IsTermOf, IsTermChange};
+ghost use Rattle.fz_prop.specs.Stores.{Shrinks, IsTermChange};
 ghost use Rattle.fz_bool.specs.Parity.{OddTruth, OddLine, AreBooleansOf, IsOpenAt, IsSeen, missing_number, turned_ends};
 
 use crate::literals::{State, state_of};

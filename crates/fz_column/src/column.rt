@@ -1,9 +1,8 @@
 //! Columns of a table: the rows whose number is left, and the numbers of some rows.
 ghost use Rattle.std.specs.Prelude.{◌≡◌, ◌<◌, ◌≤ℤ◌, ◌↔◌, ◌⊎◌, ℕ, ℤ, length, IfOk, IfSome, IsTrue};
 ghost use Rattle.fz_sets.specs.Sets.{IsInSet, single};
-ghost use Rattle.fz_strength.specs.Domains.{dom_at, term_set};
+ghost use Rattle.fz_strength.specs.Domains.{dom_at, term_set, IsTermOf};
 ghost use Rattle.fz_prop.specs.Matching.{HasRoom};
-ghost use Rattle.fz_prop.specs.Stores.{IsTermOf};
 ghost use Rattle.fz_bits.specs.Members.{HasMember};
 ghost use Rattle.fz_bits.specs.Windows.{IsBit};
 ghost use Rattle.fz_column.specs.Supports.{AreInOrder, HasNumber, AreSized, StandsIn, IsLeftIn, AreEnds};

@@ -2,8 +2,7 @@
 ghost use Rattle.std.specs.Prelude.{◌≡◌, ◌↔◌, ℕ, ℤ, pos, ◌+ℤ◌, length, IfOk, IfSome, IsTrue};
 ghost use Rattle.fz_sets.specs.Sets.{IsInSet};
 ghost use Rattle.fz_bits.specs.Words.{AreOnes};
-ghost use Rattle.fz_strength.specs.Domains.{term_set};
-ghost use Rattle.fz_prop.specs.Stores.{IsTermOf};
+ghost use Rattle.fz_strength.specs.Domains.{term_set, IsTermOf};
 ghost use Rattle.fz_grid.specs.Grids.{HasRow, IsWhole};
 ghost use Rattle.fz_column.specs.Supports.{HasNumber};
 ghost use Rattle.fz_column.specs.Dense.{IsDenseOf, HasRowAt};

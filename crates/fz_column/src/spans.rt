@@ -3,8 +3,7 @@ ghost use Rattle.std.specs.Prelude.{◌≡◌, ◌↔◌, ◌⊎◌, ℕ, ℤ, �
 ghost use Rattle.std.specs.List.{AllByRecursion};
 ghost use Rattle.fz_sets.specs.Sets.{IsInSet};
 ghost use Rattle.fz_spec.specs.declared.term.Term.TheVariants as terms;
-ghost use Rattle.fz_strength.specs.Domains.{dom_at};
-ghost use Rattle.fz_prop.specs.Stores.{IsTermOf};
+ghost use Rattle.fz_strength.specs.Domains.{dom_at, IsTermOf};
 ghost use Rattle.fz_column.specs.Spans.{IsFilled, EndsAt};
 
 use fz_dom::Dom;

@@ -16,10 +16,10 @@ use Rattle.fz_spec.specs.declared.term.Term.TheVariants.{Num, Var}
 use Rattle.fz_spec.specs.Constraints.{term_value}
 use Rattle.fz_strength.specs.declared.open_task.OpenTask.{OpenTask}
 use Rattle.fz_strength.specs.Cumulatives.{IsSound, HasRoom, open_tasks, parts_at}
-use Rattle.fz_strength.specs.Domains.{term_set, room, AreDomains, Within}
-use Rattle.fz_strength.proofs.Truths.{is_single}
+use Rattle.fz_strength.specs.Domains.{term_set, room, AreDomains, Within, IsTermOf}
+use Rattle.fz_strength.proofs.Terms.{is_single}
 use Rattle.fz_prop.specs.Answers.{IsCorrectOf}
-use Rattle.fz_prop.specs.Stores.{Stored, Shrinks, IsTermOf, IsTermChange}
+use Rattle.fz_prop.specs.Stores.{Stored, Shrinks, IsTermChange}
 use Rattle.fz_prop.proofs.Filled.{term_ranges}
 use Rattle.fz_prop.proofs.Steps.{same_shrinks}
 use Rattle.fz_prop.proofs.TermChanges.{term_within, within_kept, none_kept, falls_of}

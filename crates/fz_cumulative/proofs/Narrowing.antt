@@ -9,9 +9,9 @@ use Rattle.fz_dom.specs.declared.change.Change.TheVariants.{Same, Changed, Wiped
 use Rattle.fz_dom.proofs.Ranges.{least_member}
 use Rattle.fz_spec.specs.declared.term.Term.{Term}
 use Rattle.fz_spec.specs.declared.term.Term.TheVariants.{Num, Var}
-use Rattle.fz_strength.specs.Domains.{term_set, AreDomains}
-use Rattle.fz_strength.proofs.Truths.{is_single}
-use Rattle.fz_prop.specs.Stores.{Stored, IsTermOf, IsTermChange}
+use Rattle.fz_strength.specs.Domains.{term_set, AreDomains, IsTermOf}
+use Rattle.fz_strength.proofs.Terms.{is_single}
+use Rattle.fz_prop.specs.Stores.{Stored, IsTermChange}
 use Rattle.fz_prop.proofs.Filled.{term_ranges}
 use Rattle.fz_prop.proofs.TermChanges.{none_kept, falls_of}
 use Rattle.fz_cumulative.specs.Outcomes.{answer_to, IsNarrowed}

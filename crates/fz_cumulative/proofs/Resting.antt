@@ -6,13 +6,12 @@ use Rattle.fz_spec.specs.declared.term.Term.{Term}
 use Rattle.fz_spec.specs.Constraints.{term_value}
 use Rattle.fz_strength.specs.declared.event.Event.TheVariants.{Bound}
 use Rattle.fz_strength.specs.Cumulatives.{terms_of_tasks}
-use Rattle.fz_strength.specs.Domains.{term_set, AreDomains, Within, IsNarrower}
+use Rattle.fz_strength.specs.Domains.{term_set, AreDomains, Within, IsNarrower, IsTermOf}
 use Rattle.fz_strength.specs.Events.{IsQuiet, IsOnly, AllFixed, AreSingle}
 use Rattle.fz_strength.proofs.Cumulatives.{all_of_tasks, kept_cumulative, cumulative_true}
 use Rattle.fz_strength.proofs.Terms.{quiet_self}
 use Rattle.fz_prop.specs.Answers.{IsAnswerOf}
 use Rattle.fz_prop.specs.Outcomes.{rested_by}
-use Rattle.fz_prop.specs.Stores.{IsTermOf}
 use Rattle.fz_prop.proofs.Filled.{still_only}
 use Rattle.fz_prop.proofs.TermChanges.{term_within, only_in}
 use Rattle.fz_cumulative.specs.Cumulatives.{AreTermsOf, TasksShare, TasksRest}

@@ -12,9 +12,8 @@ use Rattle.fz_spec.specs.Constraints.{term_value, term_values}
 use Rattle.fz_spec.specs.Truth.{Task, tasks_of, usage_at, load_at, IsTask, IsCumulative}
 use Rattle.fz_strength.specs.declared.open_task.OpenTask.{OpenTask}
 use Rattle.fz_strength.specs.Cumulatives.{open_task, open_tasks, closed, all_closed, IsSound, part_at, parts_at, others_at, AreAll}
-use Rattle.fz_strength.specs.Domains.{term_set, AreDomains, Within}
+use Rattle.fz_strength.specs.Domains.{term_set, AreDomains, Within, IsTermOf}
 use Rattle.fz_strength.proofs.Cumulatives.{load_closed}
-use Rattle.fz_prop.specs.Stores.{IsTermOf}
 use Rattle.fz_prop.proofs.Filled.{term_ranges}
 use Rattle.fz_prop.proofs.TermChanges.{term_within}
 use Rattle.fz_cumulative.specs.Cumulatives.{TasksShare}

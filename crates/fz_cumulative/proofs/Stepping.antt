@@ -8,8 +8,7 @@ use Rattle.fz_dom.specs.Shape.{least}
 use Rattle.fz_spec.specs.declared.term.Term.{Term}
 use Rattle.fz_strength.specs.declared.open_task.OpenTask.{OpenTask}
 use Rattle.fz_strength.specs.Cumulatives.{open_tasks}
-use Rattle.fz_strength.specs.Domains.{term_set}
-use Rattle.fz_prop.specs.Stores.{IsTermOf}
+use Rattle.fz_strength.specs.Domains.{term_set, IsTermOf}
 use Rattle.fz_cumulative.specs.Cumulatives.{TasksShare}
 use Rattle.fz_cumulative.specs.Findings.{IsNegativeOf}
 use Rattle.fz_cumulative.specs.Outcomes.{IsBelow}

@@ -6,8 +6,7 @@ use Rattle.fz_spec.specs.declared.term.Term.{Term}
 use Rattle.fz_spec.specs.Constraints.{term_value, term_values}
 use Rattle.fz_spec.specs.Truth.{tasks_of, IsCumulative}
 use Rattle.fz_strength.specs.Cumulatives.{open_tasks, terms_of_tasks, RestsCumulative}
-use Rattle.fz_strength.specs.Domains.{term_set}
-use Rattle.fz_prop.specs.Stores.{IsTermOf}
+use Rattle.fz_strength.specs.Domains.{term_set, IsTermOf}
 
 -- an assignment makes it true
 abbrev pub TasksShare : List Term → List Term → List Term → Term → List ℤ → Type 0

@@ -8,8 +8,8 @@ use Rattle.fz_dom.specs.Shape.{least, greatest}
 use Rattle.fz_spec.specs.Constraints.{term_value}
 use Rattle.fz_strength.specs.declared.open_task.OpenTask.{OpenTask}
 use Rattle.fz_strength.specs.Cumulatives.{HasRoom}
-use Rattle.fz_strength.specs.Domains.{term_set, room, Within}
-use Rattle.fz_prop.specs.Stores.{IsTermOf, Stored}
+use Rattle.fz_strength.specs.Domains.{term_set, room, Within, IsTermOf}
+use Rattle.fz_prop.specs.Stores.{Stored}
 use Rattle.fz_prop.specs.declared.answer.Answer.{Answer}
 use Rattle.fz_prop.specs.declared.answer.Answer.TheVariants.{Fix, NoFix, Subsumed, Failed}
 use Rattle.fz_cumulative.specs.Tasks.{IsBlocked}

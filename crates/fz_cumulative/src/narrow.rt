@@ -3,10 +3,10 @@ ghost use Rattle.std.specs.Prelude.{◌≡◌, ◌<◌, ℤ, pos, ◌≤ℤ◌, 
 ghost use Rattle.fz_dom.specs.Shape.{least};
 ghost use Rattle.fz_spec.specs.Constraints.{term_value};
 ghost use Rattle.fz_strength.specs.Cumulatives.{terms_of_tasks};
-ghost use Rattle.fz_strength.specs.Domains.{term_set, Within};
+ghost use Rattle.fz_strength.specs.Domains.{term_set, Within, IsTermOf};
 ghost use Rattle.fz_strength.specs.Events.{AllFixed};
 ghost use Rattle.fz_prop.specs.Answers.{IsAnswerOf, IsCorrectOf};
-ghost use Rattle.fz_prop.specs.Stores.{Shrinks, IsTermOf};
+ghost use Rattle.fz_prop.specs.Stores.{Shrinks};
 ghost use Rattle.fz_cumulative.specs.Cumulatives.{AreTermsOf, TasksShare, TasksRest};
 ghost use Rattle.fz_cumulative.specs.Findings.{IsNegativeOf};
 ghost use Rattle.fz_cumulative.specs.Outcomes.{answer_to, IsNarrowed, IsBelow};

@@ -2,8 +2,8 @@
 ghost use Rattle.std.specs.Prelude.{◌≡◌, ℤ, pos, ◌≤ℤ◌, List, length, IfOk, OnErr};
 ghost use Rattle.std.specs.List.{AllByRecursion};
 ghost use Rattle.fz_strength.specs.Cumulatives.{IsSound};
-ghost use Rattle.fz_strength.specs.Domains.{Within};
-ghost use Rattle.fz_prop.specs.Stores.{Shrinks, IsTermOf, IsTermChange};
+ghost use Rattle.fz_strength.specs.Domains.{Within, IsTermOf};
+ghost use Rattle.fz_prop.specs.Stores.{Shrinks, IsTermChange};
 ghost use Rattle.fz_cumulative.specs.Tasks.{profile_of};
 ghost use Rattle.fz_cumulative.specs.Findings.{IsFree};
 ghost use Rattle.fz_cumulative.specs.Outcomes.{AreStarts, AreFree, IsStarting};

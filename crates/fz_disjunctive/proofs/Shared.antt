@@ -9,10 +9,10 @@ use Rattle.fz_dom.specs.declared.change.Change.TheVariants.{Same, Changed, Wiped
 use Rattle.fz_spec.specs.declared.term.Term.{Term}
 use Rattle.fz_strength.specs.declared.open_task.OpenTask.{OpenTask}
 use Rattle.fz_strength.specs.Cumulatives.{open_tasks}
-use Rattle.fz_strength.specs.Domains.{term_set, AreDomains}
+use Rattle.fz_strength.specs.Domains.{term_set, AreDomains, IsTermOf}
 use Rattle.fz_strength.proofs.Cumulatives.{all_of_tasks}
 use Rattle.fz_prop.specs.Answers.{IsCorrectOf}
-use Rattle.fz_prop.specs.Stores.{Stored, IsTermOf}
+use Rattle.fz_prop.specs.Stores.{Stored}
 use Rattle.fz_cumulative.specs.Cumulatives.{AreTermsOf, TasksShare}
 use Rattle.fz_cumulative.proofs.Sharing.{terms_at, IsSetting}
 use Rattle.fz_disjunctive.specs.declared.job.Job.{Job}

@@ -2,10 +2,10 @@
 ghost use Rattle.std.specs.Prelude.{◌≡◌, ◌<◌, ℤ, pos, ◌-ℤ◌, ◌≤ℤ◌, List, length, IfOk, IsTrue};
 ghost use Rattle.std.specs.List.{AllByRecursion};
 ghost use Rattle.fz_spec.specs.Constraints.{term_value};
-ghost use Rattle.fz_strength.specs.Domains.{Within};
+ghost use Rattle.fz_strength.specs.Domains.{Within, IsTermOf};
 ghost use Rattle.fz_prop.specs.Answers.{IsAnswerOf, IsCorrectOf};
 ghost use Rattle.fz_prop.specs.Outcomes.{IsOutcome};
-ghost use Rattle.fz_prop.specs.Stores.{Shrinks, IsTermOf};
+ghost use Rattle.fz_prop.specs.Stores.{Shrinks};
 ghost use Rattle.fz_cumulative.specs.Cumulatives.{AreTermsOf, TasksShare, TasksRest};
 ghost use Rattle.fz_disjunctive.specs.Jobs.{begins};
 ghost use Rattle.fz_disjunctive.specs.Outcomes.{IsScheduling};

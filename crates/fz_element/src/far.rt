@@ -3,8 +3,8 @@ ghost use Rattle.std.specs.Prelude.{◌≡◌, ◌↔◌, ℕ, ℤ, pos, ◌+ℤ
 ghost use Rattle.std.specs.Int.{int_max};
 ghost use Rattle.std.specs.List.{slice_get};
 ghost use Rattle.fz_sets.specs.Sets.{IsInSet};
-ghost use Rattle.fz_strength.specs.Domains.{term_set};
-ghost use Rattle.fz_prop.specs.Stores.{IsTermOf, FitsTerm};
+ghost use Rattle.fz_strength.specs.Domains.{term_set, IsTermOf};
+ghost use Rattle.fz_prop.specs.Stores.{FitsTerm};
 ghost use Rattle.fz_element.specs.Selecting.{ArePairs, ArePairsBelow, AreAllPairs, Has, AreWithin, IsSeen, AreSeen};
 
 use crate::numbers::{Numbers, Pairs, number_at};

@@ -1,7 +1,8 @@
 //! Numbers that terms are to keep, and the numbers of a list.
 ghost use Rattle.std.specs.Prelude.{◌≡◌, ℤ, length, IfOk, OnErr, MatchOption};
 ghost use Rattle.fz_spec.specs.Truth.{IsElement};
-ghost use Rattle.fz_prop.specs.Stores.{Shrinks, IsTermOf, IsTermChange};
+ghost use Rattle.fz_strength.specs.Domains.{IsTermOf};
+ghost use Rattle.fz_prop.specs.Stores.{Shrinks, IsTermChange};
 ghost use Rattle.fz_element.specs.Selecting.{Has, AreWithin};
 
 use fz_bits::Window;

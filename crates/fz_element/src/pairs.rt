@@ -1,8 +1,8 @@
 //! The indices whose number is left, and these numbers.
 ghost use Rattle.std.specs.Prelude.{length, IfOk};
 ghost use Rattle.fz_sets.specs.Sets.{IsInSet};
-ghost use Rattle.fz_strength.specs.Domains.{term_set};
-ghost use Rattle.fz_prop.specs.Stores.{IsTermOf, FitsTerm};
+ghost use Rattle.fz_strength.specs.Domains.{term_set, IsTermOf};
+ghost use Rattle.fz_prop.specs.Stores.{FitsTerm};
 ghost use Rattle.fz_element.specs.Selecting.{ArePairs, Has, AreWithin};
 
 use crate::far::far_pairs;

@@ -2,9 +2,9 @@
 ghost use Rattle.std.specs.Prelude.{◌≡◌, ◌↔◌, ◌⊎◌, length, IfOk, IsTrue};
 ghost use Rattle.fz_sets.specs.Sets.{IsInSet};
 ghost use Rattle.fz_dom.specs.declared.change.Change.TheVariants as changes;
-ghost use Rattle.fz_strength.specs.Domains.{term_set};
+ghost use Rattle.fz_strength.specs.Domains.{term_set, IsTermOf};
 ghost use Rattle.fz_prop.specs.Answers.{IsAnswerOf, IsCorrectOf, Narrows};
-ghost use Rattle.fz_prop.specs.Stores.{Shrinks, IsTermOf, FitsTerm};
+ghost use Rattle.fz_prop.specs.Stores.{Shrinks, FitsTerm};
 ghost use Rattle.fz_element.specs.Selecting.{ArePairs, IsSelected, SelectionLine, Has, AreWithin};
 
 use crate::numbers::{Pairs, keep};

@@ -4,9 +4,8 @@ use Rattle.std.specs.Prelude.{Some, slice_get, slice_index_or}
 use Rattle.fz_strength.specs.declared.cost.Cost.{Cost}
 use Rattle.fz_strength.specs.declared.event.Event.{Event}
 use Rattle.fz_strength.specs.declared.event.Event.TheVariants.{Any, Bound, Fixed}
-use Rattle.fz_strength.specs.Costs.{cost_of}
 use Rattle.fz_strength.specs.Events.{Wait, AreBelow}
-use Rattle.fz_strength.specs.Sayings.{Saying}
+use Rattle.fz_strength.specs.Sayings.{Saying, cost_of}
 use Rattle.fz_prop.specs.Stores.{IsListed}
 use Rattle.fz_agenda.specs.Wakes.{Waking, waiting_at, watch, with_cost, IsIndexedAt, IsListedAt, IsIndexOf, Extends, HaveSize, HasVariable}
 use Rattle.fz_agenda.specs.Watches.{steady_waits}

@@ -14,8 +14,9 @@ use Rattle.fz_spec.specs.declared.shape.Relation.TheVariants.{Equal}
 use Rattle.fz_strength.specs.Events.{AreBelow}
 use Rattle.fz_strength.specs.Sayings.{Saying, Differ, DifferByBounds, Sum, SumByNumbers, saying_of, said_terms, truth_of, waits_of, Member}
 use Rattle.fz_strength.proofs.Says.{says}
-use Rattle.fz_prop.specs.Stores.{IsTermOf, FitsTerm, declared_sets}
-use Rattle.fz_prop.proofs.Waits.{below}
+use Rattle.fz_strength.specs.Domains.{IsTermOf}
+use Rattle.fz_prop.specs.Stores.{FitsTerm, declared_sets}
+use Rattle.fz_strength.proofs.Sayings.{below}
 use Rattle.fz_says.specs.Fits.{IsKnown, IsFit}
 use Rattle.fz_says.proofs.Fitting.{said_fits}
 use Rattle.fz_says.proofs.Suiting.{fit_suits}

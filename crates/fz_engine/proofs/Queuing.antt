@@ -7,8 +7,7 @@ use Rattle.std.proofs.lemmas.List.{length-map, length-replicate, get_or-replicat
 use Rattle.std.proofs.lemmas.Option.{slice_get_within}
 use Rattle.fz_sets.proofs.Lists.{below_or_same}
 use Rattle.fz_strength.specs.declared.cost.Cost.{Cost}
-use Rattle.fz_strength.specs.Costs.{cost_of}
-use Rattle.fz_strength.specs.Sayings.{Saying}
+use Rattle.fz_strength.specs.Sayings.{Saying, cost_of}
 use Rattle.fz_prop.specs.Stores.{Stored}
 use Rattle.fz_agenda.specs.Agendas.{IsSettled}
 use Rattle.fz_agenda.specs.Queues.{Lineup, queue_at, class_of, cost_at, IsIdle, IsQueued, IsWoken}

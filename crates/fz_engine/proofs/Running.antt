@@ -7,14 +7,14 @@ use Rattle.std.proofs.lemmas.List.{length-set}
 use Rattle.std.proofs.lemmas.List.Sums.{sum_by-cons, sum_by-set}
 use Rattle.fz_sets.proofs.Lists.{all_at}
 use Rattle.fz_spec.specs.declared.term.Term.{Term}
-use Rattle.fz_strength.specs.Domains.{Within, IsNarrower, room}
+use Rattle.fz_strength.specs.Domains.{Within, IsNarrower, room, IsTermOf}
 use Rattle.fz_strength.specs.Promises.{IsTruth, RestsForGood}
 use Rattle.fz_strength.specs.Sayings.{Saying, line_of, said_terms, saying_of, truth_of, truths_of}
 use Rattle.fz_strength.proofs.Terms.{term_narrower}
 use Rattle.fz_prop.specs.declared.answer.Answer.{Answer}
 use Rattle.fz_prop.specs.declared.answer.Answer.TheVariants.{Fix, NoFix, Subsumed, Failed}
 use Rattle.fz_prop.specs.Answers.{IsAnswerOf, IsCorrectOf}
-use Rattle.fz_prop.specs.Stores.{Stored, IsStore, Shrinks, IsTermOf}
+use Rattle.fz_prop.specs.Stores.{Stored, IsStore, Shrinks}
 use Rattle.fz_prop.proofs.Twice.{narrower_twice}
 use Rattle.fz_agenda.specs.Agendas.{IsSettled}
 use Rattle.fz_agenda.specs.Queues.{Lineup, IsAtRest, counts_queued, queued}

@@ -12,7 +12,8 @@ use Rattle.fz_strength.specs.declared.event.Event.TheVariants.{Any, Bound, Fixed
 use Rattle.fz_strength.specs.Events.{Wait, AreBelow, wait_for, waits_for}
 use Rattle.fz_strength.specs.Sayings.{SelectTerm}
 use Rattle.fz_strength.specs.VariableElements.{StandsAt}
-use Rattle.fz_prop.specs.Stores.{IsListed, IsTermOf}
+use Rattle.fz_strength.specs.Domains.{IsTermOf}
+use Rattle.fz_prop.specs.Stores.{IsListed}
 use Rattle.fz_agenda.specs.declared.watches.Watch.{Watch}
 use Rattle.fz_agenda.specs.Wakes.{Extends, IsIndexedAt, IsListedAt, IsWatch, Waking, waiting_at, watch, watches_at, with_watch}
 use Rattle.fz_agenda.specs.Watches.{Looks}

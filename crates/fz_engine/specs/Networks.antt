@@ -4,10 +4,10 @@ use Rattle.std.specs.List.{AllByRecursion}
 use Rattle.fz_spec.specs.Constraints.{Constraint, IsTrueOf}
 use Rattle.fz_spec.specs.Instance.{Instance, Variable}
 use Rattle.fz_strength.specs.declared.cost.Cost.{Cost}
-use Rattle.fz_strength.specs.Costs.{cost_of}
 use Rattle.fz_strength.specs.Promises.{Suits}
-use Rattle.fz_strength.specs.Sayings.{Saying, said_terms, saying_of, truth_of}
-use Rattle.fz_prop.specs.Stores.{IsTermOf, declared_sets}
+use Rattle.fz_strength.specs.Sayings.{Saying, said_terms, saying_of, truth_of, cost_of}
+use Rattle.fz_strength.specs.Domains.{IsTermOf}
+use Rattle.fz_prop.specs.Stores.{declared_sets}
 use Rattle.fz_agenda.specs.Queues.{Lineup, queue_at, class_of, cost_at}
 use Rattle.fz_agenda.specs.Wakes.{Waking, IsIndexOf, HaveSize}
 use Rattle.fz_says.specs.Fits.{IsFit}

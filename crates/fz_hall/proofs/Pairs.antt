@@ -6,12 +6,12 @@ use Rattle.std.proofs.lemmas.Int.{ints, by_lt_z}
 use Rattle.std.proofs.lemmas.List.{take_all}
 use Rattle.fz_sets.proofs.Lists.{all_at, all_more}
 use Rattle.fz_dom.proofs.Ranges.{least_below, greatest_member}
-use Rattle.fz_prop.specs.Stores.{Stored, IsTermOf}
+use Rattle.fz_prop.specs.Stores.{Stored}
 use Rattle.fz_prop.proofs.Filled.{term_ranges}
 use Rattle.fz_dom.specs.Shape.{least, greatest}
 use Rattle.fz_spec.specs.declared.term.Term.{Term}
 use Rattle.fz_spec.specs.declared.term.Term.TheVariants.{Num}
-use Rattle.fz_strength.specs.Domains.{term_set, AreDomains}
+use Rattle.fz_strength.specs.Domains.{term_set, AreDomains, IsTermOf}
 use Rattle.fz_strength.specs.Differences.{AreSpread, IsSpread, confined, interval_size, is_confined}
 use Rattle.fz_strength.proofs.Spreads.{AreOrdered, count_le}
 use Rattle.fz_hall.specs.Lefts.{AreSpreadFrom, IsSpreadTo}

@@ -12,8 +12,7 @@ use Rattle.fz_sets.proofs.Lists.{all_get, all_more}
 use Rattle.fz_dom.specs.Shape.{least, greatest}
 use Rattle.fz_spec.specs.declared.term.Term.{Term}
 use Rattle.fz_spec.specs.declared.term.Term.TheVariants.{Num}
-use Rattle.fz_strength.specs.Domains.{term_set, AreDomains}
-use Rattle.fz_prop.specs.Stores.{IsTermOf}
+use Rattle.fz_strength.specs.Domains.{term_set, AreDomains, IsTermOf}
 use Rattle.fz_hall.specs.Counts.{AreCounts, AreOpens, IsInSpan}
 use Rattle.fz_hall.proofs.Crowding.{not_true}
 use Rattle.fz_hall.proofs.Pairs.{all_ordered}

@@ -1,7 +1,7 @@
 //! Intervals that terms fill, where all that is left of these lies within 64 numbers.
 ghost use Rattle.std.specs.Prelude.{◌≡◌, ◌+◌, ◌<◌, ◌≤ℤ◌, ◌+ℤ◌, ℕ, pos, false, length, count_by, IsNone};
 ghost use Rattle.std.specs.List.{AllByRecursion};
-ghost use Rattle.fz_prop.specs.Stores.{IsTermOf};
+ghost use Rattle.fz_strength.specs.Domains.{IsTermOf};
 ghost use Rattle.fz_strength.specs.Differences.{AreSpread, IsSpread, interval_size};
 ghost use Rattle.fz_hall.specs.Counts.{AreSpreadOn, IsExcess, IsInSpan, IsSeenAt, IsTally, IsWidth, begins_in, ends_in};
 

@@ -1,7 +1,7 @@
 //! How many terms begin and end at each number, where all that is left of them lies within 64 numbers.
 ghost use Rattle.std.specs.Prelude.{◌≡◌, ◌<◌, ◌≤ℤ◌, ◌+ℤ◌, pos, length, IsTrue};
 ghost use Rattle.std.specs.List.{AllByRecursion};
-ghost use Rattle.fz_prop.specs.Stores.{IsTermOf};
+ghost use Rattle.fz_strength.specs.Domains.{IsTermOf};
 ghost use Rattle.fz_hall.specs.Counts.{IsInSpan, IsTally};
 
 use crate::interval::{Interval, ends_of};

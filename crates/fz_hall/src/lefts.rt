@@ -1,7 +1,7 @@
 //! What is left of terms, as intervals, and the same of the opposite numbers.
 ghost use Rattle.std.specs.Prelude.{◌≡◌, length, map, negsuc, ◌-ℤ◌, IfOk};
 ghost use Rattle.std.specs.List.{AllByRecursion};
-ghost use Rattle.fz_prop.specs.Stores.{IsTermOf};
+ghost use Rattle.fz_strength.specs.Domains.{IsTermOf};
 ghost use Rattle.fz_hall.specs.Lefts.{left_of, turn};
 
 use crate::interval::{Interval, ends_of};

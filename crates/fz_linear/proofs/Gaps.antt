@@ -12,13 +12,13 @@ use Rattle.fz_dom.proofs.Ranges.{within_limits}
 use Rattle.fz_spec.specs.Constraints.{term_value, term_values}
 use Rattle.fz_spec.specs.Truth.{weighted_sum}
 use Rattle.fz_spec.specs.declared.shape.Relation.TheVariants.{NotEqual}
-use Rattle.fz_strength.specs.Domains.{term_set, AreDomains, Within}
+use Rattle.fz_strength.specs.Domains.{term_set, AreDomains, Within, IsTermOf}
 use Rattle.fz_strength.specs.Events.{IsOnly, IsFixedIn, AllFixed}
 use Rattle.fz_strength.specs.Sums.{least_product, least_sum, AllButOneFixed}
 use Rattle.fz_strength.proofs.Terms.{within_before, is_single}
 use Rattle.fz_prop.specs.declared.answer.Answer.TheVariants.{Fix, Subsumed, Failed}
 use Rattle.fz_prop.specs.Answers.{IsCorrectOf}
-use Rattle.fz_prop.specs.Stores.{Stored, Shrinks, IsTermOf, FitsTerm, IsTermChange}
+use Rattle.fz_prop.specs.Stores.{Stored, Shrinks, FitsTerm, IsTermChange}
 use Rattle.fz_prop.specs.Outcomes.{settled_by}
 use Rattle.fz_prop.proofs.TermChanges.{term_within, only_in, within_kept, kept_term, none_kept}
 use Rattle.fz_linear.specs.Terms.{AreTermsOf}

@@ -9,9 +9,9 @@ use Rattle.fz_dom.specs.declared.change.Change.TheVariants.{Same, Changed, Wiped
 use Rattle.fz_spec.specs.declared.term.Term.{Term}
 use Rattle.fz_spec.specs.declared.term.Term.TheVariants.{Num, Var}
 use Rattle.fz_spec.specs.Constraints.{term_value}
-use Rattle.fz_strength.specs.Domains.{term_set}
+use Rattle.fz_strength.specs.Domains.{term_set, IsTermOf}
 use Rattle.fz_strength.specs.Sums.{least_product, greatest_product}
-use Rattle.fz_prop.specs.Stores.{Stored, Shrinks, IsTermOf, IsTermChange}
+use Rattle.fz_prop.specs.Stores.{Stored, Shrinks, IsTermChange}
 use Rattle.fz_prop.proofs.TermChanges.{term_within, within_kept, none_kept, falls_of}
 use Rattle.fz_strength.proofs.Terms.{is_single}
 use Rattle.fz_linear.specs.declared.side.Side.{Side}

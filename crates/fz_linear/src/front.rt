@@ -3,11 +3,11 @@ ghost use Rattle.std.specs.Prelude.{◌≡◌, ◌≢◌, ◌↔◌, ◌<◌, �
 ghost use Rattle.std.specs.List.{AllByRecursion};
 ghost use Rattle.fz_spec.specs.declared.limits.TheConstants.{ELEMENT_LIMIT};
 ghost use Rattle.fz_spec.specs.declared.shape.Relation.TheVariants.{Below};
-ghost use Rattle.fz_strength.specs.Domains.{term_set, AreDomains};
+ghost use Rattle.fz_strength.specs.Domains.{term_set, AreDomains, IsTermOf};
 ghost use Rattle.fz_strength.specs.Events.{IsOnly};
 ghost use Rattle.fz_kept.specs.Told.{IsToldSum};
 ghost use Rattle.fz_prop.specs.Answers.{IsCorrectOf};
-ghost use Rattle.fz_prop.specs.Stores.{Shrinks, FitsTerm, IsTermOf};
+ghost use Rattle.fz_prop.specs.Stores.{Shrinks, FitsTerm};
 ghost use Rattle.fz_linear.specs.Terms.{AreTermsOf};
 ghost use Rattle.fz_linear.specs.Precisions.{IsWeighted};
 ghost use Rattle.fz_linear.specs.Sums.{SumTruth, IsAnswerSum};

@@ -1,9 +1,9 @@
 //! Passes over the terms of a sum that narrow each by how far the sum's least is below a bound.
 ghost use Rattle.std.specs.Prelude.{◌≡◌, ◌<◌, ◌≤◌, ◌↔◌, ℕ, ℤ, pos, List, length, IfOk, OnErr, IsTrue};
 ghost use Rattle.fz_dom.specs.declared.change.Change.TheVariants.{Changed};
-ghost use Rattle.fz_strength.specs.Domains.{AreDomains};
+ghost use Rattle.fz_strength.specs.Domains.{AreDomains, IsTermOf};
 ghost use Rattle.fz_strength.specs.Sums.{negated, AreNear};
-ghost use Rattle.fz_prop.specs.Stores.{Shrinks, IsTermOf};
+ghost use Rattle.fz_prop.specs.Stores.{Shrinks};
 ghost use Rattle.fz_linear.specs.Terms.{AreTermsOf};
 ghost use Rattle.fz_linear.specs.Sides.{seen_from, all_seen_from};
 ghost use Rattle.fz_linear.specs.Passes.{IsTightened, KeepsNear, IsPassed, KeepsBetween, ArePassed};

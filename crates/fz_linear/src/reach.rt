@@ -1,8 +1,8 @@
 //! How far a term may lie from the end where it is least with its factor.
 ghost use Rattle.std.specs.Prelude.{◌≡◌, ℕ, ◌*◌, ◌<◌, ◌≤◌, ℤ, pos, ◌+ℤ◌, ◌-ℤ◌, ◌≤ℤ◌, List, length, MatchOption};
 ghost use Rattle.fz_dom.specs.Shape.{least, greatest};
-ghost use Rattle.fz_strength.specs.Domains.{term_set};
-ghost use Rattle.fz_prop.specs.Stores.{IsTermOf, IsStore};
+ghost use Rattle.fz_strength.specs.Domains.{term_set, IsTermOf};
+ghost use Rattle.fz_prop.specs.Stores.{IsStore};
 ghost use Rattle.fz_shift.specs.Spans.{IsSpanned};
 
 use fz_prop::Store;

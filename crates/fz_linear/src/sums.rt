@@ -1,9 +1,8 @@
 //! The ends of products and sums.
 ghost use Rattle.std.specs.Prelude.{◌≡◌, ◌↔◌, ℕ, ◌+◌, ◌*◌, ◌^◌, ◌≤◌, pos, ◌+ℤ◌, ◌-ℤ◌, ◌*ℤ◌, ◌≤ℤ◌, length, unsigned_abs, IsTrue};
 ghost use Rattle.fz_spec.specs.declared.limits.TheConstants.{ELEMENT_LIMIT};
-ghost use Rattle.fz_strength.specs.Domains.{term_set, AreDomains};
+ghost use Rattle.fz_strength.specs.Domains.{term_set, AreDomains, IsTermOf};
 ghost use Rattle.fz_strength.specs.Sums.{least_product, greatest_product, least_sum, greatest_sum, AreNear};
-ghost use Rattle.fz_prop.specs.Stores.{IsTermOf};
 ghost use Rattle.fz_linear.specs.Terms.{AreTermsOf};
 
 use fz_prop::Store;

@@ -9,7 +9,7 @@ use Rattle.fz_spec.specs.Constraints.{term_values}
 use Rattle.fz_spec.specs.Truth.{weighted_sum}
 use Rattle.fz_spec.specs.declared.shape.Relation.{Relation}
 use Rattle.fz_spec.specs.declared.shape.Relation.TheVariants.{Equal, NotEqual, AtMost, Below}
-use Rattle.fz_strength.specs.Domains.{term_set, AreDomains, Within, IsNarrower}
+use Rattle.fz_strength.specs.Domains.{term_set, AreDomains, Within, IsNarrower, IsTermOf}
 use Rattle.fz_strength.specs.Events.{IsOnly}
 use Rattle.fz_strength.specs.Promises.{IsTruth}
 use Rattle.fz_strength.specs.Sums.{least_sum, greatest_sum}
@@ -19,7 +19,7 @@ use Rattle.fz_prop.specs.declared.answer.Answer.{Answer}
 use Rattle.fz_prop.specs.declared.answer.Answer.TheVariants.{Fix, NoFix, Subsumed, Failed}
 use Rattle.fz_prop.specs.Answers.{IsAnswerOf, IsCorrectOf}
 use Rattle.fz_prop.specs.Outcomes.{settled_by}
-use Rattle.fz_prop.specs.Stores.{Stored, Shrinks, IsTermOf, IsTermChange}
+use Rattle.fz_prop.specs.Stores.{Stored, Shrinks, IsTermChange}
 use Rattle.fz_prop.specs.Truths.{Sides, AreSides, IsSame, IsAbout, TruthWith, LineWith}
 use Rattle.fz_prop.proofs.Answering.{same_answer}
 use Rattle.fz_sets.proofs.Numbers.{above_of_not}

@@ -3,13 +3,13 @@ ghost use Rattle.std.specs.Prelude.{◌≡◌, ◌≢◌, ◌+◌, ◌≤◌, Li
 ghost use Rattle.std.specs.List.{AllByRecursion};
 ghost use Rattle.fz_spec.specs.declared.limits.TheConstants.{ELEMENT_LIMIT};
 ghost use Rattle.fz_spec.specs.declared.shape.Relation.TheVariants.{AtMost, Below};
-ghost use Rattle.fz_strength.specs.Domains.{term_set};
+ghost use Rattle.fz_strength.specs.Domains.{term_set, IsTermOf};
 ghost use Rattle.fz_strength.specs.Events.{IsOnly, IsFixedIn, AllFixed};
 ghost use Rattle.fz_strength.specs.Promises.{IsTruth};
 ghost use Rattle.fz_strength.specs.ReifiedSums.{IsSumShown, IsSumRefuted};
 ghost use Rattle.fz_prop.specs.declared.answer.Answer.TheVariants.{Fix};
 ghost use Rattle.fz_prop.specs.Answers.{IsAnswerOf, IsCorrectOf};
-ghost use Rattle.fz_prop.specs.Stores.{Shrinks, IsTermOf, FitsTerm};
+ghost use Rattle.fz_prop.specs.Stores.{Shrinks, FitsTerm};
 ghost use Rattle.fz_prop.specs.Truths.{TruthWith, LineWith};
 ghost use Rattle.fz_linear.specs.Precisions.{IsWeighted};
 ghost use Rattle.fz_linear.specs.Terms.{AreTermsOf};

@@ -3,12 +3,12 @@ ghost use Rattle.std.specs.Prelude.{◌≡◌, ◌≢◌, ◌↔◌, ◌≤◌, 
 ghost use Rattle.std.specs.List.{AllByRecursion};
 ghost use Rattle.fz_spec.specs.declared.limits.TheConstants.{ELEMENT_LIMIT};
 ghost use Rattle.fz_spec.specs.declared.shape.Relation.TheVariants.{Below};
-ghost use Rattle.fz_strength.specs.Domains.{AreDomains};
+ghost use Rattle.fz_strength.specs.Domains.{AreDomains, IsTermOf};
 ghost use Rattle.fz_strength.specs.Promises.{Suits};
 ghost use Rattle.fz_strength.specs.Sayings.{SumIf, line_of, said_terms, truth_of};
 ghost use Rattle.fz_kept.specs.Told.{IsLong, IsTold};
 ghost use Rattle.fz_prop.specs.Answers.{Narrows};
-ghost use Rattle.fz_prop.specs.Stores.{FitsTerm, IsTermOf};
+ghost use Rattle.fz_prop.specs.Stores.{FitsTerm};
 
 use crate::front::keep_rest;
 use fz_kept::Kept;

@@ -10,9 +10,9 @@ use Rattle.fz_dom.specs.declared.change.Change.TheVariants.{Same, Changed, Wiped
 use Rattle.fz_spec.specs.declared.term.Term.{Term}
 use Rattle.fz_spec.specs.declared.term.Term.TheVariants.{Num, Var}
 use Rattle.fz_spec.specs.Constraints.{term_value}
-use Rattle.fz_strength.specs.Domains.{dom_at, term_set, Within}
+use Rattle.fz_strength.specs.Domains.{dom_at, term_set, Within, IsTermOf}
 use Rattle.fz_prop.specs.Answers.{IsCorrectOf}
-use Rattle.fz_prop.specs.Stores.{Stored, Shrinks, IsTermOf, IsTermChange}
+use Rattle.fz_prop.specs.Stores.{Stored, Shrinks, IsTermChange}
 use Rattle.fz_prop.proofs.Steps.{change_at_as}
 use Rattle.fz_prop.proofs.TermChanges.{kept_term, narrower_term, none_kept, term_within, within_kept}
 use Rattle.fz_partners.specs.declared.equation.Equation.{Equation}

@@ -15,13 +15,12 @@ use Rattle.fz_spec.specs.declared.term.Term.{Term}
 use Rattle.fz_spec.specs.declared.term.Term.TheVariants.{Num, Var}
 use Rattle.fz_spec.specs.Constraints.{term_value}
 use Rattle.fz_strength.specs.declared.equation.TheConstants.{FEW_PAIRS}
-use Rattle.fz_strength.specs.Domains.{dom_at, term_set, AreDomains}
+use Rattle.fz_strength.specs.Domains.{dom_at, term_set, AreDomains, IsTermOf}
 use Rattle.fz_strength.specs.Equations.{HasPartners, HaveFewPairs, sets_of}
 use Rattle.fz_strength.proofs.Terms.{in_single}
 use Rattle.fz_prop.specs.declared.answer.Answer.{Answer}
 use Rattle.fz_prop.specs.declared.answer.Answer.TheVariants.{Fix, NoFix, Subsumed, Failed}
 use Rattle.fz_prop.specs.Answers.{IsAnswerOf}
-use Rattle.fz_prop.specs.Stores.{IsTermOf}
 use Rattle.fz_prop.proofs.Answering.{IsSame}
 use Rattle.fz_partners.specs.declared.equation.Equation.{Equation}
 use Rattle.fz_partners.specs.Equations.{EquationLine, EquationTruth, IsCounting, IsLessened, factors_of, first_last, nothing, second_last, terms_of}

@@ -3,8 +3,7 @@ ghost use Rattle.std.specs.Prelude.{◌≡◌, ◌≢◌, ◌↔◌, ◌≤◌, 
 ghost use Rattle.std.specs.List.{AllByRecursion};
 ghost use Rattle.fz_sets.specs.Sets.{set_size};
 ghost use Rattle.fz_strength.specs.declared.equation.TheConstants.{FEW_PAIRS};
-ghost use Rattle.fz_strength.specs.Domains.{term_set};
-ghost use Rattle.fz_prop.specs.Stores.{IsTermOf};
+ghost use Rattle.fz_strength.specs.Domains.{term_set, IsTermOf};
 ghost use Rattle.fz_partners.specs.Equations.{AllCount, IsCounting, IsLessened, IsTurned, first_last, nothing, second_last, terms_of};
 
 use fz_prop::Store;

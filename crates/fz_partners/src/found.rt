@@ -2,7 +2,8 @@
 ghost use Rattle.std.specs.Prelude.{◌≡◌, ◌⊎◌, ◌↔◌, ℤ, List, length, IfOk, OnOk};
 ghost use Rattle.std.specs.List.{AllByRecursion};
 ghost use Rattle.fz_prop.specs.Answers.{IsAnswerOf, IsCorrectOf};
-ghost use Rattle.fz_prop.specs.Stores.{IsTermOf, Shrinks};
+ghost use Rattle.fz_strength.specs.Domains.{IsTermOf};
+ghost use Rattle.fz_prop.specs.Stores.{Shrinks};
 ghost use Rattle.fz_partners.specs.declared.equation.Equation.{Equation};
 ghost use Rattle.fz_partners.specs.Equations.{EquationLine, EquationTruth, terms_of};
 ghost use Rattle.fz_partners.specs.Found.{AreFound, AreOfTerms, Has, HasPlace};

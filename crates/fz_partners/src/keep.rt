@@ -2,9 +2,8 @@
 ghost use Rattle.std.specs.Prelude.{◌≡◌, ◌≤◌, length};
 ghost use Rattle.std.specs.List.{AllByRecursion};
 ghost use Rattle.fz_sets.specs.Sets.{set_size};
-ghost use Rattle.fz_strength.specs.Domains.{term_set};
+ghost use Rattle.fz_strength.specs.Domains.{term_set, IsTermOf};
 ghost use Rattle.fz_prop.specs.Answers.{Narrows};
-ghost use Rattle.fz_prop.specs.Stores.{IsTermOf};
 ghost use Rattle.fz_partners.specs.Equations.{AllCount, EquationLine, EquationTruth, terms_of};
 
 use crate::equation::{Equation, are_few, counting, widest_last};

@@ -4,9 +4,9 @@ ghost use Rattle.fz_bits.specs.Windows.{IsBit};
 ghost use Rattle.fz_sets.specs.Sets.{IsInSet, IsWithinLimits};
 ghost use Rattle.fz_spec.specs.declared.term.Term.{Term};
 ghost use Rattle.fz_spec.specs.declared.term.Term.TheVariants.{Var};
-ghost use Rattle.fz_strength.specs.Domains.{term_set};
+ghost use Rattle.fz_strength.specs.Domains.{term_set, IsTermOf};
 ghost use Rattle.fz_prop.specs.Matching.{HasRoom};
-ghost use Rattle.fz_prop.specs.Stores.{IsTermOf, IsTermChange, Shrinks};
+ghost use Rattle.fz_prop.specs.Stores.{IsTermChange, Shrinks};
 ghost use Rattle.fz_partners.specs.Found.{AreInside, AreOf, Has, HasPlace, IsOneOf};
 
 use fz_bits::Window;

@@ -7,10 +7,9 @@ use Rattle.fz_dom.specs.Shape.{least}
 use Rattle.fz_dom.proofs.Ranges.{same_ranges, least_member}
 use Rattle.fz_spec.specs.declared.term.Term.{Term}
 use Rattle.fz_spec.specs.declared.term.Term.TheVariants.{Num, Var}
-use Rattle.fz_strength.specs.Domains.{term_set, AreDomains, IsNarrower}
+use Rattle.fz_strength.specs.Domains.{term_set, AreDomains, IsNarrower, IsTermOf}
 use Rattle.fz_strength.specs.Events.{IsOnly}
-use Rattle.fz_strength.proofs.Truths.{in_single, is_single}
-use Rattle.fz_prop.specs.Stores.{IsTermOf}
+use Rattle.fz_strength.proofs.Terms.{in_single, is_single}
 pub use Rattle.fz_prop.specs.Truths.{HasRanges}
 use Rattle.fz_prop.proofs.TermChanges.{narrower_term, only_in}
 

@@ -6,9 +6,9 @@ use Rattle.fz_sets.specs.Sets.{IsInSet, IsWithinLimits, AreWithinLimits}
 use Rattle.fz_dom.proofs.Kept.{limits_of}
 use Rattle.fz_spec.specs.declared.term.Term.{Term}
 use Rattle.fz_spec.specs.declared.term.Term.TheVariants.{Num, Var}
-use Rattle.fz_strength.specs.Domains.{dom_at, term_set, AreDomains}
+use Rattle.fz_strength.specs.Domains.{dom_at, term_set, AreDomains, IsTermOf}
 use Rattle.fz_strength.proofs.Terms.{is_single}
-use Rattle.fz_prop.specs.Stores.{IsTermOf, FitsTerm}
+use Rattle.fz_prop.specs.Stores.{FitsTerm}
 
 pub in_more : (rs : List (ℤ × ℤ)) (x y : ℤ) → IsInSet (rs ++ (x, x) ∷ []) y → IsInSet rs y ⊎ (y ≡ x)
 in_more [] x y is = elim is [ inl h ↦ inr (omega (arith, ints, h.0, h.1)) | inr h ↦ absurd h ]

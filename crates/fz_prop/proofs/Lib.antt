@@ -1,7 +1,6 @@
 pub mod Levels
 pub mod Listed
 pub mod Steps
-pub mod Waits
 pub mod TermChanges
 pub mod Twice
 pub mod Settling

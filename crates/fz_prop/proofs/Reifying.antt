@@ -6,7 +6,7 @@ use Rattle.fz_sets.specs.Sets.{IsInRange}
 use Rattle.fz_dom.specs.Shape.{least}
 use Rattle.fz_spec.specs.declared.term.Term.{Term}
 use Rattle.fz_spec.specs.Constraints.{term_value}
-use Rattle.fz_strength.specs.Domains.{term_set, AreDomains, Within, IsNarrower}
+use Rattle.fz_strength.specs.Domains.{term_set, AreDomains, Within, IsNarrower, IsTermOf}
 use Rattle.fz_strength.specs.Events.{IsOnly, IsFixedIn}
 use Rattle.fz_strength.specs.Lines.{IsReifiedLine}
 use Rattle.fz_strength.specs.Promises.{IsTruth}
@@ -14,7 +14,6 @@ use Rattle.fz_strength.proofs.Terms.{in_single}
 use Rattle.fz_prop.specs.declared.answer.Answer.{Answer}
 use Rattle.fz_prop.specs.declared.answer.Answer.TheVariants.{Fix, NoFix, Subsumed, Failed}
 use Rattle.fz_prop.specs.Answers.{IsAnswerOf, IsCorrectOf}
-use Rattle.fz_prop.specs.Stores.{IsTermOf}
 pub use Rattle.fz_prop.specs.Truths.{Sides, AreSides, TruthWith, LineWith}
 use Rattle.fz_prop.proofs.Filled.{narrower_ranges, one_left, still_only}
 use Rattle.fz_prop.specs.Truths.{IsAbout}

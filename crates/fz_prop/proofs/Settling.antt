@@ -6,12 +6,12 @@ use Rattle.fz_dom.specs.declared.change.Change.{Change}
 use Rattle.fz_dom.specs.declared.change.Change.TheVariants.{Same, Changed, Wiped}
 use Rattle.fz_spec.specs.declared.term.Term.{Term}
 use Rattle.fz_spec.specs.Constraints.{term_value}
-use Rattle.fz_strength.specs.Domains.{term_set}
+use Rattle.fz_strength.specs.Domains.{term_set, IsTermOf}
 use Rattle.fz_strength.proofs.Terms.{within_before}
 use Rattle.fz_prop.specs.declared.answer.Answer.TheVariants.{Subsumed}
 use Rattle.fz_prop.specs.Answers.{IsAnswerOf, IsCorrectOf}
 use Rattle.fz_prop.specs.Outcomes.{settled_by}
-use Rattle.fz_prop.specs.Stores.{Stored, Shrinks, IsTermOf, IsTermChange}
+use Rattle.fz_prop.specs.Stores.{Stored, Shrinks, IsTermChange}
 pub use Rattle.fz_prop.specs.Truths.{IsAbout}
 use Rattle.fz_prop.proofs.TermChanges.{term_within, narrower_term, within_kept, kept_term, none_kept}
 use Rattle.fz_prop.proofs.Twice.{narrower_twice}

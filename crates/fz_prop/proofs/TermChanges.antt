@@ -9,10 +9,10 @@ use Rattle.fz_dom.specs.declared.change.Change.TheVariants.{Same, Changed, Wiped
 use Rattle.fz_spec.specs.declared.term.Term.{Term}
 use Rattle.fz_spec.specs.declared.term.Term.TheVariants.{Num, Var}
 use Rattle.fz_spec.specs.Constraints.{term_value}
-use Rattle.fz_strength.specs.Domains.{dom_at, term_set, Within, IsNarrower, number_at, room}
+use Rattle.fz_strength.specs.Domains.{dom_at, term_set, Within, IsNarrower, number_at, room, IsTermOf}
 use Rattle.fz_strength.specs.Events.{IsOnly}
-use Rattle.fz_strength.proofs.Truths.{in_single, is_single}
-use Rattle.fz_prop.specs.Stores.{Stored, Shrinks, IsTermOf, IsTermChange}
+use Rattle.fz_strength.proofs.Terms.{in_single, is_single}
+use Rattle.fz_prop.specs.Stores.{Stored, Shrinks, IsTermChange}
 
 pub term_within : (ds : List (List (ℤ × ℤ))) (a : List ℤ) (t : Term) → IsTermOf (length ds) t → Within ds a → IsInSet (term_set ds t) (term_value a t)
 term_within ds a (Num n) is within = in_single n n refl

@@ -115,11 +115,6 @@ fresh ds = record { doms = ds; marks = replicate (length ds) 0; changed = [] }
 
 -- ---- terms
 
--- a number, or a variable of the store
-abbrev pub IsTermOf : ℕ → Term → Type 0
-IsTermOf n (Num number) = Unit {0}
-IsTermOf n (Var v) = v < n
-
 -- a number within the limits, or a variable
 abbrev pub FitsTerm : Term → Type 0
 FitsTerm (Num number) = IsWithinLimits number

@@ -3,8 +3,8 @@ ghost use Rattle.std.specs.Prelude.{◌≡◌, ℤ, pos, ◌+ℤ◌, ◌≤ℤ�
 ghost use Rattle.std.specs.Int.{int_max, int_min};
 ghost use Rattle.fz_sets.specs.Sets.{IsInSet, GREATEST};
 ghost use Rattle.fz_dom.specs.Shape.{least, greatest};
-ghost use Rattle.fz_strength.specs.Domains.{term_set};
-ghost use Rattle.fz_prop.specs.Stores.{IsTermOf, FitsTerm};
+ghost use Rattle.fz_strength.specs.Domains.{term_set, IsTermOf};
+ghost use Rattle.fz_prop.specs.Stores.{FitsTerm};
 
 use crate::store::Store;
 use crate::terms::{greatest_of, least_of};

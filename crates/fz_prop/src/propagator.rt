@@ -4,7 +4,7 @@ ghost use Rattle.std.specs.List.{AllByRecursion};
 ghost use Rattle.fz_strength.specs.Promises.{Suits};
 ghost use Rattle.fz_strength.specs.Sayings.{Saying, line_of, said_terms, truth_of};
 ghost use Rattle.fz_prop.specs.Answers.{Narrows};
-ghost use Rattle.fz_prop.specs.Stores.{IsTermOf};
+ghost use Rattle.fz_strength.specs.Domains.{IsTermOf};
 
 use crate::answer::Answer;
 use crate::store::Store;

@@ -6,9 +6,9 @@ ghost use Rattle.fz_bits.specs.Words.{AreOnes};
 ghost use Rattle.fz_sets.specs.Sets.{IsInSet, IsWithinLimits, LEAST, GREATEST};
 ghost use Rattle.fz_dom.specs.Changes.{IsFromTo};
 ghost use Rattle.fz_dom.specs.Shape.{least, greatest};
-ghost use Rattle.fz_strength.specs.Domains.{term_set};
+ghost use Rattle.fz_strength.specs.Domains.{term_set, IsTermOf};
 ghost use Rattle.fz_strength.specs.Events.{IsOnly, AllFixed};
-ghost use Rattle.fz_prop.specs.Stores.{Shrinks, IsTermOf, FitsTerm, IsTermChange};
+ghost use Rattle.fz_prop.specs.Stores.{Shrinks, FitsTerm, IsTermChange};
 
 use crate::store::Store;
 use fz_bits::Window;

@@ -1,12 +1,12 @@
 //! Propagators of any shape.
 ghost use Rattle.std.specs.Prelude.{◌≡◌, length, IfOk, IsTrue};
 ghost use Rattle.std.specs.List.{AllByRecursion};
-ghost use Rattle.fz_strength.specs.Domains.{AreDomains};
+ghost use Rattle.fz_strength.specs.Domains.{AreDomains, IsTermOf};
 ghost use Rattle.fz_strength.specs.Promises.{Suits};
 ghost use Rattle.fz_strength.specs.Sayings.{line_of, said_terms, truth_of};
 ghost use Rattle.fz_kept.specs.Told.{IsLong, IsTold};
 ghost use Rattle.fz_prop.specs.Answers.{Narrows};
-ghost use Rattle.fz_prop.specs.Stores.{FitsTerm, IsTermOf};
+ghost use Rattle.fz_prop.specs.Stores.{FitsTerm};
 ghost use Rattle.fz_says.specs.Fits.{FitsSum};
 ghost use Rattle.fz_says.specs.Said.{said_by};
 ghost use Rattle.fz_propagators.specs.Forms.{said_of};

@@ -10,12 +10,12 @@ use Rattle.fz_spec.specs.declared.term.Term.{Term}
 use Rattle.fz_spec.specs.declared.term.Term.TheVariants.{Var}
 use Rattle.fz_spec.specs.Constraints.{term_value}
 use Rattle.fz_spec.specs.declared.shape.Relation.TheVariants.{Equal}
-use Rattle.fz_strength.specs.Domains.{term_set, dom_at, AreDomains, Within}
+use Rattle.fz_strength.specs.Domains.{term_set, dom_at, AreDomains, Within, IsTermOf}
 use Rattle.fz_strength.specs.Events.{IsOnly}
 use Rattle.fz_prop.specs.declared.answer.Answer.{Answer}
 use Rattle.fz_prop.specs.declared.answer.Answer.TheVariants.{Fix, NoFix, Subsumed, Failed}
 use Rattle.fz_prop.specs.Answers.{IsCorrectOf}
-use Rattle.fz_prop.specs.Stores.{Stored, Shrinks, IsTermOf, IsChangeAt}
+use Rattle.fz_prop.specs.Stores.{Stored, Shrinks, IsChangeAt}
 use Rattle.fz_prop.proofs.Filled.{narrower_ranges, one_left, still_only}
 use Rattle.fz_prop.specs.Truths.{IsAbout}
 use Rattle.fz_prop.proofs.TermChanges.{term_within, narrower_term, only_in, within_kept, kept_term, none_kept}

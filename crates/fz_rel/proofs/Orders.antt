@@ -11,10 +11,10 @@ use Rattle.fz_spec.specs.declared.term.Term.{Term}
 use Rattle.fz_spec.specs.Constraints.{term_value}
 use Rattle.fz_spec.specs.Truth.{Relates}
 use Rattle.fz_strength.specs.Relations.{RestsAs}
-use Rattle.fz_strength.specs.Domains.{term_set, AreDomains, Within}
+use Rattle.fz_strength.specs.Domains.{term_set, AreDomains, Within, IsTermOf}
 use Rattle.fz_prop.specs.declared.answer.Answer.TheVariants.{Subsumed}
 use Rattle.fz_prop.specs.Answers.{IsCorrectOf}
-use Rattle.fz_prop.specs.Stores.{Stored, Shrinks, IsTermOf, IsTermChange}
+use Rattle.fz_prop.specs.Stores.{Stored, Shrinks, IsTermChange}
 use Rattle.fz_rel.specs.Truths.{TruthOf, IsAnswerAs, order_of, gap_of, IsOrdered}
 use Rattle.fz_prop.proofs.Filled.{term_ranges, narrower_ranges}
 use Rattle.fz_prop.proofs.TermChanges.{term_within, narrower_term, within_kept, kept_term, none_kept, same_store}

@@ -10,14 +10,14 @@ use Rattle.fz_dom.specs.declared.change.Change.TheVariants.{Same, Changed, Wiped
 use Rattle.fz_spec.specs.declared.term.Term.{Term}
 use Rattle.fz_spec.specs.declared.term.Term.TheVariants.{Num, Var}
 use Rattle.fz_spec.specs.Constraints.{term_value}
-use Rattle.fz_strength.specs.Domains.{term_set, dom_at, AreDomains, Within, IsNarrower, number_at}
+use Rattle.fz_strength.specs.Domains.{term_set, dom_at, AreDomains, Within, IsNarrower, number_at, IsTermOf}
 use Rattle.fz_strength.specs.Events.{IsOnly}
-use Rattle.fz_strength.specs.Lines.{LiesIn, LiesOutside}
+use Rattle.fz_strength.specs.Memberships.{LiesIn, LiesOutside}
 use Rattle.fz_strength.specs.Promises.{IsTruth}
 use Rattle.fz_prop.specs.declared.answer.Answer.{Answer}
 use Rattle.fz_prop.specs.declared.answer.Answer.TheVariants.{Fix, NoFix, Subsumed, Failed}
 use Rattle.fz_prop.specs.Answers.{IsAnswerOf, IsCorrectOf}
-use Rattle.fz_prop.specs.Stores.{IsTermOf, FitsTerm}
+use Rattle.fz_prop.specs.Stores.{FitsTerm}
 use Rattle.fz_prop.proofs.Filled.{narrower_ranges}
 use Rattle.fz_prop.specs.Truths.{AreSides, IsAbout, TruthWith}
 use Rattle.fz_prop.proofs.Reifying.{one_answer, zero_answer, zero_correct, shown_about, refuted_about}

@@ -9,14 +9,13 @@ use Rattle.fz_spec.specs.declared.term.Term.{Term}
 use Rattle.fz_spec.specs.Constraints.{term_value}
 use Rattle.fz_spec.specs.declared.shape.Relation.{Relation}
 use Rattle.fz_spec.specs.declared.shape.Relation.TheVariants.{Equal, NotEqual, AtMost, Below}
-use Rattle.fz_strength.specs.Domains.{term_set, AreDomains}
+use Rattle.fz_strength.specs.Domains.{term_set, AreDomains, IsTermOf}
 use Rattle.fz_strength.specs.Events.{IsOnly}
 use Rattle.fz_strength.specs.Promises.{IsTruth}
-use Rattle.fz_strength.specs.Lines.{LiesOutside}
+use Rattle.fz_strength.specs.Memberships.{LiesOutside}
 use Rattle.fz_spec.specs.Truth.{Relates}
 use Rattle.fz_strength.specs.Relations.{RestsAs, RestsAgainst, IsShown, IsRefuted}
 use Rattle.fz_strength.proofs.Terms.{in_single}
-use Rattle.fz_prop.specs.Stores.{IsTermOf}
 use Rattle.fz_prop.specs.Truths.{HasRanges, AreSides, TruthWith, LineWith, IsAbout}
 use Rattle.fz_prop.proofs.Filled.{term_ranges, narrower_ranges, one_left}
 use Rattle.fz_prop.proofs.Reifying.{shown_about, refuted_about}

@@ -6,7 +6,7 @@ use Rattle.fz_spec.specs.Constraints.{term_value}
 use Rattle.fz_strength.specs.Domains.{term_set}
 use Rattle.fz_dom.specs.declared.change.Change.{Change}
 use Rattle.fz_dom.specs.declared.change.Change.TheVariants.{Same, Changed, Wiped}
-use Rattle.fz_strength.specs.Lines.{LiesIn, LiesOutside}
+use Rattle.fz_strength.specs.Memberships.{LiesIn, LiesOutside}
 
 abbrev pub IsMember : Term → List (ℤ × ℤ) → List ℤ → Type 0
 IsMember x set a = IsInSet set (term_value a x)

@@ -4,7 +4,7 @@ use Rattle.fz_sets.specs.Sets.{IsInSet, IsWithinLimits}
 use Rattle.fz_spec.specs.declared.term.Term.{Term}
 use Rattle.fz_spec.specs.declared.shape.Relation.{Relation}
 use Rattle.fz_strength.specs.Domains.{term_set}
-use Rattle.fz_strength.specs.Lines.{LiesIn, LiesOutside}
+use Rattle.fz_strength.specs.Memberships.{LiesIn, LiesOutside}
 use Rattle.fz_strength.specs.Relations.{IsShown, IsRefuted}
 use Rattle.fz_prop.specs.Truths.{Sides, LineWith}
 use Rattle.fz_rel.specs.Truths.{LineOf, AgainstOf}

@@ -2,11 +2,11 @@
 ghost use Rattle.std.specs.Prelude.{◌≡◌, ◌≢◌, ℤ, List, length, IfOk};
 ghost use Rattle.fz_sets.specs.Sets.{IsInSet};
 ghost use Rattle.fz_spec.specs.Constraints.{term_value};
-ghost use Rattle.fz_strength.specs.Domains.{term_set};
+ghost use Rattle.fz_strength.specs.Domains.{term_set, IsTermOf};
 ghost use Rattle.fz_strength.specs.Events.{IsOnly};
 ghost use Rattle.fz_spec.specs.declared.shape.Relation.TheVariants.{NotEqual};
 ghost use Rattle.fz_prop.specs.Answers.{IsCorrectOf};
-ghost use Rattle.fz_prop.specs.Stores.{Shrinks, IsTermOf};
+ghost use Rattle.fz_prop.specs.Stores.{Shrinks};
 ghost use Rattle.fz_rel.specs.Truths.{TruthOf, IsAnswerAs};
 
 use fz_prop::terms::{remove, value_of};

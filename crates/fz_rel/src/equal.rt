@@ -2,11 +2,11 @@
 ghost use Rattle.std.specs.Prelude.{◌≡◌, ◌<◌, ℤ, List, length, IfOk, OnErr};
 ghost use Rattle.fz_sets.specs.Sets.{IsInSet};
 ghost use Rattle.fz_spec.specs.declared.term.Term.TheVariants.{Var};
-ghost use Rattle.fz_strength.specs.Domains.{dom_at, term_set};
+ghost use Rattle.fz_strength.specs.Domains.{dom_at, term_set, IsTermOf};
 ghost use Rattle.fz_strength.specs.Events.{IsOnly, IsFixedIn};
 ghost use Rattle.fz_spec.specs.declared.shape.Relation.TheVariants.{Equal};
 ghost use Rattle.fz_prop.specs.Answers.{IsCorrectOf};
-ghost use Rattle.fz_prop.specs.Stores.{Shrinks, IsStore, IsTermOf, IsChangeAt};
+ghost use Rattle.fz_prop.specs.Stores.{Shrinks, IsStore, IsChangeAt};
 ghost use Rattle.fz_rel.specs.Truths.{TruthOf, IsAnswerAs};
 
 use fz_prop::terms::{keep_only, value_of};

@@ -1,12 +1,12 @@
 //! Terms in a set, and a Boolean that says whether they are.
 ghost use Rattle.std.specs.Arc.{arc_value};
 ghost use Rattle.std.specs.Prelude.{◌≡◌, ℤ, pos, List, length, IfOk};
-ghost use Rattle.fz_strength.specs.Domains.{term_set};
+ghost use Rattle.fz_strength.specs.Domains.{term_set, IsTermOf};
 ghost use Rattle.fz_strength.specs.Events.{IsOnly, IsFixedIn};
 ghost use Rattle.fz_strength.specs.Promises.{IsTruth};
 ghost use Rattle.fz_strength.specs.Sayings.{MemberIf};
 ghost use Rattle.fz_prop.specs.Answers.{IsAnswerOf, IsCorrectOf};
-ghost use Rattle.fz_prop.specs.Stores.{Shrinks, IsStore, IsTermOf, FitsTerm};
+ghost use Rattle.fz_prop.specs.Stores.{Shrinks, IsStore, FitsTerm};
 ghost use Rattle.fz_prop.specs.Truths.{TruthWith};
 ghost use Rattle.fz_rel.specs.Members.{IsMember, IsOverlap};
 ghost use Rattle.fz_rel.specs.Reified.{ReifiedMemberLine, AreOthers};

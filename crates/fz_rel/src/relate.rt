@@ -1,7 +1,8 @@
 //! A relation of two terms, and the relation that is true exactly where it is false.
 ghost use Rattle.std.specs.Prelude.{List, length, IfOk};
 ghost use Rattle.fz_prop.specs.Answers.{IsAnswerOf, IsCorrectOf};
-ghost use Rattle.fz_prop.specs.Stores.{Shrinks, IsTermOf, FitsTerm};
+ghost use Rattle.fz_strength.specs.Domains.{IsTermOf};
+ghost use Rattle.fz_prop.specs.Stores.{Shrinks, FitsTerm};
 ghost use Rattle.fz_rel.specs.Truths.{TruthOf, FalseOf, AgainstOf, IsAnswerAs};
 
 use crate::apart::keep_apart;

@@ -3,10 +3,10 @@ ghost use Rattle.std.specs.Prelude.{◌⊎◌, ◌↔◌, ◌+ℤ◌, ◌≤ℤ�
 ghost use Rattle.fz_sets.specs.Sets.{IsInSet};
 ghost use Rattle.fz_bits.specs.Windows.{IsBit};
 ghost use Rattle.fz_spec.specs.declared.shape.Relation.TheVariants.{NotEqual};
-ghost use Rattle.fz_strength.specs.Domains.{term_set};
-ghost use Rattle.fz_strength.specs.Lines.{LiesOutside};
+ghost use Rattle.fz_strength.specs.Domains.{term_set, IsTermOf};
+ghost use Rattle.fz_strength.specs.Memberships.{LiesOutside};
 ghost use Rattle.fz_strength.specs.Relations.{IsShown, IsRefuted};
-ghost use Rattle.fz_prop.specs.Stores.{IsTermOf, FitsTerm};
+ghost use Rattle.fz_prop.specs.Stores.{FitsTerm};
 ghost use Rattle.fz_rel.specs.Seen.{AreAll, AreNone, IsNarrow};
 
 use crate::ends::{ends_of, is_shown};

@@ -4,14 +4,12 @@ use Rattle.std.specs.Prelude.{ℤ}
 use Rattle.std.specs.List.{AllByRecursion}
 use Rattle.std.proofs.lemmas.List.{ext_get_or}
 use Rattle.fz_spec.specs.declared.term.Term.TheVariants.{Var}
-use Rattle.fz_strength.specs.Domains.{AreDomains, Alone, IsNarrower, number_at, room}
+use Rattle.fz_strength.specs.Domains.{AreDomains, Alone, IsNarrower, number_at, room, IsTermOf}
 use Rattle.fz_strength.specs.Sayings.{said_terms}
-use Rattle.fz_strength.proofs.Sayings.{true_alone}
+use Rattle.fz_strength.proofs.Sayings.{true_alone, below}
 use Rattle.fz_strength.proofs.Terms.{within_alone}
 use Rattle.fz_prop.specs.declared.answer.Answer.TheVariants.{Fix, NoFix, Subsumed, Failed}
-use Rattle.fz_prop.specs.Stores.{IsTermOf}
 use Rattle.fz_prop.proofs.Filled.{still_only}
-use Rattle.fz_prop.proofs.Waits.{below}
 use Rattle.fz_says.specs.Checks.{Checks}
 
 still_alone : (ds es : List (List (ℤ × ℤ))) (a : List ℤ) → Alone ds a → AreDomains es → IsNarrower ds es → Alone es a

@@ -1,12 +1,11 @@
 -- What a run answers where one number is left of each variable.
 use Rattle.std.specs.Prelude.{ℤ, List, length}
 use Rattle.std.specs.List.{AllByRecursion}
-use Rattle.fz_strength.specs.Domains.{AreDomains, Alone, IsNarrower}
+use Rattle.fz_strength.specs.Domains.{AreDomains, Alone, IsNarrower, IsTermOf}
 use Rattle.fz_strength.specs.Sayings.{Saying, line_of, said_terms, truth_of}
 use Rattle.fz_prop.specs.declared.answer.Answer.{Answer}
 use Rattle.fz_prop.specs.declared.answer.Answer.TheVariants.{Fix, NoFix, Subsumed, Failed}
 use Rattle.fz_prop.specs.Answers.{IsAnswerOf}
-use Rattle.fz_prop.specs.Stores.{IsTermOf}
 
 -- it has failed where something is false, and else it rests
 abbrev pub IsVerdict : Answer → Type 0 → Type 0

@@ -10,7 +10,8 @@ use Rattle.fz_model.specs.Kept as kept
 use Rattle.fz_model.specs.Kept.{IsVariable, IsConstraint}
 use Rattle.fz_spec.specs.declared.shape.Relation.TheVariants.{Below}
 use Rattle.fz_strength.specs.Sayings.{Saying, Sum, SumIf, SumByNumbers, said_terms, saying_of, truths_of}
-use Rattle.fz_prop.specs.Stores.{IsTermOf, FitsTerm, declared_sets}
+use Rattle.fz_strength.specs.Domains.{IsTermOf}
+use Rattle.fz_prop.specs.Stores.{FitsTerm, declared_sets}
 use Rattle.fz_strength.specs.Promises.{Suits}
 
 -- a number within the limits, or a variable of the model

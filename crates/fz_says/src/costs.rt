@@ -1,6 +1,7 @@
 //! What a run of a propagator costs.
 ghost use Rattle.std.specs.Prelude.{◌≡◌};
-ghost use Rattle.fz_strength.specs.Costs.{cost_of, cost_of_operands};
+ghost use Rattle.fz_strength.specs.Sayings.{cost_of};
+ghost use Rattle.fz_strength.specs.Costs.{cost_of_operands};
 ghost use Rattle.fz_says.specs.Said.{said_by};
 
 use crate::saying::Saying;

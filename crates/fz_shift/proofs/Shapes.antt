@@ -8,9 +8,8 @@ use Rattle.fz_spec.specs.declared.term.Term.TheVariants.{Var}
 use Rattle.fz_spec.specs.Constraints.{term_values}
 use Rattle.fz_spec.specs.Truth.{weighted_sum}
 use Rattle.fz_spec.specs.declared.shape.Relation.TheVariants.{Equal}
-use Rattle.fz_strength.specs.Domains.{number_at}
+use Rattle.fz_strength.specs.Domains.{number_at, IsTermOf}
 use Rattle.fz_strength.specs.Sums.{RestsSum}
-use Rattle.fz_prop.specs.Stores.{IsTermOf}
 use Rattle.fz_shift.specs.declared.plane.Plane.{Plane}
 use Rattle.fz_shift.specs.Planes.{AreApart, IsSmall, IsPlaneIn}
 use Rattle.fz_shift.proofs.Resting.{firsts_rest, partners_rest, seconds_rest}

@@ -10,11 +10,10 @@ use Rattle.fz_dom.proofs.Ranges.{least_member, greatest_member}
 use Rattle.fz_num.proofs.Products.{mul_le, mul_ge}
 use Rattle.fz_spec.specs.declared.term.Term.{Term}
 use Rattle.fz_spec.specs.declared.term.Term.TheVariants.{Num, Var}
-use Rattle.fz_strength.specs.Domains.{term_set, AreDomains}
+use Rattle.fz_strength.specs.Domains.{term_set, AreDomains, IsTermOf}
 use Rattle.fz_strength.specs.Sums.{least_product, greatest_product}
 use Rattle.fz_strength.proofs.SumLaws.{neg_product}
 use Rattle.fz_strength.proofs.Terms.{in_single, is_single}
-use Rattle.fz_prop.specs.Stores.{IsTermOf}
 use Rattle.fz_shift.specs.Spans.{IsSpanned}
 
 spanned_single : (n : ℤ) → IsSpanned (single n)

@@ -7,9 +7,8 @@ use Rattle.fz_spec.specs.declared.term.Term.{Term}
 use Rattle.fz_spec.specs.Constraints.{term_values}
 use Rattle.fz_spec.specs.Truth.{weighted_sum}
 use Rattle.fz_spec.specs.declared.shape.Relation.TheVariants.{Equal}
-use Rattle.fz_strength.specs.Domains.{number_at, dom_at, AreDomains}
+use Rattle.fz_strength.specs.Domains.{number_at, dom_at, AreDomains, IsTermOf}
 use Rattle.fz_strength.specs.Sums.{RestsSum}
-use Rattle.fz_prop.specs.Stores.{IsTermOf}
 use Rattle.fz_shift.specs.declared.plane.Plane.{Plane}
 
 -- the number of the second variable that lies on it with one across and one of the first

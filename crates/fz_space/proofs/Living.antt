@@ -10,9 +10,8 @@ use Rattle.fz_spec.specs.Constraints.{IsTrueOf}
 use Rattle.fz_tree.specs.declared.decision.Decision.{Decision}
 use Rattle.fz_strength.specs.Domains.{Within, Alone, AreDomains, dom_at, number_at}
 use Rattle.fz_strength.proofs.Terms.{within_before, is_single}
-use Rattle.fz_strength.proofs.Sayings.{true_where_alone}
+use Rattle.fz_strength.proofs.Sayings.{true_where_alone, below}
 use Rattle.fz_strength.specs.Sayings.{saying_of}
-use Rattle.fz_prop.proofs.Waits.{below}
 use Rattle.fz_prop.specs.Stores.{Stored, HasEmpty, declared_sets}
 use Rattle.fz_agenda.specs.Agendas.{IsSettled}
 use Rattle.fz_search_space.specs.Spaces.{Covers, MeetsAll, IsUndecided, IsStatus}

@@ -9,9 +9,11 @@ pub mod Elements
 pub mod Tables
 pub mod VariableElements
 pub mod OperationLaws
-pub mod Truths
+pub mod Comparisons
+pub mod Memberships
+pub mod Parities
+pub mod Others
 pub mod Clauses
-pub mod Keeping
 pub mod Says
 pub mod Sayings
 pub mod Sizes

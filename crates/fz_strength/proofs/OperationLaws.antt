@@ -1,5 +1,5 @@
 -- The line of an equation: it lasts while the ends of its terms stay, and says the truth where one number is left of each.
-use Rattle.std.proofs.Common.{◌≡◌, ◌≢◌, List, [], ◌∷◌, true, false, refl, sym, ap, subst, arith, map, inl, inr}
+use Rattle.std.proofs.Common.{◌≡◌, ◌≢◌, List, [], ◌∷◌, true, false, refl, sym, ap, subst, arith, map, inl, inr, length}
 use Rattle.std.specs.Prelude.{ℤ, pos, negsuc, nat_abs, neg_ℤ, ◌+ℤ◌, ◌*ℤ◌, ◌≤ℤ◌, int_div, int_lt, if◌then◌else◌, ◌⊎◌, ◌&&◌}
 use Rattle.std.specs.Int.{int_min, int_max}
 use Rattle.std.specs.List.{AllByRecursion, fold}
@@ -16,10 +16,12 @@ use Rattle.fz_spec.specs.declared.shape.Operation.{Operation}
 use Rattle.fz_spec.specs.declared.shape.Operation.TheVariants.{Plus, Times, Quotient, Remainder, Abs, Min, Max}
 use Rattle.fz_strength.specs.declared.bounds.Bounds.{Bounds}
 use Rattle.fz_strength.specs.Domains.{term_set, IsNarrower}
-use Rattle.fz_strength.specs.Events.{IsQuiet, IsOnly, AreSingle}
-use Rattle.fz_strength.specs.Operations.{Equation, equation_terms, EquationTruth, low_of, high_of, between, no_bounds, own_bounds, corner_bounds, quotient_bounds, remainder_bounds, divisors_of, LacksZero, result_bounds, operand_bounds, bounds_of, IsBounded, IsEquationLine, operand_event}
+use Rattle.fz_strength.specs.Events.{IsQuiet, IsOnly, AreSingle, wait_for, waits_for}
+use Rattle.fz_strength.specs.Operations.{Equation, equation_terms, EquationTruth, low_of, high_of, between, no_bounds, own_bounds, corner_bounds, quotient_bounds, remainder_bounds, divisors_of, LacksZero, result_bounds, operand_bounds, bounds_of, IsBounded, IsEquationLine, operand_event, arithmetic}
 use Rattle.fz_strength.proofs.Clauses.{all_with, all_unmap}
-use Rattle.fz_strength.proofs.Terms.{AreQuietAt, term_narrower, in_single, quiet_self}
+use Rattle.fz_strength.proofs.Terms.{AreQuietAt, term_narrower, in_single, quiet_self, Quiet, Below, terms_quiet, term_quiet, terms_alone, term_alone, wait_below, waits_below}
+use Rattle.fz_sets.proofs.Lists.{all_left, all_right, all_both}
+use Rattle.fz_strength.specs.Meanings.{IsLawful}
 
 -- ---- it lasts
 
@@ -252,3 +254,20 @@ result_alone operation xs z ds a alone only apart h =
 
 pub equation_alone : (e : Equation) (ds : List (List (ℤ × ℤ))) (a : List ℤ) → AreSingle ds a (equation_terms e) → IsEquationLine e ds → EquationTruth e a
 equation_alone e ds a alone line = result_alone e.operation e.operands e.result ds a alone.1 alone.0 line.divides line.bounded.0
+
+-- ---- what it means
+
+pub arithmetic_lawful : (e : Equation) → IsLawful (arithmetic e)
+arithmetic_lawful e = record {
+  kept = λ ds es domains narrower quiet h. (
+      let operands = waits_for (operand_event e.operation) e.operands in
+      equation_kept e ds es narrower (term_quiet Bound e.result ds es (all_left (Quiet ds es) (wait_for Bound e.result) operands quiet))
+      (terms_quiet (operand_event e.operation) e.operands ds es (all_right (Quiet ds es) (wait_for Bound e.result) operands quiet)) h);
+  alone = λ ds a below alone h. (
+      let operands = waits_for (operand_event e.operation) e.operands in
+      equation_alone e ds a (
+        term_alone ds a Bound e.result (all_left (Below (length ds)) (wait_for Bound e.result) operands below) alone,
+        terms_alone (operand_event e.operation) e.operands ds a (all_right (Below (length ds)) (wait_for Bound e.result) operands below) alone,
+      ) h);
+  below = λ n all. all_both (Below n) (wait_for Bound e.result) (waits_for (operand_event e.operation) e.operands) (wait_below Bound e.result n all.0) (waits_below (operand_event e.operation) e.operands n all.1);
+}

@@ -7,6 +7,10 @@ use Rattle.fz_spec.specs.Constraints.{term_value, term_values}
 use Rattle.fz_spec.specs.Truth.{weighted_sum}
 use Rattle.fz_strength.specs.declared.equation.TheConstants.{FEW_PAIRS}
 use Rattle.fz_strength.specs.Domains.{term_set}
+use Rattle.fz_strength.specs.declared.cost.Cost.TheVariants.{Quadratic}
+use Rattle.fz_strength.specs.declared.event.Event.TheVariants.{Any}
+use Rattle.fz_strength.specs.Events.{waits_for}
+use Rattle.fz_strength.specs.Meanings.{Meaning}
 
 -- what is left of terms
 abbrev pub sets_of : List (List (ℤ × ℤ)) → List Term → List (List (ℤ × ℤ))
@@ -40,3 +44,14 @@ HaveFewPairs sets = ⊥
 pub record RestsByNumbers (sets : List (List (ℤ × ℤ))) (ks : List ℤ) (ts : List Term) (c : ℤ) : Type 0 where
   pub partners : HaveFewPairs sets → HavePartners sets ks ts c
   pub fixed : (a : List ℤ) → sets ≡ map single (term_values a ts) → weighted_sum ks (term_values a ts) ≡ c
+
+-- that a weighted sum is a number, by all numbers of its terms
+abbrev pub partnered_sum : List ℤ → List Term → ℤ → Meaning
+partnered_sum ks ts c = record {
+  truth = λ a. weighted_sum ks (term_values a ts) ≡ c;
+  line = λ ds. RestsByNumbers (sets_of ds ts) ks ts c;
+  waits = waits_for Any ts;
+  terms = ts;
+  truths = [];
+  cost = Quadratic;
+}

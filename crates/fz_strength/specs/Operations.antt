@@ -1,6 +1,6 @@
 -- A term that is what an operation makes of other terms, and the bounds that the ends of all of them give to each
 -- (Apt, Zoeteweij: "An Analysis of Arithmetic Constraints on Integer Intervals").
-use Rattle.std.specs.Prelude.{ℤ, pos, neg_ℤ, ◌+ℤ◌, ◌-ℤ◌, ◌*ℤ◌, ◌≤ℤ◌, int_div, int_lt, List, [], ◌∷◌, ◌++◌, map, if◌then◌else◌, ◌&&◌}
+use Rattle.std.specs.Prelude.{ℤ, pos, neg_ℤ, ◌+ℤ◌, ◌-ℤ◌, ◌*ℤ◌, ◌≤ℤ◌, int_div, int_lt, List, [], ◌∷◌, ◌++◌, map, if◌then◌else◌, ◌&&◌, length}
 use Rattle.std.specs.Int.{int_min, int_max}
 use Rattle.std.specs.List.{AllByRecursion, fold}
 use Rattle.std.specs.Ordering.{int_eq}
@@ -16,6 +16,8 @@ use Rattle.fz_strength.specs.declared.event.Event.{Event}
 use Rattle.fz_strength.specs.declared.event.Event.TheVariants.{Any, Bound}
 use Rattle.fz_strength.specs.Domains.{term_set}
 use Rattle.fz_strength.specs.Events.{Wait, wait_for, waits_for}
+use Rattle.fz_strength.specs.Costs.{cost_of_operands}
+use Rattle.fz_strength.specs.Meanings.{Meaning}
 
 -- ---- equations
 
@@ -153,3 +155,14 @@ LacksZero ds t = IsInSet (term_set ds t) (pos 0) → ⊥
 pub record IsEquationLine (e : Equation) (ds : List (List (ℤ × ℤ))) : Type 0 where
   pub bounded : AllByRecursion (IsBounded ds) (bounds_of e ds)
   pub divides : AllByRecursion (LacksZero ds) (divisors_of e.operation e.operands)
+
+-- that a term is what an operation makes of others
+abbrev pub arithmetic : Equation → Meaning
+arithmetic e = record {
+  truth = λ a. EquationTruth e a;
+  line = λ ds. IsEquationLine e ds;
+  waits = equation_waits e;
+  terms = equation_terms e;
+  truths = [];
+  cost = cost_of_operands (length e.operands);
+}

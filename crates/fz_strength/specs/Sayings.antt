@@ -1,30 +1,30 @@
 -- What a constraint says, as one value.
-use Rattle.std.specs.Prelude.{◌≡◌, Bool, true, false, ◌%◌, ℕ, ℤ, pos, List, [], ◌∷◌, ◌++◌, count_by}
-use Rattle.fz_sets.specs.Sets.{IsInSet}
-use Rattle.fz_dom.specs.Shape.{least, greatest}
+use Rattle.std.specs.Prelude.{Bool, true, false, ℤ, pos, List, [], ◌∷◌}
 use Rattle.fz_spec.specs.declared.shape.Relation.{Relation}
 use Rattle.fz_spec.specs.declared.shape.Shape.{Shape}
 use Rattle.fz_spec.specs.declared.shape.Shape.TheVariants.{Rel, Dom, Linear, Or, And, Xor, Arithmetic, Element, Extensional, Distinct, Cumulative}
 use Rattle.fz_spec.specs.declared.shape.Shape.TheVariants as shapes
-use Rattle.fz_spec.specs.Signatures.{shape_of}
 use Rattle.fz_spec.specs.declared.term.Term.{Term}
 use Rattle.fz_spec.specs.declared.term.Term.TheVariants.{Num}
-use Rattle.fz_spec.specs.Truth.{IsReified, weighted_sum, tasks_of, IsElement, IsRowOf, AreDifferent, IsCumulative, is_one, Relates}
-use Rattle.fz_spec.specs.Constraints.{Argument, One, Numbers, Terms, Set, Constraint, HoldsAs, term_value, term_values, terms_among}
-use Rattle.fz_strength.specs.declared.event.Event.TheVariants.{Any, Bound, Fixed}
-use Rattle.fz_strength.specs.Domains.{term_set, Within}
-use Rattle.fz_strength.specs.Events.{Wait, wait_for, waits_for}
-use Rattle.fz_strength.specs.Clauses.{Clause, disjunction, conjunction, clause, ClauseTruth, AllTruth, clause_terms, IsClauseLine}
-use Rattle.fz_strength.specs.Cumulatives.{RestsCumulative, open_tasks, terms_of_tasks}
-use Rattle.fz_strength.specs.Relations.{RestsAs, event_of, reified_event}
-use Rattle.fz_strength.specs.Differences.{AreApart, AreSpread}
-use Rattle.fz_strength.specs.Sums.{left_factors, left_terms, right_number, RestsSum, sum_event_of}
-use Rattle.fz_strength.specs.Equations.{sets_of, RestsByNumbers}
-use Rattle.fz_strength.specs.Elements.{AreMatched}
-use Rattle.fz_strength.specs.Tables.{AreSupported}
-use Rattle.fz_strength.specs.VariableElements.{IsVariableElementLine, variable_element_waits}
-use Rattle.fz_strength.specs.Operations.{Equation, equation, EquationTruth, IsEquationLine, equation_terms, equation_waits}
-use Rattle.fz_strength.specs.Lines.{IsReifiedLine, RestsIf, RestsSumIf, LiesIn, LiesOutside, RestsOnceFixed, AreOthersFixed}
+use Rattle.fz_spec.specs.Constraints.{Argument, One, Numbers, Terms, Set, Constraint}
+use Rattle.fz_spec.specs.Signatures.{shape_of}
+use Rattle.fz_strength.specs.declared.cost.Cost.{Cost}
+use Rattle.fz_strength.specs.Events.{Wait}
+use Rattle.fz_strength.specs.Meanings.{Meaning}
+use Rattle.fz_strength.specs.Relations.{comparison, reified_comparison}
+use Rattle.fz_strength.specs.Memberships.{membership, reified_membership}
+use Rattle.fz_strength.specs.Sums.{left_factors, left_terms, right_number, linear}
+use Rattle.fz_strength.specs.ReifiedSums.{reified_linear}
+use Rattle.fz_strength.specs.Clauses.{Clause, disjunction, conjunction, clause, some_or_all}
+use Rattle.fz_strength.specs.Operations.{Equation, equation, arithmetic}
+use Rattle.fz_strength.specs.Parities.{parity}
+use Rattle.fz_strength.specs.Elements.{element}
+use Rattle.fz_strength.specs.VariableElements.{variable_element}
+use Rattle.fz_strength.specs.Tables.{table_row}
+use Rattle.fz_strength.specs.Differences.{all_different, hall_intervals}
+use Rattle.fz_strength.specs.Equations.{partnered_sum}
+use Rattle.fz_strength.specs.Cumulatives.{cumulative}
+use Rattle.fz_strength.specs.Others.{otherwise}
 
 -- a variant for each shape
 pub data Saying : Type 0 where
@@ -76,103 +76,48 @@ said shape arguments = Other shape arguments
 abbrev pub saying_of : Constraint → Saying
 saying_of c = said (shape_of c.name) c.arguments
 
--- its result is true exactly where one of its literals is; or, of all, false exactly where all are
-abbrev pub TruthOfClause : Bool → Clause → List ℤ → Type 0
-TruthOfClause false clause a = ClauseTruth clause a
-TruthOfClause true clause a = AllTruth clause a
+-- what there is to know of it
+abbrev pub meaning_of : Saying → Meaning
+meaning_of (Compare relation x y) = comparison relation x y
+meaning_of (CompareIf relation x y r) = reified_comparison relation x y r
+meaning_of (Member x set) = membership x set
+meaning_of (MemberIf x set r) = reified_membership x set r
+meaning_of (Sum relation ks ts c) = linear relation ks ts c
+meaning_of (SumIf relation ks ts c r) = reified_linear relation ks ts c r
+meaning_of (Says all clause) = some_or_all all clause
+meaning_of (Equals equation) = arithmetic equation
+meaning_of (Odd ts) = parity ts
+meaning_of (Select xs k c) = element xs k c
+meaning_of (SelectTerm xs k c) = variable_element xs k c
+meaning_of (Row xs table) = table_row xs table
+meaning_of (Differ xs) = all_different xs
+meaning_of (DifferByBounds xs) = hall_intervals xs
+meaning_of (SumByNumbers ks ts c) = partnered_sum ks ts c
+meaning_of (Share ss dd us b) = cumulative ss dd us b
+meaning_of (Other shape arguments) = otherwise shape arguments
 
 -- an assignment makes it true
 abbrev pub truth_of : Saying → List ℤ → Type 0
-truth_of (Compare relation x y) a = Relates relation (term_value a x) (term_value a y)
-truth_of (CompareIf relation x y r) a = IsReified (Relates relation (term_value a x) (term_value a y)) (term_value a r)
-truth_of (Member x set) a = IsInSet set (term_value a x)
-truth_of (MemberIf x set r) a = IsReified (IsInSet set (term_value a x)) (term_value a r)
-truth_of (Sum relation ks ts c) a = Relates relation (weighted_sum ks (term_values a ts)) c
-truth_of (SumIf relation ks ts c r) a = IsReified (Relates relation (weighted_sum ks (term_values a ts)) c) (term_value a r)
-truth_of (Says all clause) a = TruthOfClause all clause a
-truth_of (Equals equation) a = EquationTruth equation a
-truth_of (Odd ts) a = count_by is_one (term_values a ts) % 2 ≡ 1
-truth_of (Select xs k c) a = IsElement (term_value a k) xs (term_value a c)
-truth_of (SelectTerm xs k c) a = IsElement (term_value a k) (term_values a xs) (term_value a c)
-truth_of (Row xs table) a = IsRowOf (term_values a xs) table
-truth_of (Differ xs) a = AreDifferent (term_values a xs)
-truth_of (DifferByBounds xs) a = AreDifferent (term_values a xs)
-truth_of (SumByNumbers ks ts c) a = weighted_sum ks (term_values a ts) ≡ c
-truth_of (Share ss dd us b) a = IsCumulative (tasks_of (term_values a ss) (term_values a dd) (term_values a us)) (term_value a b)
-truth_of (Other shape arguments) a = HoldsAs shape arguments a
-
--- where all terms of a parity but one are fixed, each assignment within the domains makes it odd
-abbrev pub IsOddLine : List Term → List (List (ℤ × ℤ)) → Type 0
-IsOddLine ts ds = (i : ℕ) → AreOthersFixed ds ts i → (a : List ℤ) → Within ds a → count_by is_one (term_values a ts) % 2 ≡ 1
+truth_of s a = (meaning_of s).truth a
 
 -- the line where its propagator rests
 abbrev pub line_of : Saying → List (List (ℤ × ℤ)) → Type 0
-line_of (Compare relation x y) ds = RestsAs relation (term_set ds x) (term_set ds y)
-line_of (CompareIf relation x y r) ds = RestsIf relation (term_set ds x) (term_set ds y) (term_set ds r)
-line_of (Member x set) ds = LiesIn (term_set ds x) set
-line_of (MemberIf x set r) ds = let d = term_set ds x in IsReifiedLine (LiesIn d set) (LiesOutside d set) (LiesIn d set) (LiesOutside d set) (term_set ds r)
-line_of (Sum relation ks ts c) ds = RestsSum relation ds ks ts c
-line_of (SumIf relation ks ts c r) ds = RestsSumIf relation ds ks ts c (term_set ds r)
-line_of (Says all clause) ds = IsClauseLine clause ds
-line_of (Equals equation) ds = IsEquationLine equation ds
-line_of (Odd ts) ds = IsOddLine ts ds
-line_of (Select xs k c) ds = AreMatched xs (term_set ds k) (term_set ds c)
-line_of (SelectTerm xs k c) ds = IsVariableElementLine xs k c ds
-line_of (Row xs table) ds = AreSupported xs table ds
-line_of (Differ xs) ds = AreApart xs ds
-line_of (DifferByBounds xs) ds = AreSpread xs ds
-line_of (SumByNumbers ks ts c) ds = RestsByNumbers (sets_of ds ts) ks ts c
-line_of (Share ss dd us b) ds = RestsCumulative (open_tasks ds ss dd us) (least (term_set ds b)) (greatest (term_set ds b))
-line_of (Other shape arguments) ds = RestsOnceFixed shape arguments ds
+line_of s ds = (meaning_of s).line ds
 
 -- its variables, with the changes that may break the line
 abbrev pub waits_of : Saying → List Wait
-waits_of (Compare relation x y) = waits_for (event_of relation) (x ∷ y ∷ [])
-waits_of (CompareIf relation x y r) = waits_for (reified_event relation) (x ∷ y ∷ []) ++ wait_for Any r
-waits_of (Member x set) = wait_for Fixed x
-waits_of (MemberIf x set r) = waits_for Any (x ∷ r ∷ [])
-waits_of (Sum relation ks ts c) = waits_for (sum_event_of relation ks) ts
-waits_of (SumIf relation ks ts c r) = waits_for Bound ts ++ wait_for Any r
-waits_of (Says all clause) = waits_for Fixed (clause_terms clause)
-waits_of (Equals equation) = equation_waits equation
-waits_of (Odd ts) = waits_for Fixed ts
-waits_of (Select xs k c) = waits_for Any (k ∷ c ∷ [])
-waits_of (SelectTerm xs k c) = variable_element_waits xs k c
-waits_of (Row xs table) = waits_for Any xs
-waits_of (Differ xs) = waits_for Fixed xs
-waits_of (DifferByBounds xs) = waits_for Bound xs
-waits_of (SumByNumbers ks ts c) = waits_for Any ts
-waits_of (Share ss dd us b) = waits_for Bound (terms_of_tasks ss dd us b)
-waits_of (Other shape arguments) = waits_for Fixed (terms_among arguments)
+waits_of s = (meaning_of s).waits
 
--- its terms
+-- its terms, and those that it takes for 0 or 1
 abbrev pub said_terms : Saying → List Term
-said_terms (Compare relation x y) = x ∷ y ∷ []
-said_terms (CompareIf relation x y r) = x ∷ y ∷ r ∷ []
-said_terms (Member x set) = x ∷ []
-said_terms (MemberIf x set r) = x ∷ r ∷ []
-said_terms (Sum relation ks ts c) = ts
-said_terms (SumIf relation ks ts c r) = r ∷ ts
-said_terms (Says all clause) = clause_terms clause
-said_terms (Equals equation) = equation_terms equation
-said_terms (Odd ts) = ts
-said_terms (Select xs k c) = k ∷ c ∷ []
-said_terms (SelectTerm xs k c) = k ∷ c ∷ xs
-said_terms (Row xs table) = xs
-said_terms (Differ xs) = xs
-said_terms (DifferByBounds xs) = xs
-said_terms (SumByNumbers ks ts c) = ts
-said_terms (Share ss dd us b) = terms_of_tasks ss dd us b
-said_terms (Other shape arguments) = terms_among arguments
+said_terms s = (meaning_of s).terms
 
--- the terms that it takes for 0 or 1
 abbrev pub truths_of : Saying → List Term
-truths_of (CompareIf relation x y r) = r ∷ []
-truths_of (MemberIf x set r) = r ∷ []
-truths_of (SumIf relation ks ts c r) = r ∷ []
-truths_of (Says all clause) = clause_terms clause
-truths_of (Odd ts) = ts
-truths_of says = []
+truths_of s = (meaning_of s).truths
+
+-- the class of its cost
+abbrev pub cost_of : Saying → Cost
+cost_of s = (meaning_of s).cost
 
 -- of a constraint
 abbrev pub Rests : Constraint → List (List (ℤ × ℤ)) → Type 0

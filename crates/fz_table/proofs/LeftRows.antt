@@ -10,10 +10,9 @@ use Rattle.fz_sets.specs.Sets.{IsInSet}
 use Rattle.fz_sets.proofs.Lists.{all_at}
 use Rattle.fz_spec.specs.declared.term.Term.{Term}
 use Rattle.fz_spec.specs.Constraints.{term_value, term_values}
-use Rattle.fz_strength.specs.Domains.{term_set, Within}
+use Rattle.fz_strength.specs.Domains.{term_set, Within, IsTermOf}
 use Rattle.fz_strength.specs.Events.{IsFixedIn}
 use Rattle.fz_strength.specs.Tables.{LieWithin, IsLeftRow, IsSupported}
-use Rattle.fz_prop.specs.Stores.{IsTermOf}
 use Rattle.fz_prop.proofs.TermChanges.{term_within}
 use Rattle.fz_column.specs.declared.supports.Support.{Support}
 use Rattle.fz_bits.specs.Members.{HasMember, words_for}

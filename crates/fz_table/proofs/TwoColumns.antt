@@ -6,12 +6,11 @@ use Rattle.fz_sets.specs.Sets.{IsInSet}
 use Rattle.fz_spec.specs.declared.term.Term.{Term}
 use Rattle.fz_spec.specs.Constraints.{term_value}
 use Rattle.fz_spec.specs.Truth.{IsRowOf}
-use Rattle.fz_strength.specs.Domains.{term_set, AreDomains, IsNarrower}
+use Rattle.fz_strength.specs.Domains.{term_set, AreDomains, IsNarrower, IsTermOf}
 use Rattle.fz_strength.specs.Events.{IsFixedIn}
 use Rattle.fz_strength.specs.Tables.{IsLeftRow, AreSupported}
 use Rattle.fz_prop.specs.Answers.{IsAnswerOf}
 use Rattle.fz_prop.specs.Outcomes.{rested_by}
-use Rattle.fz_prop.specs.Stores.{IsTermOf}
 use Rattle.fz_bits.specs.Words.{AreOnes}
 use Rattle.fz_bits.specs.Windows.{IsBit}
 use Rattle.fz_table.specs.declared.keep_pairs.Left.{Left}

@@ -3,7 +3,8 @@ ghost use Rattle.std.specs.Prelude.{◌≡◌, ◌<◌, ◌/◌, ℕ, length, If
 ghost use Rattle.std.specs.List.{AllByRecursion};
 ghost use Rattle.fz_strength.specs.Tables.{AreSupported};
 ghost use Rattle.fz_prop.specs.Answers.{IsAnswerOf, IsCorrectOf};
-ghost use Rattle.fz_prop.specs.Stores.{Shrinks, IsTermOf, IsChangeAt};
+ghost use Rattle.fz_strength.specs.Domains.{IsTermOf};
+ghost use Rattle.fz_prop.specs.Stores.{Shrinks, IsChangeAt};
 ghost use Rattle.fz_bits.specs.Members.{HasMember, words_for};
 ghost use Rattle.fz_column.specs.Supports.{AreSized, StandsIn, AreColumnsOf};
 ghost use Rattle.fz_table.specs.Rows.{IsRowAt, AreLeft, AreApart};

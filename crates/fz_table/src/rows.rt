@@ -2,7 +2,7 @@
 ghost use Rattle.std.specs.Prelude.{◌≡◌, ◌/◌, ◌<◌, ◌↔◌, length, IsTrue};
 ghost use Rattle.std.specs.List.{AllByRecursion};
 ghost use Rattle.fz_strength.specs.Events.{IsFixedIn};
-ghost use Rattle.fz_prop.specs.Stores.{IsTermOf};
+ghost use Rattle.fz_strength.specs.Domains.{IsTermOf};
 ghost use Rattle.fz_bits.specs.Members.{words_for};
 ghost use Rattle.fz_column.specs.Supports.{AreColumnsOf};
 ghost use Rattle.fz_table.specs.Rows.{AreLeft};

@@ -12,14 +12,14 @@ use Rattle.fz_dom.proofs.Ranges.{same_ranges}
 use Rattle.fz_spec.specs.declared.term.Term.{Term}
 use Rattle.fz_spec.specs.Constraints.{term_value, term_values}
 use Rattle.fz_spec.specs.Truth.{IsElement}
-use Rattle.fz_strength.specs.Domains.{term_set, AreDomains, Within, room}
+use Rattle.fz_strength.specs.Domains.{term_set, AreDomains, Within, room, IsTermOf}
 use Rattle.fz_strength.specs.Events.{IsOnly, AllFixed}
 use Rattle.fz_strength.specs.VariableElements.{StandsAt, IsMatch, IsVariableElementLine}
 use Rattle.fz_strength.proofs.Terms.{in_single}
 use Rattle.fz_strength.proofs.VariableElements.{element_value}
 use Rattle.fz_prop.specs.Answers.{IsAnswerOf, IsCorrectOf}
 use Rattle.fz_prop.specs.Outcomes.{rested_by}
-use Rattle.fz_prop.specs.Stores.{Stored, Shrinks, IsTermOf, FitsTerm, IsTermChange}
+use Rattle.fz_prop.specs.Stores.{Stored, Shrinks, FitsTerm, IsTermChange}
 use Rattle.fz_prop.proofs.Grown.{term_limits}
 use Rattle.fz_prop.proofs.Twice.{room_after}
 use Rattle.fz_prop.proofs.Filled.{term_ranges, still_only}

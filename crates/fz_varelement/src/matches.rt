@@ -3,9 +3,9 @@ ghost use Rattle.std.specs.Prelude.{◌≡◌, ◌↔◌, ℤ, ◌++◌, length,
 ghost use Rattle.std.specs.List.{AllByRecursion};
 ghost use Rattle.fz_sets.specs.Sets.{IsInSet};
 ghost use Rattle.fz_dom.specs.Shape.{IsDomain};
-ghost use Rattle.fz_strength.specs.Domains.{term_set};
+ghost use Rattle.fz_strength.specs.Domains.{term_set, IsTermOf};
 ghost use Rattle.fz_strength.specs.VariableElements.{IsMatch};
-ghost use Rattle.fz_prop.specs.Stores.{IsTermOf, FitsTerm};
+ghost use Rattle.fz_prop.specs.Stores.{FitsTerm};
 ghost use Rattle.fz_varelement.specs.Matching.{AreMatches, AreShared, IsMatchedAt, Has, AreWithin};
 
 use crate::numbers::{Matches, Numbers};

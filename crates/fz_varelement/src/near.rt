@@ -3,8 +3,8 @@ ghost use Rattle.std.specs.Prelude.{◌≡◌, ◌↔◌, ◌≤ℤ◌, ◌+ℤ�
 ghost use Rattle.std.specs.List.{AllByRecursion};
 ghost use Rattle.fz_bits.specs.Windows.{IsBit};
 ghost use Rattle.fz_sets.specs.Sets.{IsInSet};
-ghost use Rattle.fz_strength.specs.Domains.{term_set};
-ghost use Rattle.fz_prop.specs.Stores.{IsTermOf, FitsTerm};
+ghost use Rattle.fz_strength.specs.Domains.{term_set, IsTermOf};
+ghost use Rattle.fz_prop.specs.Stores.{FitsTerm};
 ghost use Rattle.fz_varelement.specs.Matching.{AreMatches, IsJoined, Has, HasRoom, AreWithin};
 
 use crate::numbers::{Matches, Numbers};

@@ -2,10 +2,10 @@
 ghost use Rattle.std.specs.Prelude.{ℤ, length, IfOk};
 ghost use Rattle.std.specs.List.{AllByRecursion};
 ghost use Rattle.fz_sets.specs.Sets.{IsInSet};
-ghost use Rattle.fz_strength.specs.Domains.{term_set};
+ghost use Rattle.fz_strength.specs.Domains.{term_set, IsTermOf};
 ghost use Rattle.fz_strength.specs.VariableElements.{IsVariableElementLine};
 ghost use Rattle.fz_prop.specs.Answers.{IsAnswerOf, IsCorrectOf};
-ghost use Rattle.fz_prop.specs.Stores.{Shrinks, IsTermOf, FitsTerm};
+ghost use Rattle.fz_prop.specs.Stores.{Shrinks, FitsTerm};
 ghost use Rattle.fz_varelement.specs.Matching.{IsChosen, AreAllMatched, AreMatches, IsNarrowed, Has, AreWithin};
 
 use crate::matches::{copy_of, matches_of};

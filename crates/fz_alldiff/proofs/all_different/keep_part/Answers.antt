@@ -1,5 +1,5 @@
 use Rattle.std.proofs.Common.{length}
-use Rattle.fz_prop.specs.Stores.{IsTermOf}
+use Rattle.fz_strength.specs.Domains.{IsTermOf}
 use Rattle.fz_alldiff.proofs.Between.{part_terms, whole_narrows}
 use Rattle.fz_alldiff.proofs.all_different.keep_part.Goals as goal
 

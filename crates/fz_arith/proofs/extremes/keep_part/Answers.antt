@@ -4,7 +4,7 @@ use Rattle.std.proofs.lemmas.Result.{IfOk-weaker}
 use Rattle.fz_strength.specs.Operations.{equation, EquationTruth, IsEquationLine}
 use Rattle.fz_prop.specs.declared.answer.Answer.{Answer}
 use Rattle.fz_prop.specs.Answers.{IsAnswerOf}
-use Rattle.fz_prop.specs.Stores.{IsTermOf}
+use Rattle.fz_strength.specs.Domains.{IsTermOf}
 use Rattle.fz_arith.proofs.Beaten.{IsPart, part_is, part_terms, part_correct, part_answer}
 use Rattle.fz_arith.proofs.extremes.keep_part.Goals as goal
 

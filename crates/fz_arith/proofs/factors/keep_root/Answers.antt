@@ -4,7 +4,8 @@ use Rattle.fz_dom.specs.Changes.{IsFromTo}
 use Rattle.fz_spec.specs.declared.term.Term.{Term}
 use Rattle.fz_spec.specs.declared.shape.Operation.TheVariants.{Times}
 use Rattle.fz_strength.specs.Operations.{equation}
-use Rattle.fz_prop.specs.Stores.{IsTermOf, IsTermChange}
+use Rattle.fz_strength.specs.Domains.{IsTermOf}
+use Rattle.fz_prop.specs.Stores.{IsTermChange}
 use Rattle.fz_arith.proofs.Sizing.{needs_root, kept_correct, all_help}
 use Rattle.fz_arith.proofs.factors.keep_root.Goals as goal
 

@@ -2,7 +2,7 @@ use Rattle.std.proofs.Common.{ℕ, arith, subst, sym}
 use Rattle.std.specs.List.{AllByRecursion}
 use Rattle.fz_dom.specs.declared.change.Change.{Change}
 use Rattle.fz_strength.specs.Operations.{equation}
-use Rattle.fz_prop.specs.Stores.{IsTermOf}
+use Rattle.fz_strength.specs.Domains.{IsTermOf}
 use Rattle.fz_prop.proofs.Twice.{shrinks_twice}
 use Rattle.fz_arith.specs.Narrowing.{IsDivided}
 use Rattle.fz_arith.proofs.Steps.{narrowing_first, narrowing_more, rested_answer}

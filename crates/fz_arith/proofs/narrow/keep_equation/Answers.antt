@@ -1,7 +1,7 @@
 use Rattle.std.proofs.Common.{ℕ, subst, sym}
 use Rattle.std.specs.List.{AllByRecursion}
 use Rattle.fz_strength.specs.Operations.{equation, EquationTruth}
-use Rattle.fz_prop.specs.Stores.{IsTermOf}
+use Rattle.fz_strength.specs.Domains.{IsTermOf}
 use Rattle.fz_prop.proofs.Answering.{correct_twice}
 use Rattle.fz_prop.proofs.Twice.{shrinks_twice}
 use Rattle.fz_arith.proofs.Helping.{answer_more}

@@ -3,7 +3,7 @@ use Rattle.std.specs.Prelude.{true}
 use Rattle.fz_sets.proofs.Lists.{all_at}
 use Rattle.fz_spec.specs.declared.term.Term.{Term}
 use Rattle.fz_strength.specs.Promises.{IsTruth}
-use Rattle.fz_prop.specs.Stores.{IsTermOf}
+use Rattle.fz_strength.specs.Domains.{IsTermOf}
 use Rattle.fz_prop.specs.Truths.{IsAbout}
 use Rattle.fz_prop.proofs.Settling.{settled_correct, settled_answer}
 use Rattle.fz_kept.proofs.Lasting.{odd_lasts}

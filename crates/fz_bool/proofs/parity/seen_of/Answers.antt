@@ -4,7 +4,7 @@ use Rattle.fz_spec.specs.declared.term.Term.{Term}
 use Rattle.fz_spec.specs.declared.term.Term.TheVariants.{Num}
 use Rattle.fz_strength.specs.Clauses.{IsTrueIn, IsUntrueIn}
 use Rattle.fz_bool.specs.Looks.{IsOpen}
-use Rattle.fz_prop.specs.Stores.{IsTermOf}
+use Rattle.fz_strength.specs.Domains.{IsTermOf}
 use Rattle.fz_sets.proofs.Lists.{all_at}
 use Rattle.fz_bool.proofs.Odd.{at_place, SeenSoFar, true_next, false_next, open_next_term, two_terms, all_seen, last_seen}
 use Rattle.fz_bool.proofs.parity.seen_of.Goals.{in-True-default, in-False-default, in-Open-None}

@@ -2,7 +2,7 @@ use Rattle.std.proofs.Common.{length, refl, rules}
 use Rattle.std.proofs.Math.Facts.{to_z-of_z}
 use mir.Val.{SFits}
 use mir.Syntax.{w32}
-use Rattle.fz_prop.specs.Stores.{IsTermOf}
+use Rattle.fz_strength.specs.Domains.{IsTermOf}
 use Rattle.fz_strength.proofs.Cumulatives.{all_of_tasks}
 use Rattle.fz_cumulative.proofs.Energies.{never_overdrawn}
 use Rattle.fz_cumulative.proofs.energy.lacks_energy.Goals as goal

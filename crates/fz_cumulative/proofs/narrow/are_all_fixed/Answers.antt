@@ -1,5 +1,5 @@
 use Rattle.std.proofs.Common.{length}
-use Rattle.fz_prop.specs.Stores.{IsTermOf}
+use Rattle.fz_strength.specs.Domains.{IsTermOf}
 use Rattle.fz_strength.proofs.Cumulatives.{all_of_tasks}
 use Rattle.fz_cumulative.proofs.narrow.are_all_fixed.Goals as goal
 

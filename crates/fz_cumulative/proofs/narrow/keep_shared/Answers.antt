@@ -8,7 +8,8 @@ use Rattle.fz_strength.specs.declared.open_task.OpenTask.{OpenTask}
 use Rattle.fz_strength.proofs.Cumulatives.{all_of_tasks}
 use Rattle.fz_prop.specs.Answers.{IsAnswerOf}
 use Rattle.fz_prop.specs.Outcomes.{rested_by}
-use Rattle.fz_prop.specs.Stores.{Stored, IsTermOf}
+use Rattle.fz_strength.specs.Domains.{IsTermOf}
+use Rattle.fz_prop.specs.Stores.{Stored}
 use Rattle.fz_prop.proofs.Steps.{same_shrinks}
 use Rattle.fz_cumulative.specs.Cumulatives.{AreTermsOf, TasksShare, TasksRest}
 use Rattle.fz_cumulative.specs.Outcomes.{AreStarts}

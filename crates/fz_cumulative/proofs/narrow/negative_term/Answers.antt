@@ -1,5 +1,5 @@
 use Rattle.std.proofs.Common.{length}
-use Rattle.fz_prop.specs.Stores.{IsTermOf}
+use Rattle.fz_strength.specs.Domains.{IsTermOf}
 use Rattle.fz_strength.proofs.Cumulatives.{all_of_tasks}
 use Rattle.fz_cumulative.proofs.Stepping.{place_of, bound_raised, duration_raised, usage_raised}
 use Rattle.fz_cumulative.proofs.narrow.negative_term.Goals as goal

@@ -3,8 +3,8 @@ use Rattle.std.proofs.Math.Facts.{to_z-of_z}
 use mir.Val.{SFits}
 use mir.Syntax.{w128}
 use Rattle.fz_spec.specs.declared.term.Term.TheVariants.{Num}
-use Rattle.fz_strength.specs.Domains.{Within}
-use Rattle.fz_prop.specs.Stores.{Stored, IsTermOf}
+use Rattle.fz_strength.specs.Domains.{Within, IsTermOf}
+use Rattle.fz_prop.specs.Stores.{Stored}
 use Rattle.fz_prop.proofs.Twice.{shrinks_twice}
 use Rattle.fz_cumulative.proofs.FreeStarts.{start_inside, held_at, term_of, kept_passed, kept_free, kept_fails, kept_more}
 use Rattle.fz_cumulative.proofs.starting.keep_starts.Goals as goal

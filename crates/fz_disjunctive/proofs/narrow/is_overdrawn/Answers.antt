@@ -1,6 +1,6 @@
 use Rattle.std.proofs.Common.{length}
 use Rattle.fz_strength.proofs.Cumulatives.{all_of_tasks}
-use Rattle.fz_prop.specs.Stores.{IsTermOf}
+use Rattle.fz_strength.specs.Domains.{IsTermOf}
 use Rattle.fz_disjunctive.proofs.narrow.is_overdrawn.Goals as goal
 
 pub open_tasks-requires-clause-durations : goal.open_tasks-requires-clause-durations

@@ -2,7 +2,7 @@ use Rattle.std.proofs.Common.{rules, length, SFits}
 use Rattle.std.proofs.Math.Facts.{to_z-of_z}
 use mir.Syntax.{w32}
 use Rattle.fz_strength.proofs.Cumulatives.{all_of_tasks}
-use Rattle.fz_prop.specs.Stores.{IsTermOf}
+use Rattle.fz_strength.specs.Domains.{IsTermOf}
 use Rattle.fz_disjunctive.proofs.Shared.{IsShop, shop_of, shop_places, shop_correct, shop_outcome, shop_fails}
 use Rattle.fz_disjunctive.proofs.narrow.keep_order.Goals as goal
 

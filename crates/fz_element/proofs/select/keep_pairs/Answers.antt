@@ -1,6 +1,6 @@
 use Rattle.std.proofs.Common.{subst, sym, refl}
-use Rattle.fz_strength.specs.Domains.{Within}
-use Rattle.fz_prop.specs.Stores.{Stored, IsTermOf}
+use Rattle.fz_strength.specs.Domains.{Within, IsTermOf}
+use Rattle.fz_prop.specs.Stores.{Stored}
 use Rattle.fz_prop.proofs.Twice.{shrinks_twice}
 use Rattle.fz_element.specs.Selecting.{Has}
 use Rattle.fz_element.proofs.Keeping.{correct_once, correct_twice, fails_at_index, fails_at_number, matched_now, rested_answer, falls_twice}

@@ -1,7 +1,6 @@
 use Rattle.std.proofs.Common.{◌≡◌, ◌∙◌, ℕ, List, ◌++◌, ◌∷◌, [], sym, ap, subst, length}
 use Rattle.std.proofs.lemmas.List.{length-map}
-use Rattle.fz_strength.specs.Costs.{cost_of}
-use Rattle.fz_strength.specs.Sayings.{Saying}
+use Rattle.fz_strength.specs.Sayings.{Saying, cost_of}
 use Rattle.fz_says.specs.Said.{said_by}
 use Rattle.fz_propagators.specs.Forms.{said_of}
 use Rattle.fz_agenda.specs.Wakes.{Waking, HaveSize, with_cost, IsIndexedAt}

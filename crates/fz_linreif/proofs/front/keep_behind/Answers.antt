@@ -9,7 +9,8 @@ use Rattle.fz_spec.specs.declared.term.Term.{Term}
 use Rattle.fz_prop.specs.declared.answer.Answer.{Answer}
 use Rattle.fz_prop.specs.Answers.{IsAnswerOf}
 use Rattle.fz_prop.specs.Truths.{TruthWith, LineWith}
-use Rattle.fz_prop.specs.Stores.{FitsTerm, IsTermOf}
+use Rattle.fz_strength.specs.Domains.{IsTermOf}
+use Rattle.fz_prop.specs.Stores.{FitsTerm}
 use Rattle.fz_linear.specs.Terms.{AreTermsOf}
 use Rattle.fz_linear.specs.Precisions.{Allows}
 use Rattle.fz_linear.specs.Sums.{SumTruth}

@@ -10,7 +10,7 @@ use Rattle.fz_sets.specs.Sets.{IsInSet, IsWithinLimits, LEAST, GREATEST}
 use Rattle.fz_bits.specs.Windows.{IsBit}
 use Rattle.fz_dom.specs.Shape.{IsDomain}
 use Rattle.fz_dom.proofs.Kept.{limits_of}
-use Rattle.fz_strength.proofs.Truths.{in_single, is_single}
+use Rattle.fz_strength.proofs.Terms.{in_single, is_single}
 use Rattle.fz_prop.proofs.terms.window_of.Goals as goal
 
 -- a window of what isn't moved has its numbers

@@ -1,6 +1,6 @@
 use Rattle.std.proofs.Common.{rules}
 use Rattle.fz_strength.specs.Domains.{term_set}
-use Rattle.fz_strength.specs.Lines.{LiesOutside}
+use Rattle.fz_strength.specs.Memberships.{LiesOutside}
 use Rattle.fz_rel.proofs.Shown.{shown_outside}
 use Rattle.fz_rel.proofs.seen.are_apart.Goals as goal
 

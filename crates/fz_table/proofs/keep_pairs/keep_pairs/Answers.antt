@@ -2,8 +2,8 @@ use Rattle.std.proofs.Common.{subst, sym, refl}
 use Rattle.std.specs.Prelude.{ℤ}
 use Rattle.fz_bits.specs.Windows.{IsBit}
 use Rattle.fz_spec.specs.Constraints.{term_value}
-use Rattle.fz_strength.specs.Domains.{Within}
-use Rattle.fz_prop.specs.Stores.{Stored, IsTermOf}
+use Rattle.fz_strength.specs.Domains.{Within, IsTermOf}
+use Rattle.fz_prop.specs.Stores.{Stored}
 use Rattle.fz_prop.proofs.Twice.{shrinks_twice}
 use Rattle.fz_table.specs.Partners.{IsRowOfTwo}
 use Rattle.fz_table.proofs.Coupling.{MatchLeft, correct_once, correct_twice, fails_at_first, fails_at_second, matched_now, falls_twice}

@@ -5,9 +5,9 @@ use Rattle.std.proofs.lemmas.Result.{IfOk-weaker}
 use mir.Val.{SFits}
 use Rattle.fz_sets.specs.Sets.{IsInSet}
 use Rattle.fz_dom.specs.Shape.{IsDomain}
-use Rattle.fz_strength.specs.Domains.{term_set}
+use Rattle.fz_strength.specs.Domains.{term_set, IsTermOf}
 use Rattle.fz_strength.specs.VariableElements.{StandsAt, IsMatch}
-use Rattle.fz_prop.specs.Stores.{IsTermOf, FitsTerm}
+use Rattle.fz_prop.specs.Stores.{FitsTerm}
 use Rattle.fz_varelement.specs.Matching.{AreShared, IsMatchedAt}
 use Rattle.fz_varelement.proofs.Matching.{stands_of, match_is}
 use Rattle.fz_varelement.proofs.matches.match_at.Goals as goal

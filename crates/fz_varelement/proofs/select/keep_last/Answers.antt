@@ -6,9 +6,9 @@ use mir.Val.{SFits}
 use mir.Syntax.{w32}
 use Rattle.fz_sets.specs.Sets.{IsInSet}
 use Rattle.fz_dom.specs.declared.change.Change.{Change}
-use Rattle.fz_strength.specs.Domains.{term_set}
+use Rattle.fz_strength.specs.Domains.{term_set, IsTermOf}
 use Rattle.fz_strength.specs.VariableElements.{StandsAt}
-use Rattle.fz_prop.specs.Stores.{IsTermOf, IsTermChange}
+use Rattle.fz_prop.specs.Stores.{IsTermChange}
 use Rattle.fz_varelement.specs.Matching.{IsChosen, IsNarrowed}
 use Rattle.fz_varelement.proofs.Matching.{stands_of}
 use Rattle.fz_varelement.proofs.Narrowing.{AreTermsOf, needs_last, step_correct_of, no_last, some_stands, last_narrowed}

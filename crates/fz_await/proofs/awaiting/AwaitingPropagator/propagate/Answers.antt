@@ -3,7 +3,7 @@ use Rattle.std.specs.List.{AllByRecursion}
 use Rattle.fz_spec.specs.Signatures.{shape_of}
 use Rattle.fz_strength.specs.Events.{AllFixed}
 use Rattle.fz_spec.specs.Constraints.{terms_among}
-use Rattle.fz_prop.specs.Stores.{IsTermOf}
+use Rattle.fz_strength.specs.Domains.{IsTermOf}
 use Rattle.fz_prop.proofs.Steps.{same_shrinks}
 use Rattle.fz_await.proofs.Waiting.{always_true, never_true}
 use Rattle.fz_await.proofs.awaiting.AwaitingPropagator.propagate.Goals as goal
