@@ -14,11 +14,11 @@ use Rattle.fz_prop.specs.Stores.{Stored, IsStore, IsListed, IsTaken, mark_at, wi
 use Rattle.fz_agenda.specs.declared.watches.Watch.{Watch}
 use Rattle.fz_agenda.specs.Agendas.{IsSettled, AreWoken}
 use Rattle.fz_agenda.specs.Queues.{Lineup, IsWoken}
-use Rattle.fz_agenda.specs.Wakes.{Waking, waiting_at, watches_at, watch, IsListedAt, IsIndexOf, HaveSize, HasVariable, Extends, AllAwake, AreWatchersAwake, AreWatchesOf, Heeds, IsCalled, IsDraining}
+use Rattle.fz_agenda.specs.Wakes.{Waking, waiting_at, watches_at, watch, IsListedAt, IsIndexOf, HaveSize, HasVariable, Extends, AllAwake, AreWatchersAwake, Heeds, IsCalled, IsDraining}
 use Rattle.fz_agenda.specs.Watches.{IsSeen, steady_waits}
 use Rattle.fz_agenda.proofs.Settled.{may_be_taken}
 use Rattle.fz_agenda.proofs.Waking.{later}
-use Rattle.fz_agenda.proofs.Woken.{one_awake, same_woken, woken_twice, woken_by_more, settled_woken}
+use Rattle.fz_agenda.proofs.Woken.{one_awake, woken_twice, woken_by_more, settled_woken}
 
 -- an idle one waits for no change up to the level
 above : (w : Waking) (event : Event) (states : List ℕ) (v n i : ℕ) → AllAwake w v n states → IsListed (waiting_at w event v) i → i < length states → slice_index states i ≡ 0 → n < level event
@@ -72,12 +72,6 @@ are_woken sayings w states s v index size awake watching = λ i saying is idle.
 pub record IsUnderWay (w : Waking) (s : Stored) (l : Lineup) (t : Stored) (m : Lineup) : Type 0 where
   pub draining : IsDraining w s l t m
   pub marks : (v : ℕ) → mark_at t v ≤ mark_at s v
-
-pub draining_start : (w : Waking) (s : Stored) (l : Lineup) → IsStore s → IsUnderWay w s l s l
-draining_start w s l store = record {
-  draining = record { store = store; doms = refl; woken = same_woken (IsCalled w s) w.costs l; settled = λ sayings index settled. settled; still = λ none. (refl, refl) };
-  marks = λ v. omega arith;
-}
 
 something : (s t : Stored) (v : ℕ) (rest : List ℕ) → t.changed ≡ v ∷ rest → s.changed ≡ [] → t ≡ s → ⊥
 something s t v rest is none same = let e : v ∷ rest ≡ [] = sym is ∙ (ap (λ (u : Stored). u.changed) same ∙ none) in cc
@@ -141,12 +135,6 @@ has_variable w n v size below = record {
   fixed = omega (arith, size.fixed, below);
   watches = omega (arith, size.watches, below);
 }
-
--- the terms of those that look at one variable for a while
-pub watches_of : (n v : ℕ) (lists : List (List Watch)) → AllByRecursion (AreWatchesOf n) lists → AreWatchesOf n (slice_index_or lists v [])
-watches_of n v [] all = tt
-watches_of n zero (es ∷ lists) all = all.0
-watches_of n (suc v) (es ∷ lists) all = watches_of n v lists all.1
 
 -- ---- one more in a list
 

@@ -1,6 +1,6 @@
 -- Whoever is queued stands in one queue.
 use Rattle.std.proofs.Common.{◌≡◌, ◌⊎◌, inl, inr, ℕ, zero, suc, ◌+◌, ◌<◌, ◌≤◌, List, [], ◌∷◌, ◌++◌, refl, sym, ◌∙◌, ap, subst, arith, length, Bool, true, false, cond, nat_eq, get_or-set_same, get_or-set_other}
-use Rattle.std.specs.Prelude.{◌↔◌, IsTrue, Option, Some, None, MatchOption, slice_index, slice_index_or, slice_set}
+use Rattle.std.specs.Prelude.{Option, Some, None, MatchOption, slice_index, slice_index_or, slice_set}
 use Rattle.std.specs.List.{concat}
 use Rattle.std.proofs.lemmas.Bool.{cases_eq, eq-eqb, ne_eqb}
 use Rattle.std.proofs.lemmas.List.{length-set}
@@ -42,9 +42,6 @@ times_more i p (suc c) (q ∷ qs) within =
     let now : times i (q ++ concat after) ≡ times i q + times i (concat after) = sum_by-append (counts_same i) q (concat after) in
     let was : times i (q ++ concat qs) ≡ times i q + times i (concat qs) = sum_by-append (counts_same i) q (concat qs) in
     omega (arith, now, was, rest)
-
-pub by_true : (b : Bool) (P : Type 0) → (IsTrue b ↔ P) → b ≡ true → P
-by_true b P test h = test.0 h
 
 -- ---- one that is idle is queued
 

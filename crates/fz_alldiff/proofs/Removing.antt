@@ -15,7 +15,6 @@ use Rattle.fz_prop.specs.Answers.{IsCorrectOf}
 use Rattle.fz_prop.specs.Stores.{Stored, Shrinks, IsTermChange}
 use Rattle.fz_prop.proofs.TermChanges.{term_within, narrower_term, only_in, within_kept, kept_term, none_kept}
 use Rattle.fz_prop.proofs.Twice.{shrinks_twice}
-use Rattle.fz_prop.proofs.Steps.{same_shrinks}
 use Rattle.fz_alldiff.specs.Differing.{IsDifferent, AreNeverDifferent, IsOnlyAt, IsDone, IsOutside}
 
 -- ---- two places have different numbers
@@ -49,20 +48,6 @@ pub record IsRemoving (xs : List Term) (done : List Bool) (n : ℤ) (i : ℕ) (r
   pub shrinks : Shrinks r s
   pub correct : IsCorrectOf (IsDifferent xs) r.doms s.doms
   pub outside : (j : ℕ) (y : Term) → j < k → i ≢ j → (IsDone done j → ⊥) → slice_get xs j ≡ Some y → IsInSet (term_set s.doms y) n → ⊥
-
-pub removing_none : (xs : List Term) (done : List Bool) (n : ℤ) (i : ℕ) (s : Stored) → IsRemoving xs done n i s s 0
-removing_none xs done n i s = record { shrinks = same_shrinks s; correct = λ a all within. within; outside = λ j y below. absurd (omega (arith, below)) }
-
--- a place is passed that is done, or that is the number's own
-pub removing_passed : (xs : List Term) (done : List Bool) (n : ℤ) (i : ℕ) (r s : Stored) (k : ℕ) → (i ≢ k → IsDone done k) → IsRemoving xs done n i r s k → IsRemoving xs done n i r s (k + 1)
-removing_passed xs done n i r s k passed h = record {
-  shrinks = h.shrinks;
-  correct = h.correct;
-  outside = λ j y below other undone at is. elim (cases_eq j k) [
-    | inl e ↦ undone (subst (IsDone done) (sym e) (passed (λ same. other (same ∙ sym e))))
-    | inr ne ↦ h.outside j y (omega (arith, below, ne)) other undone at is
-  ];
-}
 
 -- a place keeps its other numbers
 pub removing_more : (change : Change) (xs : List Term) (done : List Bool) (n : ℤ) (i : ℕ) (r s t : Stored) (k : ℕ) (y : Term) → AllByRecursion (IsTermOf (length r.doms)) xs

@@ -1,10 +1,9 @@
 -- Clearing one fixed place after the other.
-use Rattle.std.proofs.Common.{◌≡◌, ◌<◌, ℕ, zero, suc, List, [], ◌∷◌, refl, sym, subst, ◌∙◌, ap, arith, length, inl, inr, true, false, cond, replicate, get_or, get_or-set_other}
+use Rattle.std.proofs.Common.{◌≡◌, ◌<◌, ℕ, suc, List, [], ◌∷◌, refl, sym, subst, ◌∙◌, arith, length, inl, inr, true, false, cond, get_or-set_other}
 use Rattle.std.specs.Prelude.{ℤ, Bool, slice_set, sum_by}
 use Rattle.std.specs.List.{AllByRecursion}
 use Rattle.std.proofs.lemmas.Bool.{cases_eq}
 use Rattle.std.proofs.lemmas.List.{length-set}
-use Rattle.std.proofs.lemmas.List.Sums.{sum_by-set}
 use Rattle.std.proofs.lemmas.Option.{slice_get_within, slice_get_cases}
 use Rattle.fz_spec.specs.declared.term.Term.{Term}
 use Rattle.fz_spec.specs.Constraints.{term_value}
@@ -18,7 +17,6 @@ use Rattle.fz_prop.specs.Outcomes.{rested_by}
 use Rattle.fz_prop.specs.Stores.{Stored, Shrinks}
 use Rattle.fz_prop.proofs.TermChanges.{term_within, only_in}
 use Rattle.fz_prop.proofs.Twice.{shrinks_twice}
-use Rattle.fz_prop.proofs.Steps.{same_shrinks}
 use Rattle.fz_alldiff.specs.Differing.{IsDifferent, AreNeverDifferent, IsFixedPlace, IsDone, IsCleared, AreCleared}
 use Rattle.fz_alldiff.proofs.Clearing.{cleared_still}
 
@@ -37,24 +35,6 @@ pub record IsClearing (xs : List Term) (r s : Stored) (done : List Bool) : Type 
   pub correct : IsCorrectOf (IsDifferent xs) r.doms s.doms
   pub cleared : AreCleared xs s.doms done
 
-none_done : (n i : ℕ) → IsDone (replicate n false) i → ⊥
-none_done zero i is = cc (is)
-none_done (suc n) zero is = cc (is)
-none_done (suc n) (suc i) is = none_done n i is
-
-length_of : (n : ℕ) → length (replicate n false) ≡ n
-length_of zero = refl
-length_of (suc n) = ap suc (length_of n)
-
-pub clearing_none : (xs : List Term) (s : Stored) → AreDomains s.doms → IsClearing xs s s (replicate (length xs) false)
-clearing_none xs s domains = record {
-  size = length_of (length xs);
-  domains = domains;
-  shrinks = same_shrinks s;
-  correct = λ a all within. within;
-  cleared = λ i is. absurd (none_done (length xs) i is);
-}
-
 pub terms_still : (xs : List Term) (ds es : List (List (ℤ × ℤ))) → IsNarrower ds es → AllByRecursion (IsTermOf (length ds)) xs → AllByRecursion (IsTermOf (length es)) xs
 terms_still xs ds es narrower terms = subst (λ (n : ℕ). AllByRecursion (IsTermOf n) xs) (sym narrower.size) terms
 
@@ -71,14 +51,6 @@ clearing_more xs r s t done i terms domains shrinks correct cleared so_far = rec
         (so_far.cleared j (sym (get_or-set_other done i j true false ne) ∙ is))
   ];
 }
-
-pub fewer_open : (done : List Bool) (i : ℕ) → i < length done → (IsDone done i → ⊥) → open_places (slice_set done i true) < open_places done
-fewer_open done i inside open_ =
-    let h = sum_by-set undone done i true false inside in
-    elim (get_or done i false) as (λ b. get_or done i false ≡ b → sum_by undone (slice_set done i true) < sum_by undone done) [
-      | true ↦ λ is. absurd (open_ is)
-      | false ↦ λ is. let one : undone (get_or done i false) ≡ 1 = ap undone is in omega (arith, h, one)
-    ] refl
 
 -- the rest fails
 pub fails : (xs : List Term) (r s : Stored) (done : List Bool) → IsClearing xs r s done → AreNeverDifferent xs s.doms → AreNeverDifferent xs r.doms

@@ -1,5 +1,5 @@
 -- Fixed places whose numbers leave all others at once.
-use Rattle.std.proofs.Common.{◌≡◌, ◌≢◌, ◌⊎◌, ◌-◌, ◌<◌, ◌≤◌, ℕ, ◌+◌, zero, suc, ℤ, pos, ◌<ℤ◌, List, [], ◌∷◌, ◌++◌, refl, sym, subst, ◌∙◌, ap, arith, length, take, inl, inr, true, false}
+use Rattle.std.proofs.Common.{◌≡◌, ◌≢◌, ◌⊎◌, ◌-◌, ◌<◌, ◌≤◌, ℕ, ◌+◌, zero, suc, ℤ, pos, ◌<ℤ◌, List, [], ◌∷◌, ◌++◌, refl, sym, subst, ◌∙◌, ap, arith, length, inl, inr, true, false}
 use Rattle.std.specs.Prelude.{Bool, slice_get, slice_index_or, Some}
 use Rattle.std.specs.List.{AllByRecursion, Contains}
 use Rattle.std.specs.List.Sorted.{IsPermutation}
@@ -21,7 +21,7 @@ use Rattle.fz_sets.proofs.Lists.{all_at}
 use Rattle.fz_prop.specs.Answers.{IsCorrectOf}
 use Rattle.fz_prop.specs.Stores.{Stored, Shrinks, IsTermChange}
 use Rattle.fz_prop.proofs.Filled.{still_only}
-use Rattle.fz_prop.proofs.TermChanges.{term_within, narrower_term, only_in, within_kept, kept_term, none_kept}
+use Rattle.fz_prop.proofs.TermChanges.{narrower_term, only_in, within_kept, kept_term}
 use Rattle.fz_prop.proofs.Twice.{shrinks_twice}
 use Rattle.fz_prop.proofs.Steps.{same_shrinks}
 use Rattle.fz_alldiff.specs.Differing.{AreCleared, AreNeverDifferent, IsDifferent, IsDone, IsFixedPlace, IsOnlyAt}
@@ -35,9 +35,6 @@ use Rattle.fz_alldiff.proofs.Removing.{has_other}
 pub record AreListed (xs : List Term) (ds : List (List (ℤ × ℤ))) (es : List (ℤ × ℕ)) (k : ℕ) : Type 0 where
   pub each : (i : ℕ) (n : ℤ) → i < k → IsOnlyAt xs ds i n → Contains es (n, i)
   pub only : AllByRecursion (λ (e : ℤ × ℕ). IsOnlyAt xs ds e.1 e.0) es
-
-pub listed_none : (xs : List Term) (ds : List (List (ℤ × ℤ))) → AreListed xs ds [] 0
-listed_none xs ds = record { each = λ i n below. absurd (omega (arith, below)); only = tt }
 
 all_more : (P : ℤ × ℕ → Type 0) (es : List (ℤ × ℕ)) (e : ℤ × ℕ) → AllByRecursion P es → P e → AllByRecursion P (es ++ e ∷ [])
 all_more P [] e all is = (is, tt)
@@ -138,11 +135,6 @@ keeping_more change t es e r s u h not shrinks is = record {
   outside = λ n here. let k = kept_term change t (λ x. x ≢ e.0) s u h not n here in all_more (λ (f : ℤ × ℕ). n ≢ f.0) es e (is.outside n k.0) k.1;
 }
 
-pub keeping_wiped : (t : Term) (es : List (ℤ × ℕ)) (e : ℤ × ℕ) (r s u : Stored) → IsTermOf (length r.doms) t → IsTermChange Wiped t (λ x. x ≢ e.0) s u → IsKeeping t es r s → (a : List ℤ) → Within r.doms a → IsFreeOf (es ++ e ∷ []) (term_value a t) → ⊥
-keeping_wiped t es e r s u term h is a within free =
-    let f = free_split es e (term_value a t) free in
-    none_kept t (λ x. x ≢ e.0) s u h (term_value a t) (term_within s.doms a t (subst (λ (m : ℕ). IsTermOf m t) (sym is.shrinks.narrower.size) term) (is.within a within f.0)) f.1
-
 -- ---- all terms
 
 pub record IsSettling (xs : List Term) (es : List (ℤ × ℕ)) (done : List Bool) (r s : Stored) (k : ℕ) : Type 0 where
@@ -236,9 +228,6 @@ pub record AreFlags (xs : List Term) (ds : List (List (ℤ × ℤ))) (done : Lis
   pub fixed : (i : ℕ) → IsDone done i → IsFixedPlace xs ds i
   pub each : (i : ℕ) → i < k → IsFixedPlace xs ds i → IsDone done i
 
-pub flags_none : (xs : List Term) (ds : List (List (ℤ × ℤ))) → AreFlags xs ds [] 0
-flags_none xs ds = record { size = refl; fixed = λ i is. absurd (cc is); each = λ i below. absurd (omega (arith, below)) }
-
 done_more : (done : List Bool) (b : Bool) (i : ℕ) → IsDone (done ++ b ∷ []) i → IsDone done i ⊎ ((i ≡ length done) × (b ≡ true))
 done_more [] b zero is = inr (refl, is)
 done_more [] b (suc i) is = absurd (cc is)
@@ -272,9 +261,3 @@ flags_more xs ds done k t b at only back is = record {
     | inr ne ↦ done_before done b i (is.each i (omega (arith, below, ne)) here)
   ];
 }
-
-pub free_take : (es : List (ℤ × ℕ)) (k : ℕ) (n : ℤ) → IsFreeOf es n → IsFreeOf (take k es) n
-free_take [] zero n free = tt
-free_take [] (suc k) n free = tt
-free_take (e ∷ es) zero n free = tt
-free_take (e ∷ es) (suc k) n free = (free.0, free_take es k n free.1)

@@ -1,7 +1,7 @@
 -- The ends of terms, one after the other.
 use Rattle.std.proofs.Common.{◌≡◌, ℕ, zero, suc, ◌<◌, List, [], ◌∷◌, refl, arith, length, map, take}
 use Rattle.std.specs.Prelude.{ℤ, pos, negsuc, neg_ℤ, ◌≤ℤ◌, slice_index_or}
-use Rattle.std.specs.Int.{int_min, int_max}
+use Rattle.std.specs.Int.{int_min}
 use Rattle.std.specs.List.{fold}
 use Rattle.std.proofs.lemmas.Int.{ints, clamps}
 use Rattle.fz_dom.specs.Shape.{IsDomain, least, greatest}
@@ -14,9 +14,6 @@ pub fold_mapped : {X : Type 0} (f : ℤ → ℤ → ℤ) (g : X → ℤ) (a : �
 fold_mapped f g a [] i d within = absurd (omega (arith, within))
 fold_mapped f g a (t ∷ ts) zero d within = refl
 fold_mapped f g a (t ∷ ts) (suc i) d within = fold_mapped f g (f a (g t)) ts i d (omega (arith, within))
-
-pub max_turned : (x y : ℤ) → int_max x y ≡ int_max y x
-max_turned x y = omega (arith, ints, clamps)
 
 -- ---- the least size of a number of a set
 

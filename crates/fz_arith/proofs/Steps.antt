@@ -26,7 +26,6 @@ use Rattle.fz_strength.proofs.Clauses.{all_unmap}
 use Rattle.fz_sets.proofs.Lists.{all_at}
 use Rattle.fz_strength.proofs.Terms.{AreQuietAt, quiet_self}
 use Rattle.fz_strength.proofs.OperationLaws.{bounds_terms, equation_kept, equation_alone}
-use Rattle.fz_prop.specs.declared.answer.Answer.TheVariants.{NoFix}
 use Rattle.fz_prop.specs.Answers.{IsAnswerOf, IsCorrectOf}
 use Rattle.fz_prop.specs.Stores.{Stored, Shrinks, IsChangeAt, IsTermChange}
 use Rattle.fz_prop.proofs.Answering.{correct_twice}
@@ -233,12 +232,3 @@ pub rested_line : (fixed : Bool) (e : Equation) (s : Stored) → AllByRecursion 
     → IsAnswerOf (rested_by fixed) (EquationTruth e) (IsEquationLine e) s.doms s.doms
 rested_line false e s are line told = line
 rested_line true e s are line told = subsumed e s.doms are (told.0 refl) line
-
--- where something left, there is less room
-pub changed_answer : (e : Equation) (r s : Stored) (n : ℕ) (changed : Bool) → IsNarrowing e r s n changed → changed ≡ true → IsAnswerOf NoFix (EquationTruth e) (IsEquationLine e) r.doms s.doms
-changed_answer e r s n true h is = h.steps
-changed_answer e r s n false h is = absurd (cc (is))
-
--- a term has no number between its bounds
-pub failed_now : (e : Equation) (r s t : Stored) (i : ℕ) (changed : Bool) → IsNarrowing e r s i changed → IsStep Wiped e i s t → (a : List ℤ) → Within r.doms a → EquationTruth e a → ⊥
-failed_now e r s t i changed h step = λ a within holds. step a (h.correct a holds within) holds

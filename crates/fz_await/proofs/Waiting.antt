@@ -13,10 +13,6 @@ use Rattle.fz_prop.specs.declared.answer.Answer.TheVariants.{Subsumed, Failed}
 use Rattle.fz_spec.proofs.Agreeing.{truth_agrees}
 use Rattle.fz_await.proofs.Values.{fixed_agree}
 
--- where some term isn't fixed
-pub still_waits : (shape : Shape) (arguments : List Argument) (ds : List (List (ℤ × ℤ))) → (AllFixed ds (terms_among arguments) → ⊥) → line_of (Other shape arguments) ds
-still_waits shape arguments ds unfixed = λ fixed a within. absurd (unfixed fixed)
-
 -- where all are, one assignment within the domains speaks for all
 one_for_all : (shape : Shape) (arguments : List Argument) (ds : List (List (ℤ × ℤ))) (a b : List ℤ) → AllByRecursion (IsTermOf (length ds)) (terms_among arguments)
     → AllFixed ds (terms_among arguments) → Within ds a → Within ds b → HoldsAs shape arguments a → HoldsAs shape arguments b

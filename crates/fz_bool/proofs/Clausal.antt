@@ -85,10 +85,6 @@ open_line ls r ds unfixed among = record {
   false_if_none = λ none. absurd (among.1 (all_fixed_of_untrue ds ls none));
 }
 
--- two open literals aren't all fixed
-pub two_not_fixed : (ls : List Literal) (ds : List (List (ℤ × ℤ))) → HasTwoOpen ds ls → AreFixedLiterals ds ls → ⊥
-two_not_fixed ls ds two fixed = two.one_open (all_at (λ (l : Literal). IsFixedIn ds l.term) ls two.first two.one fixed two.at_first)
-
 -- ---- the result is true
 
 pub held_answer : (ls : List Literal) (r : Literal) (ds : List (List (ℤ × ℤ))) → AreLiteralsOf ds ls → IsLiteralOf ds r → IsTrueIn ds r → SomeByRecursion (IsTrueIn ds) ls

@@ -4,16 +4,15 @@ use Rattle.std.specs.Prelude.{ℤ, Some, slice_get}
 use Rattle.fz_sets.proofs.Lists.{all_of, some_is, all_at}
 use Rattle.fz_dom.specs.declared.change.Change.{Change}
 use Rattle.fz_dom.specs.declared.change.Change.TheVariants.{Wiped}
-use Rattle.fz_spec.specs.Constraints.{term_value}
 use Rattle.fz_strength.specs.declared.literal.Literal.{Literal}
-use Rattle.fz_strength.specs.Domains.{term_set, Within, IsTermOf}
+use Rattle.fz_strength.specs.Domains.{term_set, IsTermOf}
 use Rattle.fz_strength.specs.Clauses.{false_number, MakesFalse, IsFalseIn}
 use Rattle.fz_strength.proofs.Clauses.{only_still}
 use Rattle.fz_prop.specs.declared.answer.Answer.TheVariants.{Subsumed}
 use Rattle.fz_prop.specs.Answers.{IsAnswerOf, IsCorrectOf}
 use Rattle.fz_prop.specs.Stores.{Stored, IsStore, Shrinks, IsTermChange}
 use Rattle.fz_prop.proofs.Filled.{term_ranges, one_left}
-use Rattle.fz_prop.proofs.TermChanges.{term_within, within_kept, kept_term, none_kept}
+use Rattle.fz_prop.proofs.TermChanges.{within_kept, kept_term}
 use Rattle.fz_prop.proofs.Twice.{shrinks_twice}
 use Rattle.fz_bool.specs.Looks.{AreTermsOf}
 use Rattle.fz_bool.specs.Clausal.{AreMadeFalse, AreFalseIn}
@@ -52,13 +51,6 @@ next_false change r s t ls n l are at before store shrinks h not = record {
     | inr less ↦ only_still k.term (false_number k) s.doms t.doms store.domains shrinks.narrower (before.fails j k less at_k)
   ];
 }
-
--- what a run that stops at a literal that can't be false lost nothing
-pub wiped_correct : (r s t : Stored) (ls : List Literal) (n : ℕ) (l : Literal) → AreTermsOf r.doms ls → slice_get ls n ≡ Some l → FalseSoFar r s ls n → IsTermChange Wiped l.term (λ x. x ≡ false_number l) s t
-    → (a : List ℤ) → Within r.doms a → AreMadeFalse ls a → ⊥
-wiped_correct r s t ls n l are at before h = λ a within holds.
-    none_kept l.term (λ (u : ℤ). u ≡ false_number l) s t h (term_value a l.term) (term_within s.doms a l.term (term_at r s ls n l before.shrinks are at) (before.correct a holds within))
-    (all_at (MakesFalse a) ls n l holds at)
 
 pub all_made_false : (r s : Stored) (ls : List Literal) (n : ℕ) → AreTermsOf r.doms ls → length ls ≤ n → FalseSoFar r s ls n → IsAnswerOf Subsumed (AreMadeFalse ls) (AreFalseIn ls) r.doms s.doms
 all_made_false r s ls n are whole before =

@@ -11,7 +11,7 @@ use Rattle.fz_strength.specs.Domains.{term_set}
 use Rattle.fz_strength.specs.Events.{IsFixedIn}
 use Rattle.fz_strength.specs.Clauses.{IsTrueIn, IsUntrueIn, true_number}
 use Rattle.fz_strength.proofs.Terms.{only_number}
-use Rattle.fz_kept.specs.Told.{AreUntrueBelow, AreUntrueBehind, AreEndsUntrue}
+use Rattle.fz_kept.specs.Told.{AreUntrueBelow, AreEndsUntrue}
 use Rattle.fz_bool.specs.declared.literals.State.{State}
 use Rattle.fz_bool.specs.declared.literals.State.TheVariants.{True, False, Open}
 use Rattle.fz_bool.specs.Looks.{IsOpen, IsLastOf, HasTwoOpen, IsTruthAmong}
@@ -166,14 +166,6 @@ truth_of Open ds ls n whole before = (
 )
 
 -- ---- the ends
-
--- one more at the back
-pub untrue_behind : (ds : List (List (ℤ × ℤ))) (ls : List Literal) (n place : ℕ) (l : Literal) → place + n + 1 ≡ length ls → slice_get ls place ≡ Some l → IsUntrueIn ds l → AreUntrueBehind ds ls n
-    → AreUntrueBehind ds ls (n + 1)
-untrue_behind ds ls n place l is here untrue before = λ j k behind at. elim (cases_eq j place) [
-  | inl e ↦ subst (IsUntrueIn ds) (some_is l k (sym here ∙ ap (slice_get ls) (sym e) ∙ at)) untrue
-  | inr ne ↦ before j k (omega (arith, is, behind, ne)) at
-]
 
 -- the ends meet
 pub ends_none : (ds : List (List (ℤ × ℤ))) (ls : List Literal) (front back : ℕ) → length ls ≤ front + back → AreEndsUntrue ls front back ds → AllByRecursion (IsUntrueIn ds) ls

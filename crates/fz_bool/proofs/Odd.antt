@@ -1,8 +1,6 @@
 -- Parities of terms: what is seen of them, and what a run answers.
 use Rattle.std.proofs.Common.{◌≡◌, ◌⊎◌, ℕ, zero, suc, ◌<◌, ◌≤◌, ◌+◌, List, [], ◌∷◌, ◌∙◌, refl, sym, ap, subst, arith, length, take, get_or, inl, inr, add-one}
 use Rattle.std.specs.Prelude.{ℤ, pos, Bool, true, false, not, Option, Some, None, slice_get}
-use Rattle.std.specs.List.{AllByRecursion}
-use Rattle.std.proofs.lemmas.Bool.{cases_eq}
 use Rattle.std.proofs.lemmas.Bool.Decides.{Decides-int_eq}
 use Rattle.std.proofs.lemmas.Int.{ints, by_lt_z}
 use Rattle.fz_sets.specs.Sets.{IsInRange}
@@ -17,8 +15,6 @@ use Rattle.fz_strength.specs.Promises.{IsTruth}
 use Rattle.fz_sets.proofs.Lists.{all_at, some_is}
 use Rattle.std.proofs.lemmas.List.{take_all}
 use Rattle.fz_strength.proofs.Terms.{within_before}
-use Rattle.fz_prop.specs.declared.answer.Answer.TheVariants.{Subsumed, Failed}
-use Rattle.fz_prop.specs.Answers.{IsAnswerOf}
 use Rattle.fz_prop.specs.Truths.{IsAbout}
 use Rattle.fz_prop.proofs.TermChanges.{term_within}
 use Rattle.fz_bool.specs.Parity.{flip, is_odd, OddTruth, OddLine, AreBooleansOf, IsLastTerm, AreTwoOpen, missing_number}
@@ -133,21 +129,6 @@ last_seen odd ds ts n t whole before = record {
 }
 
 -- ---- what a run answers
-
-pub odd_subsumed : (ts : List Term) (odd : Bool) (ds : List (List (ℤ × ℤ))) → ((a : List ℤ) → Within ds a → OddTruth ts odd a) → IsAnswerOf Subsumed (OddTruth ts odd) (OddLine ts odd) ds ds
-odd_subsumed ts odd ds all = (all, (λ es domains narrower i others a within. all a (within_before ds es a narrower within)))
-
-pub odd_failed : (ts : List Term) (sum odd : Bool) (ds : List (List (ℤ × ℤ))) → (sum ≡ odd → ⊥) → ((a : List ℤ) → Within ds a → OddTruth ts sum a) → IsAnswerOf Failed (OddTruth ts odd) (OddLine ts odd) ds ds
-odd_failed ts sum odd ds not all = λ a within holds. not (sym (all a within) ∙ holds)
-
-pub two_odd_line : (ts : List Term) (odd : Bool) (ds : List (List (ℤ × ℤ))) → AreTwoOpen ds ts → OddLine ts odd ds
-two_odd_line ts odd ds two = λ i others. absurd (elim (cases_eq two.first i) [
-  | inl e ↦ two.other_open (others two.second two.other two.at_second (λ s. two.apart (e ∙ sym s)))
-  | inr ne ↦ two.one_open (others two.first two.one two.at_first ne)
-])
-
-pub two_not_all : (ts : List Term) (ds : List (List (ℤ × ℤ))) → AreTwoOpen ds ts → AllByRecursion (IsFixedIn ds) ts → ⊥
-two_not_all ts ds two fixed = two.one_open (all_at (IsFixedIn ds) ts two.first two.one fixed two.at_first)
 
 missing_enough : (sum odd : Bool) (x : ℤ) → x ≡ missing_number sum odd → flip (is_one x) sum ≡ odd
 missing_enough false false x e = rw e refl

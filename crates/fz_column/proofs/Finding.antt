@@ -1,41 +1,16 @@
 -- The ranges of the numbers of a column, and the loops over the ranges of a domain.
-use Rattle.std.proofs.Common.{◌≡◌, ℕ, ◌+◌, ◌<◌, ◌≤◌, List, [], ◌∷◌, ◌⊎◌, inl, inr, sym, ap, subst, ◌∙◌, arith, length}
+use Rattle.std.proofs.Common.{◌≡◌, ℕ, ◌<◌, List, [], ◌∷◌, ◌⊎◌, inl, inr, ◌∙◌, length}
 use Rattle.std.specs.Prelude.{ℤ, slice_get, Some, ◌↔◌}
-use Rattle.std.proofs.lemmas.Bool.{cases_eq}
-use Rattle.std.proofs.lemmas.Option.{slice_get_within}
 use Rattle.fz_sets.specs.Sets.{IsInSet, IsInRange}
 use Rattle.fz_column.specs.declared.supports.Support.{Support}
 use Rattle.fz_bits.specs.Members.{HasMember}
-use Rattle.fz_column.specs.Supports.{IsIn, StandsIn, IsLeftIn}
+use Rattle.fz_column.specs.Supports.{StandsIn, IsLeftIn}
 
 -- ---- the ranges of all numbers
 
 -- numbers are those of the supports before place k
 abbrev pub AreSpansBelow : List Support → List (ℤ × ℤ) → ℕ → Type 0
 AreSpansBelow supports spans k = (n : ℤ) → IsInSet spans n ↔ ((j : ℕ) × (s : Support) × (j < k) × (slice_get supports j ≡ Some s) × (s.number ≡ n))
-
-pub spans_more : (supports : List Support) (spans new : List (ℤ × ℤ)) (k : ℕ) (s : Support) → slice_get supports k ≡ Some s → ((n : ℤ) → IsInSet new n ↔ (IsInSet spans n ⊎ (n ≡ s.number)))
-    → AreSpansBelow supports spans k → AreSpansBelow supports new (k + 1)
-spans_more supports spans new k s at more h = λ n. (
-  (λ is. elim ((more n).0 is) [
-    | inl before ↦ let w = (h n).0 before in let below = w.2 in (w.0, w.1, omega (arith, below), w.3, w.4)
-    | inr e ↦ (k, s, omega arith, at, sym e)
-  ]),
-  (λ w. elim (cases_eq w.0 k) [
-    | inl e ↦
-        let there : slice_get supports k ≡ Some w.1 = subst (λ (j : ℕ). slice_get supports j ≡ Some w.1) e w.3 in
-        let is : w.1 ≡ s = cc (there, at) in
-        (more n).1 (inr (sym w.4 ∙ ap (λ (t : Support). t.number) is))
-    | inr ne ↦ let below = w.2 in (more n).1 (inl ((h n).1 (w.0, w.1, omega (arith, below, ne), w.3, w.4)))
-  ]),
-)
-
-pub spans_all : (supports : List Support) (spans : List (ℤ × ℤ)) (k : ℕ) → length supports ≤ k → AreSpansBelow supports spans k
-    → (n : ℤ) → IsInSet spans n ↔ ((s : Support) × IsIn s supports × (s.number ≡ n))
-spans_all supports spans k end h = λ n. (
-  (λ is. let w = (h n).0 is in (w.1, (w.0, w.3), w.4)),
-  (λ w. let inside = slice_get_within supports w.1.0 w.0 w.1.1 in (h n).1 (w.1.0, w.0, omega (arith, inside, end), w.1.1, w.2)),
-)
 
 -- ---- the loops over ranges
 
@@ -87,9 +62,3 @@ gathering_more column rows dom ranges rest r numbers new is more h = λ n.
         | inr w ↦ elim w.0 [ inl within ↦ inl ((more n).1 (inr (within, w.1))) | inr later ↦ inr (later, w.1) ]
       ]),
     )
-
-pub gathering_all : (column : List Support) (rows : List ℕ) (dom ranges numbers : List (ℤ × ℤ)) → ranges ≡ [] → AreGathering column rows dom ranges numbers
-    → (n : ℤ) → IsInSet numbers n ↔ (IsInSet dom n × StandsIn column rows n)
-gathering_all column rows dom ranges numbers none h = λ n.
-    let all = rw none at h n in
-    ((λ has. all.0 (inl has)), (λ g. elim (all.1 g) [ inl has ↦ has | inr w ↦ absurd w.0 ]))

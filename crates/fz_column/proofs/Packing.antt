@@ -76,9 +76,6 @@ joined_all old words rows place end h i = (
 abbrev pub AreMissed : List ℕ → List ℕ → ℕ → Type 0
 AreMissed rows words place = (i : ℕ) → i / 64 < place → HasMember rows i → HasMember words i → ⊥
 
-pub missed_none : (rows words : List ℕ) → AreMissed rows words 0
-missed_none rows words i below has one = absurd (omega (arith, below))
-
 pub missed_word : (rows words : List ℕ) (place bits : ℕ) → bits ≡ get_or words place 0 → (((i : ℕ) × HasMember rows i × IsOneOf (record { word = place; bits = bits }) i) → ⊥)
     → AreMissed rows words place → AreMissed rows words (place + 1)
 missed_word rows words place bits is none h i below has one = elim (cases_eq (i / 64) place) [
@@ -392,9 +389,6 @@ end_further column place end x at to = elim (cases_lt place end) [ inl before �
 pub record AreMet (packed : Packed) (rows : List ℕ) (low high next : ℤ) : Type 0 where
   pub order : next ≤ℤ high
   pub met : (n : ℤ) → low ≤ℤ n → n <ℤ next → (i : ℕ) × HasRow packed n i × HasMember rows i
-
-pub met_none : (packed : Packed) (rows : List ℕ) (low high : ℤ) → low ≤ℤ high → AreMet packed rows low high low
-met_none packed rows low high order = record { order = order; met = λ n above below. absurd (omega (arith, ints, above, below)) }
 
 pub met_to : (packed : Packed) (rows : List ℕ) (low high next : ℤ) (place : ℕ) (x : Numbered) → slice_get packed.numbers.items place ≡ Some x → x.number ≡ next
     → ((i : ℕ) × HasMember rows i × HasMember (words_of packed x) i) → AreMet packed rows low high next

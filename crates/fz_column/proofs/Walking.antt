@@ -156,13 +156,6 @@ pub record AreUpTo (column : List Support) (place : ℕ) (value : ℤ) (end : �
   pub to : end ≤ length column
   pub within : (k : ℕ) (s : Support) → place ≤ k → k < end → slice_get column k ≡ Some s → s.number ≤ℤ value
 
-pub up_to_none : (column : List Support) (place : ℕ) (value : ℤ) → place ≤ length column → AreUpTo column place value place
-up_to_none column place value inside = record {
-  from = omega arith;
-  to = inside;
-  within = λ k s past under. absurd (omega (arith, past, under));
-}
-
 -- up to a place after it all have its number
 pub up_to_more : (column : List Support) (place : ℕ) (value : ℤ) (end new : ℕ) (x : Support) → slice_get column end ≡ Some x → x.number ≤ℤ value → end < new → new ≤ length column
     → ((j : ℕ) (t : Support) → slice_get column j ≡ Some t → end ≤ j → j < new → t.number ≡ x.number) → AreUpTo column place value end → AreUpTo column place value new
@@ -207,12 +200,6 @@ end_last column place value end last h = record {
 abbrev pub AreJoinedTo : List Support → ℕ → List ℕ → List ℕ → ℕ → Type 0
 AreJoinedTo column place old rows end = (i : ℕ) → HasMember rows i ↔ (HasMember old i ⊎ HasOneBetween column place end i)
 
-pub joined_start : (column : List Support) (place : ℕ) (old : List ℕ) → AreJoinedTo column place old old place
-joined_start column place old = λ i. (
-  (λ has. inl has),
-  (λ g. elim g [ inl has ↦ has | inr w ↦ let past = w.2 in let under = w.3 in absurd (omega (arith, past, under)) ]),
-)
-
 pub joined_next : (column : List Support) (place : ℕ) (old rows new : List ℕ) (end : ℕ) (x : Support) → place ≤ end → slice_get column end ≡ Some x
     → ((i : ℕ) → HasMember new i ↔ (HasMember rows i ⊎ IsOneOf x.rows i)) → AreJoinedTo column place old rows end → AreJoinedTo column place old new (end + 1)
 joined_next column place old rows new end x from at more h = λ i. (
@@ -237,12 +224,6 @@ joined_next column place old rows new end x from at more h = λ i. (
 -- the numbers of the supports from a place up to this one that have some rows
 abbrev pub AreAddedTo : List Support → List ℕ → ℕ → List (ℤ × ℤ) → List (ℤ × ℤ) → ℕ → Type 0
 AreAddedTo column rows place old numbers end = (n : ℤ) → IsInSet numbers n ↔ (IsInSet old n ⊎ StandsBetween column rows place end n)
-
-pub added_start : (column : List Support) (rows : List ℕ) (place : ℕ) (old : List (ℤ × ℤ)) → AreAddedTo column rows place old old place
-added_start column rows place old = λ n. (
-  (λ has. inl has),
-  (λ g. elim g [ inl has ↦ has | inr w ↦ let past = w.2 in let under = w.3 in absurd (omega (arith, past, under)) ]),
-)
 
 -- a support that has none of the rows is passed
 pub added_passed : (column : List Support) (rows : List ℕ) (place : ℕ) (old numbers : List (ℤ × ℤ)) (end : ℕ) (x : Support) → slice_get column end ≡ Some x

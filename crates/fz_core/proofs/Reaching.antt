@@ -1,5 +1,5 @@
 -- The law holds at the start, and after any list of calls.
-use Rattle.std.proofs.Common.{◌≡◌, ◌∙◌, ℕ, ◌<◌, ◌≤◌, ◌^◌, List, [], ◌∷◌, ◌++◌, replicate, sym, subst, refl, arith, Some, inl, inr}
+use Rattle.std.proofs.Common.{◌≡◌, ◌∙◌, ℕ, ◌<◌, ◌≤◌, ◌^◌, List, [], ◌∷◌, replicate, sym, subst, refl, arith, Some, inl, inr}
 use Rattle.std.specs.Prelude.{ℤ}
 use Rattle.std.specs.List.{AllByRecursion, slice_get}
 use Rattle.std.proofs.lemmas.List.{length-replicate, get_or-replicate}
@@ -65,11 +65,6 @@ pub reaches_law : (s : Core) → Reaches s → CoreLaw s
 reaches_law s r =
     runs_keep r.events (starting_by r.model r.mode r.plan r.workers r.commit_distance r.adaptive_distance) s
     (start_law r.model r.mode r.plan r.workers r.commit_distance r.adaptive_distance r.own_mode r.several r.numbered r.distances.0 r.distances.1) r.runs
-
--- one more call
-pub runs_more : (events : List Event) (event : Event) (old between new : Core) → Runs events old between → Turns event between new → Runs (events ++ event ∷ []) old new
-runs_more [] event old between new same turns = (new, subst (λ (s : Core). Turns event s new) same turns, refl)
-runs_more (e ∷ events) event old between new runs turns = (runs.0, runs.1, runs_more events event runs.0 between new runs.2 turns)
 
 -- ---- offers
 

@@ -28,7 +28,7 @@ use Rattle.fz_cumulative.specs.declared.finding.Blocked.{Blocked}
 use Rattle.fz_cumulative.specs.declared.finding.Blocked.TheVariants.{Everywhere, Before, After}
 use Rattle.fz_cumulative.specs.Cumulatives.{TasksShare, TasksRest}
 use Rattle.fz_cumulative.specs.Findings.{IsBlockedAt, IsFree}
-use Rattle.fz_cumulative.specs.Outcomes.{AreStarts, AreFree, HaveRoom, IsStarting}
+use Rattle.fz_cumulative.specs.Outcomes.{AreStarts, AreFree, HaveRoom}
 use Rattle.fz_cumulative.specs.Tasks.{profile_of}
 use Rattle.fz_cumulative.proofs.Sharing.{IsSetting, terms_at, start_of, never_overloaded}
 use Rattle.fz_cumulative.proofs.Whole.{overload_found, rest_found}
@@ -208,9 +208,6 @@ kept_more change r s u tasks high starts has_changed place blocked t held not h 
   same = λ e. absurd (cc (e));
   roomy = λ e. absurd (cc (e));
 }
-
-pub kept_whole : (r s : Stored) (tasks : List OpenTask) (high : ℤ) (starts : List Term) (k : ℕ) → length tasks ≤ k → AreKept r s tasks high starts false k → IsStarting Same tasks high starts r s
-kept_whole r s tasks high starts k end h = (h.same refl, λ i task below at. h.roomy refl i task (omega (arith, below, end)) at)
 
 -- ---- tasks of three lists
 

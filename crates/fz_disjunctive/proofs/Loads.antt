@@ -1,30 +1,22 @@
 -- What some jobs need, and that one which can't come before all of them waits for one.
-use Rattle.std.proofs.Common.{◌≡◌, ◌⊎◌, inl, inr, ℕ, ◌+◌, ◌<◌, ◌≤◌, Bool, true, false, List, [], ◌∷◌, ◌++◌, refl, subst, arith, length, take, get_or}
+use Rattle.std.proofs.Common.{◌≡◌, ◌⊎◌, inl, inr, ℕ, ◌+◌, ◌<◌, ◌≤◌, Bool, true, false, List, [], ◌∷◌, ◌++◌, refl, arith, length, take, get_or}
 use Rattle.std.specs.Prelude.{ℤ, pos, ◌+ℤ◌, ◌≤ℤ◌, ◌<ℤ◌, int_le, int_lt, nat_eq, not, ◌&&◌, slice_get, Some}
 use Rattle.std.specs.Int.{int_max, int_min}
 use Rattle.std.specs.List.{AllByRecursion}
 use Rattle.std.proofs.lemmas.Int.{ints}
-use Rattle.std.proofs.lemmas.List.{take_all}
 use Rattle.fz_sets.proofs.Lists.{all_both}
 use Rattle.fz_disjunctive.specs.declared.job.Job.{Job}
 use Rattle.fz_disjunctive.specs.declared.job.Choice.{Choice}
 use Rattle.fz_disjunctive.specs.declared.job.Choice.TheVariants.{Beside}
 use Rattle.fz_disjunctive.specs.Schedules.{IsStarted, HasEnded, AreApart, IsSchedule, IsEarliest, IsLoad, needed, takes, chosen}
 use Rattle.fz_disjunctive.proofs.Windows.{IsWithin, needed_more, within_bounded}
-use Rattle.fz_disjunctive.proofs.Choosing.{above_both, all_each, below_first, below_second, all_passing, all_started, chosen_more, chosen_same, schedule_filter}
+use Rattle.fz_disjunctive.proofs.Choosing.{above_both, all_each, below_first, below_second, all_passing, all_started, chosen_more, schedule_filter}
 use Rattle.fz_disjunctive.proofs.Ordering.{IsOrApart, all_beside, started_at, le_of, other_place, flipped}
 
 -- ---- one job more
 
 abbrev EndsFrom : ℤ → Job → Type 0
 EndsFrom first_end job = first_end ≤ℤ (job.earliest +ℤ job.duration)
-
-pub load_none : (choice : Choice) (jobs : List Job) (first_end : ℤ) → IsLoad (chosen choice (take 0 jobs)) (pos 0) first_end
-load_none choice jobs first_end = record { total_is = refl; ends = tt }
-
-pub load_same : (choice : Choice) (jobs : List Job) (index : ℕ) (total first_end : ℤ) (d : Job) → index < length jobs → takes choice (get_or jobs index d) ≡ false
-    → IsLoad (chosen choice (take index jobs)) total first_end → IsLoad (chosen choice (take (index + 1) jobs)) total first_end
-load_same choice jobs index total first_end d within left h = rw (chosen_same choice jobs index d within left) h
 
 pub load_more : (choice : Choice) (jobs : List Job) (index : ℕ) (total first_end : ℤ) (d : Job) → index < length jobs → takes choice (get_or jobs index d) ≡ true
     → IsLoad (chosen choice (take index jobs)) total first_end
@@ -39,10 +31,6 @@ load_more choice jobs index total first_end d within taken h =
     (all_each (EndsFrom first_end) (EndsFrom (int_min first_end end)) some (λ x low. below_first first_end end (x.earliest +ℤ x.duration) low) h.ends)
     (below_second first_end end, tt) in
     rw (chosen_more choice jobs index d within taken) (record { total_is = sum; ends = ends })
-
-pub load_all : (choice : Choice) (jobs : List Job) (index : ℕ) (total first_end : ℤ) → length jobs ≤ index → IsLoad (chosen choice (take index jobs)) total first_end
-    → IsLoad (chosen choice jobs) total first_end
-load_all choice jobs index total first_end past h = subst (λ (js : List Job). IsLoad (chosen choice js) total first_end) (take_all index jobs past) h
 
 -- ---- one that can't come before all of them
 

@@ -11,7 +11,7 @@ use Rattle.fz_strength.specs.Sayings.{Saying, cost_of}
 use Rattle.fz_prop.specs.Stores.{Stored}
 use Rattle.fz_agenda.specs.Agendas.{IsSettled}
 use Rattle.fz_agenda.specs.Queues.{Lineup, queue_at, class_of, cost_at, IsIdle, IsQueued, IsWoken}
-use Rattle.fz_agenda.proofs.Woken.{same_woken, woken_twice, woken_wake, awake_wake, still_awake}
+use Rattle.fz_agenda.proofs.Woken.{woken_twice, woken_wake, awake_wake, still_awake}
 use Rattle.fz_engine.specs.Networks.{IsFull}
 
 -- any may be woken
@@ -22,9 +22,6 @@ Anyone i = Unit {0}
 pub record QueuedBelow (costs : List Cost) (before now : Lineup) (n : ℕ) : Type 0 where
   pub woken : IsWoken Anyone costs before now
   pub each : (i : ℕ) → i < n → i < length now.states → slice_index now.states i ≡ 0 → ⊥
-
-pub queued_none : (costs : List Cost) (l : Lineup) → QueuedBelow costs l l 0
-queued_none costs l = record { woken = same_woken Anyone costs l; each = λ i below within idle. omega (arith, below) }
 
 pub queued_more : (costs : List Cost) (l m o : Lineup) (n : ℕ) (cost : Cost) → QueuedBelow costs l m n → cost ≡ cost_at costs n
     → (IsIdle m n → IsQueued (class_of cost) n m o) → ((IsIdle m n → ⊥) → o ≡ m) → QueuedBelow costs l o (n + 1)

@@ -127,10 +127,6 @@ answered (Ok NoFix) n place saying s t network is answer = answer
 answered (Ok Subsumed) n place saying s t network is answer = (saying, is, answer.1)
 answered (Ok Failed) n place saying s t network is answer = never_true n s.doms place saying network is answer
 
--- after a run no assignment is there: none was before it
-pub never_before : (n : Networked) (s t : Stored) (after : List ℕ) → IsRun n s t after → AreNeverTrue n.model.constraints t.doms → AreNeverTrue n.model.constraints s.doms
-never_before n s t after run never = λ a all within. never a all (run.correct a all within)
-
 pub all_rest : (n : Networked) (states : List ℕ) (s : Stored) → IsNetwork n → IsStore s → IsDrained s → IsAtRest states → IsAlive n states s → AllRest n.model s.doms
 all_rest n states s network store drained rest alive = λ i c is.
     let lines = all_rest_at_rest n.sayings states s store drained.unmarked rest alive.settled in

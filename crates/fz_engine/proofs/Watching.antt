@@ -75,9 +75,6 @@ number_watched (Ok y) w u v term e within is ok = λ x at.
 abbrev pub AreWatched : Waking → ℕ → Term → List Term → ℕ → Type 0
 AreWatched w place index terms k = (j v : ℕ) → j < k → slice_get terms j ≡ Some (Var v) → IsWatch w v (watch place index (pos (j + 1)) true) ⊎ IsListed (waiting_at w Any v) place
 
-pub none_watched : (w : Waking) (place : ℕ) (index : Term) (terms : List Term) → AreWatched w place index terms 0
-none_watched w place index terms j v below at = absurd (omega (arith, below))
-
 still_watched : (w u : Waking) (place : ℕ) (e : Watch) (v : ℕ) → Extends w u → IsWatch w v e ⊎ IsListed (waiting_at w Any v) place → IsWatch u v e ⊎ IsListed (waiting_at u Any v) place
 still_watched w u place e v extends (inl watching) = inl (extends.watching v e watching)
 still_watched w u place e v extends (inr listed) = inr (extends.listed Any v place listed)

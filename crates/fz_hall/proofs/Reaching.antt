@@ -92,11 +92,6 @@ count_one f n xs =
 
 -- ---- what ends up to a number exceeds the numbers
 
-pub excess_none : (xs : List Term) (ds : List (List (ℤ × ℤ))) (low high : ℤ) (width : ℕ) (excess : ℤ) → IsWidth low high width → IsExcess xs ds (low +ℤ pos width) high excess
-excess_none xs ds low high width excess is = λ u from to. by_lt_z high low
-    (λ none. absurd (omega (arith, ints, none, from, to)))
-    (λ some. let behind = is.behind some in absurd (omega (arith, ints, behind, from, to)))
-
 pub excess_more : (xs : List Term) (ds : List (List (ℤ × ℤ))) (n high excess next : ℤ) (ends : ℕ) → ends ≡ count_by (ends_at ds n) xs → IsExcess xs ds (n +ℤ pos 1) high next → pos ends ≤ℤ (excess +ℤ pos 1) → (next +ℤ pos ends) ≤ℤ (excess +ℤ pos 1)
     → IsExcess xs ds n high excess
 excess_more xs ds n high excess next ends is after alone both = λ u from to.

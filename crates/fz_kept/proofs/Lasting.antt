@@ -1,6 +1,6 @@
 -- What agrees with domains agrees with narrower ones, so nobody has to be told of a change.
 use Rattle.std.proofs.Common.{◌≡◌, ℕ, zero, suc, ◌<◌, ◌≤◌, ◌⊎◌, List, [], ◌∷◌, length, arith, refl, sym, ap, ◌∙◌, subst, inl, inr}
-use Rattle.std.specs.Prelude.{◌+◌, ◌-◌, ◌%◌, ℤ, pos, ◌-ℤ◌, ◌*ℤ◌, drop, count_by, replicate, slice_set, slice_get, slice_index_or, Some}
+use Rattle.std.specs.Prelude.{◌+◌, ◌-◌, ◌%◌, ℤ, pos, ◌-ℤ◌, ◌*ℤ◌, drop, count_by, slice_set, slice_get, slice_index_or, Some}
 use Rattle.fz_sets.proofs.Lists.{some_is}
 use Rattle.fz_spec.specs.declared.term.Term.{Term}
 use Rattle.fz_spec.specs.Constraints.{term_values}
@@ -126,11 +126,6 @@ all_after sayings kept after ds es i s own domains narrower told at here each = 
       subst (λ (x : Kept). slice_get sayings x.owner ≡ Some t → IsTold t x es) (sym put)
       (λ is. subst (λ (b : Saying). IsTold b (owned i own) es) (some_is s t (sym at ∙ is)) (told_owned s i own es here))
 ]
-
-pub all_nothing : (n i : ℕ) → slice_index_or (replicate n nothing) i nothing ≡ nothing
-all_nothing zero i = refl
-all_nothing (suc n) zero = refl
-all_nothing (suc n) (suc i) = all_nothing n i
 
 -- where none keeps anything
 pub none_told : (sayings : List Saying) (kept : List Kept) (ds : List (List (ℤ × ℤ))) → ((k : ℕ) → slice_index_or kept k nothing ≡ nothing) → AreTold sayings kept ds

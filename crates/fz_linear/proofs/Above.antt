@@ -7,7 +7,6 @@ use Rattle.fz_spec.specs.Constraints.{term_values}
 use Rattle.fz_spec.specs.Truth.{weighted_sum}
 use Rattle.fz_spec.specs.declared.shape.Relation.TheVariants.{Equal, NotEqual, AtMost}
 use Rattle.fz_strength.specs.Domains.{AreDomains}
-use Rattle.fz_strength.specs.Events.{AllFixed}
 use Rattle.fz_strength.specs.Sums.{least_sum, greatest_sum, negated}
 use Rattle.fz_strength.proofs.SumLaws.{neg_sum}
 use Rattle.fz_prop.specs.declared.answer.Answer.{Answer}
@@ -22,7 +21,7 @@ use Rattle.fz_linear.specs.Terms.{AreTermsOf}
 use Rattle.fz_linear.specs.Passes.{KeepsNear, IsPassed}
 use Rattle.fz_linear.specs.Sums.{SumTruth, SumLine, SumFalse, AgainstLine, IsAnswerSum, IsAnswerAgainst}
 use Rattle.fz_linear.proofs.Slacks.{least_sum_negated, greatest_sum_negated}
-use Rattle.fz_linear.proofs.Bounds.{too_high, low_enough, at_most_correct, at_most_rests, not_fixed}
+use Rattle.fz_linear.proofs.Bounds.{too_high, low_enough, at_most_correct, at_most_rests}
 
 -- ---- relations and their opposites
 
@@ -75,8 +74,3 @@ above_rests ks ts c bound greatest slack r s bound_is is reached gap passed =
     let turned = least_sum_negated ks ts r.doms in
     above_is ks ts c Fix r s
     (at_most_rests (negated ks) ts (neg_ℤ c -ℤ pos 1) (neg_ℤ greatest) slack r s (omega (arith, ints, turned, is)) (omega (arith, ints, bound_is, reached)) (omega (arith, ints, bound_is, gap)) passed)
-
-pub above_open : (ks : List ℤ) (ts : List Term) (c bound least greatest : ℤ) (ds : List (List (ℤ × ℤ))) → bound ≡ (c +ℤ pos 1) → least ≡ least_sum ds ks ts → greatest ≡ greatest_sum ds ks ts
-    → bound ≤ℤ greatest → least <ℤ bound → AllFixed ds ts → ⊥
-above_open ks ts c bound least greatest ds bound_is low high reached short fixed =
-    not_fixed ks ts c least greatest ds low high (omega (arith, ints, bound_is, short)) (omega (arith, ints, bound_is, reached)) fixed

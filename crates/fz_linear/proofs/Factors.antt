@@ -2,7 +2,7 @@
 use Rattle.std.proofs.Common.{◌≡◌, ◌≢◌, ◌<◌, ◌^◌, sym, ap, subst, ◌∙◌, arith, inl, inr}
 use Rattle.std.specs.Prelude.{ℤ, pos, negsuc, ◌+ℤ◌, ◌*ℤ◌, ◌≤ℤ◌, ◌<ℤ◌}
 use Rattle.std.proofs.lemmas.Int.{ints, by_lt_z, fits_signed_from_abs}
-use Rattle.std.proofs.Math.IntN.{*ℤ_comm, zero-*ℤ}
+use Rattle.std.proofs.Math.IntN.{*ℤ_comm}
 use Rattle.std.specs.Int.{w32}
 use Rattle.std.specs.Int.RustNames.{FitsSigned, unsigned_abs}
 use Rattle.fz_sets.specs.Sets.{IsWithinLimits}
@@ -49,12 +49,6 @@ quotient_is k x q product nonzero floor is =
 pub missed : (k v product : ℤ) → ((k *ℤ v) ≡ product → ⊥) → (q : ℤ) → k ≢ pos 0 → IsFloor product k q → v ≡ q → (x : ℤ) → (k *ℤ x) ≢ product
 missed k v product miss q nonzero floor is x e = miss (ap (λ (y : ℤ). k *ℤ y) (is ∙ sym (quotient_is k x q product nonzero floor e)) ∙ e)
 
-pub one_product : (k q product : ℤ) → k ≢ pos 0 → IsFloor product k q → (q *ℤ k) ≡ product → ((k *ℤ q) ≡ product) × ((x : ℤ) → (k *ℤ x) ≡ product → x ≡ q)
-one_product k q product nonzero floor is = (*ℤ_comm k q ∙ is, (λ x e. quotient_is k x q product nonzero floor e))
-
-pub no_product : (k q product : ℤ) → k ≢ pos 0 → IsFloor product k q → ((q *ℤ k) ≡ product → ⊥) → (x : ℤ) → IsWithinLimits x → (k *ℤ x) ≢ product
-no_product k q product nonzero floor miss x limits e = miss (*ℤ_comm q k ∙ (ap (λ (y : ℤ). k *ℤ y) (sym (quotient_is k x q product nonzero floor e)) ∙ e))
-
 abs_of_limits : (x : ℤ) → IsWithinLimits x → unsigned_abs x < 2 ^ 31
 abs_of_limits (pos n) limits = omega (arith, ints, limits.0, limits.1)
 abs_of_limits (negsuc n) limits = omega (arith, ints, limits.0, limits.1)
@@ -64,9 +58,3 @@ fits_limits x limits = fits_signed_from_abs w32 x (abs_of_limits x limits)
 
 pub no_fitting : (k q product : ℤ) → k ≢ pos 0 → IsFloor product k q → (FitsSigned w32 q → ⊥) → (x : ℤ) → IsWithinLimits x → (k *ℤ x) ≢ product
 no_fitting k q product nonzero floor wide x limits e = wide (subst (λ (y : ℤ). FitsSigned w32 y) (quotient_is k x q product nonzero floor e) (fits_limits x limits))
-
-pub each_product : (k product : ℤ) → k ≡ pos 0 → product ≡ pos 0 → (x : ℤ) → (k *ℤ x) ≡ product
-each_product k product none zero_is x = rw (none, zero_is) (zero-*ℤ x)
-
-pub zero_product : (k product : ℤ) → k ≡ pos 0 → product ≢ pos 0 → (x : ℤ) → IsWithinLimits x → (k *ℤ x) ≢ product
-zero_product k product none some x limits e = some (sym e ∙ rw none (zero-*ℤ x))

@@ -16,7 +16,7 @@ use Rattle.fz_strength.specs.Domains.{term_set, AreDomains, Within, IsTermOf}
 use Rattle.fz_strength.specs.Events.{IsOnly, IsFixedIn, AllFixed}
 use Rattle.fz_strength.specs.Sums.{least_product, least_sum, AllButOneFixed}
 use Rattle.fz_strength.proofs.Terms.{within_before, is_single}
-use Rattle.fz_prop.specs.declared.answer.Answer.TheVariants.{Fix, Subsumed, Failed}
+use Rattle.fz_prop.specs.declared.answer.Answer.TheVariants.{Subsumed, Failed}
 use Rattle.fz_prop.specs.Answers.{IsCorrectOf}
 use Rattle.fz_prop.specs.Stores.{Stored, Shrinks, FitsTerm, IsTermChange}
 use Rattle.fz_prop.specs.Outcomes.{settled_by}
@@ -109,9 +109,6 @@ two_unfixed ts behind i j ds rest within not_end loose within_rest not_end_rest 
 pub apart_for_good : (ks : List ℤ) (ts : List Term) (c : ℤ) (s : Stored) → ((a : List ℤ) → Within s.doms a → weighted_sum ks (term_values a ts) ≢ c)
     → IsAnswerSum NotEqual ks ts c Subsumed s.doms s.doms
 apart_for_good ks ts c s apart = (apart, (λ fs domains narrower fixed a within. apart a (within_before s.doms fs a narrower within)))
-
-pub loose_rests : (ks : List ℤ) (ts : List Term) (c : ℤ) (s : Stored) → (AllButOneFixed s.doms ts → ⊥) → IsAnswerSum NotEqual ks ts c Fix s.doms s.doms
-loose_rests ks ts c s several = λ fixed. absurd (several fixed)
 
 pub all_apart : (ks : List ℤ) (ts : List Term) (c least : ℤ) (s : Stored) → AllFixed s.doms ts → AreTermsOf (length s.doms) ts → least ≡ least_sum s.doms ks ts → least ≢ c
     → IsAnswerSum NotEqual ks ts c Subsumed s.doms s.doms

@@ -8,15 +8,12 @@ use Rattle.fz_spec.specs.declared.term.Term.{Term}
 use Rattle.fz_strength.specs.Domains.{term_set, AreDomains, room}
 use Rattle.fz_strength.specs.Sums.{least_product, greatest_product, AreNear, negated}
 use Rattle.fz_prop.specs.Stores.{Stored, Shrinks}
-use Rattle.fz_prop.proofs.Steps.{same_shrinks}
 use Rattle.fz_prop.proofs.TermChanges.{narrower_term}
 use Rattle.fz_prop.proofs.Twice.{shrinks_twice, room_after}
 use Rattle.fz_linear.specs.Terms.{AreTermsOf}
 use Rattle.fz_linear.specs.Passes.{IsStep, IsTightened, KeepsNear, IsPassed, KeepsBetween, ArePassed}
 use Rattle.fz_shift.proofs.Spans.{spanned, least_rises}
 use Rattle.fz_linear.proofs.Slacks.{IsAt, near_at, near_from, near_negated, term_at, least_sum_rises}
-
--- ---- one change after another
 
 -- ---- a pass so far: the terms before a place are tightened
 
@@ -25,14 +22,6 @@ pub record IsPass (ks : List ℤ) (ts : List Term) (slack : ℤ) (r s : Stored) 
   pub kept : KeepsNear ks ts slack r.doms s.doms
   pub still : changed ≡ false → (s ≡ r) × (AreNear r.doms slack (drop i ks) (drop i ts) → AreNear r.doms slack ks ts)
   pub moved : changed ≡ true → room s.doms < room r.doms
-
-pub pass_start : (ks : List ℤ) (ts : List Term) (slack : ℤ) (r : Stored) → IsPass ks ts slack r r 0 false
-pass_start ks ts slack r = record {
-  shrinks = same_shrinks r;
-  kept = λ a within near. within;
-  still = λ e. (refl, λ near. near);
-  moved = λ e. absurd (cc (e));
-}
 
 still_after : (ks : List ℤ) (ts : List Term) (slack : ℤ) (r s u : Stored) (i : ℕ) (changed now : Bool) (change : Change) (k : ℤ) (t : Term) → IsAt ks ts i k t
     → IsPass ks ts slack r s i changed → IsStep change k t slack s u → ((now ≡ true) ↔ (change ≡ Changed)) → (changed || now) ≡ false
@@ -107,10 +96,3 @@ pub passed_second : (ks : List ℤ) (ts : List Term) (above below : ℤ) (r s : 
     → ArePassed changed ks ts above below r s
 passed_second ks ts above below r s true near h = h
 passed_second ks ts above below r s false near h = (h.0, near, h.1)
-
-pub passed_between : (ks : List ℤ) (ts : List Term) (above below : ℤ) (r s u : Stored) (first second : Bool) → Shrinks r s → Shrinks s u
-    → IsPassed first ks ts above r s → IsPassed second (negated ks) ts below s u → ArePassed (first || second) ks ts above below r u
-passed_between ks ts above below r s u true second p q f g = let after = room_after s u q in omega (arith, f, after)
-passed_between ks ts above below r s u false true p q f g = let before = room_after r s p in omega (arith, g, before)
-passed_between ks ts above below r s u false false p q f g =
-    (g.0 ∙ f.0, f.1, subst (λ (t : Stored). AreNear t.doms below (negated ks) ts) f.0 g.1)

@@ -1,8 +1,7 @@
 -- The steps of a sum.
-use Rattle.std.proofs.Common.{◌≡◌, ℕ, ◌<◌, ◌≤◌, ◌+◌, ◌*◌, ◌^◌, List, [], refl, arith, length, drop, drop-cons, add-one}
+use Rattle.std.proofs.Common.{◌≡◌, ℕ, ◌<◌, ◌≤◌, ◌+◌, ◌*◌, ◌^◌, List, refl, arith, length, drop, drop-cons, add-one}
 use Rattle.std.specs.Prelude.{ℤ, pos, ◌+ℤ◌, ◌≤ℤ◌, unsigned_abs, slice_index_or}
 use Rattle.std.proofs.lemmas.Int.{ints}
-use Rattle.fz_sets.proofs.Numbers.{abs_of_sum}
 use Rattle.fz_spec.specs.declared.term.Term.{Term}
 use Rattle.fz_spec.specs.declared.term.Term.TheVariants.{Num}
 use Rattle.fz_strength.specs.Domains.{term_set}
@@ -13,9 +12,6 @@ use Rattle.fz_linear.proofs.Slacks.{IsAt, near_from}
 pub record IsSummed (sum rest whole : ℤ) (n : ℕ) : Type 0 where
   pub is : (sum +ℤ rest) ≡ whole
   pub near : unsigned_abs sum ≤ n * 2 ^ 63
-
-pub summed_none : (whole : ℤ) → IsSummed (pos 0) whole whole 0
-summed_none whole = record { is = omega (arith, ints); near = omega arith }
 
 pub summed_more : (sum rest whole product behind total : ℤ) (n : ℕ) → IsSummed sum rest whole n → rest ≡ (product +ℤ behind) → total ≡ (sum +ℤ product)
     → unsigned_abs total ≤ (n + 1) * 2 ^ 63 → IsSummed total behind whole (n + 1)
@@ -37,23 +33,9 @@ pub greatest_more : (ds : List (List (ℤ × ℤ))) (ks : List ℤ) (ts : List T
     → greatest_sum ds (drop i ks) (drop i ts) ≡ (greatest_product k (term_set ds t) +ℤ greatest_sum ds (drop (i + 1) ks) (drop (i + 1) ts))
 greatest_more ds ks ts i k t at = rw (at.factor, at.term, add-one i) refl
 
-pub least_none : (ds : List (List (ℤ × ℤ))) (ks : List ℤ) (ts : List Term) → ks ≡ [] → least_sum ds ks ts ≡ pos 0
-least_none ds ks ts none = rw none refl
-
-pub greatest_none : (ds : List (List (ℤ × ℤ))) (ks : List ℤ) (ts : List Term) → ks ≡ [] → greatest_sum ds ks ts ≡ pos 0
-greatest_none ds ks ts none = rw none refl
-
 -- where a term's ends are so near, it may stand before terms that are
 pub near_more : (ds : List (List (ℤ × ℤ))) (ks : List ℤ) (ts : List Term) (i : ℕ) (k : ℤ) (t : Term) (low high slack : ℤ) (width widest : ℕ) → IsAt ks ts i k t
     → low ≡ least_product k (term_set ds t) → high ≡ greatest_product k (term_set ds t) → high ≤ℤ (low +ℤ pos width) → width ≤ widest → pos widest ≤ℤ slack
     → AreNear ds slack (drop (i + 1) ks) (drop (i + 1) ts) → AreNear ds slack (drop i ks) (drop i ts)
 near_more ds ks ts i k t low high slack width widest at low_is high_is near wide fits rest =
     near_from ks ts i k t ds slack at (omega (arith, ints, low_is, high_is, near, wide, fits)) (rw (add-one i) at rest)
-
-pub near_none : (ds : List (List (ℤ × ℤ))) (slack : ℤ) (ks : List ℤ) (ts : List Term) → ks ≡ [] → AreNear ds slack ks ts
-near_none ds slack ks ts none = rw none tt
-
--- ---- sizes
-
-pub add_near : (sum product : ℤ) (n : ℕ) → unsigned_abs sum ≤ n * 2 ^ 63 → unsigned_abs product ≤ 2 ^ 63 → unsigned_abs (sum +ℤ product) ≤ (n + 1) * 2 ^ 63
-add_near sum product n f g = let h = abs_of_sum sum product in omega (arith, f, g, h)

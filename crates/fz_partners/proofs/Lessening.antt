@@ -196,15 +196,6 @@ still_inside e f n (inr both) inside = subst (λ (g : Equation). AllByRecursion 
 turned_inside : (e : Equation) (n : ℕ) → AllByRecursion (IsTermOf n) (terms_of e) → AllByRecursion (IsTermOf n) (terms_of (first_last e))
 turned_inside e n inside = (inside.1.1.0, (inside.1.0, (inside.0, tt)))
 
-swapped_inside : (e : Equation) (n : ℕ) → AllByRecursion (IsTermOf n) (terms_of e) → AllByRecursion (IsTermOf n) (terms_of (second_last e))
-swapped_inside e n inside = (inside.0, (inside.1.1.0, (inside.1.0, tt)))
-
-pub counting_inside : (e f : Equation) (n : ℕ) → IsCounting e f → AllByRecursion (IsTermOf n) (terms_of e) → AllByRecursion (IsTermOf n) (terms_of f)
-counting_inside e f n by inside =
-    let less = still_inside e by.less n by.third inside in
-    let fewer = still_inside (first_last by.less) by.fewer n by.first (turned_inside by.less n less) in
-    still_inside (second_last by.fewer) f n by.second (swapped_inside by.fewer n fewer)
-
 counting_line : (e f : Equation) (ds : List (List (ℤ × ℤ))) → IsCounting e f → AreDomains ds → AllByRecursion (IsTermOf (length ds)) (terms_of e) → EquationLine f ds → EquationLine e ds
 counting_line e f ds by domains inside h =
     let less = still_inside e by.less (length ds) by.third inside in

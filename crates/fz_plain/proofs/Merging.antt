@@ -1,5 +1,5 @@
 -- Entries of a sum in order are added up.
-use Rattle.std.proofs.Common.{◌≡◌, ℕ, zero, suc, ◌+◌, ◌<◌, ◌≤◌, ℤ, pos, negsuc, ◌+ℤ◌, ◌*ℤ◌, ◌<ℤ◌, nat_abs, List, [], ◌∷◌, ◌++◌, refl, sym, ap, arith, length, drop, ◌⊎◌, inl, inr}
+use Rattle.std.proofs.Common.{◌≡◌, ℕ, zero, suc, ◌+◌, ◌<◌, ◌≤◌, ℤ, pos, ◌+ℤ◌, ◌*ℤ◌, nat_abs, List, [], ◌∷◌, ◌++◌, refl, sym, ap, arith, length, drop}
 use Rattle.std.proofs.lemmas.Int.{ints, by_lt_z}
 use Rattle.std.proofs.lemmas.List.{length_push}
 use Rattle.std.proofs.lemmas.List.Sums.{sum_by-cons}
@@ -54,17 +54,6 @@ order_joined last next k (f ∷ rest) h = let a = h.0 in let b = h.1.0 in (omega
 by_above : (x y : ℕ) → x ≤ y → (x ≡ y → ⊥) → x < y
 by_above x y at_most apart = by_lt_z (pos x) (pos y) (λ lt. omega (arith, ints, lt)) (λ le. absurd (apart (omega (arith, ints, at_most, le))))
 
-pub adding_starts : (first : ℕ × ℤ) (others : List (ℕ × ℤ)) → AreInOrder (first ∷ others) → IsAdding [] [] first others (first ∷ others)
-adding_starts first others order = record {
-  size = refl;
-  few = omega arith;
-  same = λ a. omega (arith, ints);
-  order = order;
-  rising = tt;
-  known = λ vs all. (tt, all);
-  sizes = omega arith;
-}
-
 pub adding_joins : (ks : List ℤ) (ts : List Term) (last next : ℕ × ℤ) (rest es : List (ℕ × ℤ)) → next.0 ≡ last.0 → IsAdding ks ts last (next ∷ rest) es → IsAdding ks ts (last.0, last.1 +ℤ next.1) rest es
 adding_joins ks ts last next rest es one is = record {
   size = is.size;
@@ -106,12 +95,6 @@ adding_ends ks ts last es is = record {
 
 pub none_added : AreAddedUp [] [] []
 none_added = record { size = refl; few = omega arith; same = λ a. refl; rising = tt; known = λ vs all. tt }
-
--- a sum of two that is none of 32 bits
-pub adding_large : (ks : List ℤ) (ts : List Term) (last next : ℕ × ℤ) (rest es : List (ℕ × ℤ)) → IsAdding ks ts last (next ∷ rest) es → ((last.1 +ℤ next.1) <ℤ negsuc 2147483647 ⊎ pos 2147483647 <ℤ (last.1 +ℤ next.1))
-    → 2147483648 ≤ sum_by size_of es
-adding_large ks ts last next rest es is (inl low) = let s = is.sizes in let t = size_of_sum last.1 next.1 in let a = sizes_more last (next ∷ rest) in let b = sizes_more next rest in omega (arith, ints, s, t, a, b, low)
-adding_large ks ts last next rest es is (inr high) = let s = is.sizes in let t = size_of_sum last.1 next.1 in let a = sizes_more last (next ∷ rest) in let b = sizes_more next rest in omega (arith, ints, s, t, a, b, high)
 
 pub drop_past : {X : Type 0} (i : ℕ) (xs : List X) → length xs ≤ i → drop i xs ≡ []
 drop_past zero [] past = refl

@@ -159,10 +159,6 @@ pub gathered_either : (relation : Relation) (ks ls : List ℤ) (ts us : List Ter
 gathered_either relation ks ls ts us c p is (inl h) = rw h.0 (gathered_plain relation ks ls ts us c is h.1)
 gathered_either relation ks ls ts us c p is (inr h) = rw h.0 (gathered_never relation ks ls ts us c is h.1)
 
-pub only_large : (relation : Relation) (ks : List ℤ) (ts : List Term) (c : ℤ) → (IsToldByDivisor false relation ks c → ⊥) → (HasTwice ts → AreLarge ks) → HasPlainer (Sum relation ks ts c) → AreLarge ks
-only_large relation ks ts c none large (inl two) = large two
-only_large relation ks ts c none large (inr told) = absurd (none told)
-
 pub only_large_if : (relation : Relation) (ks : List ℤ) (ts : List Term) (c : ℤ) → ((b : Bool) → IsToldByDivisor b relation ks c → ⊥) → (HasTwice ts → AreLarge ks) → HasTwice ts ⊎ ((b : Bool) × IsToldByDivisor b relation ks c) → AreLarge ks
 only_large_if relation ks ts c none large (inl two) = large two
 only_large_if relation ks ts c none large (inr told) = absurd (none told.0 told.1)

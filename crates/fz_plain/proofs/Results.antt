@@ -1,5 +1,5 @@
 -- What an operation makes of a variable that stands twice.
-use Rattle.std.proofs.Common.{◌≡◌, ◌≢◌, ◌↔◌, inl, inr, ℕ, zero, suc, ◌<◌, ◌≤◌, ℤ, pos, negsuc, ◌*ℤ◌, ◌≤ℤ◌, int_div, int_rem, unsigned_abs, List, [], ◌∷◌, ◌∙◌, sym, ap, refl, arith, length, get_or, false}
+use Rattle.std.proofs.Common.{◌≡◌, ◌≢◌, ◌↔◌, inl, inr, ℕ, zero, suc, ◌<◌, ◌≤◌, ℤ, pos, negsuc, ◌*ℤ◌, int_div, int_rem, unsigned_abs, List, [], ◌∷◌, ◌∙◌, sym, ap, refl, arith, length, get_or, false}
 use Rattle.std.proofs.lemmas.Int.{ints, quot-rem, rem_below}
 use Rattle.std.proofs.Math.Nat.{div_self}
 use Rattle.std.specs.Prelude.{Option, Some, None}
@@ -8,8 +8,8 @@ use Rattle.fz_spec.specs.declared.term.Term.{Term}
 use Rattle.fz_spec.specs.declared.term.Term.TheVariants.{Num, Var}
 use Rattle.fz_spec.specs.Constraints.{term_value, term_values}
 use Rattle.fz_spec.specs.Instance.{Variable}
-use Rattle.fz_spec.specs.Truth.{weighted_sum, IsGreatestOf, IsLeastOf, SomeByRecursion, remainder, size_of}
-use Rattle.fz_spec.specs.declared.shape.Operation.TheVariants.{Plus, Times, Quotient, Remainder, Abs, Min, Max}
+use Rattle.fz_spec.specs.Truth.{weighted_sum, IsGreatestOf, IsLeastOf, SomeByRecursion, remainder}
+use Rattle.fz_spec.specs.declared.shape.Operation.TheVariants.{Plus, Times, Quotient, Remainder, Min, Max}
 use Rattle.fz_spec.specs.declared.shape.Relation.TheVariants.{Equal, AtMost}
 use Rattle.fz_strength.specs.Operations.{equation}
 use Rattle.fz_strength.specs.Sayings.{Saying, Compare, Equals, Member, Sum, truth_of}
@@ -32,9 +32,6 @@ same_form r s t same fits whole has is = record {
 }
 
 -- ---- a sum of two
-
-plus_sum : (x y z : Term) → Saying
-plus_sum x y z = Sum Equal (left_factors (pos 1 ∷ pos 1 ∷ []) z) (left_terms (x ∷ y ∷ []) z) (right_number z)
 
 plus_same : (x y z : Term) (a : List ℤ) → truth_of (Equals (equation Plus (x ∷ y ∷ []) z)) a ↔ (weighted_sum (left_factors (pos 1 ∷ pos 1 ∷ []) z) (term_values a (left_terms (x ∷ y ∷ []) z)) ≡ right_number z)
 plus_same x y (Num n) a = ((λ h. omega (arith, ints, h)), (λ h. omega (arith, ints, h)))
@@ -151,23 +148,6 @@ remainder_plain x y z two = record {
   };
   plainer = inr two;
   plain = λ has. never_twice z (pos 0) has.0;
-}
-
--- ---- a number that is its own size
-
-own_size : (x : ℤ) → x ≡ size_of x ↔ (pos 0 ≤ℤ x)
-own_size (pos n) = ((λ h. omega (arith, ints)), (λ h. refl))
-own_size (negsuc n) = ((λ h. omega (arith, ints, h)), (λ h. absurd (omega (arith, ints, h))))
-
-pub size_plain : (x z : Term) → IsTwice x z → IsPlainForm (Equals (equation Abs (x ∷ []) z)) (Compare AtMost (Num (pos 0)) x)
-size_plain x z two = record {
-  form = record {
-    follows = λ a h. (own_size (term_value a x)).0 (rw (same_value a x z two) at h);
-    same = λ other a h. rw (same_value a x z two) ((own_size (term_value a x)).1 h);
-    fits = λ vs fit. record { terms = (zero_known vs, (fit.terms.1.0, tt)); truths = tt; sum = tt };
-  };
-  plainer = two;
-  plain = λ has. absurd (cc has.0.1);
 }
 
 -- ---- the greatest and the least of two

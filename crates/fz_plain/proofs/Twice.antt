@@ -1,15 +1,13 @@
 -- Variables that stand twice among terms.
-use Rattle.std.proofs.Common.{◌≡◌, ℕ, zero, suc, ◌+◌, ◌<◌, ◌≤◌, ℤ, pos, negsuc, Bool, false, List, [], ◌∷◌, ◌++◌, refl, subst, arith, length, get_or, slice_index}
+use Rattle.std.proofs.Common.{◌≡◌, ℕ, zero, suc, ◌+◌, ◌<◌, ◌≤◌, ℤ, pos, Bool, false, List, [], ◌∷◌, refl, subst, arith, length, get_or, slice_index}
 use Rattle.std.proofs.lemmas.Int.{ints, by_lt_z}
 use Rattle.std.proofs.lemmas.List.Sums.{sum_by-cons}
 use Rattle.std.proofs.lemmas.List.Sorted.{sum_by-IsPermutation}
 use Rattle.std.specs.List.Sorted.{IsPermutation, IsSorted, IsSortedBy, IsStrictlyIncreasing}
 use Rattle.std.specs.Ordering.{is_lt, nat_cmp, int_cmp, ordering_then}
 use Rattle.fz_spec.specs.declared.term.Term.{Term}
-use Rattle.fz_spec.specs.declared.term.Term.TheVariants.{Num, Var}
 use Rattle.fz_strength.specs.Events.{variables_of}
-use Rattle.fz_strength.specs.Sums.{left_factors, left_terms}
-use Rattle.fz_plain.specs.Entries.{AreInOrder, AreRising, entries, entry}
+use Rattle.fz_plain.specs.Entries.{AreInOrder, AreRising}
 use Rattle.fz_plain.specs.Plain.{HasTwice, counts, times}
 
 times_cons : (v x : ℕ) (xs : List ℕ) → times v (x ∷ xs) ≡ counts v x + times v xs
@@ -119,11 +117,3 @@ in_order_from_sort lt rs f h = in_order_by_place rs (λ k l.
 -- what a sort of entries says of their variables
 pub first_not_above : (a b : ℕ × ℤ) → is_lt (ordering_then (nat_cmp b.0 a.0) (int_cmp b.1 a.1)) ≡ false → a.0 ≤ b.0
 first_not_above a b e = by_lt_z (pos b.0) (pos a.0) (λ lt. absurd (grind (arith, ints, e, lt))) (λ le. omega (arith, ints, le))
-
-pub entries_more : (k : ℤ) (t : Term) (ks : List ℤ) (ts : List Term) → entries (k ∷ ks) (t ∷ ts) ≡ entry k t ++ entries ks ts
-entries_more k (Num n) ks ts = refl
-entries_more k (Var v) ks ts = refl
-
-pub left_entries : (ks : List ℤ) (ts : List Term) (last : Term) → entry (negsuc 0) last ++ entries ks ts ≡ entries (left_factors ks last) (left_terms ts last)
-left_entries ks ts (Num n) = refl
-left_entries ks ts (Var v) = refl

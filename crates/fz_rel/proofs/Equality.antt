@@ -18,7 +18,7 @@ use Rattle.fz_prop.specs.Answers.{IsCorrectOf}
 use Rattle.fz_prop.specs.Stores.{Stored, Shrinks, IsChangeAt}
 use Rattle.fz_prop.proofs.Filled.{narrower_ranges, one_left, still_only}
 use Rattle.fz_prop.specs.Truths.{IsAbout}
-use Rattle.fz_prop.proofs.TermChanges.{term_within, narrower_term, only_in, within_kept, kept_term, none_kept}
+use Rattle.fz_prop.proofs.TermChanges.{term_within, narrower_term, only_in, within_kept}
 use Rattle.fz_rel.specs.Truths.{TruthOf, LineOf, IsAnswerAs}
 
 -- ---- a number
@@ -56,13 +56,6 @@ left_of Changed v u P r s h z i p = elim (cases_eq u v) [
   | inr ne ↦ rw (h.others u ne) i
 ]
 
--- after x keeps the numbers of y, all that it has are in y
-pub all_among : (change : Change) (x y : ℕ) (o : List (ℤ × ℤ)) (r s : Stored) → o ≡ dom_at r.doms y → IsChangeAt change x (λ z. IsInSet o z) r s → (change ≡ Wiped → ⊥)
-    → (z : ℤ) → IsInSet (dom_at s.doms x) z → IsInSet (dom_at s.doms y) z
-all_among change x y o r s is h not z i =
-    let k = kept_term change (Var x) (λ w. IsInSet o w) r s h not z i in
-    left_of change x y (λ w. IsInSet o w) r s h z (subst (λ (d : List (ℤ × ℤ)). IsInSet d z) is k.1) k.1
-
 -- and after y keeps those of x, all numbers of x are still in y
 pub all_still : (change : Change) (x y : ℕ) (o : List (ℤ × ℤ)) (r s : Stored) → o ≡ dom_at r.doms x → IsChangeAt change y (λ z. IsInSet o z) r s → Shrinks r s
     → ((z : ℤ) → IsInSet (dom_at r.doms x) z → IsInSet (dom_at r.doms y) z) → (z : ℤ) → IsInSet (dom_at s.doms x) z → IsInSet (dom_at s.doms y) z
@@ -78,11 +71,6 @@ in_other x y o ds a is_y is within same =
 pub correct_same : (change : Change) (x y : ℕ) (o : List (ℤ × ℤ)) (r s : Stored) → y < length r.doms → o ≡ dom_at r.doms y → IsChangeAt change x (λ z. IsInSet o z) r s → Shrinks r s
     → IsCorrectOf (TruthOf Equal (Var x) (Var y)) r.doms s.doms
 correct_same change x y o r s is_y is h shrinks a same within = within_kept change (Var x) (λ z. IsInSet o z) r s a h shrinks within (in_other x y o r.doms a is_y is within same)
-
-pub failed_same : (x y : ℕ) (o : List (ℤ × ℤ)) (r s : Stored) → x < length r.doms → y < length r.doms → o ≡ dom_at r.doms y → IsChangeAt Wiped x (λ z. IsInSet o z) r s
-    → IsAnswerAs Equal (Var x) (Var y) Failed r.doms s.doms
-failed_same x y o r s is_x is_y is h a within same =
-    none_kept (Var x) (λ z. IsInSet o z) r s h (term_value a (Var x)) (term_within r.doms a (Var x) is_x within) (in_other x y o r.doms a is_y is within same)
 
 pub same_sets : (x y : ℕ) (ds : List (List (ℤ × ℤ))) → AreDomains ds → x < length ds → y < length ds
     → ((z : ℤ) → IsInSet (dom_at ds x) z → IsInSet (dom_at ds y) z) → ((z : ℤ) → IsInSet (dom_at ds y) z → IsInSet (dom_at ds x) z)

@@ -9,9 +9,6 @@ use Rattle.fz_sets.proofs.Numbers.{above_of_not, most_of_not}
 use Rattle.fz_prop.proofs.Numbers.{same_of_not}
 use Rattle.fz_rel.specs.Truths.{TruthOf, FalseOf, LineOf, AgainstOf}
 
-pub against_equal : (x y : Term) → IsSame (TruthOf NotEqual x y) (FalseOf Equal x y) (LineOf NotEqual x y) (AgainstOf Equal x y)
-against_equal x y = record { truth = λ a. ((λ h. h), (λ h. h)); line = λ ds h. h }
-
 pub against_apart : (x y : Term) → IsSame (TruthOf Equal x y) (FalseOf NotEqual x y) (LineOf Equal x y) (AgainstOf NotEqual x y)
 against_apart x y = record { truth = λ a. ((λ same apart. apart same), same_of_not (term_value a x) (term_value a y)); line = λ ds h. h }
 

@@ -6,18 +6,18 @@ use Rattle.fz_sets.specs.Sets.{IsInSet, AreRanges}
 use Rattle.fz_dom.specs.Shape.{least, greatest}
 use Rattle.fz_dom.proofs.Ranges.{least_member, greatest_member}
 use Rattle.fz_dom.specs.declared.change.Change.{Change}
-use Rattle.fz_dom.specs.declared.change.Change.TheVariants.{Same, Wiped}
+use Rattle.fz_dom.specs.declared.change.Change.TheVariants.{Same}
 use Rattle.fz_spec.specs.declared.term.Term.{Term}
 use Rattle.fz_spec.specs.Constraints.{term_value}
 use Rattle.fz_spec.specs.Truth.{Relates}
 use Rattle.fz_strength.specs.Relations.{RestsAs}
-use Rattle.fz_strength.specs.Domains.{term_set, AreDomains, Within, IsTermOf}
+use Rattle.fz_strength.specs.Domains.{term_set, AreDomains, IsTermOf}
 use Rattle.fz_prop.specs.declared.answer.Answer.TheVariants.{Subsumed}
 use Rattle.fz_prop.specs.Answers.{IsCorrectOf}
 use Rattle.fz_prop.specs.Stores.{Stored, Shrinks, IsTermChange}
 use Rattle.fz_rel.specs.Truths.{TruthOf, IsAnswerAs, order_of, gap_of, IsOrdered}
 use Rattle.fz_prop.proofs.Filled.{term_ranges, narrower_ranges}
-use Rattle.fz_prop.proofs.TermChanges.{term_within, narrower_term, within_kept, kept_term, none_kept, same_store}
+use Rattle.fz_prop.proofs.TermChanges.{term_within, narrower_term, within_kept, kept_term, same_store}
 
 pub to_order : (strict : Bool) (x y : ℤ) → Relates (order_of strict) x y → IsOrdered strict x y
 to_order true x y h = omega (arith, ints, h)
@@ -47,26 +47,12 @@ correct_high strict change x y u w r s is_y upper is h shrinks a holds within =
     within_kept change x (λ z. z ≤ℤ w) r s a h shrinks within
     (before_greatest strict (term_value a x) (term_value a y) u w holds (upper (term_value a y) (term_within r.doms a y is_y within)) is)
 
-pub failed_high : (strict : Bool) (x y : Term) (u w : ℤ) (r s : Stored) → IsTermOf (length r.doms) x → IsTermOf (length r.doms) y
-    → ((z : ℤ) → IsInSet (term_set r.doms y) z → z ≤ℤ u) → w ≡ u -ℤ gap_of strict
-    → IsTermChange Wiped x (λ z. z ≤ℤ w) r s → (a : List ℤ) → Within r.doms a → TruthOf (order_of strict) x y a → ⊥
-failed_high strict x y u w r s is_x is_y upper is h a within holds =
-    none_kept x (λ z. z ≤ℤ w) r s h (term_value a x) (term_within r.doms a x is_x within)
-    (before_greatest strict (term_value a x) (term_value a y) u w holds (upper (term_value a y) (term_within r.doms a y is_y within)) is)
-
 -- y keeps the numbers from w on, where w is after the least of x
 pub correct_low : (strict : Bool) (change : Change) (x y : Term) (u w : ℤ) (r s : Stored) → IsTermOf (length r.doms) x
     → ((z : ℤ) → IsInSet (term_set r.doms x) z → u ≤ℤ z) → w ≡ u +ℤ gap_of strict
     → IsTermChange change y (λ z. w ≤ℤ z) r s → Shrinks r s → IsCorrectOf (TruthOf (order_of strict) x y) r.doms s.doms
 correct_low strict change x y u w r s is_x lower is h shrinks a holds within =
     within_kept change y (λ z. w ≤ℤ z) r s a h shrinks within
-    (behind_least strict (term_value a x) (term_value a y) u w holds (lower (term_value a x) (term_within r.doms a x is_x within)) is)
-
-pub failed_low : (strict : Bool) (x y : Term) (u w : ℤ) (r s : Stored) → IsTermOf (length r.doms) x → IsTermOf (length r.doms) y
-    → ((z : ℤ) → IsInSet (term_set r.doms x) z → u ≤ℤ z) → w ≡ u +ℤ gap_of strict
-    → IsTermChange Wiped y (λ z. w ≤ℤ z) r s → (a : List ℤ) → Within r.doms a → TruthOf (order_of strict) x y a → ⊥
-failed_low strict x y u w r s is_x is_y lower is h a within holds =
-    none_kept y (λ z. w ≤ℤ z) r s h (term_value a y) (term_within r.doms a y is_y within)
     (behind_least strict (term_value a x) (term_value a y) u w holds (lower (term_value a x) (term_within r.doms a x is_x within)) is)
 
 -- ---- where all are in order

@@ -125,12 +125,6 @@ none_rests AtMost d e has_d has_e none = all_rests Below e d has_e has_d (λ w u
 none_rests Below d e has_d has_e none = all_rests AtMost e d has_e has_d (λ w u j i. most_of_not u w (none u w i j))
 
 -- what is seen of the relation that is true exactly where this one is false
-pub none_equal : (d e : List (ℤ × ℤ)) → AreAll NotEqual d e → AreNone Equal d e
-none_equal d e all u w i j same = all u w i j same
-
-pub none_apart : (d e : List (ℤ × ℤ)) → AreAll Equal d e → AreNone NotEqual d e
-none_apart d e all u w i j apart = apart (all u w i j)
-
 pub none_most : (d e : List (ℤ × ℤ)) → AreAll Below e d → AreNone AtMost d e
 none_most d e all u w i j most = let below = all w u j i in omega (arith, ints, below, most)
 

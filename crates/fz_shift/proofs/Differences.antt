@@ -1,5 +1,5 @@
 -- Two variables whose difference is a number, or isn't.
-use Rattle.std.proofs.Common.{◌≡◌, ◌≢◌, ◌⊎◌, ℕ, ◌<◌, List, [], ◌∷◌, refl, sym, ap, subst, ◌∙◌, arith, length, inl, inr}
+use Rattle.std.proofs.Common.{◌≡◌, ◌≢◌, ℕ, ◌<◌, List, [], ◌∷◌, refl, sym, ap, subst, ◌∙◌, arith, length, inl, inr}
 use Rattle.std.specs.Prelude.{ℤ, neg_ℤ, ◌+ℤ◌, ◌-ℤ◌, ◌≤ℤ◌, ◌↔◌}
 use Rattle.std.proofs.lemmas.Int.{ints}
 use Rattle.fz_sets.specs.Sets.{IsInSet, IsWithinLimits, AreRanges, set_size}
@@ -9,13 +9,12 @@ use Rattle.fz_dom.specs.declared.change.Change.{Change}
 use Rattle.fz_dom.specs.declared.change.Change.TheVariants.{Same, Changed, Wiped}
 use Rattle.fz_spec.specs.declared.term.Term.TheVariants.{Var}
 use Rattle.fz_spec.specs.declared.shape.Relation.TheVariants.{Equal, NotEqual}
-use Rattle.fz_strength.specs.Domains.{dom_at, number_at, AreDomains, Within, IsNarrower}
-use Rattle.fz_strength.specs.Events.{IsOnly, IsFixedIn}
+use Rattle.fz_strength.specs.Domains.{dom_at, number_at, AreDomains, Within}
+use Rattle.fz_strength.specs.Events.{IsOnly}
 use Rattle.fz_prop.specs.declared.answer.Answer.TheVariants.{Subsumed, Failed}
 use Rattle.fz_prop.specs.Answers.{IsAnswerOf, IsCorrectOf}
 use Rattle.fz_prop.specs.Stores.{Stored, Shrinks, IsChangeAt}
 use Rattle.fz_prop.specs.Truths.{IsAbout, IsSame}
-use Rattle.fz_prop.proofs.Filled.{narrower_ranges, one_left, still_only}
 use Rattle.fz_prop.proofs.Grown.{term_limits}
 use Rattle.fz_prop.proofs.TermChanges.{only_in, within_kept, kept_term, none_kept}
 use Rattle.fz_shift.specs.Differences.{DifferenceTruth, IsCloseAbove, DifferenceLine, IsAnswerDifference, ArePartners}
@@ -142,19 +141,7 @@ fixed_partners ds x y c v is_x is_y only back =
           line_of_ends es x y c (omega (arith, ints, low, first)) (omega (arith, ints, high, last)) (ends_rise (dom_at es y) sy)),
     )
 
--- ---- where each number of the first has its partner in the second: the first is fixed where one of the two was; and with as many
--- numbers in the second each of its numbers has its partner too
-
-pub first_fixed : (x y : ℕ) (c : ℤ) (ds es : List (List (ℤ × ℤ))) → x < length ds → AreDomains es → IsNarrower ds es → ((z : ℤ) → IsInSet (dom_at es x) z → IsInSet (dom_at es y) (z -ℤ c))
-    → IsFixedIn ds (Var x) ⊎ IsFixedIn ds (Var y) → IsFixedIn es (Var x)
-first_fixed x y c ds es is_x domains narrower partners fixed = elim fixed [
-  | inl f ↦ (f.0, still_only ds es (Var x) f.0 is_x f.1 domains narrower)
-  | inr f ↦ (
-    f.0 +ℤ c,
-    one_left (dom_at es x) (f.0 +ℤ c) (narrower_ranges ds es (Var x) is_x domains narrower)
-        (λ u i. let e = only_in (dom_at ds y) f.0 (u -ℤ c) f.1 (narrower.members y (u -ℤ c) (partners u i)) in omega (arith, ints, e)),
-  )
-]
+-- ---- where each number of the first has its partner in the second, and this has as many, each of its numbers has its partner too
 
 abbrev moved : ℤ → List (ℤ × ℤ) → List (ℤ × ℤ)
 moved c [] = []

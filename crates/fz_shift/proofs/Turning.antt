@@ -1,12 +1,12 @@
 -- A plane said the other way round, of the first variable less the second.
-use Rattle.std.proofs.Common.{◌≡◌, ◌*◌, ℕ, List, ap, arith, refl, subst, sym, zero, suc}
-use Rattle.std.specs.Prelude.{ℤ, pos, negsuc, neg_ℤ, ◌*ℤ◌, ◌≤ℤ◌}
+use Rattle.std.proofs.Common.{◌≡◌, ◌*◌, ℕ, List, ap, arith, refl, subst, zero, suc}
+use Rattle.std.specs.Prelude.{ℤ, pos, negsuc, neg_ℤ, ◌*ℤ◌}
 use Rattle.std.proofs.lemmas.Int.{ints}
 use Rattle.fz_sets.specs.Sets.{IsInSet}
 use Rattle.fz_strength.specs.Domains.{dom_at, number_at}
 use Rattle.fz_shift.specs.declared.plane.Plane.{Plane}
 use Rattle.fz_prop.specs.Truths.{IsSame}
-use Rattle.fz_shift.specs.Planes.{AreApart, AreInside, HasPartners, IsSmall, PlaneTruth, number_on}
+use Rattle.fz_shift.specs.Planes.{AreInside, HasPartners, PlaneTruth, number_on}
 
 neg_neg : (n : ℕ) → pos n ≡ neg_ℤ (neg_ℤ (pos n))
 neg_neg zero = refl
@@ -64,13 +64,3 @@ turned_same p = record {
   truth = λ a. ((λ on. turned_back p (number_at a p.across) (number_at a p.first) (number_at a p.second) on), (λ on. turned_truth p a on));
   line = λ ds h. back_partners p ds h;
 }
-
-pub turned_small : (p : Plane) → p.number ≤ℤ pos 2147483647 → IsSmall p → IsSmall (turned_plane p)
-turned_small p high small =
-    let l = small.least in
-    let m = small.most in
-    let n = small.number in
-    record { least = omega (arith, ints, m); most = omega (arith, ints, l); number = omega (arith, ints, high) }
-
-pub turned_apart : (p : Plane) → AreApart p → AreApart (turned_plane p)
-turned_apart p apart = record { first = apart.second; second = apart.first; others = λ e. apart.others (sym e) }

@@ -16,9 +16,6 @@ use Rattle.fz_prop.specs.Stores.{Stored}
 use Rattle.fz_space.specs.Alive.{spaced, FrontFixed}
 use Rattle.fz_space.proofs.Living.{single_more}
 
-pub none_fixed : (ds : List (List (ℤ × ℤ))) → FrontFixed 0 ds
-none_fixed ds = record { within = omega arith; single = λ v h. absurd (omega (arith, h)) }
-
 narrowed : (e : List (ℤ × ℤ)) (x : ℤ) → (e ≡ single x) ⊎ (set_size e < set_size (single x)) → 0 < length e → e ≡ single x
 narrowed e x (inl same) some = same
 narrowed e x (inr less) some = let one = size_of_one x in let left = some_size e some in absurd (omega (arith, one, left, less))

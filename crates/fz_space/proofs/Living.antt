@@ -1,15 +1,14 @@
 -- What is known of a space at its root and at rest.
 use Rattle.std.proofs.Common.{◌≡◌, inl, inr, ℕ, zero, suc, ◌+◌, ◌<◌, List, [], ◌∷◌, refl, sym, ◌∙◌, ap, subst, arith, length, true, false}
-use Rattle.std.specs.Prelude.{ℤ, Option, None}
+use Rattle.std.specs.Prelude.{ℤ, None}
 use Rattle.std.proofs.lemmas.Bool.{cases_eq, cases_lt}
 use Rattle.fz_sets.specs.Sets.{IsInSet, set_size, single}
 use Rattle.fz_sets.proofs.Lists.{all_of, below_or_same}
 use Rattle.fz_sets.proofs.Sizes.{some_size}
 use Rattle.fz_spec.specs.Instance.{Instance, Variable, AreDeclared}
 use Rattle.fz_spec.specs.Constraints.{IsTrueOf}
-use Rattle.fz_tree.specs.declared.decision.Decision.{Decision}
 use Rattle.fz_strength.specs.Domains.{Within, Alone, AreDomains, dom_at, number_at}
-use Rattle.fz_strength.proofs.Terms.{within_before, is_single}
+use Rattle.fz_strength.proofs.Terms.{is_single}
 use Rattle.fz_strength.proofs.Sayings.{true_where_alone, below}
 use Rattle.fz_strength.specs.Sayings.{saying_of}
 use Rattle.fz_prop.specs.Stores.{Stored, HasEmpty, declared_sets}
@@ -18,7 +17,7 @@ use Rattle.fz_search_space.specs.Spaces.{Covers, MeetsAll, IsUndecided, IsStatus
 use Rattle.fz_search_space.specs.declared.space.Status.{Status}
 use Rattle.fz_search_space.specs.declared.space.Status.TheVariants as status
 use Rattle.fz_engine.specs.Networks.{Networked, AreOf, IsNetwork}
-use Rattle.fz_engine.specs.Runs.{IsAlive, IsRun, AreNeverTrue, AllRest}
+use Rattle.fz_engine.specs.Runs.{IsAlive, AllRest}
 use Rattle.fz_space.specs.Alive.{spaced, HaveLines, IsLeft}
 use Rattle.fz_engine.proofs.Posting.{declared_length}
 
@@ -71,18 +70,6 @@ alive_root n states s network is settled = record {
 }
 
 -- ---- at rest
-
-pub covers_run : (n : Networked) (s t : Stored) (after : List ℕ) (known : Option (List ℤ)) (ds : List Decision) → IsRun n s t after → Covers known ds (spaced n.model s false) → Covers known ds (spaced n.model t false)
-covers_run n s t after known ds run covers = record {
-  all = λ a satisfies better met. (refl, run.correct a satisfies.constraints (covers.all a satisfies better met).1);
-  only = λ a alive within. covers.only a refl (within_before s.doms t.doms a run.narrower within);
-}
-
-pub covers_never : (m : Instance) (s t : Stored) (known : Option (List ℤ)) (ds : List Decision) → AreNeverTrue m.constraints s.doms → Covers known ds (spaced m s false) → Covers known ds (spaced m t true)
-covers_never m s t known ds never covers = record {
-  all = λ a satisfies better met. absurd (never a satisfies.constraints (covers.all a satisfies better met).1);
-  only = λ a alive within. true_is_false (AreDeclared m.variables a × MeetsAll ds a) alive;
-}
 
 more_than_one : (n : ℕ) → 0 < n → (n ≡ 1 → ⊥) → 1 < n
 more_than_one n some ne = elim (cases_lt 1 n) [ inl more ↦ more | inr few ↦ absurd (ne (omega (arith, some, few))) ]

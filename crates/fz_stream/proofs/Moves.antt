@@ -1,5 +1,5 @@
 -- A search that prints on its way, call by call.
-use Rattle.std.proofs.Common.{◌≡◌, ◌≢◌, ◌∙◌, ◌⊎◌, inl, inr, ℕ, List, [], length, Bool, Option, Some, None, IfSome, refl, sym, ap, subst, arith}
+use Rattle.std.proofs.Common.{◌≡◌, ◌≢◌, ◌∙◌, inl, inr, ℕ, List, length, Bool, Option, Some, None, IfSome, refl, sym, ap, subst, arith}
 use Rattle.fz_tree.specs.Account.{Account}
 use Rattle.fz_tree.specs.Book.{Book}
 use Rattle.fz_book.specs.Reports.{IsReportable}
@@ -7,13 +7,13 @@ use Rattle.fz_path.specs.Paths.{Pathed}
 use Rattle.fz_printing.specs.declared.printer.Stop.{Stop}
 use Rattle.fz_printing.specs.declared.printer.Stop.TheVariants.{Memory}
 use Rattle.fz_printer.specs.declared.printer.Printer.{Printer}
-use Rattle.fz_printer.specs.Printed.{book_of, wanted_of, as_found_of, printed_of, stopped_of, CountsMark, Grew, IsReady, KeepsPrinting, MarksMemory}
+use Rattle.fz_printer.specs.Printed.{book_of, wanted_of, as_found_of, printed_of, stopped_of, Grew, IsReady, KeepsPrinting, MarksMemory}
 use Rattle.fz_printer.specs.Gathered.{IsFilled, IsFilledFor}
 use Rattle.fz_printer.proofs.Printing.{printed_on, marked, within_due}
 use Rattle.fz_printer.specs.Gatherings.{both_keep}
 use Rattle.fz_printer.proofs.Gathering.{is_below, still_within}
 use Rattle.fz_solo.specs.Searches.{Searches, Begins, Starts, Steps, Finds, Reports}
-use Rattle.fz_stream.specs.Streamed.{HasTakenUp, NothingOpen, OnNoMemory, Streams}
+use Rattle.fz_stream.specs.Streamed.{HasTakenUp, OnNoMemory, Streams}
 
 pub begins : (p : Printer) (q : Pathed) (taken : Option (List ℕ)) → IsReady p → Streams p q taken p q taken
 begins p q taken ready = record {
@@ -105,30 +105,6 @@ both_stream old p new at q r taken middle after first none second = record {
       behind (as_found_of old) (book_of old) at (book_of p) q (first.searched (none_is_no_memory (stopped_of p) none)) (book_of new) r
       (subst (λ (b : Bool). Searches b (book_of p) q (book_of new) r) first.keeps.as_found (second.searched n));
 }
-
--- ---- where nothing is taken up
-
-pub nothing_taken : (old p new : Printer) (at q r : Pathed) (taken middle : Option (List ℕ)) → Streams old at taken p q middle → stopped_of p ≡ None → IsReady p → (IsFilled p → ⊥) → NothingOpen p new → OnNoMemory new (HasTakenUp (book_of p) q r) → Streams old at taken new r middle
-nothing_taken old p new at q r taken middle s none ready more (inl nothing) moved =
-    let n : stopped_of new ≢ Some Memory = none_is_no_memory (stopped_of new) (ap stopped_of nothing.0 ∙ none) in
-    subst (λ (x : Printer). Streams old at taken x r middle) (sym nothing.0) (taken_up old p at q r taken middle s (moved n))
-nothing_taken old p new at q r taken middle s none ready more (inr marks) moved = refused old p new at q r taken middle s none ready more marks
-
-pub nothing_ended : (p new : Printer) → NothingOpen p new → stopped_of new ≡ None → IsFilled new ⊎ ((book_of new).parts ≡ [])
-nothing_ended p new (inl nothing) none = inr (ap (λ (x : Printer). (book_of x).parts) nothing.0 ∙ nothing.1)
-nothing_ended p new (inr marks) none = absurd (none_is_no_memory (stopped_of new) none marks.stopped)
-
-pub nothing_ready : (p new : Printer) → NothingOpen p new → IsReady p → stopped_of new ≡ None → IsReady new
-nothing_ready p new (inl nothing) ready none = subst IsReady (sym nothing.0) ready
-nothing_ready p new (inr marks) ready none = absurd (none_is_no_memory (stopped_of new) none marks.stopped)
-
-counts_by : (s : Option Stop) (a b : ℕ) → b ≡ a → (s ≡ None) ⊎ (s ≡ Some Memory) → CountsMark a b s
-counts_by s a b same (inl none) = subst (λ (x : Option Stop). CountsMark a b x) (sym none) same
-counts_by s a b same (inr memory) = subst (λ (x : Option Stop). CountsMark a b x) (sym memory) same
-
-pub nothing_counts : (p new : Printer) (a b : ℕ) → NothingOpen p new → stopped_of p ≡ None → b ≡ a → CountsMark a b (stopped_of new)
-nothing_counts p new a b (inl nothing) none same = counts_by (stopped_of new) a b same (inl (ap stopped_of nothing.0 ∙ none))
-nothing_counts p new a b (inr marks) none same = counts_by (stopped_of new) a b same (inr marks.stopped)
 
 -- ---- from turn to turn
 

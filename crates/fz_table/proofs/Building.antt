@@ -1,5 +1,5 @@
 -- The columns of a table: the number of each row at a place, in the order of the numbers, and the loop over the places.
-use Rattle.std.proofs.Common.{◌≡◌, ℕ, zero, suc, ◌+◌, ◌-◌, ◌*◌, ◌/◌, ◌<◌, ◌≤◌, List, [], ◌∷◌, ◌++◌, inl, inr, refl, sym, ap, subst, ◌∙◌, arith, length, get_or, false, ◌≤ℤ◌}
+use Rattle.std.proofs.Common.{◌≡◌, ℕ, zero, suc, ◌+◌, ◌-◌, ◌*◌, ◌/◌, ◌<◌, ◌≤◌, List, [], ◌∷◌, ◌++◌, inl, inr, sym, ap, subst, ◌∙◌, arith, length, get_or, false, ◌≤ℤ◌}
 use Rattle.std.specs.Prelude.{ℤ, slice_get, Some, ◌↔◌}
 use Rattle.std.specs.List.Sorted.{IsPermutation, IsSortedBy}
 use Rattle.std.specs.Ordering.{is_lt, int_cmp, nat_cmp, ordering_then}
@@ -10,7 +10,7 @@ use Rattle.std.proofs.lemmas.List.{length_push}
 use Rattle.std.proofs.lemmas.List.Sorted.{Contains-permutation, IsPermutation-sym}
 use Rattle.std.proofs.lemmas.Option.{slice_get_within, slice_get-get_or, get_or_from_slice_get}
 use Rattle.fz_column.specs.declared.supports.Support.{Support}
-use Rattle.fz_column.specs.Supports.{IsIn, IsRising, IsPlaced, HasNumber, IsNumberAt, IsColumnOf, AreColumnsOf}
+use Rattle.fz_column.specs.Supports.{IsIn, IsRising, IsPlaced, HasNumber, IsNumberAt, IsColumnOf}
 use Rattle.fz_column.proofs.Slices.{get_last, get_before, get_more, get_append_left}
 
 -- ---- the numbers at a place
@@ -112,9 +112,6 @@ pub record AreColumnsBelow (table : List ℤ) (width : ℕ) (columns : List (Lis
   pub size : length columns ≡ place
   pub each : (j : ℕ) (column : List Support) → slice_get columns j ≡ Some column → IsColumnOf table width j column
 
-pub columns_none : (table : List ℤ) (width : ℕ) → AreColumnsBelow table width [] 0
-columns_none table width = record { size = refl; each = λ j column at. absurd (cc (at)) }
-
 pub columns_more : (table : List ℤ) (width : ℕ) (columns : List (List Support)) (place : ℕ) (column : List Support) → IsColumnOf table width place column
     → AreColumnsBelow table width columns place → AreColumnsBelow table width (columns ++ column ∷ []) (place + 1)
 columns_more table width columns place column is h = record {
@@ -132,7 +129,3 @@ columns_more table width columns place column is h = record {
         h.each j other (sym (get_append_left columns (column ∷ []) j (omega (arith, long, inside, size, ne))) ∙ at)
   ];
 }
-
-pub columns_all : (table : List ℤ) (width : ℕ) (columns : List (List Support)) (place : ℕ) → width ≤ place → place ≤ width → AreColumnsBelow table width columns place
-    → AreColumnsOf table width columns
-columns_all table width columns place end most h = record { size = let size = h.size in omega (arith, end, most, size); each = h.each }

@@ -12,7 +12,7 @@ use Rattle.fz_spec.specs.declared.term.Term.{Term}
 use Rattle.fz_spec.specs.Constraints.{term_value, term_values}
 use Rattle.fz_strength.specs.Domains.{term_set, Within, IsTermOf}
 use Rattle.fz_strength.specs.Events.{IsFixedIn}
-use Rattle.fz_strength.specs.Tables.{LieWithin, IsLeftRow, IsSupported}
+use Rattle.fz_strength.specs.Tables.{LieWithin, IsLeftRow}
 use Rattle.fz_prop.proofs.TermChanges.{term_within}
 use Rattle.fz_column.specs.declared.supports.Support.{Support}
 use Rattle.fz_bits.specs.Members.{HasMember, words_for}
@@ -258,20 +258,6 @@ value_stands xs table ds rows a j t terms are at_t holds within =
 pub none_left : (xs : List Term) (table : List ℤ) (ds : List (List (ℤ × ℤ))) (rows : List ℕ) (a : List ℤ) → AllByRecursion (IsTermOf (length ds)) xs
     → AreLeft xs table ds rows → ((i : ℕ) → HasMember rows i → ⊥) → Within ds a → IsRowAt xs table a → ⊥
 none_left xs table ds rows a terms are none within holds = let v = value_row xs table ds rows a terms are holds within in none v.0 v.1
-
-pub none_empty : (xs : List Term) (table : List ℤ) (a : List ℤ) → length xs ≡ 0 → IsRowAt xs table a → ⊥
-none_empty xs table a none holds =
-    let size = length-map xs (term_value a) in
-    let some = holds.0 in
-    omega (arith, none, size, some)
-
--- ---- what stands in a row is supported
-
-pub stands_supported : (xs : List Term) (table : List ℤ) (ds : List (List (ℤ × ℤ))) (rows : List ℕ) (j : ℕ) (n : ℤ) → j < length xs → AreLeft xs table ds rows
-    → Stands table (length xs) rows j n → IsSupported xs table ds j n
-stands_supported xs table ds rows j n below are stands =
-    let start = stands.0 * length xs in
-    (slice_range table start (start + length xs), (are stands.0).0 stands.1, part_get table start (length xs) j below ∙ stands.2)
 
 -- ---- what stands in a column
 

@@ -67,21 +67,6 @@ pub record AreMatchesBelow (xs : List Term) (k c : Term) (ds : List (List (ℤ �
   pub index_limits : AreWithinLimits indices
   pub number_limits : AreWithinLimits numbers
 
-pub matches_none : (xs : List Term) (k c : Term) (ds : List (List (ℤ × ℤ))) (j : ℤ) → ((i : ℤ) → pos 1 ≤ℤ i → IsInSet (term_set ds k) i → j ≤ℤ i)
-    → AreMatchesBelow xs k c ds [] [] j
-matches_none xs k c ds j none = record {
-  indices_are = λ i. (
-    (λ is. absurd is),
-    (λ h. let m = h.0.1 in let from = none i (stands_from i xs m.term m.stands) m.index in let below = h.1 in absurd (omega (arith, ints, from, below))),
-  );
-  numbers_are = λ n. (
-    (λ is. absurd is),
-    (λ h. let m = h.1 in let from = none h.0 (stands_from h.0 xs m.term m.stands) m.index in let below = h.2 in absurd (omega (arith, ints, from, below))),
-  );
-  index_limits = tt;
-  number_limits = tt;
-}
-
 pub matches_passed : (xs : List Term) (k c : Term) (ds : List (List (ℤ × ℤ))) (indices numbers : List (ℤ × ℤ)) (j : ℤ) → (IsMatchedAt xs k c ds j → ⊥)
     → AreMatchesBelow xs k c ds indices numbers j → AreMatchesBelow xs k c ds indices numbers (j +ℤ pos 1)
 matches_passed xs k c ds indices numbers j none h =
@@ -171,45 +156,6 @@ match_is (Some d) xs k c x ds e j stands index same shared =
 -- The bits are those of the ranges but for what is left of them.
 pub record AreBitsBut (whole rest : List (ℤ × ℤ)) (base : ℤ) (word : ℕ) : Type 0 where
   pub bits : (j : ℕ) → j < 64 → (HasBit word j ⊎ IsInSet rest (base +ℤ pos j)) ↔ IsInSet whole (base +ℤ pos j)
-
-pub bits_none : (whole : List (ℤ × ℤ)) (base : ℤ) → AreBitsBut whole whole base 0
-bits_none whole base = record {
-  bits = λ j small. (
-    (λ h. elim h [ inl one ↦ (let z = bit_at-zero j in absurd (omega (arith, z, one))) | inr is ↦ is ]),
-    (λ is. inr is),
-  );
-}
-
-pub bits_more : (whole rest tail : List (ℤ × ℤ)) (r : ℤ × ℤ) (base : ℤ) (word window more : ℕ) → rest ≡ r ∷ tail
-    → AreOnes window (λ j. (r.0 ≤ℤ (base +ℤ pos j)) × ((base +ℤ pos j) ≤ℤ r.1)) → AreOnes more (λ j. HasBit word j ⊎ HasBit window j)
-    → AreBitsBut whole rest base word → AreBitsBut whole tail base more
-bits_more whole rest tail r base word window more split windowed joined h = record {
-  bits = λ j small. (
-    (λ at. elim at [
-      | inl one ↦ elim ((joined j small).0 one) [
-        | inl old ↦ (h.bits j small).0 (inl old)
-        | inr new ↦ (h.bits j small).0 (inr (subst (λ (e : List (ℤ × ℤ)). IsInSet e (base +ℤ pos j)) (sym split) (inl ((windowed j small).0 new))))
-      ]
-      | inr is ↦ (h.bits j small).0 (inr (subst (λ (e : List (ℤ × ℤ)). IsInSet e (base +ℤ pos j)) (sym split) (inr is)))
-    ]),
-    (λ is. elim ((h.bits j small).1 is) [
-      | inl old ↦ inl ((joined j small).1 (inl old))
-      | inr left ↦ elim (subst (λ (e : List (ℤ × ℤ)). IsInSet e (base +ℤ pos j)) split left) [
-        | inl here ↦ inl ((joined j small).1 (inr ((windowed j small).1 here)))
-        | inr behind ↦ inr behind
-      ]
-    ]),
-  );
-}
-
-pub bits_all : (whole rest : List (ℤ × ℤ)) (base : ℤ) (word : ℕ) → rest ≡ [] → AreBitsBut whole rest base word → AreOnes word (λ j. IsInSet whole (base +ℤ pos j))
-bits_all whole rest base word none h = λ j small. (
-  (λ one. (h.bits j small).0 (inl one)),
-  (λ is. elim ((h.bits j small).1 is) [
-    | inl one ↦ one
-    | inr left ↦ absurd (subst (λ (e : List (ℤ × ℤ)). IsInSet e (base +ℤ pos j)) none left)
-  ]),
-)
 
 -- ---- the loop by words
 

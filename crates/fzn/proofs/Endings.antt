@@ -1,6 +1,6 @@
 -- What is printed of a search that has ended.
-use Rattle.std.proofs.Common.{◌≡◌, ◌≢◌, ◌∙◌, ◌≤◌, ◌-◌, arith, inl, inr, ℕ, List, [], ◌∷◌, ◌++◌, length, take, Option, None, Some, Result, Ok, Err, OnErr, Bool, true, false, refl, sym, ap, subst, append_assoc}
-use Rattle.std.specs.Prelude.{ℤ, IfOk, slice_get}
+use Rattle.std.proofs.Common.{◌≡◌, ◌≢◌, ◌∙◌, ◌≤◌, ◌-◌, arith, inl, inr, ℕ, List, [], ◌∷◌, ◌++◌, length, take, Option, None, Some, Bool, true, false, refl, sym, ap, subst, append_assoc}
+use Rattle.std.specs.Prelude.{ℤ, slice_get}
 use Rattle.fz_spec.specs.Instance.{Instance}
 use Rattle.fz_spec.specs.Run.{blocks}
 use Rattle.fz_spec.specs.declared.goal.Goal.{Goal}
@@ -23,28 +23,17 @@ use Rattle.fz_printing.specs.Texts.{TakesFront, best_text, end_text, ending, lis
 use Rattle.fz_printing.proofs.Fronts.{front_after, front_more}
 use Rattle.fz_certify.specs.Taken.{TakesOne, TakesFrontOfOne}
 use Rattle.fz_printer.specs.declared.printer.Printer.{Printer}
-use Rattle.fz_printer.specs.Printed.{as_found_of, book_of, due_among, due_of, printed_of, stopped_of, wanted_of, CountsMark, HasPrinted, HasPrintedAt}
+use Rattle.fz_printer.specs.Printed.{as_found_of, book_of, due_among, due_of, printed_of, stopped_of, wanted_of, HasPrinted, HasPrintedAt}
 use Rattle.fz_search.specs.Searched.{enough_for, first_shown, shows_found, HasEnded, IsPrinted, IsShown, PrintsAsAsked}
 use Rattle.fz_search.proofs.Searches.{all_due}
 use Rattle.fzn.specs.declared.status.Status.{Status}
 use Rattle.fzn.specs.declared.status.Status.TheVariants.{Done, SinkFault, NoMemory}
-use Rattle.fzn.specs.Steps.{Flushes, HasSearched, IsEnded, PrintsModel, ShowsFront, ShowsWhole, certified_after}
+use Rattle.fzn.specs.Steps.{Flushes, IsEnded, PrintsModel, ShowsFront, ShowsWhole, certified_after}
 use Rattle.fzn.proofs.Outcomes.{prints_front, prints_whole}
 use Rattle.fzn.proofs.Printed.{shown_prints}
 use Rattle.fzn.proofs.Stops.{asks_all}
 
 -- ---- what a search leaves, as the code says it
-
-pub has_searched : {E : Type 0} (r : Result Printer E) (m : Instance) (o : Options) (before after : Option (List ℕ)) (c d : ℕ) → IfOk r (λ p. IsPrinted m o p before after) → IfOk r (λ p. CountsMark c d (stopped_of p))
-    → OnErr r (after ≡ before) → OnErr r (d ≡ c) → HasSearched m o r before after c d
-has_searched (Ok p) m o before after c d printed cause untaken none = (printed, cause)
-has_searched (Err e) m o before after c d printed cause untaken none = (untaken, none)
-
--- one that makes no call of the sink
-pub has_searched_apart : {E : Type 0} (r : Result Printer E) (m : Instance) (o : Options) (taken : Option (List ℕ)) (c : ℕ) → IfOk r (λ p. (t : Option (List ℕ)) → IsPrinted m o p t t) → IfOk r (λ p. stopped_of p ≡ None)
-    → HasSearched m o r taken taken c c
-has_searched_apart (Ok p) m o taken c printed none = (printed taken, subst (λ (s : Option Stop). CountsMark c c s) (sym none) refl)
-has_searched_apart (Err e) m o taken c printed none = (refl, refl)
 
 -- a search has ended where it wasn't stopped
 pub ended : (m : Instance) (o : Options) (p : Printer) (before after : Option (List ℕ)) → IsPrinted m o p before after → stopped_of p ≡ None → IsEnded o p
