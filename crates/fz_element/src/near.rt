@@ -1,5 +1,5 @@
 //! The indices of a window whose number is one of another.
-ghost use Rattle.std.specs.Prelude.{◌≡◌, ◌≤ℤ◌, ◌+ℤ◌, ℤ, pos};
+ghost use Rattle.std.specs.Prelude.{◌≡◌, ◌≤ℤ◌, ◌+ℤ◌, pos};
 ghost use Rattle.fz_bits.specs.Windows.{IsBit};
 ghost use Rattle.fz_element.specs.Selecting.{ArePairs, IsJoined, Has, HasRoom, AreWithin};
 

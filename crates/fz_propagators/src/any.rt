@@ -16,7 +16,7 @@ use fz_arith::Arithmetic;
 use fz_await::Awaiting;
 use fz_bool::{Clause, Parity};
 use fz_disjunctive::Disjunctive;
-use fz_element::Element;
+use fz_element::{Element, VariableElement};
 use fz_hall::HallIntervals;
 use fz_kept::Kept;
 use fz_linear::Linear;
@@ -26,7 +26,6 @@ use fz_prop::{Answer, Propagator, Store};
 use fz_rel::{Comparison, Membership, ReifiedComparison, ReifiedMembership};
 use fz_says::Saying;
 use fz_table::Table;
-use fz_varelement::VariableElement;
 use std::alloc::{AllocError, Global};
 use std::sync::Arc;
 
