@@ -7,8 +7,8 @@ use Rattle.fz_bits.specs.declared.window.Window.{Window}
 use Rattle.fz_bits.specs.Words.{HasBit, AreOnes}
 use Rattle.fz_bits.specs.Members.{HasMember, IsOneOf}
 use Rattle.fz_bits.specs.Windows.{IsBit}
-use Rattle.fz_grid.specs.declared.grid.Grid.{Grid}
-use Rattle.fz_grid.specs.Grids.{HasRow, IsWhole, HasRowOf, HasNumberOf}
+use Rattle.fz_column.specs.declared.grid.Grid.{Grid}
+use Rattle.fz_column.specs.Grids.{HasRow, IsWhole, HasRowOf, HasNumberOf}
 use Rattle.fz_sets.specs.Sets.{IsInSet}
 use Rattle.fz_column.specs.declared.supports.Support.{Support}
 use Rattle.fz_column.specs.declared.dense.Dense.{Dense}

@@ -6,3 +6,5 @@ pub mod Walking
 pub mod Finding
 pub mod Windowed
 pub mod Packing
+pub mod Grids
+pub mod Lines

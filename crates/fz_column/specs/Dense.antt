@@ -1,7 +1,7 @@
 -- Columns whose numbers are among 64 that follow one another.
 use Rattle.std.specs.Prelude.{◌≡◌, ◌<◌, ◌↔◌, ℕ, ℤ, pos, ◌+ℤ◌, List}
-use Rattle.fz_grid.specs.declared.grid.Grid.{Grid}
-use Rattle.fz_grid.specs.Grids.{HasRow, IsWhole}
+use Rattle.fz_column.specs.declared.grid.Grid.{Grid}
+use Rattle.fz_column.specs.Grids.{HasRow, IsWhole}
 use Rattle.fz_prop.specs.Matching.{HasRoom}
 use Rattle.fz_column.specs.declared.supports.Support.{Support}
 use Rattle.fz_column.specs.declared.dense.Dense.{Dense}

@@ -3,3 +3,5 @@ pub mod Indexes
 pub mod Packed
 pub mod Spans
 pub mod Supports
+pub mod Grids
+pub mod Lines

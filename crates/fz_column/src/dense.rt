@@ -3,14 +3,14 @@ ghost use Rattle.std.specs.Prelude.{◌≡◌, ◌↔◌, ℕ, ℤ, pos, ◌+ℤ
 ghost use Rattle.fz_sets.specs.Sets.{IsInSet};
 ghost use Rattle.fz_bits.specs.Words.{AreOnes};
 ghost use Rattle.fz_strength.specs.Domains.{term_set, IsTermOf};
-ghost use Rattle.fz_grid.specs.Grids.{HasRow, IsWhole};
+ghost use Rattle.fz_column.specs.Grids.{HasRow, IsWhole};
 ghost use Rattle.fz_column.specs.Supports.{HasNumber};
 ghost use Rattle.fz_column.specs.Dense.{IsDenseOf, HasRowAt};
 
+use crate::grid::Grid;
 use crate::places::{HIGHEST_BASE, LOWEST_BASE, place_of};
 use crate::supports::Support;
 use fz_bits::word::with_bit;
-use fz_grid::Grid;
 use fz_prop::Store;
 use fz_prop::terms::{value_of, word_of};
 use fz_spec::term::Term;

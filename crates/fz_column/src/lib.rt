@@ -5,7 +5,9 @@
 
 pub mod column;
 pub mod dense;
+pub mod grid;
 pub mod index;
+pub mod line;
 pub mod near;
 pub mod packed;
 pub mod places;
@@ -15,3 +17,5 @@ pub mod supports;
 pub mod walk;
 
 pub use column::Column;
+pub use grid::Grid;
+pub use line::Line;

@@ -1,7 +1,7 @@
 use Rattle.std.proofs.Common.{◌≡◌, ◌<◌, ◌≤◌, ◌+◌, ◌∙◌, length, get_or, refl, arith, rules}
-use Rattle.fz_grid.proofs.Grids.{kept_none, kept_passed, kept_more, kept_all, kept_every}
-use Rattle.fz_grid.proofs.grid.Grid.keep.Goals.{then-rows-word-ne0, else-rows-word-ne0}
-use Rattle.fz_grid.proofs.grid.Grid.keep.Goals as goal
+use Rattle.fz_column.proofs.Grids.{kept_none, kept_passed, kept_more, kept_all, kept_every}
+use Rattle.fz_column.proofs.grid.Grid.keep.Goals.{then-rows-word-ne0, else-rows-word-ne0}
+use Rattle.fz_column.proofs.grid.Grid.keep.Goals as goal
 
 pub loop-word-init : goal.loop-word-init
 loop-word-init c = kept_none c.args.self.now c.args.numbers c.args.rows.now

@@ -2,8 +2,8 @@ use Rattle.std.proofs.Common.{◌≡◌, ◌<◌, ◌⊎◌, ◌∙◌, inl, inr
 use Rattle.std.proofs.lemmas.List.{get_or_default}
 use Rattle.std.proofs.lemmas.Bool.{cases_Bool}
 use Rattle.fz_bits.specs.Words.{HasBit}
-use Rattle.fz_grid.proofs.Grids.{HasRowIn, joined, same, whole_more}
-use Rattle.fz_grid.proofs.grid.Grid.join.Goals as goal
+use Rattle.fz_column.proofs.Grids.{HasRowIn, joined, same, whole_more}
+use Rattle.fz_column.proofs.grid.Grid.join.Goals as goal
 
 pub returns-clause-whole : goal.returns-clause-whole
 returns-clause-whole c = λ whole.

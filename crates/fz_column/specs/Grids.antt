@@ -2,7 +2,7 @@
 use Rattle.std.specs.Prelude.{ℕ, ◌<◌, ◌/◌, ◌%◌, List, [], slice_index, slice_index_or}
 use Rattle.fz_bits.specs.Words.{HasBit}
 use Rattle.fz_bits.specs.Members.{HasMember}
-use Rattle.fz_grid.specs.declared.grid.Grid.{Grid}
+use Rattle.fz_column.specs.declared.grid.Grid.{Grid}
 
 -- the words of a line, none where it isn't there
 abbrev pub line_at : Grid → ℕ → List ℕ

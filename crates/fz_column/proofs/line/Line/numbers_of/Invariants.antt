@@ -1,5 +1,5 @@
-use Rattle.fz_grid.proofs.Lines.{AreNumbersOfTaken}
-use Rattle.fz_grid.proofs.line.Line.numbers_of.Given as goal
+use Rattle.fz_column.proofs.Lines.{AreNumbersOfTaken}
+use Rattle.fz_column.proofs.line.Line.numbers_of.Given as goal
 
 -- the numbers that were taken and that the rows have
 abbrev pub invariant-numbers : goal.invariant-numbers

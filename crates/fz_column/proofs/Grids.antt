@@ -9,10 +9,10 @@ use Rattle.fz_bits.specs.declared.chunk.Chunk.{Chunk}
 use Rattle.fz_bits.specs.Words.{HasBit, AreOnes}
 use Rattle.fz_bits.specs.Members.{HasMember, IsOneOf}
 use Rattle.fz_bits.proofs.Members.{none_in}
-use Rattle.fz_grid.specs.declared.grid.Grid.{Grid}
-use Rattle.fz_grid.specs.Lines.{HasOneOf, HasOneIn}
-use Rattle.fz_grid.specs.Grids.{line_at, HasRow, IsWhole, HasRowOf, HasNumberOf}
-use Rattle.fz_grid.proofs.Lines.{no_bit}
+use Rattle.fz_column.specs.declared.grid.Grid.{Grid}
+use Rattle.fz_column.specs.Lines.{HasOneOf, HasOneIn}
+use Rattle.fz_column.specs.Grids.{line_at, HasRow, IsWhole, HasRowOf, HasNumberOf}
+use Rattle.fz_column.proofs.Lines.{no_bit}
 
 -- ---- a line that is written over
 

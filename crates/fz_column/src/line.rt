@@ -1,7 +1,7 @@
 //! The rows of each of 64 numbers, of 64 rows.
 ghost use Rattle.std.specs.Prelude.{◌≡◌, ◌⊎◌, ℕ, slice_index, IfOk, IsTrue, false};
 ghost use Rattle.fz_bits.specs.Words.{HasBit, AreOnes};
-ghost use Rattle.fz_grid.specs.Lines.{HasOneOf, HasOneIn};
+ghost use Rattle.fz_column.specs.Lines.{HasOneOf, HasOneIn};
 
 use fz_bits::word::{common, either, lowest_bit, with_bit, without_bit};
 use std::alloc::{AllocError, Global};

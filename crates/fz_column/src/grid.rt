@@ -2,8 +2,8 @@
 ghost use Rattle.std.specs.Prelude.{◌≡◌, ◌<◌, ◌↔◌, ◌⊎◌, ℕ, length, IfOk, IsTrue};
 ghost use Rattle.fz_bits.specs.Words.{HasBit, AreOnes};
 ghost use Rattle.fz_bits.specs.Members.{HasMember, IsOneOf};
-ghost use Rattle.fz_grid.specs.Lines.{HasOneOf, HasOneIn};
-ghost use Rattle.fz_grid.specs.Grids.{line_at, HasRow, IsWhole, HasRowOf, HasNumberOf};
+ghost use Rattle.fz_column.specs.Lines.{HasOneOf, HasOneIn};
+ghost use Rattle.fz_column.specs.Grids.{line_at, HasRow, IsWhole, HasRowOf, HasNumberOf};
 
 use crate::line::Line;
 use fz_bits::Chunk;

@@ -1,5 +1,5 @@
-use Rattle.fz_grid.proofs.Grids.{AreFoundBelow}
-use Rattle.fz_grid.proofs.grid.Grid.numbers_of.Given as goal
+use Rattle.fz_column.proofs.Grids.{AreFoundBelow}
+use Rattle.fz_column.proofs.grid.Grid.numbers_of.Given as goal
 
 -- the numbers that the rows of the lines so far have
 abbrev pub invariant-loop-word : goal.invariant-loop-word

@@ -1,5 +1,5 @@
 use Rattle.std.proofs.Common.{◌≡◌, ℕ, [], get_or}
-use Rattle.fz_grid.proofs.grid.Grid.none.Given as goal
+use Rattle.fz_column.proofs.grid.Grid.none.Given as goal
 
 -- no word has a row
 abbrev pub invariant-loop : goal.invariant-loop

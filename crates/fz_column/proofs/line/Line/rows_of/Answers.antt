@@ -1,5 +1,5 @@
-use Rattle.fz_grid.proofs.Lines.{rows_none, rows_more, rows_all}
-use Rattle.fz_grid.proofs.line.Line.rows_of.Goals as goal
+use Rattle.fz_column.proofs.Lines.{rows_none, rows_more, rows_all}
+use Rattle.fz_column.proofs.line.Line.rows_of.Goals as goal
 
 pub numbers-init : goal.numbers-init
 numbers-init c = rows_none c.args.self.now c.args.numbers

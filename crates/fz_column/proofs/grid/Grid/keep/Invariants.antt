@@ -1,5 +1,5 @@
-use Rattle.fz_grid.proofs.Grids.{AreKeptBelow}
-use Rattle.fz_grid.proofs.grid.Grid.keep.Given as goal
+use Rattle.fz_column.proofs.Grids.{AreKeptBelow}
+use Rattle.fz_column.proofs.grid.Grid.keep.Given as goal
 
 -- the rows of the lines so far have one of the numbers
 abbrev pub invariant-loop-word : goal.invariant-loop-word

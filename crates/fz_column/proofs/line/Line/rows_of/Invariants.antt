@@ -1,5 +1,5 @@
-use Rattle.fz_grid.proofs.Lines.{AreRowsOfTaken}
-use Rattle.fz_grid.proofs.line.Line.rows_of.Given as goal
+use Rattle.fz_column.proofs.Lines.{AreRowsOfTaken}
+use Rattle.fz_column.proofs.line.Line.rows_of.Given as goal
 
 -- the rows of the numbers that were taken
 abbrev pub invariant-numbers : goal.invariant-numbers

@@ -1,6 +1,6 @@
 use Rattle.std.proofs.Common.{◌+◌, ◌≤◌, refl, arith, get_or}
-use Rattle.fz_grid.proofs.Grids.{found_none, found_passed, found_more, found_all, found_every}
-use Rattle.fz_grid.proofs.grid.Grid.numbers_of.Goals as goal
+use Rattle.fz_column.proofs.Grids.{found_none, found_passed, found_more, found_all, found_every}
+use Rattle.fz_column.proofs.grid.Grid.numbers_of.Goals as goal
 
 pub loop-word-init : goal.loop-word-init
 loop-word-init c = found_none c.args.self.now c.args.numbers c.args.rows.now

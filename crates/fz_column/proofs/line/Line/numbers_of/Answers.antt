@@ -1,5 +1,5 @@
-use Rattle.fz_grid.proofs.Lines.{numbers_none, numbers_more, numbers_passed, numbers_all, shares, shares_none}
-use Rattle.fz_grid.proofs.line.Line.numbers_of.Goals as goal
+use Rattle.fz_column.proofs.Lines.{numbers_none, numbers_more, numbers_passed, numbers_all, shares, shares_none}
+use Rattle.fz_column.proofs.line.Line.numbers_of.Goals as goal
 
 pub numbers-init : goal.numbers-init
 numbers-init c = numbers_none c.args.self.now c.args.numbers c.args.rows

@@ -6,7 +6,7 @@ use Rattle.std.proofs.lemmas.Bool.{cases_eq}
 use Rattle.std.proofs.lemmas.Nat.Bits.{bit_at-zero}
 use Rattle.fz_bits.specs.Words.{HasBit, AreOnes}
 use Rattle.fz_bits.proofs.Words.{first_bit, positive}
-use Rattle.fz_grid.specs.Lines.{HasOneOf, HasOneIn}
+use Rattle.fz_column.specs.Lines.{HasOneOf, HasOneIn}
 
 pub no_bit : (k : ℕ) → HasBit 0 k → ⊥
 no_bit k one = let z = bit_at-zero k in omega (arith, z, one)
