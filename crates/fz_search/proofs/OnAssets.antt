@@ -12,7 +12,7 @@ use Rattle.fz_path.specs.Paths.{Pathed, Walked, bare}
 use Rattle.fz_printer.specs.declared.printer.Printer.{Printer}
 use Rattle.fz_printer.specs.Printed.{as_found_of, book_of, printed_of, stopped_of, wanted_of, IsReady}
 use Rattle.fz_printer.specs.Gathered.{IsFilled}
-use Rattle.fz_stream.specs.Streamed.{Streams}
+use Rattle.fz_solo.specs.Streamed.{Streams}
 use Rattle.fz_search.specs.Searched.{IsPrinted, HasEnded, enough_for, asset_path, AreOfAssets}
 use Rattle.fz_search.proofs.Searches.{begun_printed, filled_ended}
 

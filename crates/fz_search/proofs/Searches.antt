@@ -30,7 +30,7 @@ use Rattle.fz_printing.specs.declared.printer.Stop.{Stop}
 use Rattle.fz_printer.specs.declared.printer.Printer.{Printer}
 use Rattle.fz_printer.specs.Printed.{as_found_of, book_of, printed_of, stopped_of, wanted_of, due_among, due_of, CountsMark, HasPrinted, HasPrintedAt, IsReady}
 use Rattle.fz_printer.specs.Gathered.{Gathers, IsFilled, IsFilledFor}
-use Rattle.fz_stream.specs.Streamed.{Streams}
+use Rattle.fz_solo.specs.Streamed.{Streams}
 use Rattle.fz_printer.specs.Gatherings.{gathers_both}
 use Rattle.fz_runs.proofs.Times.{times_are}
 use Rattle.fz_search.specs.Searched.{IsAlone, IsByTurns, IsPrinted, enough_for, first_shown, HasEnded, IsSearched, IsListing, IsShown, IsTally, shows_all, shows_found}

@@ -24,7 +24,7 @@ use fz_path::Path;
 use fz_printer::Printer;
 use fz_search_space::SearchSpace;
 use fz_spec::goal::Goal;
-use fz_stream::stream;
+use fz_solo::stream;
 use std::alloc::{AllocError, Global};
 use std::sync::Arc;
 

@@ -18,7 +18,7 @@ use fz_model::model::Model;
 use fz_path::Path;
 use fz_printer::Printer;
 use fz_search_space::SearchSpace;
-use fz_stream::stream;
+use fz_solo::stream;
 use fz_team::{OwnBook, OwnPath, run_own};
 use std::alloc::{AllocError, Global};
 use std::marker::Brand;

@@ -1,3 +1,5 @@
 pub mod Walks
 mod Searching
 mod Stretching
+pub mod Moves
+pub mod Advances

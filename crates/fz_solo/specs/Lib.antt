@@ -1,3 +1,4 @@
 pub mod Walks
 pub mod Searches
 pub mod Stretches
+pub mod Streamed

@@ -17,7 +17,7 @@ use Rattle.fz_solo.specs.Searches.{IsTold, Searches, Begins, Reports}
 use Rattle.fz_solo.specs.Stretches.{AlwaysKept, GoesOnTold, GoesOnWith, IsQuiet, Pauses}
 use Rattle.fz_solo.specs.Walks.{weight_held}
 use Rattle.fz_solo.proofs.Walks.{goes_on_behind, spent_rest}
-use Rattle.fz_stream.specs.Streamed.{HasAdvanced, IsBatch, OnNoMemory}
+use Rattle.fz_solo.specs.Streamed.{HasAdvanced, IsBatch, OnNoMemory}
 
 -- ---- the search
 

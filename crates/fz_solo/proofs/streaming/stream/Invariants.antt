@@ -2,8 +2,8 @@ use Rattle.std.proofs.Common.{◌≡◌, IfSome, None, length}
 use Rattle.fz_book.specs.Reports.{IsReportable}
 use Rattle.fz_path.specs.Paths.{bare}
 use Rattle.fz_printer.specs.Printed.{book_of, stopped_of, IsReady}
-use Rattle.fz_stream.specs.Streamed.{Streams}
-use Rattle.fz_stream.proofs.streaming.stream.Given as goal
+use Rattle.fz_solo.specs.Streamed.{Streams}
+use Rattle.fz_solo.proofs.streaming.stream.Given as goal
 
 abbrev pub invariant-parts : goal.invariant-parts
 invariant-parts g l = record {

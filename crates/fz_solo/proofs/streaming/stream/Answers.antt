@@ -3,8 +3,8 @@ use Rattle.fz_path.specs.Paths.{bare}
 use Rattle.fz_printer.specs.declared.printer.Printer.{Printer}
 use Rattle.fz_printer.specs.Printed.{book_of, stopped_of}
 use Rattle.fz_printer.specs.Gatherings.{same_count}
-use Rattle.fz_stream.proofs.Moves.{begins, no_part, went_on}
-use Rattle.fz_stream.proofs.streaming.stream.Goals as goal
+use Rattle.fz_solo.proofs.Moves.{begins, no_part, went_on}
+use Rattle.fz_solo.proofs.streaming.stream.Goals as goal
 
 pub parts-init : goal.parts-init
 parts-init g c = record {

@@ -10,13 +10,14 @@ ghost use Rattle.fz_solo.specs.declared.stretches.Halt.TheVariants as halts;
 ghost use Rattle.fz_solo.specs.declared.stretches.Pause.TheVariants as pauses;
 ghost use Rattle.fz_solo.specs.Searches.{IsTold};
 ghost use Rattle.fz_printer.specs.Gathered.{IsFilled};
-ghost use Rattle.fz_stream.specs.Streamed.{HasAdvanced, HasTakenUp, IsBatch, NothingOpen, OnNoMemory, Streams};
+ghost use Rattle.fz_solo.specs.Streamed.{HasAdvanced, HasTakenUp, IsBatch, NothingOpen, OnNoMemory, Streams};
 
+use crate::solo::take_up;
+use crate::stretches::{Halt, Pause, stretch};
 use fz_io::outside::Sink;
 use fz_path::Path;
 use fz_printer::{Printer, hand_on_if_due, has_stopped, is_filled};
 use fz_search_space::SearchSpace;
-use fz_solo::{Halt, Pause, stretch, take_up};
 use fz_tree::mode::Mode;
 use std::alloc::Global;
 

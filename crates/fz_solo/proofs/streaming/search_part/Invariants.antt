@@ -4,8 +4,8 @@ use Rattle.fz_path.specs.Paths.{bare}
 use Rattle.fz_printer.specs.Printed.{book_of, stopped_of, IsReady}
 use Rattle.fz_solo.specs.Walks.{weight_held}
 use Rattle.fz_printer.specs.Gathered.{IsFilled}
-use Rattle.fz_stream.specs.Streamed.{Streams}
-use Rattle.fz_stream.proofs.streaming.search_part.Given as goal
+use Rattle.fz_solo.specs.Streamed.{Streams}
+use Rattle.fz_solo.proofs.streaming.search_part.Given as goal
 
 abbrev pub invariant-stretches : goal.invariant-stretches
 invariant-stretches g l = record {

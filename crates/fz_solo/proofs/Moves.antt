@@ -13,7 +13,7 @@ use Rattle.fz_printer.proofs.Printing.{printed_on, marked, within_due}
 use Rattle.fz_printer.specs.Gatherings.{both_keep}
 use Rattle.fz_printer.proofs.Gathering.{is_below, still_within}
 use Rattle.fz_solo.specs.Searches.{Searches, Begins, Starts, Steps, Finds, Reports}
-use Rattle.fz_stream.specs.Streamed.{HasTakenUp, OnNoMemory, Streams}
+use Rattle.fz_solo.specs.Streamed.{HasTakenUp, OnNoMemory, Streams}
 
 pub begins : (p : Printer) (q : Pathed) (taken : Option (List ℕ)) → IsReady p → Streams p q taken p q taken
 begins p q taken ready = record {

@@ -3,10 +3,10 @@ use Rattle.fz_path.specs.Paths.{bare}
 use Rattle.fz_printer.specs.Printed.{as_found_of, book_of, stopped_of}
 use Rattle.fz_solo.specs.declared.stretches.Halt.TheVariants.{Each}
 use Rattle.fz_solo.specs.Stretches.{IsQuiet}
-use Rattle.fz_stream.specs.declared.streaming.Message.TheVariants.{Better}
-use Rattle.fz_stream.proofs.Moves.{advanced, none_is_no_memory, silent}
-use Rattle.fz_stream.proofs.Advances.{done_by, goes_on, left_reported, quiet_path, reported_code, silent_code, told_code}
-use Rattle.fz_stream.proofs.streaming.advance.Goals as goal
+use Rattle.fz_solo.specs.declared.streaming.Message.TheVariants.{Better}
+use Rattle.fz_solo.proofs.Moves.{advanced, none_is_no_memory, silent}
+use Rattle.fz_solo.proofs.Advances.{done_by, goes_on, left_reported, quiet_path, reported_code, silent_code, told_code}
+use Rattle.fz_solo.proofs.streaming.advance.Goals as goal
 
 pub returns-in-Better-clause-streams : goal.returns-in-Better-clause-streams
 returns-in-Better-clause-streams g c =

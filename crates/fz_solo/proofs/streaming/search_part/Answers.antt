@@ -6,8 +6,8 @@ use Rattle.fz_printer.specs.Printed.{stopped_of}
 use Rattle.fz_printer.specs.Gathered.{IsFilled}
 use Rattle.fz_printer.specs.Gatherings.{same_count}
 use Rattle.fz_printer.proofs.Gathering.{ready_kept}
-use Rattle.fz_stream.proofs.Moves.{begins, both_stream, handed_on, more_kept}
-use Rattle.fz_stream.proofs.streaming.search_part.Goals as goal
+use Rattle.fz_solo.proofs.Moves.{begins, both_stream, handed_on, more_kept}
+use Rattle.fz_solo.proofs.streaming.search_part.Goals as goal
 
 pub stretches-init : goal.stretches-init
 stretches-init g c = record {
