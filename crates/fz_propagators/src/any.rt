@@ -11,9 +11,9 @@ ghost use Rattle.fz_says.specs.Fits.{FitsSum};
 ghost use Rattle.fz_says.specs.Said.{said_by};
 ghost use Rattle.fz_propagators.specs.Forms.{said_of};
 
+use crate::awaiting::Awaiting;
 use fz_alldiff::AllDifferent;
 use fz_arith::Arithmetic;
-use fz_await::Awaiting;
 use fz_bool::{Clause, Parity};
 use fz_disjunctive::Disjunctive;
 use fz_element::{Element, VariableElement};

@@ -5,8 +5,8 @@ use Rattle.fz_strength.specs.Events.{AllFixed}
 use Rattle.fz_spec.specs.Constraints.{terms_among}
 use Rattle.fz_strength.specs.Domains.{IsTermOf}
 use Rattle.fz_prop.proofs.Steps.{same_shrinks}
-use Rattle.fz_await.proofs.Waiting.{always_true, never_true}
-use Rattle.fz_await.proofs.awaiting.AwaitingPropagator.propagate.Goals as goal
+use Rattle.fz_propagators.proofs.Waiting.{always_true, never_true}
+use Rattle.fz_propagators.proofs.awaiting.AwaitingPropagator.propagate.Goals as goal
 
 pub returns-then-is_true : goal.returns-then-is_true
 returns-then-is_true c =

@@ -11,7 +11,7 @@ use Rattle.fz_strength.proofs.Terms.{within_before}
 use Rattle.fz_prop.specs.Answers.{IsAnswerOf}
 use Rattle.fz_prop.specs.declared.answer.Answer.TheVariants.{Subsumed, Failed}
 use Rattle.fz_spec.proofs.Agreeing.{truth_agrees}
-use Rattle.fz_await.proofs.Values.{fixed_agree}
+use Rattle.fz_propagators.proofs.Values.{fixed_agree}
 
 -- where all are, one assignment within the domains speaks for all
 one_for_all : (shape : Shape) (arguments : List Argument) (ds : List (List (ℤ × ℤ))) (a b : List ℤ) → AllByRecursion (IsTermOf (length ds)) (terms_among arguments)
