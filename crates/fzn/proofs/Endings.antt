@@ -15,8 +15,8 @@ use Rattle.fz_tree.specs.Better.{IsModeOf}
 use Rattle.fz_tree.specs.Book.{Book, BookLaw, incumbent, incumbent_of}
 use Rattle.fz_runs.specs.Runs.{IsCertificate, IsRunText, certified, counted}
 use Rattle.fz_runs.specs.Modes.{mode_for}
-use Rattle.fz_begun.specs.Begun.{IsCertifiable}
-use Rattle.fz_begun.proofs.Certifying.{certifiable, certificate_exists}
+use Rattle.fzn.specs.Begun.{IsCertifiable}
+use Rattle.fzn.proofs.Certifying.{certifiable, certificate_exists}
 use Rattle.fz_io.specs.Outside.{with_more, with_more-none, with_more-with_more}
 use Rattle.fz_printing.specs.declared.printer.Stop.{Stop}
 use Rattle.fz_printing.specs.Texts.{TakesFront, best_text, end_text, ending, listing_text, run_text, shown_text}

@@ -3,3 +3,10 @@ pub mod Printed
 pub mod Outcomes
 pub mod Stops
 pub mod Endings
+pub mod Among
+pub mod Extensions
+pub mod Certifying
+pub mod BegunEndings
+pub mod Recorded
+pub mod Whole
+pub mod Blocks

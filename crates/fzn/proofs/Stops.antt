@@ -12,10 +12,10 @@ use Rattle.fz_tree.specs.Book.{Book, BookLaw}
 use Rattle.fz_runs.specs.Runs.{IsRunText, wanted}
 use Rattle.fz_runs.specs.Modes.{mode_for}
 use Rattle.fz_io.specs.Outside.{with_more}
-use Rattle.fz_begun.specs.Begun.{AreBegun, CanEnd, IsShort, IsWithin}
-use Rattle.fz_begun.specs.Begun as begun
-use Rattle.fz_begun.proofs.Endings.{can_end}
-use Rattle.fz_begun.proofs.Recorded.{are_found, are_bettered}
+use Rattle.fzn.specs.Begun.{AreBegun, CanEnd, IsShort, IsWithin}
+use Rattle.fzn.specs.Begun as begun
+use Rattle.fzn.proofs.BegunEndings.{can_end}
+use Rattle.fzn.proofs.Recorded.{are_found, are_bettered}
 use Rattle.fz_printing.specs.declared.printer.Stop.{Stop}
 use Rattle.fz_printing.specs.Texts.{TakesFront}
 use Rattle.fz_printer.specs.declared.printer.Printer.{Printer}

@@ -1,3 +1,5 @@
 pub mod Promises
 pub mod Steps
 pub mod Complaints
+pub mod Begun
+pub mod Whole

@@ -6,6 +6,7 @@
 
 pub mod command;
 pub mod complaint;
+pub mod laws;
 pub mod run;
 pub mod status;
 

@@ -10,7 +10,7 @@ ghost use Rattle.fz_gen.specs.Knapsack as texts;
 ghost use Rattle.fzn.specs.Promises.{AnswersAccepted, AnswersRefused, HasItsCause, HasReadAll, HasSelected, IsDoneOrShort, IsFlushed, IsUnrefused, Runs, SelectsOnce, text_for};
 ghost use Rattle.fzn.specs.Steps.{Answers, Flushes, HasSearched, HasSinkCause, IsEnded, IsReadOf, LeavesNothing, PrintsModel, PrintsOf, SelectsAt, ShowsFront, ShowsWhole, certified_after};
 ghost use Rattle.fz_printer.specs.Printed.{as_found_of, book_of, HasPrinted};
-ghost use Rattle.fz_begun.specs.Begun.{IsCertifiable};
+ghost use Rattle.fzn.specs.Begun.{IsCertifiable};
 ghost use Rattle.fz_certify.specs.Taken.{TakesOne, TakesFrontOfOne};
 ghost use Rattle.fz_runs.specs.Runs.{IsCertificate};
 ghost use Rattle.fz_printing.specs.Texts.{HasStopCause};

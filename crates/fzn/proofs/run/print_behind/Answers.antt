@@ -7,7 +7,7 @@ use Rattle.fz_tree.specs.Book.{Book, BookLaw}
 use Rattle.fz_printer.specs.Printed.{book_of}
 use Rattle.fz_search.specs.Searched.{first_shown, IsShown}
 use Rattle.fz_runs.specs.Runs.{certified}
-use Rattle.fz_begun.specs.Begun.{IsCertifiable}
+use Rattle.fzn.specs.Begun.{IsCertifiable}
 use Rattle.fz_printing.proofs.Fronts.{whenever}
 use Rattle.fz_certify.specs.Taken.{TakesOne, TakesFrontOfOne}
 use Rattle.fz_runs.specs.Runs.{IsCertificate}

@@ -1,6 +1,6 @@
 //! What is begun can be ended, and what the text of a whole run says of the model.
-ghost use Rattle.fz_begun.specs.Begun.{BegunCanEnd};
-ghost use Rattle.fz_begun.specs.Whole.{NothingExactly, AllAreOne, BlocksDiffer, BlocksSatisfy, LastIsBest, BlocksAreRows};
+ghost use Rattle.fzn.specs.Begun.{BegunCanEnd};
+ghost use Rattle.fzn.specs.Whole.{NothingExactly, AllAreOne, BlocksDiffer, BlocksSatisfy, LastIsBest, BlocksAreRows};
 
 /// After the blocks of solutions that a run has begun with, bytes can follow that make the text of a whole run of it.
 pub fn begun_can_end()

@@ -11,8 +11,8 @@ use Rattle.fz_tree.specs.Book.{Book, BookLaw, Part, SuitsRecord, incumbent_of, t
 use Rattle.fz_cmd.specs.Meaning.{Options}
 use Rattle.fz_runs.specs.Modes.{mode_of}
 use Rattle.fz_runs.proofs.Times.{times_are}
-use Rattle.fz_begun.specs.Begun.{IsWithin, AreFound, AreBettered}
-use Rattle.fz_begun.proofs.Endings.{all_front, fewer}
+use Rattle.fzn.specs.Begun.{IsWithin, AreFound, AreBettered}
+use Rattle.fzn.proofs.BegunEndings.{all_front, fewer}
 
 first_within : (asked : Option ℕ) (l : List (List ℤ)) (n : ℕ) → IsWithin asked n → IsWithin asked (length (take n l))
 first_within None l n h = tt

@@ -9,7 +9,7 @@ use Rattle.fz_model.specs.Kept.{IsModel}
 use Rattle.fz_certain.proofs.Growing.{cert_exists}
 use Rattle.fz_cmd.specs.Meaning.{Options}
 use Rattle.fz_runs.specs.Runs.{EndsBest, IsCertificate, PrintsFor, PrintsGoal, PrintsWanted, ListsEach, certified, wanted, wanted_of}
-use Rattle.fz_begun.specs.Begun.{IsCertifiable}
+use Rattle.fzn.specs.Begun.{IsCertifiable}
 
 -- ---- a best one, or none
 

@@ -22,9 +22,9 @@ use Rattle.fz_model.specs.Kept.{IsModel}
 use Rattle.fz_runs.specs.Runs.{AreSome, PrintsEach, PrintsWanted, PrintsGoal, PrintsFor, wanted, counted, certified}
 use Rattle.fz_runs.specs.Modes.{mode_of}
 use Rattle.fz_runs.proofs.Times.{times_are}
-use Rattle.fz_begun.specs.Begun.{IsBelow, AreFound, AreBegun, IsShort, CanEnd}
-use Rattle.fz_begun.proofs.Certifying.{certifiable, certificate_exists}
-use Rattle.fz_begun.proofs.Extensions.{ListsAll, lists_all, lists_each, GoesUp, goes_up_from}
+use Rattle.fzn.specs.Begun.{IsBelow, AreFound, AreBegun, IsShort, CanEnd}
+use Rattle.fzn.proofs.Certifying.{certifiable, certificate_exists}
+use Rattle.fzn.proofs.Extensions.{ListsAll, lists_all, lists_each, GoesUp, goes_up_from}
 
 -- ---- pieces of a list
 

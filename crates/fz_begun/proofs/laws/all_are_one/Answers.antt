@@ -1,5 +1,0 @@
-use Rattle.fz_begun.proofs.Whole.{all_are_one}
-use Rattle.fz_begun.proofs.laws.all_are_one.Goals as goal
-
-pub returns : goal.returns
-returns c = all_are_one
