@@ -1,7 +1,7 @@
 -- An index into a list of numbers: when an assignment makes it true, its line, and what its propagator makes.
 use Rattle.std.specs.Prelude.{◌≡◌, ◌↔◌, ◌⊎◌, ℤ, pos, ◌+ℤ◌, ◌≤ℤ◌, ◌<ℤ◌, List}
 use Rattle.std.specs.List.{AllByRecursion}
-use Rattle.fz_sets.specs.Sets.{IsInSet, AreWithinLimits, LEAST, GREATEST}
+use Rattle.fz_sets.specs.Sets.{IsInSet, AreWithinLimits}
 use Rattle.fz_bits.specs.declared.window.Window.{Window}
 use Rattle.fz_bits.specs.Windows.{IsBit}
 use Rattle.fz_spec.specs.declared.term.Term.{Term}
@@ -9,6 +9,7 @@ use Rattle.fz_spec.specs.Constraints.{term_value}
 use Rattle.fz_spec.specs.Truth.{IsElement}
 use Rattle.fz_strength.specs.Domains.{term_set}
 use Rattle.fz_strength.specs.Elements.{AreMatched}
+use Rattle.fz_prop.specs.Matching.{HasRoom}
 use Rattle.fz_element.specs.declared.numbers.Numbers.{Numbers}
 use Rattle.fz_element.specs.declared.numbers.Numbers.TheVariants.{Near, Far}
 
@@ -53,10 +54,6 @@ pub record IsJoined (xs : List ℤ) (j : ℤ) (E P Q R S : ℤ → Type 0) : Typ
 abbrev pub Has : Numbers → ℤ → Type 0
 Has (Near w) x = IsBit w.base w.bits x
 Has (Far d) x = IsInSet d x
-
--- the 64 numbers from a base on lie within the limits
-abbrev pub HasRoom : ℤ → Type 0
-HasRoom base = (LEAST ≤ℤ base) × ((base +ℤ pos 63) ≤ℤ GREATEST)
 
 abbrev pub AreWithin : Numbers → Type 0
 AreWithin (Near w) = HasRoom w.base

@@ -1,7 +1,8 @@
 //! The indices of a window whose number is one of another.
 ghost use Rattle.std.specs.Prelude.{◌≡◌, ◌≤ℤ◌, ◌+ℤ◌, pos};
 ghost use Rattle.fz_bits.specs.Windows.{IsBit};
-ghost use Rattle.fz_element.specs.Selecting.{ArePairs, IsJoined, Has, HasRoom, AreWithin};
+ghost use Rattle.fz_prop.specs.Matching.{HasRoom};
+ghost use Rattle.fz_element.specs.Selecting.{ArePairs, IsJoined, Has, AreWithin};
 
 use crate::numbers::{Numbers, Pairs, number_at};
 use fz_bits::Window;

@@ -5,8 +5,9 @@ ghost use Rattle.fz_bits.specs.Windows.{IsBit};
 ghost use Rattle.fz_sets.specs.Sets.{IsInSet};
 ghost use Rattle.fz_strength.specs.Domains.{term_set, IsTermOf};
 ghost use Rattle.fz_prop.specs.Stores.{FitsTerm};
+ghost use Rattle.fz_prop.specs.Matching.{HasRoom};
 ghost use Rattle.fz_element.specs.Matching.{AreMatches, IsJoined};
-ghost use Rattle.fz_element.specs.Selecting.{Has, HasRoom, AreWithin};
+ghost use Rattle.fz_element.specs.Selecting.{Has, AreWithin};
 
 use crate::matches::Matches;
 use crate::numbers::Numbers;
