@@ -15,7 +15,7 @@ use Rattle.fz_spec.specs.declared.shape.Relation.{Relation}
 use Rattle.fz_spec.specs.declared.shape.Relation.TheVariants.{Equal, NotEqual}
 use Rattle.fz_strength.specs.Domains.{dom_at, term_set, AreDomains, IsNarrower}
 use Rattle.fz_strength.specs.Events.{Wait, AreQuiet, IsNoneFixed, IsOnly, IsQuiet, wait_for}
-use Rattle.fz_strength.specs.Relations.{IsShown}
+use Rattle.fz_strength.specs.Relations.{IsShown, RestsIf}
 use Rattle.fz_strength.specs.Sayings.{Saying, line_of, waits_of, CompareIf, SelectTerm}
 use Rattle.fz_strength.specs.VariableElements.{StandsAt, IsMatch}
 use Rattle.fz_strength.proofs.Comparisons.{kept_line}
