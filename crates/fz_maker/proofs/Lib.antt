@@ -1,3 +1,4 @@
 mod Fitting
 mod Stages
 mod Rests
+mod Lines

@@ -21,7 +21,7 @@ use Rattle.fz_io.specs.Outside.{with_more, with_more-none, with_more-with_more}
 use Rattle.fz_printing.specs.declared.printer.Stop.{Stop}
 use Rattle.fz_printing.specs.Texts.{TakesFront, best_text, end_text, ending, listing_text, run_text, shown_text}
 use Rattle.fz_printing.proofs.Fronts.{front_after, front_more}
-use Rattle.fz_certify.specs.Taken.{TakesOne, TakesFrontOfOne}
+use Rattle.fz_maker.specs.Taken.{TakesOne, TakesFrontOfOne}
 use Rattle.fz_printer.specs.declared.printer.Printer.{Printer}
 use Rattle.fz_printer.specs.Printed.{as_found_of, book_of, due_among, due_of, printed_of, stopped_of, wanted_of, HasPrinted, HasPrintedAt}
 use Rattle.fz_search.specs.Searched.{enough_for, first_shown, shows_found, HasEnded, IsPrinted, IsShown, PrintsAsAsked}

@@ -12,7 +12,7 @@ use Rattle.fz_printing.specs.declared.printer.Stop.{Stop}
 use Rattle.fz_printing.specs.declared.printer.Stop.TheVariants.{Memory, Fault}
 use Rattle.fzn.specs.Promises.{Prints}
 use Rattle.fz_printing.specs.Texts.{TakesFront}
-use Rattle.fz_certify.specs.Taken.{TakesOne, TakesFrontOfOne}
+use Rattle.fz_maker.specs.Taken.{TakesOne, TakesFrontOfOne}
 use Rattle.fz_runs.specs.Runs.{IsRunText}
 use Rattle.fz_runs.specs.Modes.{mode_for}
 use Rattle.fz_language.specs.Reads.{Reads, Accepted}

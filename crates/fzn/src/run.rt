@@ -11,12 +11,12 @@ ghost use Rattle.fzn.specs.Promises.{AnswersAccepted, AnswersRefused, HasItsCaus
 ghost use Rattle.fzn.specs.Steps.{Answers, Flushes, HasSearched, HasSinkCause, IsEnded, IsReadOf, LeavesNothing, PrintsModel, PrintsOf, SelectsAt, ShowsFront, ShowsWhole, certified_after};
 ghost use Rattle.fz_printer.specs.Printed.{as_found_of, book_of, HasPrinted};
 ghost use Rattle.fzn.specs.Begun.{IsCertifiable};
-ghost use Rattle.fz_certify.specs.Taken.{TakesOne, TakesFrontOfOne};
+ghost use Rattle.fz_maker.specs.Taken.{TakesOne, TakesFrontOfOne};
 ghost use Rattle.fz_runs.specs.Runs.{IsCertificate};
 ghost use Rattle.fz_printing.specs.Texts.{HasStopCause};
 
 use crate::status::Status;
-use fz_certify::print_certificate;
+use fz_maker::print_certificate;
 use fz_cmd::Options;
 use fz_cmd::words::options;
 use fz_gen::knapsack;

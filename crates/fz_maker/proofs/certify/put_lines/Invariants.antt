@@ -1,7 +1,7 @@
 use Rattle.std.proofs.Common.{◌≡◌}
 use Rattle.fz_maker.specs.Making.{lines_ahead}
-use Rattle.fz_certify.proofs.Lines.{IsUnderWay}
-use Rattle.fz_certify.proofs.certify.put_lines.Given as goal
+use Rattle.fz_maker.proofs.Lines.{IsUnderWay}
+use Rattle.fz_maker.proofs.certify.put_lines.Given as goal
 
 -- lines were taken, and what is ahead goes on from them
 abbrev pub invariant-lines : goal.invariant-lines

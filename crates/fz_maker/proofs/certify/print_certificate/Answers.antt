@@ -1,7 +1,7 @@
 use Rattle.std.specs.Prelude.{option_copied}
 use Rattle.std.proofs.Common.{refl}
-use Rattle.fz_certify.proofs.Lines.{cert_unbegun}
-use Rattle.fz_certify.proofs.certify.print_certificate.Goals as goal
+use Rattle.fz_maker.proofs.Lines.{cert_unbegun}
+use Rattle.fz_maker.proofs.certify.print_certificate.Goals as goal
 
 pub returns-in-Err-clause-front : goal.returns-in-Err-clause-front
 returns-in-Err-clause-front g c =

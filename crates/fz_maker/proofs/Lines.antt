@@ -14,7 +14,7 @@ use Rattle.fz_certain.proofs.Growing.{cert_exists}
 use Rattle.fz_maker.specs.declared.maker.Stage.{Stage}
 use Rattle.fz_maker.specs.declared.maker.Stage.TheVariants as stages
 use Rattle.fz_maker.specs.Making.{AreAhead, HasRest, IsAhead, IsEnded, IsWritten, Making, begun}
-use Rattle.fz_certify.specs.Taken.{HasMore, TakesOne, TakesFrontOfOne}
+use Rattle.fz_maker.specs.Taken.{HasMore, TakesOne, TakesFrontOfOne}
 
 pub of_some : {X : Type 0} (o : Option X) (x : X) (P : X → Type 0) → o ≡ Some x → IfSome o P → P x
 of_some {X} o x P is h = subst (λ (p : Option X). IfSome p P) is h

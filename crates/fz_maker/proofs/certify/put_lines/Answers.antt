@@ -4,8 +4,8 @@ use Rattle.fz_io.specs.Outside.{with_more}
 use Rattle.fz_printing.specs.Texts.{TakesFront}
 use Rattle.fz_printing.proofs.Fronts.{whenever}
 use Rattle.fz_maker.specs.Making.{HasRest, IsEnded, IsWritten}
-use Rattle.fz_certify.proofs.Lines.{of_some, under_way, further, ended, stopped, failed}
-use Rattle.fz_certify.proofs.certify.put_lines.Goals as goal
+use Rattle.fz_maker.proofs.Lines.{of_some, under_way, further, ended, stopped, failed}
+use Rattle.fz_maker.proofs.certify.put_lines.Goals as goal
 
 pub lines-init : goal.lines-init
 lines-init g c = record { way = under_way c.args.maker.now (g.S.Sink.taken c.args.sink.now) c.requires.sound; faults = refl }

@@ -5,10 +5,10 @@ ghost use Rattle.fz_refutes.specs.Makers.{HasNoBetter};
 ghost use Rattle.fz_maker.specs.Making.{HasRest, IsAhead, IsEnded, IsWritten};
 ghost use Rattle.fz_maker.specs.declared.maker.Stage.TheVariants as stages;
 ghost use Rattle.fz_printing.specs.Texts.{HasStopCause};
-ghost use Rattle.fz_certify.specs.Taken.{HasMore, TakesOne, TakesFrontOfOne};
+ghost use Rattle.fz_maker.specs.Taken.{HasMore, TakesOne, TakesFrontOfOne};
 
+use crate::maker::Maker;
 use fz_io::outside::Sink;
-use fz_maker::Maker;
 use fz_model::Assignment;
 use fz_model::model::Model;
 use fz_printing::{Stop, put};
