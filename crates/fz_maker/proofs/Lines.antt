@@ -9,11 +9,10 @@ use Rattle.fz_model.specs.Kept.{IsModel}
 use Rattle.fz_refutes.specs.Trees.{Line}
 use Rattle.fz_refutes.specs.Texts.{IsCert, IsHead, comment, lines_text}
 use Rattle.fz_refutes.specs.Makers.{HasNoBetter}
-use Rattle.fz_refutes.proofs.Making.{trees_certify}
 use Rattle.fz_certain.proofs.Growing.{cert_exists}
 use Rattle.fz_maker.specs.declared.maker.Stage.{Stage}
 use Rattle.fz_maker.specs.declared.maker.Stage.TheVariants as stages
-use Rattle.fz_maker.specs.Making.{AreAhead, HasRest, IsAhead, IsEnded, IsWritten, Making, begun}
+use Rattle.fz_maker.specs.Making.{AreAhead, HasRest, IsAhead, IsEnded, IsWritten, Making}
 use Rattle.fz_maker.specs.Taken.{HasMore, TakesOne, TakesFrontOfOne}
 
 pub of_some : {X : Type 0} (o : Option X) (x : X) (P : X → Type 0) → o ≡ Some x → IfSome o P → P x
@@ -71,19 +70,7 @@ some_at stages.Tree head lines text more is = subst (λ (t : List ℕ). 0 < leng
 some_at stages.Done head lines text more is = absurd (more refl)
 some_at stages.Failed head lines text more is = absurd is
 
-pub has_more : (k : Making) → HasRest k → k.stage ≢ stages.Done → HasMore k
-has_more k rest more = record { text = rest.0; ahead = rest.1; some = some_at k.stage k.head rest.1.lines rest.0 more rest.1.ahead }
-
 -- ---- what is ahead at the beginning is the certificate
-
-pub whole_cert : (m : Instance) (head : Option (List ℤ)) (text : List ℕ) → IsAhead (begun m head) text → IsCert m head text
-whole_cert m head text ahead = subst (IsCert m head) (sym ahead.ahead) (trees_certify m head ahead.lines ahead.are)
-
-pub cert_taken : (k : Making) (m : Instance) (head : Option (List ℤ)) (before after : Option (List ℕ)) → k ≡ begun m head → TakesOne (IsAhead k) before after → TakesOne (IsCert m head) before after
-cert_taken k m head before after is one = record { text = one.text; is = whole_cert m head one.text (subst (λ (j : Making). IsAhead j one.text) is one.is); taken = one.taken }
-
-pub cert_front : (k : Making) (m : Instance) (head : Option (List ℤ)) (before after : Option (List ℕ)) → k ≡ begun m head → TakesFrontOfOne (IsAhead k) before after → TakesFrontOfOne (IsCert m head) before after
-cert_front k m head before after is one = record { text = one.text; is = whole_cert m head one.text (subst (λ (j : Making). IsAhead j one.text) is one.is); front = one.front }
 
 -- nothing was taken of it
 pub cert_unbegun : (m : Instance) (head : Option (List ℤ)) (before after : Option (List ℕ)) → IsModel m → IsHead m head → HasNoBetter m head → after ≡ before → TakesFrontOfOne (IsCert m head) before after
