@@ -23,8 +23,8 @@ use fz_model::model::Model;
 use fz_path::Path;
 use fz_printer::Printer;
 use fz_search_space::SearchSpace;
-use fz_spec::goal::Goal;
 use fz_solo::stream;
+use fz_spec::goal::Goal;
 use std::alloc::{AllocError, Global};
 use std::sync::Arc;
 

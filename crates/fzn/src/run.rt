@@ -16,7 +16,6 @@ ghost use Rattle.fz_runs.specs.Runs.{IsCertificate};
 ghost use Rattle.fz_printing.specs.Texts.{HasStopCause};
 
 use crate::status::Status;
-use fz_maker::print_certificate;
 use fz_cmd::Options;
 use fz_cmd::words::options;
 use fz_gen::knapsack;
@@ -24,6 +23,7 @@ use fz_gen::text::{ITEMS_LEAST, ITEMS_MOST};
 use fz_io::gate::Gate;
 use fz_io::outside::{Sink, Source};
 use fz_io::whole::{Whole, read_all};
+use fz_maker::print_certificate;
 use fz_model::assignment::Assignment;
 use fz_model::model::Model;
 use fz_print::refusal::Refusal;
