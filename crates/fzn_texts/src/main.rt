@@ -4,27 +4,16 @@
 #![tactic(auto)]
 
 mod abreast;
-mod answer;
-mod books;
 mod calls;
-mod case;
-mod collecting;
-mod domains;
-mod frontiers;
+mod generated;
 mod learning;
-mod machines;
 mod meeting;
-mod models;
-mod paths;
-mod portfolios;
 mod runs;
-mod seeds;
-mod spaces;
-mod steps;
 mod watching;
 mod words;
 
-use calls::Report;
+use calls::Programs;
+use fz_script::Report;
 use std::alloc::AllocGlobal;
 use std::env::Env;
 use std::fs::Files;
@@ -43,10 +32,11 @@ fn main(rt: HostRuntime) -> ExitCode {
 
 /// Runs the cases of the files that the arguments name, and prints what comes of them.
 fn run_all<R: Env + Files + Print + AllocGlobal + Threads + Wait + Sync>(rt: &R) -> io::Result<()> {
+    let calls = Programs { rt };
     for name in env::args(rt)?.skip(1) {
         let text = fs::read_to_string(rt, &name)?;
         let mut report = Report::new(rt.alloc(), &name);
-        report.run(rt, &text)?;
+        report.run(&calls, &text)?;
         let told = report.text()?;
         print!(rt; "{told}")?;
     }

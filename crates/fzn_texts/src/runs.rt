@@ -3,8 +3,6 @@ ghost use Rattle.std.specs.Prelude.{◌<◌, ◌-◌, ◌^◌, IfOk};
 ghost use Rattle.fz_io.specs.Memory.{sink_faults, source_faults};
 
 use crate::abreast::Abreast;
-use crate::answer::Answer;
-use crate::case::{Case, Faults};
 use crate::learning::Learning;
 use crate::meeting::Meeting;
 use crate::watching::{ShowingSink, Watching};
@@ -13,6 +11,8 @@ use fz_io::memory_sink::MemSink;
 use fz_io::memory_source::MemSource;
 use fz_io::outside::Sink;
 use fz_io::texts::NamedText;
+use fz_script::case::Faults;
+use fz_script::{Answer, Case};
 use fzcheck::{CheckStatus, fzcheck};
 use fzn::{Status, complaint_of, fzn};
 use std::alloc::{AllocError, Global};

@@ -1,7 +1,7 @@
 //! What words give.
-use crate::answer::Answer;
 use fz_cmd::Options;
 use fz_cmd::words::options;
+use fz_script::Answer;
 use std::alloc::{AllocError, Global};
 
 /// The options of some words, or that they are refused.

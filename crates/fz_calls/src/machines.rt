@@ -1,8 +1,9 @@
 //! Two workers that take turns: their events, one by one.
-use crate::answer::Answer;
 use crate::books::{edges_of, open, recorded, word_of};
-use crate::steps::{Stepped, mode, shared_model, take_all};
+use crate::steps::{Stepped, take_all};
+use crate::values::{mode, shared_model};
 use fz_machine::{Answer as Applied, Event, Machine, Outcome};
+use fz_script::Answer;
 use fz_space::Space;
 use std::alloc::{AllocError, Global};
 

@@ -1,12 +1,12 @@
 //! Workers that take turns on a model of four Booleans, by many seeds.
 ghost use Rattle.std.specs.Prelude.{◌≤◌};
 
-use crate::answer::Answer;
-use crate::steps::{mode, shared_model};
+use crate::values::{mode, shared_model};
 use fz_book::End;
 use fz_machine::schedule::next_number;
 use fz_machine::{Event, Machine};
 use fz_model::{Assignment, Model};
+use fz_script::Answer;
 use fz_space::Space;
 use std::alloc::{AllocError, Global};
 use std::sync::Arc;

@@ -1,12 +1,13 @@
 //! A frontier of at most one edge, and a part that was cut off it, step by step.
 ghost use Rattle.std.specs.Prelude.{◌≡◌, length};
 
-use crate::answer::Answer;
 use crate::books::edges_of;
-use crate::steps::{Stepped, near, take_all};
+use crate::steps::{Stepped, take_all};
+use crate::values::near;
 use fz_dom::Dom;
 use fz_model::Assignment;
 use fz_region::{Choice, Comparison, Decision, Frontier};
+use fz_script::Answer;
 use std::alloc::{AllocError, Global};
 use std::mem;
 

@@ -1,9 +1,10 @@
 //! A domain and another one, step by step.
 ghost use Rattle.fz_sets.specs.Sets.{IsWithinLimits};
 
-use crate::answer::Answer;
-use crate::steps::{Stepped, near, take_all};
+use crate::steps::{Stepped, take_all};
+use crate::values::near;
 use fz_dom::{Change, Dom};
+use fz_script::Answer;
 use std::alloc::{AllocError, Global};
 
 #[derive(Drop)]

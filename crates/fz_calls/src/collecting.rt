@@ -2,12 +2,12 @@
 ghost use Rattle.std.specs.Prelude.{◌≡◌};
 ghost use Rattle.fz_collect.specs.Subjects.{IsBookOf};
 
-use crate::answer::Answer;
 use crate::books::{book_of, path_of};
 use fz_book::{Book, Taken};
 use fz_collect::{Collect, News, Outbox, Subject, gather};
 use fz_io::gate::NoGate;
 use fz_path::Path;
+use fz_script::Answer;
 use fz_space::Space;
 use fz_team::{End, TeamEnd, run as search_by};
 use std::alloc::{AllocError, Global};

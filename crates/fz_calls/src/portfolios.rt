@@ -1,9 +1,10 @@
 //! A portfolio of two assets, each with one worker: its events and shares, one by one.
-use crate::answer::Answer;
 use crate::books::recorded;
 use crate::machines::{event_of, word_of_answer};
-use crate::steps::{Stepped, mode, shared_model, take_all};
+use crate::steps::{Stepped, take_all};
+use crate::values::{mode, shared_model};
 use fz_machine::{Portfolio, Shared};
+use fz_script::Answer;
 use fz_space::Space;
 use std::alloc::{AllocError, Global};
 

@@ -1,12 +1,13 @@
 //! A path over a tree, step by step.
 ghost use Rattle.fz_tree.specs.Better.{IsModeOf};
 
-use crate::answer::Answer;
-use crate::steps::{Stepped, assignment_of, mode, shared_model, take_all, values_of};
+use crate::steps::{Stepped, take_all};
+use crate::values::{assignment_of, mode, shared_model, values_of};
 use fz_account::{Account, Learned, Mode};
 use fz_model::{Assignment, Goal};
 use fz_path::{Path, Start, Step, Task};
 use fz_region::{Comparison, Frontier};
+use fz_script::Answer;
 use fz_space::Space;
 use std::alloc::{AllocError, Global};
 use std::slice;

@@ -2,12 +2,13 @@
 ghost use Rattle.std.specs.Prelude.{◌≡◌, IfSome};
 ghost use Rattle.fz_book.specs.Reports.{IsReportable};
 
-use crate::answer::Answer;
-use crate::steps::{Stepped, assignment_of, mode, shared_model, take_all, values_of};
+use crate::steps::{Stepped, take_all};
+use crate::values::{assignment_of, mode, shared_model, values_of};
 use fz_account::Account;
 use fz_book::{Book, End, Offered, Taken};
 use fz_path::{Path, Start};
 use fz_region::Frontier;
+use fz_script::Answer;
 use fz_solo::finish;
 use fz_space::Space;
 use std::alloc::{AllocError, Global};

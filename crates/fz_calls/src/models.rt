@@ -1,10 +1,9 @@
-//! What is said of models: whether a constraint over numbers is true, how a search divides the root, and the text of a generated one.
-use crate::answer::Answer;
+//! What is said of models: whether a constraint over numbers is true, and how a search divides the root.
 use fz_branch::{Plan, choose_among};
-use fz_gen::knapsack;
 use fz_model::{Assignment, Model};
 use fz_reader::model_of;
 use fz_region::{Choice, Comparison};
+use fz_script::Answer;
 use fz_search_space::SearchSpace;
 use fz_space::Space;
 use fz_truth::holds;
@@ -59,12 +58,4 @@ fn lines_of(alloc: Global, choice: &Choice) -> Result<String, AllocError> {
         lines.push_str(&line)?;
     }
     Ok(lines)
-}
-
-/// The text of a generated model of that many items.
-pub fn generated(alloc: Global, items: &str) -> Result<Answer, AllocError> {
-    match items.parse::<u32>() {
-        Ok(items) if 1 <= items && items <= 1000 => Ok(Answer::of(0, knapsack(alloc, items)?)),
-        _ => Ok(Answer::of(1, Vec::new(alloc))),
-    }
 }

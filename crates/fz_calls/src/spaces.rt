@@ -1,8 +1,9 @@
 //! Two spaces of one model, the one at hand and a copy of it aside, step by step.
-use crate::answer::Answer;
-use crate::steps::{Stepped, assignment_of, shared_model, take_all};
+use crate::steps::{Stepped, take_all};
+use crate::values::{assignment_of, shared_model};
 use fz_dom::Dom;
 use fz_region::{Choice, Comparison, Decision};
+use fz_script::Answer;
 use fz_search_space::{SearchSpace, Status};
 use fz_space::Space;
 use std::alloc::{AllocError, Global};
