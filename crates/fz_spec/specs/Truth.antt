@@ -124,9 +124,12 @@ IsState automaton state = (pos 1 ≤ℤ state) × (state ≤ℤ automaton.states
 abbrev pub IsSymbol : Automaton → ℤ → Type 0
 IsSymbol automaton symbol = (pos 1 ≤ℤ symbol) × (symbol ≤ℤ automaton.symbols)
 
--- from a state a symbol goes to this one
+-- where the next state stands, and that from a state a symbol goes to this one
+abbrev pub next_place : Automaton → ℤ → ℤ → ℤ
+next_place automaton from symbol = ((from -ℤ pos 1) *ℤ automaton.symbols) +ℤ symbol
+
 abbrev pub IsStep : Automaton → ℤ → ℤ → ℤ → Type 0
-IsStep automaton from symbol to = IsSymbol automaton symbol × IsElement (((from -ℤ pos 1) *ℤ automaton.symbols) +ℤ symbol) automaton.next to
+IsStep automaton from symbol to = IsSymbol automaton symbol × IsElement (next_place automaton from symbol) automaton.next to
 
 -- A run over numbers: a state before each of them and one behind the last, and each number is a step from one state to the next. It ends
 -- where the automaton accepts.
@@ -135,13 +138,16 @@ IsRun automaton (last ∷ []) [] = IsState automaton last × IsInSet automaton.a
 IsRun automaton (from ∷ to ∷ states) (x ∷ xs) = IsState automaton from × IsStep automaton from x to × IsRun automaton (to ∷ states) xs
 IsRun automaton states xs = ⊥
 
--- there is a run from the start
+-- there is a run from a state, and from the start
+abbrev pub RunsFrom : Automaton → ℤ → List ℤ → Type 0
+RunsFrom automaton from xs = (states : List ℤ) × IsRun automaton (from ∷ states) xs
+
 abbrev pub IsAccepted : Automaton → List ℤ → Type 0
-IsAccepted automaton xs = (states : List ℤ) × IsRun automaton (automaton.start ∷ states) xs
+IsAccepted automaton xs = RunsFrom automaton automaton.start xs
 
 -- how many of the numbers are this one
 abbrev pub count_of : ℤ → List ℤ → ℕ
-count_of value xs = count_by (int_eq value) xs
+count_of value xs = count_by (λ x. int_eq x value) xs
 
 -- as many counts as the cover has values, each the number of places that have the value
 abbrev pub AreCounts : List ℤ → List ℤ → List ℤ → Type 0
