@@ -1,24 +1,27 @@
 -- Whether an assignment satisfies, and whether it is better, can be decided.
-use Rattle.std.proofs.Common.{◌≡◌, ◌≢◌, ◌∙◌, ◌<◌, ◌≤◌, ◌+◌, ◌*◌, ◌⊎◌, inl, inr, ℕ, zero, suc, List, [], ◌∷◌, length, Option, Some, None, refl, ap, subst, arith, length-drop}
+use Rattle.std.proofs.Common.{◌≡◌, ◌≢◌, ◌∙◌, ◌<◌, ◌≤◌, ◌+◌, ◌*◌, ◌⊎◌, inl, inr, ℕ, zero, suc, List, [], ◌∷◌, length, Option, Some, None, refl, sym, ap, subst, arith, length-drop}
 use Rattle.std.specs.Prelude.{◌↔◌, ◌%◌, ℤ, pos, negsuc, ◌≤ℤ◌, ◌<ℤ◌, ◌+ℤ◌, ◌-ℤ◌, ◌*ℤ◌, int_div, slice_get, slice_range, count_by}
 use Rattle.std.specs.Ordering.{int_eq}
 use Rattle.std.specs.List.{AllByRecursion}
 use Rattle.std.proofs.lemmas.Bool.{cases_lt}
 use Rattle.std.proofs.lemmas.Int.{ints}
 use Rattle.std.proofs.lemmas.List.{length-take}
+use Rattle.std.proofs.lemmas.Option.{slice_get_within}
 use Rattle.std.proofs.lemmas.Bool.Decides.{Decides-int_eq, Decides-eqb}
 use Rattle.fz_spec.specs.declared.shape.Operation.{Operation}
 use Rattle.fz_spec.specs.declared.shape.Operation.TheVariants.{Plus, Times, Quotient, Remainder, Abs, Min, Max}
 use Rattle.fz_spec.specs.declared.shape.Relation.{Relation}
 use Rattle.fz_spec.specs.declared.shape.Relation.TheVariants.{Equal, NotEqual, AtMost, Below}
 use Rattle.fz_spec.specs.declared.shape.Shape.{Shape}
-use Rattle.fz_spec.specs.declared.shape.Shape.TheVariants.{Rel, Dom, Linear, Clause, Or, And, Xor, Arithmetic, Element, Extensional, Distinct, Cumulative}
+use Rattle.fz_spec.specs.declared.shape.Shape.TheVariants.{Rel, Dom, Linear, Clause, Or, And, Xor, Arithmetic, Element, Extensional, Distinct, Cumulative, Regular, Counts, Inverse}
 use Rattle.fz_spec.specs.Signatures.{shape_of}
 use Rattle.fz_spec.specs.declared.goal.Goal.{Goal}
 use Rattle.fz_spec.specs.declared.goal.Goal.TheVariants.{Satisfy, Minimize, Maximize}
 use Rattle.fz_sets.specs.Sets.{IsInSet}
-use Rattle.fz_spec.specs.Truth.{SomeByRecursion, IsOne, IsZero, Relates, IsResult, remainder, size_of, weighted_sum, Task, tasks_of, IsTask, IsCumulative, load_at, IsElement, AreDifferent, is_one, IsRowOf}
+use Rattle.fz_sets.proofs.Lists.{some_is}
+use Rattle.fz_spec.specs.Truth.{SomeByRecursion, IsOne, IsZero, Relates, IsResult, remainder, size_of, weighted_sum, Task, tasks_of, IsTask, IsCumulative, load_at, IsElement, AreDifferent, is_one, IsRowOf, Automaton, IsState, IsSymbol, RunsFrom, next_place, IsAccepted, count_of, AreCounts, PointBack, AreInverse}
 use Rattle.fz_spec.specs.Constraints.{Argument, One, Numbers, Terms, Set, Constraint, OrReified, HoldsAs, IsTrueOf, term_value, term_values}
+use Rattle.fz_spec.proofs.Automata.{ended, begun, stepped}
 use Rattle.fz_spec.specs.Instance.{Instance, Variable, AreDeclared, Satisfies, IsBetter, score}
 use Rattle.fz_language.proofs.Decisions.{Decided, by, both, from_test}
 
@@ -99,6 +102,43 @@ in_set : (set : List (ℤ × ℤ)) (x : ℤ) → Decided (IsInSet set x)
 in_set [] x = never
 in_set (r ∷ rs) x = either (both (at_most r.0 x) (at_most x r.1)) (in_set rs x)
 
+-- ---- an automaton
+
+from_to : (low high x : ℤ) → Decided ((low ≤ℤ x) × (x ≤ℤ high))
+from_to low high x = both (at_most low x) (at_most x high)
+
+abbrev HasElement : ℤ → List ℤ → Type 0
+HasElement k xs = (c : ℤ) × IsElement k xs c
+
+element_of : (o : Option ℤ) (n : ℕ) (xs : List ℤ) → slice_get xs n ≡ o → Decided (HasElement (pos (suc n)) xs)
+element_of (Some c) n xs e = inl (c, (n, omega (arith, ints), e))
+element_of None n xs e = inr (λ h. let place = h.1.1 in let same : n ≡ h.1.0 = omega (arith, ints, place) in let none = sym e ∙ element_at n h.1.0 xs h.0 same h.1.2 in cc)
+
+has_element : (k : ℤ) (xs : List ℤ) → Decided (HasElement k xs)
+has_element (pos zero) xs = inr (λ h. let e = h.1.1 in omega (arith, ints, e))
+has_element (pos (suc n)) xs = element_of (slice_get xs n) n xs refl
+has_element (negsuc n) xs = inr (λ h. let e = h.1.1 in omega (arith, ints, e))
+
+stepping : (m : Automaton) (p x : ℤ) (xs : List ℤ) → Decided (IsState m p × IsSymbol m x) → Decided (HasElement (next_place m p x) m.next) → ((q : ℤ) → Decided (RunsFrom m q xs)) → Decided (RunsFrom m p (x ∷ xs))
+stepping m p x xs (inr n) _ rest = inr (λ h. let first = begun m p x xs h in n (first.1, first.2.0))
+stepping m p x xs (inl is) (inr n) rest = inr (λ h. let first = begun m p x xs h in n (first.0, first.2.1))
+stepping m p x xs (inl is) (inl next) rest = let same = stepped m p x next.0 xs is.0 (is.1, next.1) in by same.1 same.0 (rest next.0)
+
+runs_from : (m : Automaton) (xs : List ℤ) (p : ℤ) → Decided (RunsFrom m p xs)
+runs_from m [] p = by (ended m p).1 (ended m p).0 (both (from_to (pos 1) m.states p) (in_set m.accepting p))
+runs_from m (x ∷ xs) p = stepping m p x xs (both (from_to (pos 1) m.states p) (from_to (pos 1) m.symbols x)) (has_element (next_place m p x) m.next) (runs_from m xs)
+
+accepted : (m : Automaton) (xs : List ℤ) → Decided (IsAccepted m xs)
+accepted m xs = runs_from m xs m.start
+
+-- ---- counts
+
+counted : (xs cover counts : List ℤ) → Decided (AreCounts xs cover counts)
+counted xs [] [] = inl tt
+counted xs (value ∷ cover) (count ∷ counts) = both (equal count (pos (count_of value xs))) (counted xs cover counts)
+counted xs [] (count ∷ counts) = never
+counted xs (value ∷ cover) [] = never
+
 -- ---- rows of a table
 
 abbrev OneBelow : (ℕ → Type 0) → ℕ → Type 0
@@ -117,6 +157,10 @@ one_below P decide (suc n) = elim (decide n) [
   | inl p ↦ inl (n, omega arith, p)
   | inr not ↦ by (λ h. (h.0, (let less = h.1 in omega (arith, less)), h.2)) (λ h. (h.0, no_more P n h.0 not h.1 h.2 (less_or_last n h.0 h.1), h.2)) (one_below P decide n)
 ]
+
+all_below : (P : ℕ → Type 0) → ((i : ℕ) → Decided (P i)) → (n : ℕ) → Decided ((i : ℕ) → i < n → P i)
+all_below P decide zero = inl (λ i h. absurd (omega (arith, h)))
+all_below P decide (suc n) = by (λ h i less. elim (less_or_last n i less) [ inl l ↦ h.1 i l | inr e ↦ subst P (sym e) h.0 ]) (λ h. (h n (omega arith), λ i l. h i (omega (arith, l)))) (both (decide n) (all_below P decide n))
 
 at_least_once : (i w : ℕ) → 0 < w → i ≤ i * w
 at_least_once zero w h = omega arith
@@ -137,6 +181,21 @@ row xs table (inl h) = by (λ r. (h, (r.0, r.2))) (λ r. (r.1.0, row_within xs t
 has_some : (xs : List ℤ) → Decided (0 < length xs)
 has_some [] = inr (λ h. omega (arith, h))
 has_some (x ∷ xs) = inl (omega arith)
+
+-- ---- inverses
+
+abbrev PointsBack : List ℤ → List ℤ → ℕ → Type 0
+PointsBack fs gs i = (f : ℤ) → slice_get fs i ≡ Some f → IsElement f gs (pos (i + 1))
+
+points_by : (o : Option ℤ) (gs : List ℤ) (i : ℕ) → Decided ((f : ℤ) → o ≡ Some f → IsElement f gs (pos (i + 1)))
+points_by None gs i = inl (λ f e. cc)
+points_by (Some g) gs i = by (λ h f e. subst (λ (u : ℤ). IsElement u gs (pos (i + 1))) (some_is g f e) h) (λ h. h g refl) (element g gs (pos (i + 1)))
+
+point_back : (fs gs : List ℤ) → Decided (PointBack fs gs)
+point_back fs gs = by (λ h i f e. h i (slice_get_within fs i f e) f e) (λ h i l f e. h i f e) (all_below (PointsBack fs gs) (λ i. points_by (slice_get fs i) gs i) (length fs))
+
+inverse : (fs gs : List ℤ) → Decided (AreInverse fs gs)
+inverse fs gs = both (point_back fs gs) (point_back gs fs)
 
 -- ---- constraints
 
@@ -193,6 +252,9 @@ holds Element (One k ∷ Terms xs ∷ One c ∷ rest) a = reified rest a (elemen
 holds Extensional (Terms xs ∷ Numbers table ∷ rest) a = reified rest a (row (term_values a xs) table (has_some (term_values a xs)))
 holds Distinct (Terms xs ∷ rest) a = reified rest a (different (term_values a xs))
 holds Cumulative (Terms ss ∷ Terms ds ∷ Terms us ∷ One b ∷ rest) a = reified rest a (cumulative (tasks_of (term_values a ss) (term_values a ds) (term_values a us)) (term_value a b))
+holds Regular (Terms xs ∷ One states ∷ One symbols ∷ Numbers next ∷ One start ∷ Set accepting ∷ rest) a = reified rest a (accepted _ (term_values a xs))
+holds Counts (Terms xs ∷ Numbers cover ∷ Terms counts ∷ rest) a = reified rest a (counted (term_values a xs) cover (term_values a counts))
+holds Inverse (Terms fs ∷ Terms gs ∷ rest) a = reified rest a (inverse (term_values a fs) (term_values a gs))
 holds shape arguments a = never
 
 -- ---- assignments

@@ -4,13 +4,13 @@ use Rattle.std.specs.Prelude.{Result, Ok, Err, Some, None, MatchResult, slice_ge
 use Rattle.std.proofs.lemmas.List.{drop_more, drop_all, take_more, map-append}
 use Rattle.fz_spec.specs.declared.asked.Asked.{Asked}
 use Rattle.fz_spec.specs.Constraints as meaning
-use Rattle.fz_spec.specs.Constraints.{Argument, list_lengths}
+use Rattle.fz_spec.specs.Constraints.{Argument, fit_lengths, list_lengths}
 use Rattle.fz_language.specs.declared.fault.RuleFault.TheVariants.{Unsupported, UnknownConstraint, UnknownName, WrongType, WrongLengths}
 use Rattle.fz_language.specs.Trees.{Expression, ConstraintItem}
 use Rattle.fz_language.specs.Entries.{Environment, resolve}
 use Rattle.fz_language.specs.Annotations.{asks_whole}
 use Rattle.fz_language.specs.Rules.{Fault, wrong_place, wrong_arguments, arguments_in, at_places, unknown_of, signature_faults, row_faults, named_unsupported, named_unknown, is_unsupported, floats_of}
-use Rattle.fz_spec.specs.Signatures.{Row, row_named, signature_of, have_lengths}
+use Rattle.fz_spec.specs.Signatures.{Row, row_named, signature_of}
 use Rattle.fz_resolve.specs.declared.fault.Fault as found
 use Rattle.fz_check.specs.Calls.{IsCall, IsSigned, IsRowed, AreArguments, wrong_lengths}
 use Rattle.fz_check.specs.Checked.{IsFirstFault}
@@ -80,11 +80,11 @@ regrouped u n w l = simp append_assoc
 
 -- ---- a constraint of arguments of the right types
 
-pub right_typed : (others : List Fault) (row : Row) (at : ℕ) (arguments : List Argument) → slice_get others 0 ≡ None → have_lengths row.lengths (list_lengths arguments) ≡ true → others ++ wrong_lengths row at arguments ≡ []
+pub right_typed : (others : List Fault) (row : Row) (at : ℕ) (arguments : List Argument) → slice_get others 0 ≡ None → fit_lengths row.lengths arguments ≡ true → others ++ wrong_lengths row at arguments ≡ []
 right_typed others row at arguments e h =
     ap (λ (u : List Fault). u ++ wrong_lengths row at arguments) (no_first others e) ∙ ap (λ b. at_places WrongLengths (cond b [] (at ∷ []))) h
 
-pub wrong_typed : (others : List Fault) (row : Row) (at : ℕ) (arguments : List Argument) → slice_get others 0 ≡ None → have_lengths row.lengths (list_lengths arguments) ≡ false
+pub wrong_typed : (others : List Fault) (row : Row) (at : ℕ) (arguments : List Argument) → slice_get others 0 ≡ None → fit_lengths row.lengths arguments ≡ false
     → slice_get (others ++ wrong_lengths row at arguments) 0 ≡ Some (record { rule = WrongLengths; at = at })
 wrong_typed others row at arguments e h =
     behind_none others (wrong_lengths row at arguments) e ∙ ap (λ b. slice_get (at_places WrongLengths (cond b [] (at ∷ []))) 0) h

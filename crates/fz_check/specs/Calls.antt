@@ -36,7 +36,7 @@ AreArguments env signature es made =
 
 -- the fault of lists of other lengths than are asked
 abbrev pub wrong_lengths : signatures.Row → ℕ → List meaning.Argument → List Fault
-wrong_lengths row at arguments = at_places WrongLengths (cond (signatures.have_lengths row.lengths (meaning.list_lengths arguments)) [] (at ∷ []))
+wrong_lengths row at arguments = at_places WrongLengths (cond (meaning.fit_lengths row.lengths arguments) [] (at ∷ []))
 
 -- the constraint where the lists have the lengths that are asked, or else the fault that comes before, or that of the lengths
 abbrev pub IsTyped : Option found.Fault → signatures.Row → ℕ → List meaning.Argument → Bool → Result meaning.Constraint found.Fault → Type 0

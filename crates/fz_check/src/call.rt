@@ -1,5 +1,5 @@
 //! Constraint items.
-ghost use Rattle.std.specs.Prelude.{◌≡◌, ◌++◌, ◌∷◌, [], ◌==◌, List, IfOk, OnOk, Some, None, map, find, flat_map, option_map, length, slice_get};
+ghost use Rattle.std.specs.Prelude.{◌≡◌, ◌++◌, ◌∷◌, [], ◌==◌, ◌*ℤ◌, List, IfOk, OnOk, Some, None, map, find, flat_map, option_map, length, slice_get};
 ghost use Rattle.std.specs.List.{AllByRecursion, list_all};
 ghost use Rattle.fz_spec.specs.Constraints as meaning;
 ghost use Rattle.fz_spec.specs.Signatures as signatures;
@@ -26,6 +26,7 @@ use fz_resolve::{Fault, Names, fault_at};
 use fz_room::floats::first_float_of_arguments;
 use fz_spec::asked::{Asked, Lengths};
 use fz_spec::row::{Row, Signatures};
+use fz_spec::term::Term;
 use fz_syntax::{ConstraintItem, Expression};
 use std::alloc::{AllocError, Global};
 
@@ -175,8 +176,8 @@ fn typed(
     if let Some(fault) = early {
         return Ok(Err(fault));
     }
-    let lengths = lengths_of(alloc, &arguments)?;
-    if have_lengths(row.3, &lengths) {
+    let fit = fit_lengths(alloc, row.3, &arguments)?;
+    if fit {
         let constraint = Constraint::new(row.1, arguments);
         return Ok(Ok(constraint.with_whole(asks_whole(&item.annotations))));
     }
@@ -209,6 +210,46 @@ fn arguments_of<'a>(
     Ok(Ok(arguments))
 }
 
+/// Whether the lists among arguments have the lengths that are asked.
+fn fit_lengths(alloc: Global, asked: Lengths, arguments: &[Argument]) -> Result<bool, AllocError>
+    ensures { IfOk result (λ fit. fit
+        ≡ meaning.fit_lengths asked (map argument_of arguments.now)) }
+{
+    match asked {
+        Lengths::Automaton => Ok(is_automaton(arguments)),
+        Lengths::Any | Lengths::Equal | Lengths::Rows | Lengths::Behind => {
+            let lengths = lengths_of(alloc, arguments)?;
+            Ok(have_lengths(asked, &lengths))
+        }
+    }
+}
+
+/// Whether an automaton has a state, a symbol, and as many next states as there are of both.
+fn is_automaton(arguments: &[Argument]) -> bool
+    ensures { result ≡ meaning.is_automaton (map argument_of arguments.now) }
+{
+    match arguments {
+        [
+            _,
+            Argument::One(Term::Num(states)),
+            Argument::One(Term::Num(symbols)),
+            Argument::Numbers(next),
+            ..
+        ] => {
+            let length = next.as_slice().len() as i128;
+            *states >= 1 && *symbols >= 1 && length == product(*states, *symbols)
+        }
+        _ => true,
+    }
+}
+
+/// The product of two numbers.
+fn product(a: i32, b: i32) -> i128
+    ensures { result ≡ a *ℤ b }
+{
+    i128::from(a) * i128::from(b)
+}
+
 /// The lengths of the lists among arguments.
 fn lengths_of(alloc: Global, arguments: &[Argument]) -> Result<Vec<usize>, AllocError>
     ensures { IfOk result (λ lengths. lengths.items
@@ -234,13 +275,14 @@ fn push_length(lengths: &mut Vec<usize>, argument: &Argument) -> Result<(), Allo
     Ok(())
 }
 
-/// Whether the lists of a constraint have the lengths that are asked.
+/// Whether these are the lengths that are asked.
 fn have_lengths(asked: Lengths, lengths: &[usize]) -> bool
     ensures { result ≡ signatures.have_lengths asked lengths.now }
 {
     match (asked, lengths) {
         (Lengths::Equal, [first, rest @ ..]) => are_all(*first, rest),
         (Lengths::Rows, [first, second]) => *first > 0 && *second % *first == 0,
+        (Lengths::Behind, [_, second, rest @ ..]) => are_all(*second, rest),
         _ => true,
     }
 }

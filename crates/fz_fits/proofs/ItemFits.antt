@@ -13,7 +13,7 @@ use Rattle.fz_spec.specs.declared.asked.Asked.{Asked}
 use Rattle.fz_spec.specs.declared.asked.Element.{Element}
 use Rattle.fz_spec.specs.Constraints as meaning
 use Rattle.fz_spec.specs.Instance.{Variable, Output, element_count}
-use Rattle.fz_spec.specs.Signatures.{Row, row_named, row_of, signature_of, have_lengths}
+use Rattle.fz_spec.specs.Signatures.{Row, row_named, row_of, signature_of}
 use Rattle.fz_language.specs.declared.fault.RuleFault.TheVariants.{Unsupported, UnknownName, WrongType, WrongLengths}
 use Rattle.fz_language.specs.Trees.{Plain, AnyBool, AnyInt, AnyFloat, Within, ValueType, One, SetOf, Basic, ListLiteral, Annotation, VariableItem, ParameterItem, ArrayItem, ConstraintItem}
 use Rattle.fz_language.specs.Trees as trees
@@ -33,7 +33,7 @@ use Rattle.fz_fits.proofs.Counting.{nil_parts, no_place, elements_in, members_co
 use Rattle.fz_fits.proofs.Keeps.{no_places}
 use Rattle.fz_fits.proofs.ArgumentFits.{all_fit}
 use Rattle.fz_fits.proofs.RowLaws.{found, row_is_of, signature_length}
-use Rattle.fz_spec.specs.Constraints.{list_lengths}
+use Rattle.fz_spec.specs.Constraints.{fit_lengths}
 use Rattle.std.proofs.lemmas.List.{length-map}
 
 -- ---- types
@@ -152,7 +152,7 @@ constraint_of_row : (vs : List Variable) (env : Environment) (c : ConstraintItem
 constraint_of_row vs env c row signature s h few r k e =
     let unknown = at_places UnknownName (flat_map (unknown_of env) c.arguments) in
     let wrong = at_places WrongType (wrong_arguments env signature c.arguments) in
-    let right = have_lengths row.lengths (list_lengths (arguments_in env signature c.arguments)) in
+    let right = fit_lengths row.lengths (arguments_in env signature c.arguments) in
     let lengths = at_places WrongLengths (cond right [] (c.name.at ∷ [])) in
     let p = nil_parts (unknown ++ wrong) lengths e in
     let q = nil_parts unknown wrong p.0 in

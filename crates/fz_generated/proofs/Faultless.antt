@@ -7,9 +7,8 @@ use Rattle.fz_spec.specs.declared.term.Term.{Term}
 use Rattle.fz_spec.specs.declared.asked.Asked.{Asked}
 use Rattle.fz_spec.specs.declared.asked.Asked.TheVariants as asked
 use Rattle.fz_spec.specs.declared.asked.Lengths.TheVariants.{Equal}
-use Rattle.fz_spec.specs.Constraints.{Argument, list_lengths}
+use Rattle.fz_spec.specs.Constraints.{Argument, fit_lengths}
 use Rattle.fz_spec.specs.Constraints as meaning
-use Rattle.fz_spec.specs.Signatures.{have_lengths}
 use Rattle.fz_spec.specs.declared.limits.TheConstants.{VARIABLE_LIMIT, CONSTRAINT_LIMIT, ELEMENT_LIMIT}
 use Rattle.fz_language.specs.declared.fault.RuleFault.TheVariants.{Unsupported, UnknownName, WrongType, WrongLengths, DeclaredTwice, OverLimit}
 use Rattle.fz_language.specs.Trees.{Basic, basic_at, Expression, Listed, Scalar, Item, Constraint}
@@ -110,7 +109,7 @@ expressions a b xs ys bound = Listed (record { at = a; elements = xs }) ∷ List
 -- the faults of a call whose arguments are these
 abbrev faults : ℕ → List ℕ → List ℕ → List ℕ → List Argument → List ℕ → List Fault
 faults place floats unknowns wrong arguments many =
-    (at_places Unsupported floats ++ ((at_places UnknownName unknowns ++ at_places WrongType wrong) ++ at_places WrongLengths (cond (have_lengths Equal (list_lengths arguments)) [] (place ∷ [])))) ++ at_places OverLimit many
+    (at_places Unsupported floats ++ ((at_places UnknownName unknowns ++ at_places WrongType wrong) ++ at_places WrongLengths (cond (fit_lengths Equal arguments) [] (place ∷ [])))) ++ at_places OverLimit many
 
 -- nothing is wrong with the arguments
 pub record AreRight (names : Environment) (n : Counts) (place a b : ℕ) (xs ys : List Basic) (bound : Basic) : Type 0 where

@@ -9,9 +9,9 @@ use Rattle.fz_spec.specs.declared.asked.Element.{Element}
 use Rattle.fz_spec.specs.declared.asked.Asked.{Asked}
 use Rattle.fz_spec.specs.declared.asked.Asked.TheVariants as asked
 use Rattle.fz_spec.specs.declared.limits.TheConstants.{VARIABLE_LIMIT, CONSTRAINT_LIMIT, ELEMENT_LIMIT}
-use Rattle.fz_spec.specs.Constraints.{Argument, list_lengths}
+use Rattle.fz_spec.specs.Constraints.{Argument, fit_lengths}
 use Rattle.fz_spec.specs.Instance.{element_count}
-use Rattle.fz_spec.specs.Signatures.{Row, row_named, signature_of, have_lengths}
+use Rattle.fz_spec.specs.Signatures.{Row, row_named, signature_of}
 use Rattle.fz_language.specs.declared.fault.RuleFault.{RuleFault}
 use Rattle.fz_language.specs.declared.fault.RuleFault.TheVariants.{Unsupported, UnknownConstraint, WrongArity, UnknownName, WrongType, WrongLengths, DeclaredTwice, OverLimit}
 use Rattle.fz_language.specs.Trees.{Name, SetLiteral, Range, Braces, Plain, AnyBool, AnyInt, AnyFloat, Within, ValueType, One, SetOf, Basic, Truth, Numeral, Literal, Named, Expression, Scalar, Listed, ListLiteral, Annotation, ArrayItem, ConstraintItem, Item, Predicate, Variable, Parameter, Array, Constraint, SolveItem, Satisfy, Minimize, Maximize, number_at, type_at, basic_at}
@@ -276,7 +276,7 @@ abbrev pub signature_faults : Environment → ConstraintItem → Row → Option 
 signature_faults env c row None = at_places WrongArity (c.name.at ∷ []) ++ at_places UnknownName (flat_map (unknown_of env) c.arguments)
 signature_faults env c row (Some signature) =
     at_places UnknownName (flat_map (unknown_of env) c.arguments) ++ at_places WrongType (wrong_arguments env signature c.arguments)
-    ++ at_places WrongLengths (cond (have_lengths row.lengths (list_lengths (arguments_in env signature c.arguments))) [] (c.name.at ∷ []))
+    ++ at_places WrongLengths (cond (fit_lengths row.lengths (arguments_in env signature c.arguments)) [] (c.name.at ∷ []))
 
 abbrev pub row_faults : Environment → ConstraintItem → Option Row → List Fault
 row_faults env c None = at_places UnknownConstraint (named_unknown c.name) ++ at_places UnknownName (flat_map (unknown_of env) c.arguments)

@@ -11,8 +11,8 @@ use Rattle.fz_spec.specs.declared.goal.Goal.TheVariants.{Satisfy, Minimize, Maxi
 use Rattle.fz_spec.specs.declared.asked.Element.{Element}
 use Rattle.fz_spec.specs.declared.asked.Asked.{Asked}
 use Rattle.fz_spec.specs.declared.asked.Asked.TheVariants as asked
-use Rattle.fz_spec.specs.Constraints.{Argument, One, Numbers, Terms, Set, Constraint, list_lengths}
-use Rattle.fz_spec.specs.Signatures.{Row, row_of, signature_of, have_lengths}
+use Rattle.fz_spec.specs.Constraints.{Argument, One, Numbers, Terms, Set, Constraint, fit_lengths}
+use Rattle.fz_spec.specs.Signatures.{Row, row_of, signature_of}
 use Rattle.fz_spec.specs.Instance.{Instance, Variable, Output, SearchPart, element_count}
 use Rattle.fz_spec.specs.declared.limits.TheConstants.{TEXT_LIMIT, VARIABLE_LIMIT, CONSTRAINT_LIMIT, ELEMENT_LIMIT}
 
@@ -81,7 +81,7 @@ AllFit vs (wanted ∷ rest) [] = ⊥
 -- the arguments have one of the signatures of the row, and their lists have the lengths that it asks
 pub record FitsRow (vs : List Variable) (row : Row) (arguments : List Argument) : Type 0 where
   pub fit : MatchOption (signature_of row (length arguments)) ⊥ (λ signature. AllFit vs signature arguments)
-  pub lengths : IsTrue (have_lengths row.lengths (list_lengths arguments))
+  pub lengths : IsTrue (fit_lengths row.lengths arguments)
 
 -- a constraint over these variables
 abbrev pub IsConstraint : List Variable → Constraint → Type 0

@@ -21,7 +21,7 @@ use Rattle.fz_spec.specs.declared.shape.Shape.TheVariants.{Rel, Dom, Linear, Cla
 use Rattle.fz_spec.specs.declared.shape.Shape.TheVariants as shapes
 use Rattle.fz_spec.specs.declared.term.Term.{Term}
 use Rattle.fz_spec.specs.declared.term.Term.TheVariants.{Num, Var}
-use Rattle.fz_spec.specs.Constraints.{Argument, One, Numbers, Terms, Set, list_lengths, terms_of, terms_among}
+use Rattle.fz_spec.specs.Constraints.{Argument, One, Numbers, Terms, Set, fit_lengths, list_lengths, terms_of, terms_among}
 use Rattle.fz_spec.specs.Signatures.{Row, rows, row_of, shape_of, shape_in, signature_of, have_lengths}
 use Rattle.fz_spec.specs.Instance.{Variable}
 use Rattle.fz_spec.specs.contracts.builtin.BuiltinPartialEq.TheImpl as equality
@@ -146,10 +146,10 @@ second_few vs (first ∷ []) ks ts rest fits = absurd fits.1
 second_few vs [] ks ts rest fits = absurd fits
 
 summed : (vs : List Variable) (shape : Shape) (wanted : Lengths) (signature : List Asked) (arguments : List Argument) → is_sum shape wanted ≡ true → AllFit vs signature arguments
-    → IsTrue (have_lengths wanted (list_lengths arguments)) → IsSummed shape arguments
+    → IsTrue (fit_lengths wanted arguments) → IsSummed shape arguments
 summed vs (Linear relation) wanted signature (Numbers ks ∷ Terms ts ∷ rest) is fits right = (
   never_below relation wanted is,
-  same_length ks ts (list_lengths rest) (subst (λ (w : Lengths). IsTrue (have_lengths w (length ks ∷ length ts ∷ list_lengths rest))) (asks_equal relation wanted is) right),
+  same_length ks ts (list_lengths rest) (subst (λ (w : Lengths). IsTrue (fit_lengths w (Numbers ks ∷ Terms ts ∷ rest))) (asks_equal relation wanted is) right),
   second_few vs signature ks ts rest fits,
 )
 summed vs shape wanted signature arguments is fits right = tt
@@ -231,7 +231,7 @@ fit vs shape arguments h = made h.known tt tt
 -- ---- rows
 
 in_signature : (vs : List Variable) (row : Row) (arguments : List Argument) (o : Option (List Asked)) → signature_of row (length arguments) ≡ o → MatchOption o ⊥ (λ signature. AllFit vs signature arguments)
-    → is_sound row ≡ true → IsTrue (have_lengths row.lengths (list_lengths arguments)) → AllByRecursion (IsKnown vs) (terms_among arguments) → AreRowed vs row.shape arguments
+    → is_sound row ≡ true → IsTrue (fit_lengths row.lengths arguments) → AllByRecursion (IsKnown vs) (terms_among arguments) → AreRowed vs row.shape arguments
 in_signature vs row arguments None is fits sound right known = absurd fits
 in_signature vs row arguments (Some signature) is fits sound right known =
     let each = and_parts (is_sum row.shape row.lengths) (list_all (ask_booleans row.shape) row.signatures) sound in

@@ -95,6 +95,7 @@ impl<'m> Saying<'m> {
             Shape::Extensional => row(constraint),
             Shape::Distinct => distinct(constraint),
             Shape::Cumulative => cumulative(constraint),
+            Shape::Regular | Shape::Counts | Shape::Inverse => Saying::Other(constraint),
         }
     }
 }

@@ -1,11 +1,12 @@
 -- The truth of a constraint depends on the values of its terms alone.
-use Rattle.std.proofs.Common.{◌≡◌, List, [], ◌∷◌, ◌++◌, refl, sym, ◌∙◌}
+use Rattle.std.proofs.Common.{◌≡◌, List, [], ◌∷◌, ◌++◌, refl, sym, subst, ◌∙◌}
 use Rattle.std.specs.Prelude.{ℤ}
 use Rattle.std.specs.List.{AllByRecursion}
 use Rattle.fz_sets.proofs.Lists.{all_left, all_right}
 use Rattle.fz_spec.specs.declared.shape.Shape.{Shape}
-use Rattle.fz_spec.specs.declared.shape.Shape.TheVariants.{Rel, Dom, Linear, Clause, Or, And, Xor, Arithmetic, Element, Extensional, Distinct, Cumulative}
+use Rattle.fz_spec.specs.declared.shape.Shape.TheVariants.{Rel, Dom, Linear, Clause, Or, And, Xor, Arithmetic, Element, Extensional, Distinct, Cumulative, Regular, Counts, Inverse}
 use Rattle.fz_spec.specs.declared.term.Term.{Term}
+use Rattle.fz_spec.specs.Truth.{Automaton, IsAccepted}
 use Rattle.fz_spec.specs.Constraints.{Argument, One, Numbers, Terms, Set, terms_among, term_value, term_values, OrReified, HoldsAs}
 
 -- two assignments give each of these terms the same number
@@ -58,4 +59,14 @@ truth_agrees Cumulative (Terms ss ∷ Terms ds ∷ Terms us ∷ One c ∷ rest) 
     let last = back a b us (terms_among (One c ∷ rest)) third in
     rw (← front a b ss (terms_among (Terms ds ∷ Terms us ∷ One c ∷ rest)) same, ← front a b ds (terms_among (Terms us ∷ One c ∷ rest)) second, ← front a b us (terms_among (One c ∷ rest)) third, ← last.0)
     (rest_agrees rest a b _ last.1 h)
+truth_agrees Regular (Terms xs ∷ One q ∷ One s ∷ Numbers next ∷ One p ∷ Set set ∷ rest) a b same h =
+    let behind = back a b xs (terms_among (One q ∷ One s ∷ One p ∷ rest)) same in
+    rw (← front a b xs (terms_among (One q ∷ One s ∷ One p ∷ rest)) same)
+    (subst (λ (m : Automaton). OrReified rest b (IsAccepted m (term_values a xs))) (λ i. record { states = behind.0 i; symbols = behind.1.0 i; next = next; start = behind.1.1.0 i; accepting = set }) (rest_agrees rest a b _ behind.1.1.1 h))
+truth_agrees Counts (Terms xs ∷ Numbers cover ∷ Terms cs ∷ rest) a b same h =
+    let behind = back a b xs (terms_among (Terms cs ∷ rest)) same in
+    rw (← front a b xs (terms_among (Terms cs ∷ rest)) same, ← front a b cs (terms_among rest) behind) (rest_agrees rest a b _ (back a b cs (terms_among rest) behind) h)
+truth_agrees Inverse (Terms fs ∷ Terms gs ∷ rest) a b same h =
+    let behind = back a b fs (terms_among (Terms gs ∷ rest)) same in
+    rw (← front a b fs (terms_among (Terms gs ∷ rest)) same, ← front a b gs (terms_among rest) behind) (rest_agrees rest a b _ (back a b gs (terms_among rest) behind) h)
 truth_agrees shape arguments a b same h = absurd h

@@ -1,14 +1,17 @@
 -- Constraints, and when an assignment makes one true (MiniZinc Handbook, "FlatZinc builtins").
-use Rattle.std.specs.Prelude.{◌⊎◌, Bool, ℕ, ℤ, pos, List, [], ◌∷◌, length, map, flat_map, slice_get, unwrap_or}
+use Rattle.std.specs.Prelude.{◌⊎◌, Bool, true, ◌&&◌, ℕ, ℤ, pos, ◌*ℤ◌, int_le, List, [], ◌∷◌, length, map, flat_map, slice_get, unwrap_or}
+use Rattle.std.specs.Ordering.{int_eq}
 use Rattle.std.specs.List.{AllByRecursion}
 use Rattle.fz_sets.specs.Sets.{IsInSet}
+use Rattle.fz_spec.specs.declared.asked.Lengths.{Lengths}
+use Rattle.fz_spec.specs.declared.asked.Lengths.TheVariants.{Automaton}
 use Rattle.fz_spec.specs.declared.builtin.Builtin.{Builtin}
 use Rattle.fz_spec.specs.declared.shape.Shape.{Shape}
-use Rattle.fz_spec.specs.declared.shape.Shape.TheVariants.{Rel, Dom, Linear, Clause, Or, And, Xor, Arithmetic, Element, Extensional, Distinct, Cumulative}
+use Rattle.fz_spec.specs.declared.shape.Shape.TheVariants.{Rel, Dom, Linear, Clause, Or, And, Xor, Arithmetic, Element, Extensional, Distinct, Cumulative, Regular, Counts, Inverse}
 use Rattle.fz_spec.specs.declared.term.Term.{Term}
 use Rattle.fz_spec.specs.declared.term.Term.TheVariants.{Num, Var}
-use Rattle.fz_spec.specs.Signatures.{shape_of}
-use Rattle.fz_spec.specs.Truth.{SomeByRecursion, IsOne, IsZero, IsReified, Relates, weighted_sum, IsResult, IsElement, AreDifferent, IsOdd, IsRowOf, tasks_of, IsCumulative}
+use Rattle.fz_spec.specs.Signatures.{shape_of, have_lengths}
+use Rattle.fz_spec.specs.Truth.{SomeByRecursion, IsOne, IsZero, IsReified, Relates, weighted_sum, IsResult, IsElement, AreDifferent, IsOdd, IsRowOf, tasks_of, IsCumulative, IsAccepted, AreCounts, AreInverse}
 
 -- an argument of a constraint: a term, a list of numbers, a list of terms, or a set
 pub data Argument : Type 0 where
@@ -30,6 +33,16 @@ list_lengths (One term ∷ arguments) = list_lengths arguments
 list_lengths (Numbers ns ∷ arguments) = length ns ∷ list_lengths arguments
 list_lengths (Terms ts ∷ arguments) = length ts ∷ list_lengths arguments
 list_lengths (Set set ∷ arguments) = list_lengths arguments
+
+-- an automaton has a state, a symbol, and as many next states as there are of both
+abbrev pub is_automaton : List Argument → Bool
+is_automaton (xs ∷ One (Num states) ∷ One (Num symbols) ∷ Numbers next ∷ rest) = int_le (pos 1) states && int_le (pos 1) symbols && int_eq (pos (length next)) (states *ℤ symbols)
+is_automaton arguments = true
+
+-- whether the lists among arguments have the lengths that are asked
+abbrev pub fit_lengths : Lengths → List Argument → Bool
+fit_lengths Automaton arguments = is_automaton arguments
+fit_lengths lengths arguments = have_lengths lengths (list_lengths arguments)
 
 -- the terms among arguments, in order
 abbrev pub terms_of : Argument → List Term
@@ -74,6 +87,10 @@ HoldsAs Element (One k ∷ Terms xs ∷ One c ∷ rest) a = OrReified rest a (Is
 HoldsAs Extensional (Terms xs ∷ Numbers table ∷ rest) a = OrReified rest a (IsRowOf (term_values a xs) table)
 HoldsAs Distinct (Terms xs ∷ rest) a = OrReified rest a (AreDifferent (term_values a xs))
 HoldsAs Cumulative (Terms ss ∷ Terms ds ∷ Terms us ∷ One b ∷ rest) a = OrReified rest a (IsCumulative (tasks_of (term_values a ss) (term_values a ds) (term_values a us)) (term_value a b))
+HoldsAs Regular (Terms xs ∷ One states ∷ One symbols ∷ Numbers next ∷ One start ∷ Set accepting ∷ rest) a =
+    OrReified rest a (IsAccepted (record { states = term_value a states; symbols = term_value a symbols; next = next; start = term_value a start; accepting = accepting }) (term_values a xs))
+HoldsAs Counts (Terms xs ∷ Numbers cover ∷ Terms counts ∷ rest) a = OrReified rest a (AreCounts (term_values a xs) cover (term_values a counts))
+HoldsAs Inverse (Terms fs ∷ Terms gs ∷ rest) a = OrReified rest a (AreInverse (term_values a fs) (term_values a gs))
 HoldsAs shape arguments a = ⊥
 
 -- a constraint says what its row says

@@ -3,7 +3,7 @@ use Rattle.std.specs.Prelude.{ℕ, Bool, true, Option, Some, None, List, [], ◌
 use Rattle.std.specs.List.{list_all}
 use Rattle.fz_spec.specs.declared.asked.Asked.{Asked}
 use Rattle.fz_spec.specs.declared.asked.Lengths.{Lengths}
-use Rattle.fz_spec.specs.declared.asked.Lengths.TheVariants.{Equal, Rows}
+use Rattle.fz_spec.specs.declared.asked.Lengths.TheVariants.{Equal, Rows, Behind}
 use Rattle.fz_spec.specs.declared.builtin.Builtin.{Builtin}
 use Rattle.fz_spec.specs.declared.row.TheConstants.{ROWS}
 use Rattle.fz_spec.specs.declared.shape.Shape.{Shape}
@@ -42,8 +42,9 @@ abbrev pub signature_of : Row → ℕ → Option (List Asked)
 signature_of row arity = find (λ (asked : List Asked). length asked == arity) row.signatures
 
 -- Whether the lengths of a constraint's lists are those that are asked: each as the first; or the first isn't 0, and the second is a
--- multiple of it.
+-- multiple of it; or each as the second, but for the first.
 abbrev pub have_lengths : Lengths → List ℕ → Bool
 have_lengths Equal (n ∷ ns) = list_all (λ m. m == n) ns
 have_lengths Rows (n ∷ m ∷ []) = nat_lt 0 n && (m % n == 0)
+have_lengths Behind (n ∷ m ∷ ns) = list_all (λ k. k == m) ns
 have_lengths lengths ns = true

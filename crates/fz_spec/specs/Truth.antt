@@ -2,6 +2,7 @@
 use Rattle.std.specs.Prelude.{◌≡◌, ◌≢◌, ◌↔◌, ◌⊎◌, Bool, ℕ, ◌+◌, ◌*◌, ◌%◌, ◌<◌, ℤ, pos, nat_abs, ◌≤ℤ◌, ◌<ℤ◌, ◌+ℤ◌, ◌-ℤ◌, ◌*ℤ◌, int_div, int_le, int_lt, Some, List, [], ◌∷◌, length, slice_get, slice_range, count_by, cond}
 use Rattle.std.specs.Ordering.{int_eq}
 use Rattle.std.specs.List.{AllByRecursion}
+use Rattle.fz_sets.specs.Sets.{IsInSet}
 use Rattle.fz_spec.specs.declared.shape.Relation.{Relation}
 use Rattle.fz_spec.specs.declared.shape.Relation.TheVariants.{Equal, NotEqual, AtMost, Below}
 use Rattle.fz_spec.specs.declared.shape.Operation.{Operation}
@@ -107,3 +108,57 @@ IsTask task = (pos 0 ≤ℤ task.duration) × (pos 0 ≤ℤ task.usage)
 abbrev pub IsCumulative : List Task → ℤ → Type 0
 IsCumulative tasks bound = (pos 0 ≤ℤ bound) × AllByRecursion IsTask tasks
     × AllByRecursion (λ (task : Task). pos 0 <ℤ task.duration → load_at task.start tasks ≤ℤ bound) tasks
+
+-- An automaton: how many states and symbols it has, the next state for each state and symbol in order, where it starts, and where it
+-- accepts. States and symbols count from 1.
+pub record Automaton : Type 0 where
+  pub states : ℤ
+  pub symbols : ℤ
+  pub next : List ℤ
+  pub start : ℤ
+  pub accepting : List (ℤ × ℤ)
+
+abbrev pub IsState : Automaton → ℤ → Type 0
+IsState automaton state = (pos 1 ≤ℤ state) × (state ≤ℤ automaton.states)
+
+abbrev pub IsSymbol : Automaton → ℤ → Type 0
+IsSymbol automaton symbol = (pos 1 ≤ℤ symbol) × (symbol ≤ℤ automaton.symbols)
+
+-- where the next state stands, and that from a state a symbol goes to this one
+abbrev pub next_place : Automaton → ℤ → ℤ → ℤ
+next_place automaton from symbol = ((from -ℤ pos 1) *ℤ automaton.symbols) +ℤ symbol
+
+abbrev pub IsStep : Automaton → ℤ → ℤ → ℤ → Type 0
+IsStep automaton from symbol to = IsSymbol automaton symbol × IsElement (next_place automaton from symbol) automaton.next to
+
+-- A run over numbers: a state before each of them and one behind the last, and each number is a step from one state to the next. It ends
+-- where the automaton accepts.
+abbrev pub IsRun : Automaton → List ℤ → List ℤ → Type 0
+IsRun automaton (last ∷ []) [] = IsState automaton last × IsInSet automaton.accepting last
+IsRun automaton (from ∷ to ∷ states) (x ∷ xs) = IsState automaton from × IsStep automaton from x to × IsRun automaton (to ∷ states) xs
+IsRun automaton states xs = ⊥
+
+-- there is a run from a state, and from the start
+abbrev pub RunsFrom : Automaton → ℤ → List ℤ → Type 0
+RunsFrom automaton from xs = (states : List ℤ) × IsRun automaton (from ∷ states) xs
+
+abbrev pub IsAccepted : Automaton → List ℤ → Type 0
+IsAccepted automaton xs = RunsFrom automaton automaton.start xs
+
+-- how many of the numbers are this one
+abbrev pub count_of : ℤ → List ℤ → ℕ
+count_of value xs = count_by (λ x. int_eq x value) xs
+
+-- as many counts as the cover has values, each the number of places that have the value
+abbrev pub AreCounts : List ℤ → List ℤ → List ℤ → Type 0
+AreCounts xs [] [] = Unit {0}
+AreCounts xs (value ∷ cover) (count ∷ counts) = (count ≡ pos (count_of value xs)) × AreCounts xs cover counts
+AreCounts xs cover counts = ⊥
+
+-- at each number of the first list, as a place of the second, stands its own place
+abbrev pub PointBack : List ℤ → List ℤ → Type 0
+PointBack fs gs = (i : ℕ) (f : ℤ) → slice_get fs i ≡ Some f → IsElement f gs (pos (i + 1))
+
+-- each list is the inverse of the other
+abbrev pub AreInverse : List ℤ → List ℤ → Type 0
+AreInverse fs gs = PointBack fs gs × PointBack gs fs

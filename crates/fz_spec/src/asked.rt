@@ -28,4 +28,8 @@ pub enum Lengths {
     Equal,
     /// The first list isn't empty, and the second is cut into rows of its length.
     Rows,
+    /// All lists behind the first are equally long.
+    Behind,
+    /// The first list is followed by numbers of states and of symbols, at least one of each, and a list as long as their product.
+    Automaton,
 }

@@ -58,7 +58,7 @@ const INTEGER_TERMS: Asked = Asked::List(Element {
 const SET: Asked = Asked::Set;
 
 /// A row for each constraint, by rising names.
-pub const ROWS: [Row; 52] = [
+pub const ROWS: [Row; 55] = [
     (
         b"all_different_int",
         Builtin::AllDifferentInt,
@@ -250,6 +250,27 @@ pub const ROWS: [Row; 52] = [
         &[&[INTEGER_TERMS, INTEGER_TERMS, INTEGER_TERMS, INTEGER_TERM]],
         Lengths::Equal,
         Shape::Cumulative,
+    ),
+    (
+        b"fzn_global_cardinality",
+        Builtin::FznGlobalCardinality,
+        &[&[INTEGER_TERMS, INTEGERS, INTEGER_TERMS]],
+        Lengths::Behind,
+        Shape::Counts,
+    ),
+    (
+        b"fzn_inverse",
+        Builtin::FznInverse,
+        &[&[INTEGER_TERMS, INTEGER_TERMS]],
+        Lengths::Equal,
+        Shape::Inverse,
+    ),
+    (
+        b"fzn_regular",
+        Builtin::FznRegular,
+        &[&[INTEGER_TERMS, INTEGER, INTEGER, INTEGERS, INTEGER, SET]],
+        Lengths::Automaton,
+        Shape::Regular,
     ),
     (
         b"fzn_table_bool",

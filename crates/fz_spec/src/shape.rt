@@ -56,4 +56,10 @@ pub enum Shape {
     Distinct,
     /// Tasks never use more together than a bound.
     Cumulative,
+    /// An automaton accepts a list of terms.
+    Regular,
+    /// Terms are the numbers of places that have the values of a cover.
+    Counts,
+    /// Of two lists of terms each is the inverse of the other.
+    Inverse,
 }

@@ -4,3 +4,6 @@ pub mod Sizes
 pub mod SumLaws
 pub mod TaskLaws
 pub mod Exchanges
+mod RunLaws
+mod CountLaws
+mod InverseLaws

@@ -46,7 +46,7 @@ different_mapped f (x ∷ xs) zero d = d
 different_mapped f (x ∷ xs) (suc i) d = different_mapped f xs i d.1
 
 -- the first of those from a place on, and those after it
-from_here : {X Y : Type 0} (f : X → Y) (xs : List X) (i : ℕ) (x : X) → i < length xs → map f (drop i xs) ≡ f (get_or xs i x) ∷ map f (drop (suc i) xs)
+pub from_here : {X Y : Type 0} (f : X → Y) (xs : List X) (i : ℕ) (x : X) → i < length xs → map f (drop i xs) ≡ f (get_or xs i x) ∷ map f (drop (suc i) xs)
 from_here f [] i x h = absurd (omega (arith, h))
 from_here f (y ∷ xs) zero x h = refl
 from_here f (y ∷ xs) (suc i) x h = from_here f xs i x (omega (arith, h))
@@ -88,13 +88,17 @@ behind xs i = rw add-one (take_all (length xs - suc i) (drop (suc i) xs) (let l 
 
 -- ---- the element of an index
 
-same_place : (p i : ℕ) → pos (p + 1) ≡ pos (i + 1) → p ≡ i
+pub same_place : (p i : ℕ) → pos (p + 1) ≡ pos (i + 1) → p ≡ i
 same_place p i e = let f : p + 1 ≡ i + 1 = cc in omega (arith, f)
 
-got : {X : Type 0} (xs : List X) (p : ℕ) (d : X) → p < length xs → slice_get xs p ≡ Some (get_or xs p d)
+pub got : {X : Type 0} (xs : List X) (p : ℕ) (d : X) → p < length xs → slice_get xs p ≡ Some (get_or xs p d)
 got [] p d h = absurd (omega (arith, h))
 got (x ∷ xs) zero d h = refl
 got (x ∷ xs) (suc p) d h = got xs p d (omega (arith, h))
+
+-- the value of the term at a place
+pub value_at : {X Y : Type 0} (f : X → Y) (xs : List X) (i : ℕ) (d : X) → i < length xs → slice_get (map f xs) i ≡ Some (f (get_or xs i d))
+value_at f xs i d within = slice_get-map f xs i ∙ ap (option_map f) (got xs i d within)
 
 got_none : {Y : Type 0} (xs : List Y) (p : ℕ) (y : Y) → length xs ≤ p → slice_get xs p ≡ Some y → ⊥
 got_none [] p y h e = cc

@@ -10,7 +10,10 @@ ghost use Rattle.fz_spec.specs.declared.shape.Shape.TheVariants as shapes;
 ghost use Rattle.fz_model.specs.Arguments.{argument_of};
 ghost use Rattle.fz_model.specs.Groups.{constraint_at};
 
+use crate::automaton::{Automaton, is_accepted};
+use crate::counts::are_counts;
 use crate::element::{is_number_at, is_term_at};
+use crate::inverse::are_inverse;
 use crate::numbers::{is_result, relates};
 use crate::reified::or_reified;
 use crate::sums::weighted_sum;
@@ -57,6 +60,9 @@ fn holds_as(shape: Shape, arguments: &[Argument], values: &[i32]) -> bool
         Shape::Extensional => is_extensional(arguments, values),
         Shape::Distinct => are_distinct(arguments, values),
         Shape::Cumulative => are_cumulative(arguments, values),
+        Shape::Regular => is_regular(arguments, values),
+        Shape::Counts => are_counted(arguments, values),
+        Shape::Inverse => are_inverses(arguments, values),
     }
 }
 
@@ -329,6 +335,63 @@ fn are_cumulative(arguments: &[Argument], values: &[i32]) -> bool
                 values,
             };
             or_reified(rest, is_cumulative(tasks, value_of(*bound, values)), values)
+        }
+        _ => false,
+    }
+}
+
+fn is_regular(arguments: &[Argument], values: &[i32]) -> bool
+    ensures { IsTrue result ↔ HoldsAs shapes.Regular (map argument_of arguments.now) values.now }
+{
+    match arguments {
+        [
+            Argument::Terms(terms),
+            Argument::One(states),
+            Argument::One(symbols),
+            Argument::Numbers(next),
+            Argument::One(start),
+            Argument::Set(accepting),
+            rest @ ..,
+        ] => {
+            let automaton = Automaton {
+                states: value_of(*states, values),
+                symbols: value_of(*symbols, values),
+                next: next.as_slice(),
+                accepting: accepting,
+            };
+            let start = value_of(*start, values);
+            let holds = is_accepted(automaton, start, terms.as_slice(), values);
+            or_reified(rest, holds, values)
+        }
+        _ => false,
+    }
+}
+
+fn are_counted(arguments: &[Argument], values: &[i32]) -> bool
+    ensures { IsTrue result ↔ HoldsAs shapes.Counts (map argument_of arguments.now) values.now }
+{
+    match arguments {
+        [
+            Argument::Terms(terms),
+            Argument::Numbers(cover),
+            Argument::Terms(counts),
+            rest @ ..,
+        ] => {
+            let (terms, counts) = (terms.as_slice(), counts.as_slice());
+            let holds = are_counts(terms, cover.as_slice(), counts, values);
+            or_reified(rest, holds, values)
+        }
+        _ => false,
+    }
+}
+
+fn are_inverses(arguments: &[Argument], values: &[i32]) -> bool
+    ensures { IsTrue result ↔ HoldsAs shapes.Inverse (map argument_of arguments.now) values.now }
+{
+    match arguments {
+        [Argument::Terms(firsts), Argument::Terms(seconds), rest @ ..] => {
+            let holds = are_inverse(firsts.as_slice(), seconds.as_slice(), values);
+            or_reified(rest, holds, values)
         }
         _ => false,
     }

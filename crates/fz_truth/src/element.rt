@@ -50,7 +50,7 @@ fn is_term_element(index: i32, terms: &[Term], number: i32, values: &[i32]) -> b
 }
 
 /// The place from 0 of an index from 1.
-fn place_of(index: i32) -> Option<usize>
+pub(crate) fn place_of(index: i32) -> Option<usize>
     ensures { MatchOption result ((i : ℕ) → index ≡ pos (i + 1) → ⊥)
         (λ place. index ≡ pos (place + 1)) }
 {

@@ -2,8 +2,11 @@
 //! taken in 128 bits, where none of them wraps. Nothing here takes memory.
 #![tactic(auto)]
 
+mod automaton;
 mod constraint;
+mod counts;
 mod element;
+mod inverse;
 pub mod model;
 mod numbers;
 mod reified;

@@ -1,0 +1,21 @@
+-- A list of terms that an automaton accepts.
+use Rattle.std.specs.Prelude.{◌≡◌, ℕ, ℤ, List, slice_get, Some}
+use Rattle.fz_sets.specs.Sets.{IsInSet}
+use Rattle.fz_spec.specs.declared.term.Term.{Term}
+use Rattle.fz_spec.specs.Truth.{Automaton, IsAccepted}
+use Rattle.fz_strength.specs.Domains.{term_set}
+use Rattle.fz_strength.specs.Tables.{LieWithin}
+
+-- a list that the automaton accepts and that lies in the domains
+pub record IsLeftWord (automaton : Automaton) (xs : List Term) (ds : List (List (ℤ × ℤ))) (word : List ℤ) : Type 0 where
+  pub accepted : IsAccepted automaton word
+  pub within : LieWithin ds xs word
+
+-- a number stands at this place of such a list
+abbrev pub IsInLeftWord : Automaton → List Term → List (List (ℤ × ℤ)) → ℕ → ℤ → Type 0
+IsInLeftWord automaton xs ds j n = (word : List ℤ) × IsLeftWord automaton xs ds word × (slice_get word j ≡ Some n)
+
+-- There is such a list, and each number that is left of a term stands in one at the term's place.
+pub record IsRegularLine (automaton : Automaton) (xs : List Term) (ds : List (List (ℤ × ℤ))) : Type 0 where
+  pub some : (word : List ℤ) × IsLeftWord automaton xs ds word
+  pub supported : (j : ℕ) (t : Term) (n : ℤ) → slice_get xs j ≡ Some t → IsInSet (term_set ds t) n → IsInLeftWord automaton xs ds j n
