@@ -23,24 +23,6 @@ more_of M A B C D before step N both = (
   λ h. elim h [ inl a ↦ step.1 (inl (before.1 (inl a))) | inr n ↦ elim (both.0 n) [ inl b ↦ step.1 (inl (before.1 (inr b))) | inr k ↦ step.1 (inr k) ] ],
 )
 
--- one of those so far, and then one more
-pub more_of_all : (M B C D : Type 0) → M ↔ B → D ↔ (M ⊎ C) → (N : Type 0) → N ↔ (B ⊎ C) → D ↔ N
-more_of_all M B C D before step N both = (
-  λ d. elim (step.0 d) [ inl m ↦ both.1 (inl (before.0 m)) | inr k ↦ both.1 (inr k) ],
-  λ n. elim (both.0 n) [ inl b ↦ step.1 (inl (before.1 b)) | inr k ↦ step.1 (inr k) ],
-)
-
--- a number beside another
-pub or_same : (A : Type 0) (D : Type 0) (v y : ℕ) → D ↔ (A ⊎ (v ≡ y)) → D ↔ (A ⊎ IsTrue (nat_eq v y))
-or_same A D v y step = (
-  λ d. elim (step.0 d) [ inl a ↦ inl a | inr is ↦ inr (eq-eqb v y is) ],
-  λ h. elim h [ inl a ↦ step.1 (inl a) | inr is ↦ step.1 (inr (eqb-true v y is)) ],
-)
-
--- no more
-pub or_none : (A : Type 0) (b : Bool) → (IsTrue b → ⊥) → A ↔ (A ⊎ IsTrue b)
-or_none A b none = (λ a. inl a, λ h. elim h [ inl a ↦ a | inr is ↦ absurd (none is) ])
-
 -- ---- lists
 
 pub filter_yes : (f : ℕ → Bool) (xs : List ℕ) (x : ℕ) → IsTrue (f x) → filter f (xs ++ x ∷ []) ≡ filter f xs ++ x ∷ []

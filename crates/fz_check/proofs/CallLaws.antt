@@ -123,30 +123,6 @@ pub rowed_signed : (others : List Fault) (env : Environment) (c : ConstraintItem
 rowed_signed others env c row signature (Ok m) e h = (ap (λ o. others ++ signature_faults env c row o) e ∙ h.0, (signature, e, h.1))
 rowed_signed others env c row signature (Err f) e h = ap (λ o. slice_get (others ++ signature_faults env c row o) 0) e ∙ h
 
-abbrev faults_of_row : Environment → ConstraintItem → Option Row → List Fault
-faults_of_row env c o =
-    at_places Unsupported (elim o [ Some row ↦ [] | None ↦ cond (is_unsupported c.name.bytes) (c.name.at ∷ []) [] ] ++ flat_map floats_of c.arguments) ++ row_faults env c o
-
-abbrev constraints_of_row : Environment → ConstraintItem → Option Row → List meaning.Constraint
-constraints_of_row env c o = elim o [
-  | Some row ↦ elim (signature_of row (length c.arguments)) [ Some signature ↦ record { name = row.builtin; arguments = arguments_in env signature c.arguments; whole = asks_whole c.annotations } ∷ [] | None ↦ [] ]
-  | None ↦ []
-]
-
-pub rowed_call : (env : Environment) (c : ConstraintItem) (row : Row) (r : Result meaning.Constraint found.Fault) → row_named c.name.bytes ≡ Some row → IsRowed (at_places Unsupported (flat_map floats_of c.arguments)) env c row r → IsCall env c r
-rowed_call env c row (Ok m) e h = (
-  ap (faults_of_row env c) e ∙ h.0,
-  ap (constraints_of_row env c) e
-      ∙ ap (λ (o : Option (List Asked)). elim o [ Some signature ↦ record { name = row.builtin; arguments = arguments_in env signature c.arguments; whole = asks_whole c.annotations } ∷ [] | None ↦ [] ]) h.1.1
-      ∙ ap (λ (x : meaning.Constraint). x ∷ []) (sym h.1.2),
-)
-rowed_call env c row (Err f) e h = ap (λ o. slice_get (faults_of_row env c o) 0) e ∙ h
-
-pub unnamed_call : (env : Environment) (c : ConstraintItem) (f : found.Fault) → row_named c.name.bytes ≡ None
-    → ((others : List Fault) → IsFirstFault (at_places Unsupported (named_unsupported c.name ++ flat_map floats_of c.arguments) ++ (at_places UnknownConstraint (named_unknown c.name) ++ others)) f) → IsCall env c (Err f)
-unnamed_call env c f e h =
-    ap (λ o. slice_get (at_places Unsupported (named_unsupported c.name ++ flat_map floats_of c.arguments) ++ row_faults env c o) 0) e ∙ h (unknown_names env c)
-
 pub length_of_map : {X Y : Type 0} (f : X → Y) (xs : List X) → length (map f xs) ≡ length xs
 length_of_map f [] = refl
 length_of_map f (x ∷ xs) = ap (λ n. suc n) (length_of_map f xs)

@@ -16,17 +16,6 @@ use Rattle.fz_check.specs.Drafts.{scope_of, IsCounted, IsAhead}
 use Rattle.fz_check.specs.declared.draft.Draft.{Draft}
 use Rattle.fz_check.proofs.FaultLaws.{first_front, no_first}
 
-pub ahead_start : (p : Program) (d : Draft) → IsCounted d none_yet → scope_of d ≡ empty_scope → d.variables.items ≡ [] → d.constraints ≡ [] → d.outputs.items ≡ [] → IsAhead p d p.items
-ahead_start p d c s v cs o = record {
-  counts = none_yet;
-  counted = c;
-  faults = ap (λ (x : Scope). faults_from x none_yet p.items p.solve) (sym s);
-  scope = ap (λ (x : Scope). scope_behind x p.items) (sym s);
-  variables = ap₂ (λ us (x : Scope). us ++ made variables_of x p.items) (sym v) (sym s);
-  constraints = ap₂ (λ us (x : Scope). us ++ made constraints_of x p.items) (sym cs) (sym s);
-  outputs = ap₂ (λ us (x : Scope). us ++ made outputs_of x p.items) (sym o) (sym s);
-}
-
 is_first : (faults : List Fault) (f : found.Fault) → IsFirstFault faults f → IsFirst faults (rule_code f.rule) f.at
 is_first [] f e = cc
 is_first (x ∷ xs) f e = let is : x ≡ fault_of f = cc in (ap (λ (y : Fault). rule_code y.rule) (sym is), ap (λ (y : Fault). y.at) (sym is))

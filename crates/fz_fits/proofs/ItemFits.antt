@@ -38,9 +38,6 @@ use Rattle.std.proofs.lemmas.List.{length-map}
 
 -- ---- types
 
-abbrev set_or_none : Option (List (ℤ × ℤ)) → List (ℤ × ℤ)
-set_or_none o = elim o [ Some ranges ↦ ranges | None ↦ [] ]
-
 within_fits : (set : trees.SetLiteral) → SetFits set → elements_in (type_additions (One (Within set))) ≤ ELEMENT_LIMIT → IsSet (plain_set (Within set))
 within_fits set h few = go (set_in set) refl
   where

@@ -179,9 +179,6 @@ Stops bs rest = (x : Lexeme) (c : ℕ) (more behind : List ℕ) → rest ≡ c �
 other_class : (x : Lexeme) (b k l : ℕ) (bs : List ℕ) → class b ≡ k → class_of x ≡ l → (k ≡ l → ⊥) → IsSpelt x (b ∷ bs) → ⊥
 other_class x b k l bs e f n h = n (sym e ∙ class_is x b bs h ∙ f)
 
-one_is_not : (l : ℕ) → 1 < l → 1 ≡ l → ⊥
-one_is_not l g e = omega (arith, g, e)
-
 all_behind : (p : ℕ → Bool) (xs : List ℕ) (c : ℕ) (more : List ℕ) → list_all p (xs ++ c ∷ more) ≡ true → p c ≡ true
 all_behind p [] c more h = (and_parts (p c) (list_all p more) h).0
 all_behind p (x ∷ xs) c more h = all_behind p xs c more (and_parts (p x) (list_all p (xs ++ c ∷ more)) h).1

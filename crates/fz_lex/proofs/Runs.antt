@@ -45,9 +45,6 @@ capped base n d limit (inl e) = subst (λ (b : ℕ). min (b * min n limit + d) l
 capped base n d limit (inr (inl e)) = subst (λ (b : ℕ). min (b * min n limit + d) limit ≡ min (b * n + d) limit) (sym e) (capped16 n d limit)
 capped base n d limit (inr (inr e)) = subst (λ (b : ℕ). min (b * min n limit + d) limit ≡ min (b * n + d) limit) (sym e) (capped8 n d limit)
 
-pub value_none : (base : ℕ) (text : List ℕ) (at limit : ℕ) → 0 ≡ min (digits_value base (slice_range text at at)) limit
-value_none base text at limit = rw (slice_none text at at (omega arith)) (omega arith)
-
 pub value_more : (base : ℕ) (text : List ℕ) (start stop value limit : ℕ) → (base ≡ 10) ⊎ ((base ≡ 16) ⊎ (base ≡ 8)) → start ≤ stop → stop < length text
     → value ≡ min (digits_value base (slice_range text start stop)) limit
     → min (base * value + digit_value (slice_index text stop)) limit ≡ min (digits_value base (slice_range text start (stop + 1))) limit

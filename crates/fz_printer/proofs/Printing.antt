@@ -58,15 +58,6 @@ within_recorded false wanted n = omega arith
 within_recorded true None n = omega arith
 within_recorded true (Some k) n = omega arith
 
--- what a book takes stands after what it had
-pub takes_more : (b new : Book) (c : Account) → Takes b c new → KeepsBook b new
-takes_more b new c takes = record {
-  model = ap (λ (x : Book). x.model) takes.is;
-  mode = ap (λ (x : Book). x.mode) takes.is;
-  added = takes.added;
-  recorded = ap (λ (x : Book). x.recorded) takes.is;
-}
-
 pub stays : (b new : Book) → new ≡ b → KeepsBook b new
 stays b new is = record {
   model = ap (λ (x : Book). x.model) is;
