@@ -9,7 +9,7 @@ ghost use Rattle.fz_tree.specs.Frontier as frontier;
 ghost use Rattle.fz_tree.specs.Frontier.{AreEdges, next_edges};
 ghost use Rattle.fz_search_space.specs.Spaces.{Covers};
 ghost use Rattle.fz_trail.specs.Nodes.{IsAt, AreDecidedAlike, decisions_of};
-ghost use Rattle.fz_trail.specs.Places.{IsNear, AreLeftDownTo, IsOneMore, IsUsedUp, HasUsedCopy, IsClose, gap_at, IsLeastMissed, HasRoom, HasOneMore, IsWayLong, IsOneBetween, IsDueBetween, AreBehind, half_down, nearest_node, last_of, IsDue, commits_for, depths_of, deepest_to, AreBelow, IsLastAbove};
+ghost use Rattle.fz_trail.specs.Places.{IsNear, AreLeftDownTo, IsOneMore, IsUsedUp, HasUsedCopy, IsClose, gap_at, IsLeastMissed, HasRoom, HasOneMore, IsWayLong, IsOneBetween, IsDueBetween, AreBehind, half_down, nearest_node, last_of, spacing, IsDue, commits_for, depths_of, deepest_to, AreBelow, IsLastAbove};
 ghost use Rattle.fz_trail.specs.Trails.{IsTrail, IsKept, AreKept};
 ghost use Rattle.fz_trail.specs.declared.kept.TheConstants.{COPIES_MOST};
 
@@ -521,8 +521,8 @@ impl<S: SearchSpace> Trail<S> {
         }
     }
 
-    /// Keeps a copy of the space at the node below that many edges, where one is due: where none is within the commit distance above
-    /// it, and where the path came back to it or close above it and none stands there.
+    /// Keeps a copy of the space at the node below that many edges, where one is due: where none is as near above it as copies are made
+    /// apart, and where the path came back to it or close above it and none stands there.
     ///
     /// # Errors
     /// `AllocError` where there is no memory.
@@ -541,7 +541,7 @@ impl<S: SearchSpace> Trail<S> {
             → HasRoom self.old.copies.items self.new.copies.items }
         ensures near { OnOk result ((m : Instance) (known : Option (List ℤ))
             (es : List frontier.Edge) → depth ≡ length es → IsTrail S.spaced m known es self.old
-            → IsNear self.new.distance self.new.copies.items depth) }
+            → IsNear (spacing self.new.distance depth) self.new.copies.items depth) }
         ensures none { OnErr result (HasRoom self.old.copies.items self.new.copies.items) }
         ensures trail { (m : Instance) (known : Option (List ℤ)) (es : List frontier.Edge)
             → depth ≡ length es
@@ -583,15 +583,22 @@ impl<S: SearchSpace> Trail<S> {
             ↔ IsDue self.now.back self.now.distance self.now.copies.items depth }
         ensures near { result ≡ false → 1 ≤ self.now.distance
             → IsSomeAnd (last_of self.now.copies.items)
-            (λ kept. depth < kept.depth + self.now.distance) }
+            (λ kept. depth < kept.depth + spacing self.now.distance depth) }
     {
         match self.copies.last() {
             Some(kept) => {
                 kept.depth < depth
-                    && (self.is_close(depth) || depth - kept.depth >= self.distance as usize)
+                    && (self.is_close(depth) || depth - kept.depth >= self.spacing(depth))
             }
             None => true,
         }
+    }
+
+    /// How far apart copies are made on the way down to the node below that many edges.
+    fn spacing(&self, depth: usize) -> usize
+        ensures { result ≡ spacing self.now.distance depth }
+    {
+        (depth / COPIES_MOST).max(self.distance as usize)
     }
 
     /// Whether the path came back to the node below that many edges, or to one close above it.
@@ -616,7 +623,7 @@ impl<S: SearchSpace> Trail<S> {
             (es : List frontier.Edge) (e : frontier.Edge)
             → length (es ++ e ∷ []) ≤ edges
             → IsAt m known es (S.spaced space)
-            → IsNear self.old.distance self.old.copies.items (length es)
+            → IsNear (spacing self.old.distance (length es)) self.old.copies.items (length es)
             → IsTrail S.spaced m known es self.old
             → IsTrail S.spaced m known (es ++ e ∷ []) self.new }
     {

@@ -1,5 +1,5 @@
-use Rattle.std.proofs.Common.{ℕ, ◌∙◌, inr, subst, sym}
-use Rattle.fz_trail.specs.Places.{IsNear}
+use Rattle.std.proofs.Common.{ℕ, ◌∙◌, arith, inr, subst, sym}
+use Rattle.fz_trail.specs.Places.{IsNear, spacing}
 use Rattle.fz_trail.proofs.Places.{still_near, made_near, due_above, due_before, due_room, trail_more}
 use Rattle.fz_trail.proofs.trail.Trail.keep.Goals as goal
 
@@ -19,8 +19,8 @@ returns-clause-undue g c = λ undue.
     absurd (undue (due_before c.args.self.now.back c.make_room.new.self.back c.args.self.now.distance c.make_room.new.self.distance c.args.depth c.args.self.now.copies.items c.make_room.new.self.copies.items c.make_room.ensures.back c.make_room.ensures.distances.0 c.make_room.ensures.copies (c.is_due.ensures.due.0 c.if-not-is_due.false)))
 
 pub returns-clause-near : goal.returns-clause-near
-returns-clause-near g c = λ m known es size t. subst (λ (d : ℕ). IsNear d c.put.new.self.copies.items c.args.depth) (sym (c.put.ensures.distances.0 ∙ c.make_room.ensures.distances.0))
-    (made_near g.S.SearchSpace.spaced c.args.self.now.distance c.args.depth c.make_room.new.self.copies.items c.put.new.self.copies.items c.args.space.now t.distances.0 c.in_ok-put.ensures.copies)
+returns-clause-near g c = λ m known es size t. subst (λ (d : ℕ). IsNear (spacing d c.args.depth) c.put.new.self.copies.items c.args.depth) (sym (c.put.ensures.distances.0 ∙ c.make_room.ensures.distances.0))
+    (made_near g.S.SearchSpace.spaced (spacing c.args.self.now.distance c.args.depth) c.args.depth c.make_room.new.self.copies.items c.put.new.self.copies.items c.args.space.now (omega (arith, t.distances.0)) c.in_ok-put.ensures.copies)
 
 pub returns-clause-trail : goal.returns-clause-trail
 returns-clause-trail g c = λ m known es size is t.
