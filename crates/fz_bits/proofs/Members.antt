@@ -4,7 +4,7 @@ use Rattle.std.specs.Prelude.{◌↔◌, not, nat_eq, IsTrue}
 use Rattle.std.specs.Int.{bit_at, w64, trailing_zeros}
 use Rattle.std.proofs.lemmas.Bool.{cases_eq}
 use Rattle.std.proofs.lemmas.Bool.Decides.{leb_tells, nat_tests}
-use Rattle.std.proofs.lemmas.List.{get_or-set_same, get_or-set_other, get_or_past, length-set, length-replicate, get_or-replicate}
+use Rattle.std.proofs.lemmas.List.{get_or-set_same, get_or-set_other, get_or_past, length-replicate, get_or-replicate}
 use Rattle.std.proofs.lemmas.Nat.{one_shl}
 use Rattle.std.proofs.lemmas.Nat.Bits.{bit_at-zero, bit_at_ones, bit_at_ones_above}
 use Rattle.fz_bits.proofs.Words.{first_bit, positive}
@@ -98,39 +98,6 @@ pub record AreMet (old other new : List ℕ) (k : ℕ) : Type 0 where
   pub size : length new ≡ length old
   pub done : (p : ℕ) → p < k → AreOnes (get_or new p 0) (λ b. HasBit (get_or old p 0) b × HasBit (get_or other p 0) b)
   pub left : (p : ℕ) → k ≤ p → get_or new p 0 ≡ get_or old p 0
-
-pub met_more : (old other new : List ℕ) (k word : ℕ) → k < length old → AreMet old other new k → AreOnes word (λ b. HasBit (get_or new k 0) b × HasBit (get_or other k 0) b)
-    → AreMet old other (set new k word) (k + 1)
-met_more old other new k word inside h ones =
-    let size = h.size in
-    record {
-      size = length-set new k word ∙ size;
-      done = λ p below. elim (cases_eq p k) [
-        | inl e ↦
-            let there : get_or (set new k word) k 0 ≡ word = get_or-set_same new k word 0 (omega (arith, inside, size)) in
-            let now : AreOnes word (λ b. HasBit (get_or old k 0) b × HasBit (get_or other k 0) b) =
-            subst (λ (w : ℕ). AreOnes word (λ b. HasBit w b × HasBit (get_or other k 0) b)) (h.left k (omega arith)) ones in
-            subst (λ (j : ℕ). AreOnes (get_or (set new k word) j 0) (λ b. HasBit (get_or old j 0) b × HasBit (get_or other j 0) b)) (sym e)
-            (subst (λ (w : ℕ). AreOnes w (λ b. HasBit (get_or old k 0) b × HasBit (get_or other k 0) b)) (sym there) now)
-        | inr ne ↦
-            subst (λ (w : ℕ). AreOnes w (λ b. HasBit (get_or old p 0) b × HasBit (get_or other p 0) b)) (sym (get_or-set_other new k p word 0 ne)) (h.done p (omega (arith, below, ne)))
-      ];
-      left = λ p above. get_or-set_other new k p word 0 (λ e. omega (arith, above, e)) ∙ h.left p (omega (arith, above));
-    }
-
-pub met_all : (old other new : List ℕ) (k : ℕ) → length old ≡ length other → length other ≤ k → AreMet old other new k
-    → (i : ℕ) → HasMember new i ↔ (HasMember old i × HasMember other i)
-met_all old other new k same end h = λ i.
-    let p = i / 64 in
-    elim (leb_tells (length old) p) [
-      | inl past ↦
-          let beyond = past.1 in
-          let size = h.size in (
-            (λ has. absurd (none_in new i (get_or_past new p 0 (omega (arith, size, beyond))) has)),
-            (λ has. absurd (none_in old i (get_or_past old p 0 beyond) has.0)),
-          )
-      | inr inside ↦ let below = inside.1 in h.done p (omega (arith, same, end, below)) (i % 64) (omega arith)
-    ]
 
 -- ---- a number that is there
 

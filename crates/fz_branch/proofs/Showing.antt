@@ -1,10 +1,9 @@
 -- The variables of the output, as the code finds them.
 use Rattle.std.proofs.Common.{◌≡◌, ◌∙◌, ℕ, ◌+◌, ◌<◌, ◌↔◌, ◌⊎◌, inl, inr, List, [], ◌∷◌, ◌++◌, Bool, true, false, ◌||◌, length, take, get_or, ap, sym, subst, refl, append-nil}
-use Rattle.std.specs.Prelude.{IsTrue, nat_eq, if◌then◌else◌}
+use Rattle.std.specs.Prelude.{IsTrue, if◌then◌else◌}
 use Rattle.std.specs.List.{list_any, filter}
 use Rattle.std.proofs.lemmas.List.Elements.{filter-append}
 use Rattle.std.proofs.lemmas.List.Folds.{list_any_more}
-use Rattle.std.proofs.lemmas.Bool.{eqb-true, eq-eqb}
 
 -- ---- members
 
@@ -22,24 +21,6 @@ more_of M A B C D before step N both = (
   λ d. elim (step.0 d) [ inl m ↦ elim (before.0 m) [ inl a ↦ inl a | inr b ↦ inr (both.1 (inl b)) ] | inr k ↦ inr (both.1 (inr k)) ],
   λ h. elim h [ inl a ↦ step.1 (inl (before.1 (inl a))) | inr n ↦ elim (both.0 n) [ inl b ↦ step.1 (inl (before.1 (inr b))) | inr k ↦ step.1 (inr k) ] ],
 )
-
--- one of those so far, and then one more
-pub more_of_all : (M B C D : Type 0) → M ↔ B → D ↔ (M ⊎ C) → (N : Type 0) → N ↔ (B ⊎ C) → D ↔ N
-more_of_all M B C D before step N both = (
-  λ d. elim (step.0 d) [ inl m ↦ both.1 (inl (before.0 m)) | inr k ↦ both.1 (inr k) ],
-  λ n. elim (both.0 n) [ inl b ↦ step.1 (inl (before.1 b)) | inr k ↦ step.1 (inr k) ],
-)
-
--- a number beside another
-pub or_same : (A : Type 0) (D : Type 0) (v y : ℕ) → D ↔ (A ⊎ (v ≡ y)) → D ↔ (A ⊎ IsTrue (nat_eq v y))
-or_same A D v y step = (
-  λ d. elim (step.0 d) [ inl a ↦ inl a | inr is ↦ inr (eq-eqb v y is) ],
-  λ h. elim h [ inl a ↦ step.1 (inl a) | inr is ↦ step.1 (inr (eqb-true v y is)) ],
-)
-
--- no more
-pub or_none : (A : Type 0) (b : Bool) → (IsTrue b → ⊥) → A ↔ (A ⊎ IsTrue b)
-or_none A b none = (λ a. inl a, λ h. elim h [ inl a ↦ a | inr is ↦ absurd (none is) ])
 
 -- ---- lists
 

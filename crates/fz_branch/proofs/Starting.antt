@@ -1,38 +1,12 @@
 -- Parts whose variables rise, and from which place on they are looked at.
-use Rattle.std.proofs.Common.{◌≡◌, ◌∙◌, ℕ, zero, suc, ◌+◌, ◌-◌, ◌<◌, ◌≤◌, List, [], ◌∷◌, ◌++◌, length, take, get_or, ap, sym, subst, refl, arith, Bool, true, inl, inr}
-use Rattle.std.specs.Prelude.{ℤ, slice_index}
-use Rattle.std.proofs.lemmas.Bool.{cases_lt}
+use Rattle.std.proofs.Common.{◌≡◌, ◌∙◌, ℕ, zero, suc, ◌+◌, ◌<◌, ◌≤◌, List, [], ◌∷◌, ◌++◌, length, take, get_or, ap, sym, subst, refl, arith, Bool, true}
+use Rattle.std.specs.Prelude.{slice_index}
 use Rattle.fz_spec.specs.Instance.{SearchPart}
-use Rattle.fz_branch.specs.Picks.{AreClosed, IsPassed}
 use Rattle.fz_branch.specs.Plans.{AreRising, IsRising}
 
 -- the first that many rise
 abbrev pub rising_to : ℕ → List ℕ → Type 0
 rising_to n vs = (j k : ℕ) → j ≤ k → k < n → slice_index vs j ≤ slice_index vs k
-
-pub one_rises : (vs : List ℕ) → rising_to 1 vs
-one_rises vs j k h l =
-    let same : j ≡ k = omega (arith, h, l) in
-    subst (λ (i : ℕ). slice_index vs j ≤ slice_index vs i) same (omega arith)
-
--- one more, which is at least the last one
-pub more_rise : (vs : List ℕ) (n : ℕ) → 1 ≤ n → rising_to n vs → slice_index vs (n - 1) ≤ slice_index vs n → rising_to (n + 1) vs
-more_rise vs n some rise last j k h l =
-    elim (cases_lt k n) [
-      | inl below ↦ rise j k h below
-      | inr from ↦
-          let at : n ≡ k = omega (arith, l, from) in
-          subst (λ (i : ℕ). slice_index vs j ≤ slice_index vs i) at (elim (cases_lt j n) [
-            | inl before ↦ let up = rise j (n - 1) (omega (arith, before)) (omega (arith, some)) in omega (arith, up, last)
-            | inr same ↦ let here : n ≡ j = omega (arith, same, h, at) in subst (λ (i : ℕ). slice_index vs i ≤ slice_index vs n) here (omega arith)
-          ])
-    ]
-
--- the places before one whose variable is closed are passed
-pub passed_below : (ds : List (List (ℤ × ℤ))) (vs : List ℕ) (n closed : ℕ) → IsRising vs → AreClosed closed ds → 1 ≤ n → n ≤ length vs → slice_index vs (n - 1) < closed → IsPassed n ds vs
-passed_below ds vs n closed rise none some within last = λ k h.
-    let up = rise k (n - 1) (omega (arith, h)) (omega (arith, some, within)) in
-    none (slice_index vs k) (omega (arith, up, last))
 
 -- ---- of each part
 

@@ -14,9 +14,6 @@ pub record IsRead (m : Instance) (head : Option (List ℤ)) (old new : List (Lis
   pub text_is : text ≡ lines_text lines ++ rest
   pub later : (more : List Line) → AreRefutedBy m head new more → AreRefutedBy m head old (lines ++ more)
 
-pub none_read : (m : Instance) (head : Option (List ℤ)) (boxes : List (List (List (ℤ × ℤ)))) (text : List ℕ) → IsRead m head boxes boxes text text
-none_read m head boxes text = record { lines = []; text_is = refl; later = λ more out. out }
-
 one_later : (lines more : List Line) (line : Line) → (lines ++ line ∷ []) ++ more ≡ lines ++ line ∷ more
 one_later lines more line = append_assoc lines (line ∷ []) more
 

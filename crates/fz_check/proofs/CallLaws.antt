@@ -1,18 +1,18 @@
 -- The arguments of a constraint, one by one.
-use Rattle.std.proofs.Common.{◌≡◌, ℕ, suc, true, false, cond, Option, ◌+◌, ◌<◌, ◌≤◌, List, [], ◌∷◌, ◌++◌, map, take, drop, length, get_or, refl, sym, ap, ap₂, ◌∙◌, append_assoc, append-nil}
+use Rattle.std.proofs.Common.{◌≡◌, ℕ, suc, true, false, cond, ◌+◌, ◌<◌, ◌≤◌, List, [], ◌∷◌, ◌++◌, map, take, drop, length, get_or, refl, sym, ap, ap₂, ◌∙◌, append_assoc, append-nil}
 use Rattle.std.specs.Prelude.{Result, Ok, Err, Some, None, MatchResult, slice_get, flat_map}
 use Rattle.std.proofs.lemmas.List.{drop_more, drop_all, take_more, map-append}
 use Rattle.fz_spec.specs.declared.asked.Asked.{Asked}
 use Rattle.fz_spec.specs.Constraints as meaning
 use Rattle.fz_spec.specs.Constraints.{Argument, list_lengths}
-use Rattle.fz_language.specs.declared.fault.RuleFault.TheVariants.{Unsupported, UnknownConstraint, UnknownName, WrongType, WrongLengths}
+use Rattle.fz_language.specs.declared.fault.RuleFault.TheVariants.{UnknownName, WrongType, WrongLengths}
 use Rattle.fz_language.specs.Trees.{Expression, ConstraintItem}
 use Rattle.fz_language.specs.Entries.{Environment, resolve}
 use Rattle.fz_language.specs.Annotations.{asks_whole}
-use Rattle.fz_language.specs.Rules.{Fault, wrong_place, wrong_arguments, arguments_in, at_places, unknown_of, signature_faults, row_faults, named_unsupported, named_unknown, is_unsupported, floats_of}
-use Rattle.fz_spec.specs.Signatures.{Row, row_named, signature_of, have_lengths}
+use Rattle.fz_language.specs.Rules.{Fault, wrong_place, wrong_arguments, arguments_in, at_places, unknown_of, signature_faults}
+use Rattle.fz_spec.specs.Signatures.{Row, signature_of, have_lengths}
 use Rattle.fz_resolve.specs.declared.fault.Fault as found
-use Rattle.fz_check.specs.Calls.{IsCall, IsSigned, IsRowed, AreArguments, wrong_lengths}
+use Rattle.fz_check.specs.Calls.{IsSigned, IsRowed, AreArguments, wrong_lengths}
 use Rattle.fz_check.specs.Checked.{IsFirstFault}
 use Rattle.fz_check.proofs.FaultLaws.{first_front, first_at, behind_none, no_first}
 
@@ -122,30 +122,6 @@ signed_wrong others env c row signature at f a h =
 pub rowed_signed : (others : List Fault) (env : Environment) (c : ConstraintItem) (row : Row) (signature : List Asked) (r : Result meaning.Constraint found.Fault) → signature_of row (length c.arguments) ≡ Some signature → IsSigned others env c row signature r → IsRowed others env c row r
 rowed_signed others env c row signature (Ok m) e h = (ap (λ o. others ++ signature_faults env c row o) e ∙ h.0, (signature, e, h.1))
 rowed_signed others env c row signature (Err f) e h = ap (λ o. slice_get (others ++ signature_faults env c row o) 0) e ∙ h
-
-abbrev faults_of_row : Environment → ConstraintItem → Option Row → List Fault
-faults_of_row env c o =
-    at_places Unsupported (elim o [ Some row ↦ [] | None ↦ cond (is_unsupported c.name.bytes) (c.name.at ∷ []) [] ] ++ flat_map floats_of c.arguments) ++ row_faults env c o
-
-abbrev constraints_of_row : Environment → ConstraintItem → Option Row → List meaning.Constraint
-constraints_of_row env c o = elim o [
-  | Some row ↦ elim (signature_of row (length c.arguments)) [ Some signature ↦ record { name = row.builtin; arguments = arguments_in env signature c.arguments; whole = asks_whole c.annotations } ∷ [] | None ↦ [] ]
-  | None ↦ []
-]
-
-pub rowed_call : (env : Environment) (c : ConstraintItem) (row : Row) (r : Result meaning.Constraint found.Fault) → row_named c.name.bytes ≡ Some row → IsRowed (at_places Unsupported (flat_map floats_of c.arguments)) env c row r → IsCall env c r
-rowed_call env c row (Ok m) e h = (
-  ap (faults_of_row env c) e ∙ h.0,
-  ap (constraints_of_row env c) e
-      ∙ ap (λ (o : Option (List Asked)). elim o [ Some signature ↦ record { name = row.builtin; arguments = arguments_in env signature c.arguments; whole = asks_whole c.annotations } ∷ [] | None ↦ [] ]) h.1.1
-      ∙ ap (λ (x : meaning.Constraint). x ∷ []) (sym h.1.2),
-)
-rowed_call env c row (Err f) e h = ap (λ o. slice_get (faults_of_row env c o) 0) e ∙ h
-
-pub unnamed_call : (env : Environment) (c : ConstraintItem) (f : found.Fault) → row_named c.name.bytes ≡ None
-    → ((others : List Fault) → IsFirstFault (at_places Unsupported (named_unsupported c.name ++ flat_map floats_of c.arguments) ++ (at_places UnknownConstraint (named_unknown c.name) ++ others)) f) → IsCall env c (Err f)
-unnamed_call env c f e h =
-    ap (λ o. slice_get (at_places Unsupported (named_unsupported c.name ++ flat_map floats_of c.arguments) ++ row_faults env c o) 0) e ∙ h (unknown_names env c)
 
 pub length_of_map : {X Y : Type 0} (f : X → Y) (xs : List X) → length (map f xs) ≡ length xs
 length_of_map f [] = refl

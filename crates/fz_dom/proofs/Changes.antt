@@ -267,10 +267,6 @@ pub cut_as : (r : Change) (l u l' u' : ℤ) (d e : List (ℤ × ℤ)) → IsChan
 cut_as r l u l' u' d e c p q =
     subst (λ (a : ℤ). IsChange r (λ x. IsFromTo a u x → ⊥) d e) p (subst (λ (b : ℤ). IsChange r (λ x. IsFromTo l' b x → ⊥) d e) q c)
 
-pub range_as : (r : Change) (l u l' u' : ℤ) (d e : List (ℤ × ℤ)) → IsChange r (λ x. IsFromTo l' u' x) d e → l' ≡ l → u' ≡ u → IsChange r (λ x. IsFromTo l u x) d e
-range_as r l u l' u' d e c p q =
-    subst (λ (a : ℤ). IsChange r (λ x. IsFromTo a u x) d e) p (subst (λ (b : ℤ). IsChange r (λ x. IsFromTo l' b x) d e) q c)
-
 -- a word is at most 64 wide
 pub word_narrow : (h : Head) → IsWhole h → 0 < h.bits → h.high ≤ℤ (h.low +ℤ pos 63)
 word_narrow h w p =

@@ -127,12 +127,6 @@ of_narrow h rs k l b n g =
     let some : 0 < h.bits = positive h.bits (λ z. let c = subst (λ (n : ℕ). bit_at n o.0 ≡ 1) z bit in let d = bit_at-zero o.0 in omega arith) in
     (word_same h rs k.are_ranges some inside g, some)
 
-pub settled_small : (h : Head) (rs : List (ℤ × ℤ)) → IsHeadOf h rs → head_set h ≡ rs → IsKept h []
-settled_small h rs k e = record { head = subst (λ (l : List (ℤ × ℤ)). IsHeadOf h l) (sym e) k; wide = inl refl }
-
-pub settled_wide : (h : Head) (rs : List (ℤ × ℤ)) → IsHeadOf h rs → 2 ≤ length rs → (h.low +ℤ pos 63) <ℤ h.high → IsKept h rs
-settled_wide h rs k l w = record { head = subst (λ (l : List (ℤ × ℤ)). IsHeadOf h l) (sym (wide_ranges h rs (omega (arith, l)))) k; wide = inr (l, w) }
-
 pub list_ends : (rs : List (ℤ × ℤ)) → AreRanges rs → AreWithinLimits rs → 0 < length rs
     → ((get_or rs 0 (pos 0, pos 0)).0 ≤ℤ (get_or rs (length rs - 1) (pos 0, pos 0)).1) × (LEAST ≤ℤ (get_or rs 0 (pos 0, pos 0)).0) × ((get_or rs (length rs - 1) (pos 0, pos 0)).1 ≤ℤ GREATEST)
 list_ends rs k w l =
@@ -146,9 +140,6 @@ list_ends rs k w l =
     (omega (arith, ints), omega (arith, ints), omega (arith, ints))
 
 -- ---- several ranges
-
-pub rest_parts : (h : Head) (rest : List (ℤ × ℤ)) → IsKept h rest → 0 < length rest → AreRanges rest × AreWithinLimits rest
-rest_parts h rest k l = let e = wide_ranges h rest l in (subst AreRanges e k.head.are_ranges, subst AreWithinLimits e k.head.within)
 
 pub rest_of : (h : Head) (rest : List (ℤ × ℤ)) → IsKept h rest → 0 < length rest → IsHeadOf h rest
 rest_of h rest k l = subst (λ (l : List (ℤ × ℤ)). IsHeadOf h l) (wide_ranges h rest l) k.head
@@ -203,11 +194,6 @@ seen h rest d k e = subst (λ (l : List (ℤ × ℤ)). IsHeadOf h l) e k.head
 
 same_one : (r : ℤ × ℤ) (a b : ℤ) → a ≡ r.0 → b ≡ r.1 → r ∷ [] ≡ (a, b) ∷ []
 same_one (x, y) a b p q = cc
-
-pub one_is : (h : Head) (d : List (ℤ × ℤ)) → IsHeadOf h d → length d ≡ 1 → d ≡ (h.low, h.high) ∷ []
-one_is h [] k e = absurd (omega (arith, e))
-one_is h (r ∷ []) k e = let a = k.low_is in let b = k.high_is in same_one r h.low h.high a b
-one_is h (r ∷ s ∷ rs) k e = absurd (omega (arith, e))
 
 pub filled_of : (d : List (ℤ × ℤ)) → least d <ℤ greatest d → 0 < length d
 filled_of [] lt = absurd (omega (arith, ints, lt))

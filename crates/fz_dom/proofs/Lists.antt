@@ -23,22 +23,10 @@ prepend r (s ∷ rs) le h f = (le, f s.0 (least_is_in s rs h), h)
 
 -- ---- parts
 
-pub in_take : (n : ℕ) (rs : List (ℤ × ℤ)) (x : ℤ) → IsInSet (take n rs) x → IsInSet rs x
-in_take zero rs x i = absurd i
-in_take (suc n) [] x i = absurd i
-in_take (suc n) (r ∷ rs) x (inl i) = inl i
-in_take (suc n) (r ∷ rs) x (inr i) = inr (in_take n rs x i)
-
 pub in_drop : (n : ℕ) (rs : List (ℤ × ℤ)) (x : ℤ) → IsInSet (drop n rs) x → IsInSet rs x
 in_drop zero rs x i = i
 in_drop (suc n) [] x i = absurd i
 in_drop (suc n) (r ∷ rs) x i = inr (in_drop n rs x i)
-
-pub AreRanges-take : (n : ℕ) (rs : List (ℤ × ℤ)) → AreRanges rs → AreRanges (take n rs)
-AreRanges-take zero rs h = tt
-AreRanges-take (suc n) [] h = tt
-AreRanges-take (suc n) (r ∷ rs) h =
-    prepend r (take n rs) (AreRanges-head r rs h) (AreRanges-take n rs (AreRanges-tail r rs h)) (λ x i. above_gap r rs x h (in_take n rs x i))
 
 pub AreRanges-drop : (n : ℕ) (rs : List (ℤ × ℤ)) → AreRanges rs → AreRanges (drop n rs)
 AreRanges-drop zero rs h = h

@@ -20,7 +20,7 @@ use Rattle.fz_dom.proofs.Places.{bits_read, bits_count}
 use Rattle.fz_dom.proofs.Changes.{change_as, above_none, word_some, from_word, in_word, none_of_zero, plain_form, word_narrow, plain_when_wide}
 use Rattle.fz_dom.proofs.Lists.{same_or_less}
 use Rattle.fz_dom.proofs.Runs.{offset_in}
-use Rattle.fz_dom.proofs.Kept.{wide_ranges, filled_of}
+use Rattle.fz_dom.proofs.Kept.{filled_of}
 
 -- ---- the same word from another base
 
@@ -147,36 +147,10 @@ moved_word o b c shift x word p f inside = (
 
 -- ---- which form it is
 
-pub two_of_wide : (h : Head) (rest d : List (ℤ × ℤ)) → IsKept h rest → kept_ranges h rest ≡ d → 0 < length rest → 2 ≤ length d
-two_of_wide h rest d k e n = elim k.wide [
-  | inl z ↦ absurd (let t = ap length z in omega arith)
-  | inr w ↦ subst (λ (l : List (ℤ × ℤ)). 2 ≤ length l) (sym (wide_ranges h rest n) ∙ e) w.0
-]
-
 pub word_is_narrow : (h : Head) (d : List (ℤ × ℤ)) → IsHeadOf h d → head_set h ≡ d → 0 < h.bits → greatest d ≤ℤ (least d +ℤ pos 63)
 word_is_narrow h d k e p =
     let w : IsWhole h = subst (λ (l : List (ℤ × ℤ)). IsHeadOf h l) (sym e) k in
     let n = word_narrow h w p in let a = k.low_is in let b = k.high_is in omega (arith, ints)
-
-empty_ends : (d : List (ℤ × ℤ)) → set_size d ≡ 0 → greatest d ≤ℤ (least d +ℤ pos 63)
-empty_ends [] e = omega (arith, ints)
-empty_ends (r ∷ rs) e = absurd (omega (arith, e))
-
-pub none_is_narrow : (h : Head) (d : List (ℤ × ℤ)) → IsHeadOf h d → h.size ≡ 0 → greatest d ≤ℤ (least d +ℤ pos 63)
-none_is_narrow h d k z = empty_ends d (sym k.size_is ∙ z)
-
-pub one_of_plain : (h : Head) (d : List (ℤ × ℤ)) → IsHeadOf h d → head_set h ≡ d → h.bits ≡ 0 → 0 < h.size → d ≡ (least d, greatest d) ∷ []
-one_of_plain h d k e z p =
-    let f : d ≡ (h.low, h.high) ∷ [] = sym e ∙ plain_form h z p in
-    let a = k.low_is in let b = k.high_is in
-    let g : (h.low, h.high) ∷ [] ≡ (least d, greatest d) ∷ [] = ap (λ (x : ℤ). (x, h.high) ∷ []) a ∙ ap (λ (y : ℤ). (least d, y) ∷ []) b in
-    f ∙ g
-
-pub narrow_of : (h : Head) (d : List (ℤ × ℤ)) → IsHeadOf h d → head_set h ≡ d → (0 < h.bits) ⊎ (h.size ≡ 0) → greatest d ≤ℤ (least d +ℤ pos 63)
-narrow_of h d k e o = elim o [ inl p ↦ word_is_narrow h d k e p | inr z ↦ none_is_narrow h d k z ]
-
-pub some_of_one : (d : List (ℤ × ℤ)) (r : ℤ × ℤ) → d ≡ r ∷ [] → 0 < length d
-some_of_one d r e = rw e (omega arith)
 
 pub ends_order : (d : List (ℤ × ℤ)) → AreRanges d → least d ≤ℤ greatest d
 ends_order [] h = omega (arith, ints)

@@ -1,5 +1,5 @@
 -- Where a lexeme can't go on: a byte after its own with which no longer lexeme goes on.
-use Rattle.std.proofs.Common.{◌≡◌, ℕ, ℤ, ◌<◌, ◌⊎◌, inl, inr, ◌==◌, ◌||◌, Bool, true, false, cond, List, [], ◌∷◌, ◌++◌, codes, if◌then◌else◌, refl, sym, ap, ◌∙◌, subst, arith, eqb-true}
+use Rattle.std.proofs.Common.{◌≡◌, ℕ, ℤ, ◌⊎◌, inl, inr, ◌==◌, ◌||◌, Bool, true, false, cond, List, [], ◌∷◌, ◌++◌, codes, if◌then◌else◌, refl, sym, ap, ◌∙◌, subst, arith, eqb-true}
 use Rattle.std.specs.List.{list_all}
 use Rattle.std.specs.Char.{is_ascii_digit, is_ascii_hexdigit, is_ascii_alphanumeric}
 use Rattle.std.proofs.lemmas.Bool.{both_ways, and_parts, and_from}
@@ -178,9 +178,6 @@ Stops bs rest = (x : Lexeme) (c : ℕ) (more behind : List ℕ) → rest ≡ c �
 
 other_class : (x : Lexeme) (b k l : ℕ) (bs : List ℕ) → class b ≡ k → class_of x ≡ l → (k ≡ l → ⊥) → IsSpelt x (b ∷ bs) → ⊥
 other_class x b k l bs e f n h = n (sym e ∙ class_is x b bs h ∙ f)
-
-one_is_not : (l : ℕ) → 1 < l → 1 ≡ l → ⊥
-one_is_not l g e = omega (arith, g, e)
 
 all_behind : (p : ℕ → Bool) (xs : List ℕ) (c : ℕ) (more : List ℕ) → list_all p (xs ++ c ∷ more) ≡ true → p c ≡ true
 all_behind p [] c more h = (and_parts (p c) (list_all p more) h).0

@@ -13,10 +13,6 @@ pub data Piece : Type 0 where
   Blank : (byte : ℕ) → Piece
   Said : (lexeme : Lexeme) (bytes : List ℕ) → Piece
 
-abbrev pub piece_bytes : Piece → List ℕ
-piece_bytes (Blank b) = b ∷ []
-piece_bytes (Said x bs) = bs
-
 abbrev pub bytes : List Piece → List ℕ
 bytes [] = []
 bytes (Blank b ∷ ps) = b ∷ bytes ps

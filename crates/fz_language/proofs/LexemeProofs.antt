@@ -29,9 +29,6 @@ same_head {P} {Q} bs f g no_one = no_one f.head f.holds (subst Q (heads g.head f
 IsStart : ℕ → Type 0
 IsStart b = is_word_start b ≡ true
 
-IsDigit : ℕ → Type 0
-IsDigit b = is_ascii_digit b ≡ true
-
 abbrev IsDigitOrMinus : ℕ → Type 0
 IsDigitOrMinus b = (is_ascii_digit b ≡ true) ⊎ (b ≡ 45)
 
@@ -258,9 +255,6 @@ one_lexeme (Punct s) Text bs h k = absurd (same_head bs (text_first bs k) (sign_
 one_lexeme (Punct s) (Punct t) bs h k = ap Punct (sym (sign_back s) ∙ ap sign_of (sym h ∙ k) ∙ sign_back t)
 
 -- the first byte is no blank
-
-pub IsVisible : ℕ → Type 0
-IsVisible b = is_blank b ≡ false
 
 word_visible : (b : ℕ) → is_word_start b ≡ true → is_blank b ≡ false
 word_visible b h = grind (arith, nat_tests)

@@ -1,6 +1,6 @@
 -- Blanks one after another.
-use Rattle.std.proofs.Common.{◌≡◌, ℕ, ◌+◌, ◌<◌, ◌≤◌, Bool, true, false, List, length, slice_index, refl, inl, inr, arith, ◌||◌, ◌==◌, eqb-true}
-use Rattle.fz_language.specs.Tokens.{is_space, is_blank, IsComment, IsBlank, IsGap, Ends, Skips}
+use Rattle.std.proofs.Common.{◌≡◌, ℕ, ◌+◌, ◌<◌, ◌≤◌, Bool, true, false, List, length, slice_index, refl, inl, inr, arith, ◌||◌}
+use Rattle.fz_language.specs.Tokens.{is_space, IsComment, IsBlank, IsGap, Ends, Skips}
 
 -- one more blank after a gap
 pub gap_more : (text : List ℕ) (start at next : ℕ) → IsGap text start at → IsBlank text at next → next ≤ length text → IsGap text start next
@@ -15,16 +15,6 @@ comment_gap text start at next g c = gap_more text start at next g (inr c) c.wit
 
 or_false : (a b : Bool) → a ≡ false → b ≡ false → (a || b) ≡ false
 or_false a b e f = λ i. e i || f i
-
-pub not_blank : (b : ℕ) → is_space b ≡ false → (b ≡ 37 → ⊥) → is_blank b ≡ false
-not_blank b s n = or_false (is_space b) (b == 37) s (not_equal b 37 n)
-  where
-    not_equal : (a c : ℕ) → (a ≡ c → ⊥) → (a == c) ≡ false
-    not_equal a c n = by (a == c) refl
-      where
-        by : (t : Bool) → (a == c) ≡ t → (a == c) ≡ false
-        by true e = absurd (n (eqb-true a c e))
-        by false e = e
 
 pub gap_within : (text : List ℕ) (start stop : ℕ) → IsGap text start stop → stop ≤ length text
 gap_within text start stop (Ends _ w) = w

@@ -4,7 +4,7 @@ use Rattle.std.specs.List.{list_all}
 use Rattle.std.proofs.lemmas.Bool.{cases_lt, both_ways}
 use Rattle.std.proofs.lemmas.List.Sums.{fold_push}
 use Rattle.fz_language.specs.Tokens.{digits_value, digit_value, AreDigits}
-use Rattle.fz_language.proofs.Bytes.{slice_more, slice_none, slice_length, all_of_slice, slice_all_at}
+use Rattle.fz_language.proofs.Bytes.{slice_more, slice_length, all_of_slice, slice_all_at}
 use Rattle.fz_lex.specs.declared.run.Radix.{Radix}
 use Rattle.fz_lex.specs.declared.run.Radix.TheVariants.{Decimal, Hexadecimal, Octal}
 use Rattle.fz_lex.specs.Steps.{Passes, IsRun, radix_of}
@@ -44,9 +44,6 @@ pub capped : (base n d limit : ℕ) → (base ≡ 10) ⊎ ((base ≡ 16) ⊎ (ba
 capped base n d limit (inl e) = subst (λ (b : ℕ). min (b * min n limit + d) limit ≡ min (b * n + d) limit) (sym e) (capped10 n d limit)
 capped base n d limit (inr (inl e)) = subst (λ (b : ℕ). min (b * min n limit + d) limit ≡ min (b * n + d) limit) (sym e) (capped16 n d limit)
 capped base n d limit (inr (inr e)) = subst (λ (b : ℕ). min (b * min n limit + d) limit ≡ min (b * n + d) limit) (sym e) (capped8 n d limit)
-
-pub value_none : (base : ℕ) (text : List ℕ) (at limit : ℕ) → 0 ≡ min (digits_value base (slice_range text at at)) limit
-value_none base text at limit = rw (slice_none text at at (omega arith)) (omega arith)
 
 pub value_more : (base : ℕ) (text : List ℕ) (start stop value limit : ℕ) → (base ≡ 10) ⊎ ((base ≡ 16) ⊎ (base ≡ 8)) → start ≤ stop → stop < length text
     → value ≡ min (digits_value base (slice_range text start stop)) limit

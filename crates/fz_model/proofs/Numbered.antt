@@ -1,5 +1,5 @@
 -- The constraint of a number.
-use Rattle.std.proofs.Common.{arith, ◌≡◌, ℕ, zero, suc, ◌+◌, ◌-◌, ◌<◌, ◌≤◌, List, [], ◌∷◌, ◌++◌, length, map, get_or, take, refl, sym, ap, ap₂, subst, ◌∙◌, append_assoc, append-nil, length-append, add-one, take_all, Option}
+use Rattle.std.proofs.Common.{arith, ◌≡◌, ℕ, zero, suc, ◌+◌, ◌-◌, ◌<◌, ◌≤◌, List, [], ◌∷◌, ◌++◌, length, map, get_or, take, refl, sym, ap, ap₂, subst, ◌∙◌, append_assoc, length-append, add-one, Option}
 use Rattle.std.specs.Prelude.{Some, slice_get, flat_map}
 use Rattle.std.specs.List.Sorted.{IsNonDecreasingBy}
 use Rattle.std.proofs.lemmas.List.{length-map}
@@ -13,14 +13,6 @@ use Rattle.fz_model.specs.Groups.{Group, AreEnds, IsPlaceOf, items_in, within}
 pub ends_more : (before all : ℕ) (gs : List Group) (g : Group) → AreEnds before gs all → g.end ≡ all + length (items_in g) → AreEnds before (gs ++ g ∷ []) g.end
 ends_more before all [] g h e = (e ∙ ap (λ n. n + length (items_in g)) (sym h), refl)
 ends_more before all (x ∷ gs) g h e = (h.0, ends_more x.end all gs g h.1 e)
-
-items_more : (gs : List Group) (g : Group) → flat_map items_in (gs ++ g ∷ []) ≡ flat_map items_in gs ++ items_in g
-items_more [] g = append-nil (items_in g)
-items_more (x ∷ gs) g = ap (λ cs. items_in x ++ cs) (items_more gs g) ∙ sym (append_assoc (items_in x) (flat_map items_in gs) (items_in g))
-
-pub group_more : (gs : List Group) (g : Group) → flat_map items_in (gs ++ g ∷ []) ++ [] ≡ (flat_map items_in gs ++ g.written) ++ map (within g.set) g.terms
-group_more gs g =
-    append-nil (flat_map items_in (gs ++ g ∷ [])) ∙ items_more gs g ∙ sym (append_assoc (flat_map items_in gs) g.written (map (within g.set) g.terms))
 
 pub counted : (before all : ℕ) (gs : List Group) → AreEnds before gs all → all ≡ before + length (flat_map items_in gs)
 counted before all [] h = omega (arith, h)
@@ -148,6 +140,3 @@ same_more xs ys i x y p q e so_far = rw add-one (one_more xs ys i x y p q e so_f
 
 pub differ_at : (xs ys : List Constraint) (i : ℕ) (x y : Constraint) → slice_get xs i ≡ Some x → slice_get ys i ≡ Some y → xs ≡ ys → x ≡ y
 differ_at xs ys i x y p q e = some_is x y (sym p ∙ ap (λ (l : List Constraint). slice_get l i) e ∙ q)
-
-pub same_whole : (xs ys : List Constraint) (i : ℕ) → length xs ≤ i → length xs ≡ length ys → take i xs ≡ take i ys → xs ≡ ys
-same_whole xs ys i le e so_far = sym (take_all i xs le) ∙ so_far ∙ take_all i ys (omega (arith, le, e))

@@ -34,10 +34,6 @@ between_comm k l h x i = rw (*ℤ_comm l k, *ℤ_comm h k, *ℤ_comm x k) i
 
 -- ---- quotients, rounded toward zero
 
-between_neg : (a b z : ℤ) → IsBetween a b z → IsBetween (neg_ℤ a) (neg_ℤ b) (neg_ℤ z)
-between_neg a b z (inl p) = inr (omega (arith, ints, p.1), omega (arith, ints, p.0))
-between_neg a b z (inr p) = inl (omega (arith, ints, p.1), omega (arith, ints, p.0))
-
 div-le-div_right : (a b n : ℕ) → a ≤ b → a / n ≤ b / n
 div-le-div_right a b zero le = rw (div-zero a, div-zero b) (omega arith)
 div-le-div_right a b (suc n) le = let q = div-mul-le_self a (suc n) in le-div (a / suc n) b (suc n) (omega arith) (omega arith)

@@ -66,9 +66,6 @@ reads_by {l} {n} {a} {old} {new} {v} e r = ChoseIn l n a [] old new new v tt e r
 pub halts_by : {l : ℕ} {n : Part} {a : Body flatzinc n} {old new : List Token} {why : Stop} → chosen (rules n) (head flatzinc old) ≡ a → Halts l a.body old new why → Halts l (Rule n ∷ []) old new why
 halts_by {l} {n} {a} {old} {new} {why} e h = record { is = halts_within why l n a old new e h.is }
 
-pub out_of_memory : {l : ℕ} {ss : List (Symbol Part)} {old new : List Token} → Halts l ss old new stop.Memory
-out_of_memory = record { is = tt }
-
 -- the first alternative goes on, or a later one
 
 abbrev pub front : {n : Part} → Choice Tree Token n → Body flatzinc n
@@ -90,9 +87,6 @@ later (When a others) h e f = ap (λ (x : Bool). cond x a (chosen others h)) (sy
 -- a few levels below the limit brackets may open
 below : (l : ℕ) → l ≤ 8 → nat_lt l 64 ≡ true
 below l h = lt-ltb l 64 (omega arith)
-
-pub opens_parenthesis : (l : ℕ) → l ≤ 8 → allowed flatzinc level_limit 9 l ≡ true
-opens_parenthesis l h = below l h
 
 pub opens_bracket : (l : ℕ) → l ≤ 8 → allowed flatzinc level_limit 11 l ≡ true
 opens_bracket l h = below l h

@@ -116,9 +116,6 @@ annotations_next {old} {mid} {colons} {next} {f} {t} {x} g k h c r = record {
   stops = λ why new q. g.stops why new (halts_by (first (rules Annotations) (head flatzinc mid) k h) (leaf_behind c (rule_behind r q)));
 }
 
-pub goes_none : {l : ℕ} {n : Part} {old : List Token} → Goes l n old n old (λ w. w)
-goes_none = record { reads = λ new w q. q; stops = λ why new q. q }
-
 -- what is read so far stands before the rest
 pub push_before : {A B : Type 0} (f : A → B) (ys xs : List A) (x : A) (w : List B) → ys ≡ xs ++ x ∷ [] → map f xs ++ (f x ∷ w) ≡ map f ys ++ w
 push_before f ys xs x w p = sym (ap (λ (zs : List _). zs ++ w) (sym (pushed f ys xs x p)) ∙ append_assoc (map f xs) (f x ∷ []) w)

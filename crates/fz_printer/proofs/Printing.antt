@@ -7,8 +7,7 @@ use Rattle.std.proofs.lemmas.List.{take-append-le}
 use Rattle.std.proofs.lemmas.List.Concat.{flat_map-append}
 use Rattle.fz_spec.specs.Instance.{Instance, AreDeclared, Satisfies}
 use Rattle.fz_spec.specs.Run.{block, blocks}
-use Rattle.fz_tree.specs.Account.{Account}
-use Rattle.fz_tree.specs.Book.{Book, Takes}
+use Rattle.fz_tree.specs.Book.{Book}
 use Rattle.fz_io.specs.Outside.{with_more, with_more-with_more, with_more-none}
 use Rattle.fz_printing.specs.declared.printer.Stop.{Stop}
 use Rattle.fz_printing.specs.Texts.{TakesFront}
@@ -57,15 +56,6 @@ pub within_recorded : (found : Bool) (wanted : Option ℕ) (n : ℕ) → due_amo
 within_recorded false wanted n = omega arith
 within_recorded true None n = omega arith
 within_recorded true (Some k) n = omega arith
-
--- what a book takes stands after what it had
-pub takes_more : (b new : Book) (c : Account) → Takes b c new → KeepsBook b new
-takes_more b new c takes = record {
-  model = ap (λ (x : Book). x.model) takes.is;
-  mode = ap (λ (x : Book). x.mode) takes.is;
-  added = takes.added;
-  recorded = ap (λ (x : Book). x.recorded) takes.is;
-}
 
 pub stays : (b new : Book) → new ≡ b → KeepsBook b new
 stays b new is = record {

@@ -80,18 +80,6 @@ high_sets box v n are = sets_after box v (above n (set_at box v)) are (above_ran
 
 -- ---- empty sets, one by one
 
-pub empty_more : (box : List (List (ℤ × ℤ))) (i : ℕ) (d : List (ℤ × ℤ)) → i < length box → (HasEmpty (take i box) → ⊥) → (get_or box i d ≡ [] → ⊥) → HasEmpty (take (suc i) box) → ⊥
-empty_more [] i d within none here e = absurd (omega (arith, within))
-empty_more (s ∷ ss) zero d within none here (inl e) = here e
-empty_more (s ∷ ss) zero d within none here (inr e) = e
-empty_more (s ∷ ss) (suc i) d within none here (inl e) = none (inl e)
-empty_more (s ∷ ss) (suc i) d within none here (inr e) = empty_more ss i d (omega (arith, within)) (λ f. none (inr f)) here e
-
-pub empty_at : (box : List (List (ℤ × ℤ))) (i : ℕ) (d : List (ℤ × ℤ)) → i < length box → get_or box i d ≡ [] → HasEmpty box
-empty_at [] i d within e = absurd (omega (arith, within))
-empty_at (s ∷ ss) zero d within e = inl e
-empty_at (s ∷ ss) (suc i) d within e = inr (empty_at ss i d (omega (arith, within)) e)
-
 pub nil_of : (d : List (ℤ × ℤ)) → length d ≡ 0 → d ≡ []
 nil_of [] e = refl
 nil_of (r ∷ rs) e = absurd (omega (arith, e))

@@ -1,7 +1,7 @@
 -- What moving and cutting make of the edges, at the place where they do it.
 use Rattle.std.proofs.Common.{◌≡◌, ℕ, zero, suc, ◌+◌, ◌-◌, ◌<◌, ◌≤◌, List, [], ◌∷◌, ◌++◌, ap, sym, ◌∙◌, arith, true, false, length, take, drop, set, get_or, subst, Option, Some, None}
 use Rattle.std.specs.Prelude.{ℤ, MatchOption, is_some}
-use Rattle.std.proofs.lemmas.List.{get_or-take, get_or-drop, length-take, length-drop, take_all}
+use Rattle.std.proofs.lemmas.List.{get_or-take, get_or-drop, length-take, length-drop}
 use Rattle.fz_tree.specs.declared.decision.Decision.{Decision}
 use Rattle.fz_tree.specs.Choice.{meets}
 use Rattle.std.specs.List.{list_any}
@@ -67,11 +67,6 @@ part_code es new i e top is made = made ∙ sym (part_at_topmost es i e top is)
 pub rest_code : (es new : List Edge) (i : ℕ) (e : Edge) → IsTopmost es i → e ≡ get_or es i e → new ≡ set es i (kept_edge e) → new ≡ cut_rest es
 rest_code es new i e top is made = made ∙ sym (rest_at_topmost es i e top is)
 
-pub some_topmost : (es : List Edge) (o : Option ℕ) → MatchOption o (list_any edge_has_rest es ≡ false) (IsTopmost es) → is_some o ≡ list_any edge_has_rest es
-some_topmost es None h = sym h
-some_topmost [] (Some i) h = absurd (omega (arith, h.within))
-some_topmost (e ∷ es) (Some i) h = sym (topmost_some (e ∷ es) i e h)
-
 pub parts_code : (whole part rest : Frontier) → AreEdges whole.edges → can_cut whole ≡ true → part ≡ part_of whole → rest ≡ rest_of whole → AreParts whole part rest
 parts_code whole part rest edges some is_part is_rest =
     subst (λ (f : Frontier). AreParts whole f rest) (sym is_part) (subst (λ (g : Frontier). AreParts whole (part_of whole) g) (sym is_rest) (cut_parts whole edges some))
@@ -100,8 +95,3 @@ other_unmet e i a d after upto last is unmet before =
     let here : meets a (get_or (others e) (i - (e.taken + 1)) d) ≡ false = ap (meets a) (other_at e i d after upto ∙ sym is) ∙ unmet in
     ap (λ n. list_any (meets a) (take n (others e))) size
     ∙ list_any_more (meets a) (others e) (i - (e.taken + 1)) d (other_within e i after upto last) ∙ or_from (list_any (meets a) (take (i - (e.taken + 1)) (others e))) (meets a (get_or (others e) (i - (e.taken + 1)) d)) before here
-
--- all were tried
-pub others_unmet : (e : Edge) (i : ℕ) (a : List ℤ) → e.last < i → list_any (meets a) (take (i - (e.taken + 1)) (others e)) ≡ false → list_any (meets a) (others e) ≡ false
-others_unmet e i a past before =
-    ap (list_any (meets a)) (sym (take_all (i - (e.taken + 1)) (others e) (omega (arith, past, length-take (e.last - e.taken) (drop (e.taken + 1) e.choice))))) ∙ before

@@ -1,5 +1,5 @@
 -- The value at a place, while the ranges are gone through.
-use Rattle.std.proofs.Common.{◌≡◌, ℕ, zero, suc, ◌+◌, ◌-◌, ◌<◌, ◌≤◌, List, [], ◌∷◌, refl, sym, ap, subst, ◌∙◌, arith, length, drop, get_or}
+use Rattle.std.proofs.Common.{◌≡◌, ℕ, zero, suc, ◌+◌, ◌-◌, ◌<◌, ◌≤◌, List, [], ◌∷◌, sym, ap, subst, ◌∙◌, arith, length, drop, get_or}
 use Rattle.std.specs.Prelude.{ℤ, pos, ◌+ℤ◌, ◌-ℤ◌, ◌≤ℤ◌, nat_abs, nat_lt}
 use mir.Syntax.{w32, w64}
 use mir.Val.{to_z, of_z}
@@ -13,9 +13,6 @@ use Rattle.fz_region.specs.Each.{value_at}
 pub record IsLeft (d : List (ℤ × ℤ)) (i left place : ℕ) : Type 0 where
   pub is : value_at (drop i d) left ≡ value_at d place
   pub within : left < set_size (drop i d)
-
-pub starts_left : (d : List (ℤ × ℤ)) (place : ℕ) → place < set_size d → IsLeft d 0 place place
-starts_left d place h = record { is = refl; within = h }
 
 range_on : (d : List (ℤ × ℤ)) (i : ℕ) (r : ℤ × ℤ) → i < length d → r ≡ get_or d i r → drop i d ≡ r ∷ drop (i + 1) d
 range_on d i r h is = let next : suc i ≡ i + 1 = omega arith in drop-cons d i r h ∙ ap (λ x. x ∷ drop (suc i) d) (sym is) ∙ ap (λ n. r ∷ drop n d) next

@@ -1,6 +1,6 @@
 -- Terms of which no interval has too many: what counts of least and of greatest numbers show.
 use Rattle.std.proofs.Common.{◌≡◌, ◌≢◌, ◌⊎◌, inl, inr, ℕ, zero, suc, ◌+◌, ◌≤◌, ◌<◌, List, [], ◌∷◌, ◌∙◌, refl, sym, ap, subst, arith}
-use Rattle.std.specs.Prelude.{ℤ, pos, ◌+ℤ◌, ◌-ℤ◌, ◌≤ℤ◌, ◌<ℤ◌, int_le, ◌&&◌, Bool, true, false, not, cond, count_by, negsuc, neg_ℤ, slice_get, Some}
+use Rattle.std.specs.Prelude.{ℤ, pos, ◌+ℤ◌, ◌-ℤ◌, ◌≤ℤ◌, ◌<ℤ◌, int_le, ◌&&◌, Bool, true, false, not, cond, count_by, negsuc, slice_get, Some}
 use Rattle.std.specs.List.{AllByRecursion}
 use Rattle.std.specs.Ordering.{int_eq}
 use Rattle.std.proofs.lemmas.Bool.Decides.{Decides-int_eq}
@@ -179,10 +179,6 @@ later_confined low high a b other h =
 abbrev pub NoneBegins : List (List (ℤ × ℤ)) → ℤ → List Term → Type 0
 NoneBegins ds low xs = AllByRecursion (λ (t : Term). least (term_set ds t) ≢ low) xs
 
-all_later : (ds : List (List (ℤ × ℤ))) (low high : ℤ) (xs : List Term) → NoneBegins ds low xs → AllByRecursion (λ (t : Term). is_confined ds low high t ≡ true → is_confined ds (low +ℤ pos 1) high t ≡ true) xs
-all_later ds low high [] none = tt
-all_later ds low high (x ∷ xs) none = ((λ h. later_confined low high (least (term_set ds x)) (greatest (term_set ds x)) none.0 h), all_later ds low high xs none.1)
-
 none_within : (low a b : ℤ) → a ≤ℤ b → a ≢ low → (int_le low a && int_le b low) ≡ true → ⊥
 none_within low a b order other h =
     let both = both_le low a b low h in
@@ -201,16 +197,6 @@ spread_at_none xs ds low ordered none =
     record {
       few = omega (arith, ints, zero, size);
       clear = λ full. absurd (omega (arith, ints, full, zero, size));
-    }
-
-pub spread_down : (xs : List Term) (ds : List (List (ℤ × ℤ))) (low high : ℤ) → NoneBegins ds low xs → IsSpread xs ds (low +ℤ pos 1) high → IsSpread xs ds low high
-spread_down xs ds low high none next =
-    let most = count_le (is_confined ds low high) (is_confined ds (low +ℤ pos 1) high) xs (all_later ds low high xs none) in
-    let few = next.few in
-    let size = size_down low high in
-    record {
-      few = omega (arith, ints, most, few, size);
-      clear = λ full. absurd (omega (arith, ints, full, most, few, size));
     }
 
 -- ---- past a number that fixed terms alone begin with

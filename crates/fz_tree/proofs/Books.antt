@@ -189,9 +189,6 @@ taken_best m recorded added ps i c (Some k) (Some w) is_known is_witness of_k of
     (λ a satisfies better. subst (λ (o : Option (List ℤ)). Betters m a o) (sym is_witness)
     (better_than_others m a w k satisfies of_w of_k add.0 (subst (λ (o : Option (List ℤ)). Betters m a o) is_known better))) add.1
 
-some_satisfies : (m : Instance) (o p : Option (List ℤ)) → o ≡ p → IfSome o (Satisfies m) → IfSome p (Satisfies m)
-some_satisfies m o p e h = subst (λ (q : Option (List ℤ)). IfSome q (Satisfies m)) e h
-
 taken_record : (mode : Mode) (m : Instance) (recorded added : List (List ℤ)) (ps : List Part) (i : ℕ) (c : Account) → IsRecord mode m recorded ps → AccountSums mode m c → AllByRecursion (Satisfies m) c.found
     → IfSome c.witness (Satisfies m) → SuitsMode mode c.found c.witness → IsAt ps c.before i → AddsIn mode m (incumbent_of mode recorded) c added → IsRecord mode m (recorded ++ added) (parts_after ps i c)
 taken_record All m recorded added ps i c r sums of_found of_witness suits at adds = subst (λ (l : List (List ℤ)). IsRecord All m (recorded ++ l) (parts_after ps i c)) (sym adds) (record {

@@ -15,10 +15,6 @@ pub cond_zero : (b : Bool) → cond b 0 0 ≡ zero
 cond_zero true = refl
 cond_zero false = refl
 
-pub cond_le : (b : Bool) (x : ℕ) → cond b x 0 ≤ x
-cond_le true x = omega arith
-cond_le false x = omega arith
-
 pub count_cons : {X : Type 0} (p : X → Bool) (x : X) (xs : List X) → count_by p (x ∷ xs) ≡ one_if (p x) + count_by p xs
 count_cons p x xs = sum_by-cons (λ y. one_if (p y)) x xs
 

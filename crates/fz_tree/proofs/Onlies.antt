@@ -25,7 +25,3 @@ by_best Best m a x is same = same
 pub none_better : (mode : Mode) (m : Instance) (es : List Edge) (known : Option (List ℤ)) (x : List ℤ) → mode ≡ Best → IsOnly mode m es known x → Betters m x known → IsHopeless m es (Some x)
 none_better mode m es known x best only better = λ a satisfies new met.
     never_itself m x (subst (λ (b : List ℤ). IsBetter m b x) (by_best mode m a x best (only.only a satisfies (betters_before m a x known better new) met)) new)
-
--- it doesn't better what is known
-pub none_news : (mode : Mode) (m : Instance) (es : List Edge) (known : Option (List ℤ)) (x : List ℤ) → mode ≡ Best → IsOnly mode m es known x → (Betters m x known → ⊥) → IsHopeless m es known
-none_news mode m es known x best only worse = λ a satisfies new met. worse (subst (λ (b : List ℤ). Betters m b known) (by_best mode m a x best (only.only a satisfies new met)) new)

@@ -57,10 +57,6 @@ judged SinkFault text m model_file output_file read accepted judges = tt
 judged (Refused r) text m model_file output_file read accepted judges = absurd judges
 judged NoMemory text m model_file output_file read accepted judges = tt
 
--- no check of two texts answers that the words are wrong
-pub unused : (result : CheckStatus) (model_file output_file : Option (List ℕ)) → Answers result model_file output_file → result ≡ Usage → ⊥
-unused result model_file output_file answers is = subst (λ (s : CheckStatus). Answers s model_file output_file) is answers
-
 -- all bytes of a file within the limit
 pub read_of_all : (limit : ℕ) (file after : Option (List ℕ)) (got : List ℕ) → AllRead limit got file after → IsReadOf limit file got
 read_of_all limit None after got r = tt
