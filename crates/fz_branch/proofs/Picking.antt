@@ -1,11 +1,9 @@
 -- The variable of the least rank, while a part is gone through.
-use Rattle.std.proofs.Common.{◌≡◌, ℕ, ◌+◌, ◌<◌, ◌≤◌, List, sym, ap, subst, ◌∙◌, arith, true, false, length, inl, inr}
+use Rattle.std.proofs.Common.{◌≡◌, ℕ, ◌<◌, ◌≤◌, List, subst, arith, true, length}
 use Rattle.std.specs.Prelude.{ℤ, ◌≤ℤ◌, ◌<ℤ◌}
-use Rattle.std.proofs.lemmas.Bool.{cases_lt}
-use Rattle.std.proofs.lemmas.Int.{ints}
 use Rattle.fz_spec.specs.declared.search.Pick.{Pick}
 use Rattle.fz_branch.specs.Values.{is_open}
-use Rattle.fz_branch.specs.Picks.{domain_of, rank, IsFirstOpen, IsPicked}
+use Rattle.fz_branch.specs.Picks.{domain_of, rank, IsPicked}
 
 -- of those before `upto` the best is picked, and this is its rank
 pub record IsBest (pick : Pick) (ds : List (List (ℤ × ℤ))) (vs : List ℕ) (upto best : ℕ) (least : ℤ) : Type 0 where

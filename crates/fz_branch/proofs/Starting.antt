@@ -1,9 +1,7 @@
 -- Parts whose variables rise, and from which place on they are looked at.
-use Rattle.std.proofs.Common.{◌≡◌, ◌∙◌, ℕ, zero, suc, ◌+◌, ◌-◌, ◌<◌, ◌≤◌, List, [], ◌∷◌, ◌++◌, length, take, get_or, ap, sym, subst, refl, arith, Bool, true, inl, inr}
-use Rattle.std.specs.Prelude.{ℤ, slice_index}
-use Rattle.std.proofs.lemmas.Bool.{cases_lt}
+use Rattle.std.proofs.Common.{◌≡◌, ◌∙◌, ℕ, zero, suc, ◌+◌, ◌<◌, ◌≤◌, List, [], ◌∷◌, ◌++◌, length, take, get_or, ap, sym, subst, refl, arith, Bool, true}
+use Rattle.std.specs.Prelude.{slice_index}
 use Rattle.fz_spec.specs.Instance.{SearchPart}
-use Rattle.fz_branch.specs.Picks.{AreClosed, IsPassed}
 use Rattle.fz_branch.specs.Plans.{AreRising, IsRising}
 
 -- the first that many rise

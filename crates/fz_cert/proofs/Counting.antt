@@ -1,5 +1,5 @@
 -- The loop that finds the variables of which several numbers are left, as long as their choices are few.
-use Rattle.std.proofs.Common.{◌≡◌, ℕ, zero, suc, ◌+◌, ◌<◌, ◌≤◌, List, [], ◌∷◌, refl, sym, ap, subst, ◌∙◌, arith, length, drop, drop-cons, get_or, add-one}
+use Rattle.std.proofs.Common.{◌≡◌, ℕ, suc, ◌+◌, ◌<◌, ◌≤◌, List, [], sym, ap, subst, ◌∙◌, arith, length, drop, drop-cons, get_or, add-one}
 use Rattle.std.specs.Prelude.{ℤ}
 use Rattle.fz_refutes.specs.Refuted.{choices_of, open_after, with_open}
 use Rattle.fz_refutes.proofs.Opening.{more_choices}

@@ -1,18 +1,18 @@
 -- The arguments of a constraint, one by one.
-use Rattle.std.proofs.Common.{◌≡◌, ℕ, suc, true, false, cond, Option, ◌+◌, ◌<◌, ◌≤◌, List, [], ◌∷◌, ◌++◌, map, take, drop, length, get_or, refl, sym, ap, ap₂, ◌∙◌, append_assoc, append-nil}
+use Rattle.std.proofs.Common.{◌≡◌, ℕ, suc, true, false, cond, ◌+◌, ◌<◌, ◌≤◌, List, [], ◌∷◌, ◌++◌, map, take, drop, length, get_or, refl, sym, ap, ap₂, ◌∙◌, append_assoc, append-nil}
 use Rattle.std.specs.Prelude.{Result, Ok, Err, Some, None, MatchResult, slice_get, flat_map}
 use Rattle.std.proofs.lemmas.List.{drop_more, drop_all, take_more, map-append}
 use Rattle.fz_spec.specs.declared.asked.Asked.{Asked}
 use Rattle.fz_spec.specs.Constraints as meaning
 use Rattle.fz_spec.specs.Constraints.{Argument, fit_lengths, list_lengths}
-use Rattle.fz_language.specs.declared.fault.RuleFault.TheVariants.{Unsupported, UnknownConstraint, UnknownName, WrongType, WrongLengths}
+use Rattle.fz_language.specs.declared.fault.RuleFault.TheVariants.{UnknownName, WrongType, WrongLengths}
 use Rattle.fz_language.specs.Trees.{Expression, ConstraintItem}
 use Rattle.fz_language.specs.Entries.{Environment, resolve}
 use Rattle.fz_language.specs.Annotations.{asks_whole}
-use Rattle.fz_language.specs.Rules.{Fault, wrong_place, wrong_arguments, arguments_in, at_places, unknown_of, signature_faults, row_faults, named_unsupported, named_unknown, is_unsupported, floats_of}
-use Rattle.fz_spec.specs.Signatures.{Row, row_named, signature_of}
+use Rattle.fz_language.specs.Rules.{Fault, wrong_place, wrong_arguments, arguments_in, at_places, unknown_of, signature_faults}
+use Rattle.fz_spec.specs.Signatures.{Row, signature_of}
 use Rattle.fz_resolve.specs.declared.fault.Fault as found
-use Rattle.fz_check.specs.Calls.{IsCall, IsSigned, IsRowed, AreArguments, wrong_lengths}
+use Rattle.fz_check.specs.Calls.{IsSigned, IsRowed, AreArguments, wrong_lengths}
 use Rattle.fz_check.specs.Checked.{IsFirstFault}
 use Rattle.fz_check.proofs.FaultLaws.{first_front, first_at, behind_none, no_first}
 

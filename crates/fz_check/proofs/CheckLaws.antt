@@ -1,18 +1,18 @@
 -- From drafts to what the checker says of a program.
-use Rattle.std.proofs.Common.{arith, ◌≡◌, ℕ, length, Some, None, List, [], ◌∷◌, ◌++◌, refl, sym, ap, ap₂, ◌∙◌, append-nil}
+use Rattle.std.proofs.Common.{arith, ◌≡◌, ℕ, length, Some, None, List, [], ◌∷◌, refl, sym, ap, ◌∙◌, append-nil}
 use Rattle.std.specs.Prelude.{slice_get}
 use Rattle.fz_spec.specs.declared.goal.Goal.{Goal}
 use Rattle.fz_spec.specs.Instance.{Instance, SearchPart}
 use Rattle.fz_language.specs.Trees.{Item, Program}
 use Rattle.fz_language.specs.Entries.{Environment}
-use Rattle.fz_language.specs.Rules.{Fault, none_yet, faults_of, all_counted, additions, solve_faults}
-use Rattle.fz_language.specs.Models.{Scope, empty_scope, behind, scope_behind, made, model_of, goal_of, variables_of, constraints_of, outputs_of}
+use Rattle.fz_language.specs.Rules.{Fault, faults_of, all_counted, additions, solve_faults}
+use Rattle.fz_language.specs.Models.{Scope, empty_scope, behind, scope_behind, model_of, goal_of}
 use Rattle.fz_language.specs.Reads.{faults_from, program_faults, IsFirst, rule_code}
 use Rattle.fz_language.specs.Search.{search_of}
 use Rattle.fz_resolve.specs.declared.fault.Fault as found
 use Rattle.fz_resolve.specs.Meant.{environment_of, fault_of}
 use Rattle.fz_check.specs.Checked.{IsFirstFault, IsFirstOf}
-use Rattle.fz_check.specs.Drafts.{scope_of, IsCounted, IsAhead}
+use Rattle.fz_check.specs.Drafts.{scope_of, IsAhead}
 use Rattle.fz_check.specs.declared.draft.Draft.{Draft}
 use Rattle.fz_check.proofs.FaultLaws.{first_front, no_first}
 

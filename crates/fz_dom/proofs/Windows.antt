@@ -20,7 +20,7 @@ use Rattle.fz_dom.proofs.Places.{bits_read, bits_count}
 use Rattle.fz_dom.proofs.Changes.{change_as, above_none, word_some, from_word, in_word, none_of_zero, plain_form, word_narrow, plain_when_wide}
 use Rattle.fz_dom.proofs.Lists.{same_or_less}
 use Rattle.fz_dom.proofs.Runs.{offset_in}
-use Rattle.fz_dom.proofs.Kept.{wide_ranges, filled_of}
+use Rattle.fz_dom.proofs.Kept.{filled_of}
 
 -- ---- the same word from another base
 

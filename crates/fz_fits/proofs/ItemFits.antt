@@ -15,7 +15,7 @@ use Rattle.fz_spec.specs.Constraints as meaning
 use Rattle.fz_spec.specs.Instance.{Variable, Output, element_count}
 use Rattle.fz_spec.specs.Signatures.{Row, row_named, row_of, signature_of}
 use Rattle.fz_language.specs.declared.fault.RuleFault.TheVariants.{Unsupported, UnknownName, WrongType, WrongLengths}
-use Rattle.fz_language.specs.Trees.{Plain, AnyBool, AnyInt, AnyFloat, Within, ValueType, One, SetOf, Basic, ListLiteral, Annotation, VariableItem, ParameterItem, ArrayItem, ConstraintItem}
+use Rattle.fz_language.specs.Trees.{AnyBool, AnyInt, AnyFloat, Within, ValueType, One, SetOf, Basic, ListLiteral, Annotation, VariableItem, ArrayItem, ConstraintItem}
 use Rattle.fz_language.specs.Trees as trees
 use Rattle.fz_language.specs.Numerals.{set_in, all_of}
 use Rattle.fz_language.specs.Entries.{Environment, Entry, with_entry, term_in, set_of, each_of, number_of}

@@ -1,6 +1,6 @@
 -- Blanks one after another.
-use Rattle.std.proofs.Common.{◌≡◌, ℕ, ◌+◌, ◌<◌, ◌≤◌, Bool, true, false, List, length, slice_index, refl, inl, inr, arith, ◌||◌, ◌==◌, eqb-true}
-use Rattle.fz_language.specs.Tokens.{is_space, is_blank, IsComment, IsBlank, IsGap, Ends, Skips}
+use Rattle.std.proofs.Common.{◌≡◌, ℕ, ◌+◌, ◌<◌, ◌≤◌, Bool, true, false, List, length, slice_index, refl, inl, inr, arith, ◌||◌}
+use Rattle.fz_language.specs.Tokens.{is_space, IsComment, IsBlank, IsGap, Ends, Skips}
 
 -- one more blank after a gap
 pub gap_more : (text : List ℕ) (start at next : ℕ) → IsGap text start at → IsBlank text at next → next ≤ length text → IsGap text start next

@@ -4,7 +4,7 @@ use Rattle.std.specs.List.{list_all}
 use Rattle.std.proofs.lemmas.Bool.{cases_lt, both_ways}
 use Rattle.std.proofs.lemmas.List.Sums.{fold_push}
 use Rattle.fz_language.specs.Tokens.{digits_value, digit_value, AreDigits}
-use Rattle.fz_language.proofs.Bytes.{slice_more, slice_none, slice_length, all_of_slice, slice_all_at}
+use Rattle.fz_language.proofs.Bytes.{slice_more, slice_length, all_of_slice, slice_all_at}
 use Rattle.fz_lex.specs.declared.run.Radix.{Radix}
 use Rattle.fz_lex.specs.declared.run.Radix.TheVariants.{Decimal, Hexadecimal, Octal}
 use Rattle.fz_lex.specs.Steps.{Passes, IsRun, radix_of}

@@ -7,8 +7,7 @@ use Rattle.std.proofs.lemmas.List.{take-append-le}
 use Rattle.std.proofs.lemmas.List.Concat.{flat_map-append}
 use Rattle.fz_spec.specs.Instance.{Instance, AreDeclared, Satisfies}
 use Rattle.fz_spec.specs.Run.{block, blocks}
-use Rattle.fz_tree.specs.Account.{Account}
-use Rattle.fz_tree.specs.Book.{Book, Takes}
+use Rattle.fz_tree.specs.Book.{Book}
 use Rattle.fz_io.specs.Outside.{with_more, with_more-with_more, with_more-none}
 use Rattle.fz_printing.specs.declared.printer.Stop.{Stop}
 use Rattle.fz_printing.specs.Texts.{TakesFront}

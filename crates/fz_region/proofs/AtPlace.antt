@@ -1,7 +1,7 @@
 -- What moving and cutting make of the edges, at the place where they do it.
 use Rattle.std.proofs.Common.{◌≡◌, ℕ, zero, suc, ◌+◌, ◌-◌, ◌<◌, ◌≤◌, List, [], ◌∷◌, ◌++◌, ap, sym, ◌∙◌, arith, true, false, length, take, drop, set, get_or, subst, Option, Some, None}
 use Rattle.std.specs.Prelude.{ℤ, MatchOption, is_some}
-use Rattle.std.proofs.lemmas.List.{get_or-take, get_or-drop, length-take, length-drop, take_all}
+use Rattle.std.proofs.lemmas.List.{get_or-take, get_or-drop, length-take, length-drop}
 use Rattle.fz_tree.specs.declared.decision.Decision.{Decision}
 use Rattle.fz_tree.specs.Choice.{meets}
 use Rattle.std.specs.List.{list_any}
