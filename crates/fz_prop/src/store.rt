@@ -1,5 +1,5 @@
 //! Stores.
-ghost use Rattle.std.specs.Prelude.{◌≡◌, ◌≢◌, ◌⊎◌, ℕ, ◌+◌, ◌<◌, ◌≤◌, max, ℤ, ◌≤ℤ◌, ◌+ℤ◌, ◌-ℤ◌, pos, List, [], ◌∷◌, ◌++◌, length, slice_index, slice_index_or, slice_set, drop, IfOk, OnOk, OnErr, IfSome, IsNone, MatchOption, replicate, vec_capacity, vec_len};
+ghost use Rattle.std.specs.Prelude.{◌≡◌, ◌≢◌, ◌⊎◌, ℕ, ◌+◌, ◌<◌, ◌≤◌, max, ℤ, ◌≤ℤ◌, ◌+ℤ◌, ◌-ℤ◌, pos, List, [], ◌∷◌, ◌++◌, length, slice_index, slice_index_or, slice_set, take, drop, IfOk, OnOk, OnErr, IfSome, IsNone, MatchOption, replicate, vec_capacity, vec_len};
 ghost use Rattle.fz_bits.specs.Windows.{IsBit};
 ghost use Rattle.fz_sets.specs.Sets.{IsInSet, LEAST, GREATEST};
 ghost use Rattle.fz_dom.specs.Changes.{IsFromTo};
@@ -108,7 +108,21 @@ impl Store {
         ensures same { OnOk result (self.new ≡ other.now) }
         ensures size { length self.new.doms ≡ length self.old.doms }
     {
-        overwrite(&mut self.doms, &other.doms)?;
+        self.copy_rest(other, 0)
+    }
+
+    /// Writes another store of as many variables over this one, where both have the same domains before a place, and keeps its room.
+    ///
+    /// # Errors
+    /// `AllocError` where there is no memory; what it then has is a store, and nothing else is known of it.
+    pub fn copy_rest(&mut self, other: &Store, from: usize) -> Result<(), AllocError>
+        requires size { length self.old.doms ≡ length other.now.doms }
+        requires within { from ≤ length other.now.doms }
+        requires front { take from self.old.doms ≡ take from other.now.doms }
+        ensures same { OnOk result (self.new ≡ other.now) }
+        ensures size { length self.new.doms ≡ length self.old.doms }
+    {
+        overwrite(&mut self.doms, &other.doms, from)?;
         list_again(&mut self.changed, &other.changed[other.head..])?;
         self.head = 0;
         self.marks.copy_from_slice(&other.marks);
@@ -438,17 +452,19 @@ fn copies(alloc: Global, doms: &[Dom]) -> Result<Vec<Dom>, AllocError>
     Ok(copies)
 }
 
-/// Writes domains over others.
-fn overwrite(doms: &mut Vec<Dom>, others: &[Dom]) -> Result<(), AllocError>
+/// Writes domains over others, from a place on before which both are the same.
+fn overwrite(doms: &mut Vec<Dom>, others: &[Dom], from: usize) -> Result<(), AllocError>
     requires size { length doms.old.items ≡ length others.now }
+    requires within { from ≤ length others.now }
+    requires front { take from doms.old.items ≡ take from others.now }
     requires domains { AreDomains doms.old.items }
     requires other_domains { AreDomains others.now }
     ensures same { OnOk result (doms.new.items ≡ others.now) }
     ensures size { length doms.new.items ≡ length doms.old.items }
     ensures domains { AreDomains doms.new.items }
 {
-    for (i, other) in others.iter().enumerate() {
-        doms[i].copy_from(other)?;
+    for i in from..others.len() {
+        doms[i].copy_from(&others[i])?;
     }
     Ok(())
 }

@@ -5,7 +5,7 @@ use Rattle.fz_tree.specs.declared.decision.Comparison.{Comparison}
 use Rattle.fz_tree.specs.declared.decision.Comparison.TheVariants.{Equal, NotEqual, AtMost, Above}
 use Rattle.fz_tree.specs.declared.decision.Decision.{Decision}
 use Rattle.fz_tree.specs.Choice.{meets}
-use Rattle.fz_strength.specs.Domains.{Within, dom_at}
+use Rattle.fz_strength.specs.Domains.{Within, dom_at, number_at}
 use Rattle.fz_prop.specs.Stores.{Stored}
 use Rattle.fz_search_space.specs.Spaces.{Spaced, IsUndecided}
 use Rattle.fz_search_space.specs.declared.space.Status.{Status}
@@ -19,6 +19,11 @@ spaced m s failed = record { model = m; doms = s.doms; failed = failed }
 pub record FrontFixed (n : ℕ) (ds : List (List (ℤ × ℤ))) : Type 0 where
   pub within : n ≤ length ds
   pub single : (v : ℕ) → v < n → (x : ℤ) × (dom_at ds v ≡ (x, x) ∷ [])
+
+-- the variables at the front have these numbers, one each
+pub record AreSettled (ns : List ℤ) (ds : List (List (ℤ × ℤ))) : Type 0 where
+  pub within : length ns ≤ length ds
+  pub single : (v : ℕ) → v < length ns → dom_at ds v ≡ (number_at ns v, number_at ns v) ∷ []
 
 -- a number compares so with a value
 abbrev pub Compares : Comparison → ℤ → ℤ → Type 0

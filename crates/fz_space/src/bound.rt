@@ -9,7 +9,7 @@ ghost use Rattle.fz_kept.specs.Told.{AreTold};
 ghost use Rattle.fz_tree.specs.declared.decision.Decision as tree;
 ghost use Rattle.fz_engine.specs.Runs.{IsAlive};
 ghost use Rattle.fz_search_space.specs.Spaces.{AllBetter, Covers, IsNarrower};
-ghost use Rattle.fz_space.specs.Alive.{spaced, FrontFixed, IsBound};
+ghost use Rattle.fz_space.specs.Alive.{spaced, FrontFixed, AreSettled, IsBound};
 
 use crate::commit::take;
 use fz_engine::Network;
@@ -33,6 +33,8 @@ pub fn keep_better(
         → failed.new ≡ false → IsAlive network.now states store.new }
     ensures told { (sayings : List Saying) (kept : List Kept)
         → AreTold sayings kept store.old.doms → AreTold sayings kept store.new.doms }
+    ensures settled { (numbers : List ℤ)
+        → AreSettled numbers store.old.doms → AreSettled numbers store.new.doms }
     ensures front { (n : ℕ) → (failed.old ≡ false → FrontFixed n store.old.doms)
         → failed.new ≡ false → FrontFixed n store.new.doms }
     ensures covers { OnOk result ((ds : List tree.Decision)

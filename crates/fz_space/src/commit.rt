@@ -12,7 +12,7 @@ ghost use Rattle.fz_prop.specs.Stores.{IsStore, Shrinks, IsChangeAt};
 ghost use Rattle.fz_engine.specs.Networks.{Networked};
 ghost use Rattle.fz_engine.specs.Runs.{IsAlive};
 ghost use Rattle.fz_search_space.specs.Spaces.{Covers};
-ghost use Rattle.fz_space.specs.Alive.{spaced, FrontFixed, Compares, IsDecided};
+ghost use Rattle.fz_space.specs.Alive.{spaced, FrontFixed, AreSettled, Compares, IsDecided};
 
 use fz_prop::{Change, Store};
 use fz_tree::decision::{Comparison, Decision};
@@ -29,6 +29,8 @@ pub fn take(store: &mut Store, failed: &mut bool, decision: Decision) -> Result<
         → failed.new ≡ false → IsAlive n states store.new }
     ensures told { (sayings : List Saying) (kept : List Kept)
         → AreTold sayings kept store.old.doms → AreTold sayings kept store.new.doms }
+    ensures settled { (numbers : List ℤ)
+        → AreSettled numbers store.old.doms → AreSettled numbers store.new.doms }
     ensures front { (n : ℕ) → (failed.old ≡ false → FrontFixed n store.old.doms)
         → failed.new ≡ false → FrontFixed n store.new.doms }
     ensures covers { OnOk result ((m : Instance) (known : Option (List ℤ)) (ds : List tree.Decision)

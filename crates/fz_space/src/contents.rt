@@ -1,5 +1,5 @@
 //! What a space has.
-ghost use Rattle.std.specs.Prelude.{◌≡◌, ◌<◌, ◌≤◌, ◌++◌, ◌∷◌, [], ℤ, List, Option, None, Some, length, true, IfOk, OnOk, OnErr};
+ghost use Rattle.std.specs.Prelude.{◌≡◌, ◌<◌, ◌≤◌, ◌++◌, ◌∷◌, [], ℤ, List, Option, None, Some, length, take as front_of, true, IfOk, OnOk, OnErr};
 ghost use Rattle.std.specs.List.{slice_get};
 ghost use Rattle.std.specs.Arc.{arc_value};
 ghost use Rattle.fz_spec.specs.Instance.{IsWhole};
@@ -12,6 +12,7 @@ use crate::commit::take;
 use crate::next::run_next;
 use crate::rest::rest;
 use crate::root::{Parts, parts_of};
+use crate::settled::Settled;
 use fz_agenda::Agenda;
 use fz_dom::Dom;
 use fz_engine::Network;
@@ -35,6 +36,8 @@ pub struct Contents {
     failed: bool,
     /// Of that many variables at the front one number is left.
     front: usize,
+    /// The numbers of variables at the front, where they are many.
+    settled: Settled,
 }
 
 impl Model for Contents {
@@ -43,16 +46,17 @@ impl Model for Contents {
     ghost use Rattle.fz_kept.specs.Told.{AreTold};
     ghost use Rattle.fz_engine.specs.Runs.{IsAlive};
     ghost use Rattle.fz_search_space.specs.Spaces.{Spaced};
-    ghost use Rattle.fz_space.specs.Alive.{spaced, FrontFixed};
+    ghost use Rattle.fz_space.specs.Alive.{spaced, FrontFixed, AreSettled};
 
     ghost Value = { Spaced };
 
     ghost view = { λ s. spaced (arc_value s.network).model s.store s.failed };
 
-    ghost invariant = { λ s. s.failed ≡ false
+    ghost invariant = { λ s. (s.failed ≡ false
         → IsAlive (arc_value s.network) s.agenda.states s.store
         × FrontFixed s.front s.store.doms
-        × AreTold (arc_value s.network).sayings s.kept.items s.store.doms };
+        × AreTold (arc_value s.network).sayings s.kept.items s.store.doms)
+        × AreSettled s.settled s.store.doms };
 }
 
 impl Contents {
@@ -155,14 +159,19 @@ impl fz_search_space::SearchSpace for Contents {
         ensures narrower { OnOk result (IsNarrower self.new self.old) }
         ensures stays { self.old.failed ≡ true → self.new.failed ≡ true }
     {
-        rest(
+        let status = rest(
             &self.network,
             &mut self.store,
             &mut self.kept,
             &mut self.agenda,
             &mut self.failed,
             &mut self.front,
-        )
+        )?;
+        if status == Status::Branch {
+            let alloc = *self.kept.allocator();
+            self.settled.grow(alloc, &self.store, self.front)?;
+        }
+        Ok(status)
     }
 
     fn model(&self) -> &fz_model::Model {
@@ -182,6 +191,7 @@ impl fz_search_space::SearchSpace for Contents {
         let store = self.store.copy()?;
         let agenda = self.agenda.copy()?;
         let kept = Vec::from_slice(*self.kept.allocator(), &self.kept)?;
+        let settled = self.settled.share()?;
         Ok(Contents {
             network,
             store,
@@ -189,13 +199,17 @@ impl fz_search_space::SearchSpace for Contents {
             kept,
             failed: self.failed,
             front: self.front,
+            settled,
         })
     }
 
     fn copy_from(&mut self, other: &Contents) -> Result<(), AllocError> {
+        let from = self.settled.shared_count(&other.settled);
         self.failed = true;
+        self.settled = Settled::none();
         self.network = other.network.clone()?;
-        write_store(&mut self.store, &other.store)?;
+        write_store(&mut self.store, &other.store, from)?;
+        self.settled = other.settled.share()?;
         write_agenda(&mut self.agenda, &other.agenda)?;
         write_kept(&mut self.kept, &other.kept)?;
         self.front = other.front;
@@ -223,6 +237,7 @@ fn space_of(alloc: Global, model: &Arc<fz_model::Model>) -> Result<Contents, All
         kept,
         failed,
         front: 0,
+        settled: Settled::none(),
     })
 }
 
@@ -237,12 +252,14 @@ fn network_of(alloc: Global, model: Arc<fz_model::Model>) -> Result<Arc<Network>
     }
 }
 
-/// Writes a store over another, in its room where both have as many variables.
-fn write_store(store: &mut Store, other: &Store) -> Result<(), AllocError>
+/// Writes a store over another, in its room where both have as many variables. They have the same domains before a place.
+fn write_store(store: &mut Store, other: &Store, from: usize) -> Result<(), AllocError>
+    requires within { from ≤ length other.now.doms }
+    requires front { front_of from store.old.doms ≡ front_of from other.now.doms }
     ensures { OnOk result (store.new ≡ other.now) }
 {
     if store.doms().len() == other.doms().len() {
-        return store.copy_from(other);
+        return store.copy_rest(other, from);
     }
     *store = other.copy()?;
     Ok(())

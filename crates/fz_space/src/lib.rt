@@ -8,6 +8,7 @@ mod contents;
 mod next;
 mod rest;
 mod root;
+mod settled;
 pub mod space;
 
 pub use space::Space;

@@ -4,7 +4,7 @@ ghost use Rattle.fz_kept.specs.Told.{AreTold};
 ghost use Rattle.fz_tree.specs.declared.decision.Decision.{Decision};
 ghost use Rattle.fz_engine.specs.Runs.{IsAlive};
 ghost use Rattle.fz_search_space.specs.Spaces.{Covers, IsNarrower};
-ghost use Rattle.fz_space.specs.Alive.{spaced, FrontFixed, HasRun};
+ghost use Rattle.fz_space.specs.Alive.{spaced, FrontFixed, AreSettled, HasRun};
 
 use fz_agenda::Agenda;
 use fz_engine::Network;
@@ -30,6 +30,8 @@ pub fn run_next(
     ensures alive { failed.new ≡ false → IsAlive network.now agenda.new.states store.new }
     ensures told { failed.new ≡ false
         → AreTold network.now.sayings kept.new store.new.doms }
+    ensures settled { (numbers : List ℤ)
+        → AreSettled numbers store.old.doms → AreSettled numbers store.new.doms }
     ensures front { (n : ℕ) → (failed.old ≡ false → FrontFixed n store.old.doms)
         → failed.new ≡ false → FrontFixed n store.new.doms }
     ensures covers { (known : Option (List ℤ)) (ds : List Decision)

@@ -6,7 +6,7 @@ ghost use Rattle.fz_kept.specs.Told.{AreTold};
 ghost use Rattle.fz_tree.specs.declared.decision.Decision.{Decision};
 ghost use Rattle.fz_engine.specs.Runs.{IsAlive};
 ghost use Rattle.fz_search_space.specs.Spaces.{Covers, IsNarrower, IsStatus};
-ghost use Rattle.fz_space.specs.Alive.{spaced, FrontFixed, IsLeft, HaveLines};
+ghost use Rattle.fz_space.specs.Alive.{spaced, FrontFixed, AreSettled, IsLeft, HaveLines};
 
 use fz_agenda::Agenda;
 use fz_dom::Dom;
@@ -36,6 +36,8 @@ pub fn rest(
     ensures alive { failed.new ≡ false → IsAlive network.now agenda.new.states store.new }
     ensures told { failed.new ≡ false
         → AreTold network.now.sayings kept.new store.new.doms }
+    ensures settled { (numbers : List ℤ)
+        → AreSettled numbers store.old.doms → AreSettled numbers store.new.doms }
     ensures front { failed.new ≡ false → FrontFixed front.new store.new.doms }
     ensures covers { (known : Option (List ℤ)) (ds : List Decision)
         → Covers known ds (spaced network.now.model store.old failed.old)

@@ -1,6 +1,6 @@
 use Rattle.fz_kept.proofs.Lasting.{all_last}
 use Rattle.fz_space.proofs.Deciding.{alive_lasts, covers_failed, covers_taken, met_left}
-use Rattle.fz_space.proofs.Fronts.{front_lasts}
+use Rattle.fz_space.proofs.Fronts.{front_lasts, settled_lasts}
 use Rattle.fz_space.proofs.commit.take.Goals as goal
 
 pub returns-then-failed-clause-covers : goal.returns-then-failed-clause-covers
@@ -23,3 +23,9 @@ returns-clause-told c = λ sayings kept told. all_last sayings kept c.args.store
 
 pub returns-in_err-left-clause-told : goal.returns-in_err-left-clause-told
 returns-in_err-left-clause-told c = λ sayings kept told. all_last sayings kept c.args.store.now.doms c.decide.new.store.doms c.decide.ensures.store.domains c.decide.ensures.shrinks.narrower told
+
+pub returns-clause-settled : goal.returns-clause-settled
+returns-clause-settled c = λ numbers settled. settled_lasts numbers c.args.store.now.doms c.decide.new.store.doms c.decide.ensures.store.domains c.decide.ensures.shrinks.narrower settled
+
+pub returns-in_err-left-clause-settled : goal.returns-in_err-left-clause-settled
+returns-in_err-left-clause-settled c = λ numbers settled. settled_lasts numbers c.args.store.now.doms c.decide.new.store.doms c.decide.ensures.store.domains c.decide.ensures.shrinks.narrower settled

@@ -2,7 +2,7 @@ use Rattle.std.proofs.Common.{List, Bool, sym, subst}
 use Rattle.std.specs.Prelude.{ℤ}
 use Rattle.fz_search_space.specs.Spaces.{IsStatus}
 use Rattle.fz_space.specs.Alive.{spaced, FrontFixed, IsLeft}
-use Rattle.fz_space.proofs.Fronts.{front_lasts}
+use Rattle.fz_space.proofs.Fronts.{front_lasts, settled_lasts}
 use Rattle.fz_space.proofs.Living.{left_is, lines_at}
 use Rattle.fz_space.proofs.rest.rest.Goals as goal
 
@@ -26,3 +26,12 @@ pub first_open-requires-clause-front : goal.first_open-requires-clause-front
 first_open-requires-clause-front c =
     subst (λ (ds : List (List (ℤ × ℤ))). FrontFixed c.args.front.now ds) (sym c.doms-2.ensures.doms)
     (front_lasts c.args.front.now c.args.store.now.doms c.settle.new.store.doms c.settle.ensures.run.store.domains c.settle.ensures.run.narrower (c.requires.front c.if-failed.false))
+
+pub returns-clause-settled : goal.returns-clause-settled
+returns-clause-settled c = λ numbers settled. settled_lasts numbers c.args.store.now.doms c.settle.new.store.doms c.settle.ensures.run.store.domains c.settle.ensures.run.narrower settled
+
+pub returns-in_err-rests-clause-settled : goal.returns-in_err-rests-clause-settled
+returns-in_err-rests-clause-settled c = λ numbers settled. settled_lasts numbers c.args.store.now.doms c.settle.new.store.doms c.settle.ensures.run.store.domains c.settle.ensures.run.narrower settled
+
+pub returns-then-not-rests-clause-settled : goal.returns-then-not-rests-clause-settled
+returns-then-not-rests-clause-settled c = λ numbers settled. settled_lasts numbers c.args.store.now.doms c.settle.new.store.doms c.settle.ensures.run.store.domains c.settle.ensures.run.narrower settled

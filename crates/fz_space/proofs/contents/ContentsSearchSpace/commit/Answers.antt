@@ -8,10 +8,13 @@ use Rattle.fz_space.proofs.Fronts.{at_some, lacking_now, was_alive}
 use Rattle.fz_space.proofs.contents.ContentsSearchSpace.commit.Goals as goal
 
 pub invariant_of-self : goal.invariant_of-self
-invariant_of-self c = λ alive. (
-  c.take.ensures.alive (arc_value c.self.inside.network) c.self.inside.agenda.states (λ before. (c.self.invariant before).0) alive,
-  c.take.ensures.front c.self.inside.front (λ before. (c.self.invariant before).1) alive,
-  c.take.ensures.told (arc_value c.self.inside.network).sayings c.self.inside.kept.items (c.self.invariant (was_alive c.self.inside.failed c.take.new.failed c.take.ensures.stays alive)).2,
+invariant_of-self c = (
+  λ alive. (
+    c.take.ensures.alive (arc_value c.self.inside.network) c.self.inside.agenda.states (λ before. (c.self.invariant.0 before).0) alive,
+    c.take.ensures.front c.self.inside.front (λ before. (c.self.invariant.0 before).1) alive,
+    c.take.ensures.told (arc_value c.self.inside.network).sayings c.self.inside.kept.items (c.self.invariant.0 (was_alive c.self.inside.failed c.take.new.failed c.take.ensures.stays alive)).2,
+  ),
+  c.take.ensures.settled c.self.inside.settled c.self.invariant.1,
 )
 
 pub returns-clause-covers : goal.returns-clause-covers
@@ -30,5 +33,5 @@ returns-clause-lacking c =
     (λ lacking d at beyond.
     let is = at_some c.args.choice.now c.args.alternative d c.decision.result at c.decision.ensures in
     lacking_now (arc_value c.self.inside.network) c.self.inside.agenda.states c.self.inside.store c.self.inside.failed c.take.new.failed c.args.self.now c.decision.result d c.self.view_is is
-    (λ alive. (c.self.invariant alive).0) c.take.ensures.stays lacking beyond)
+    (λ alive. (c.self.invariant.0 alive).0) c.take.ensures.stays lacking beyond)
     c.take.ensures.lacking
