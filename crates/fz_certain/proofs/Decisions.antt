@@ -195,7 +195,7 @@ point_back : (fs gs : List ℤ) → Decided (PointBack fs gs)
 point_back fs gs = by (λ h i f e. h i (slice_get_within fs i f e) f e) (λ h i l f e. h i f e) (all_below (PointsBack fs gs) (λ i. points_by (slice_get fs i) gs i) (length fs))
 
 inverse : (fs gs : List ℤ) → Decided (AreInverse fs gs)
-inverse fs gs = both (point_back fs gs) (point_back gs fs)
+inverse fs gs = by (λ h. record { there = h.0; back = h.1 }) (λ r. (r.there, r.back)) (both (point_back fs gs) (point_back gs fs))
 
 -- ---- constraints
 

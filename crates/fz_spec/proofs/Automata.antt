@@ -1,10 +1,10 @@
 -- Runs of an automaton: one of a list that isn't empty is a step and a run behind it, and a symbol goes to one state.
-use Rattle.std.proofs.Common.{◌≡◌, ℕ, ◌+◌, pos, Some, List, [], ◌∷◌, sym, ap, ◌∙◌, subst, arith}
+use Rattle.std.proofs.Common.{◌≡◌, List, [], ◌∷◌, sym, ap, ◌∙◌, subst, arith}
 use Rattle.std.proofs.lemmas.Int.{ints}
 use Rattle.std.specs.Prelude.{ℤ, ◌↔◌, slice_get}
 use Rattle.fz_sets.specs.Sets.{IsInSet}
 use Rattle.fz_sets.proofs.Lists.{some_is}
-use Rattle.fz_spec.specs.Truth.{IsElement, Automaton, IsState, IsStep, IsRun, RunsFrom, next_place}
+use Rattle.fz_spec.specs.Truth.{IsElement, Automaton, IsState, IsStep, RunsFrom, next_place}
 
 pub one_element : (k : ℤ) (xs : List ℤ) (c d : ℤ) → IsElement k xs c → IsElement k xs d → c ≡ d
 one_element k xs c d (i, first, at) (j, second, there) =

@@ -160,5 +160,6 @@ abbrev pub PointBack : List ℤ → List ℤ → Type 0
 PointBack fs gs = (i : ℕ) (f : ℤ) → slice_get fs i ≡ Some f → IsElement f gs (pos (i + 1))
 
 -- each list is the inverse of the other
-abbrev pub AreInverse : List ℤ → List ℤ → Type 0
-AreInverse fs gs = PointBack fs gs × PointBack gs fs
+pub record AreInverse (fs gs : List ℤ) : Type 0 where
+  pub there : PointBack fs gs
+  pub back : PointBack gs fs

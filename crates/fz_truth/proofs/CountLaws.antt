@@ -1,5 +1,6 @@
 -- Counts from a place of the cover on.
 use Rattle.std.proofs.Common.{◌≡◌, ℕ, ◌+◌, ◌<◌, ◌≤◌, zero, suc, List, [], ◌∷◌, map, drop, length, get_or, arith, refl, sym, ap, ◌∙◌, subst, add-one, pos}
+use Rattle.std.proofs.lemmas.List.Sums.{sum_by-cons}
 use Rattle.std.specs.Prelude.{ℤ, ◌↔◌, count_by, cond}
 use Rattle.std.specs.Ordering.{int_eq}
 use Rattle.fz_spec.specs.Truth.{AreCounts, count_of}
@@ -17,7 +18,8 @@ as_many f xs (value ∷ cover) [] h = absurd h
 -- of values that are mapped to
 pub count_mapped : {X : Type 0} (f : X → ℤ) (value : ℤ) (xs : List X) → count_by (λ (x : X). int_eq (f x) value) xs ≡ count_of value (map f xs)
 count_mapped f value [] = refl
-count_mapped f value (x ∷ xs) = ap (λ n. cond (int_eq (f x) value) 1 0 + n) (count_mapped f value xs)
+count_mapped f value (x ∷ xs) =
+    sum_by-cons (λ y. cond (int_eq (f y) value) 1 0) x xs ∙ ap (λ n. cond (int_eq (f x) value) 1 0 + n) (count_mapped f value xs) ∙ sym (sum_by-cons (λ y. cond (int_eq y value) 1 0) (f x) (map f xs))
 
 here : {X : Type 0} (f : X → ℤ) (xs cover : List ℤ) (counts : List X) (i : ℕ) (v : ℤ) (c : X) → i < length cover → length cover ≡ length counts
     → AreCountsBehind f xs cover counts i ↔ ((f (get_or counts i c) ≡ pos (count_of (get_or cover i v) xs)) × AreCountsBehind f xs cover counts (suc i))

@@ -91,7 +91,7 @@ behind xs i = rw add-one (take_all (length xs - suc i) (drop (suc i) xs) (let l 
 pub same_place : (p i : ℕ) → pos (p + 1) ≡ pos (i + 1) → p ≡ i
 same_place p i e = let f : p + 1 ≡ i + 1 = cc in omega (arith, f)
 
-pub got : {X : Type 0} (xs : List X) (p : ℕ) (d : X) → p < length xs → slice_get xs p ≡ Some (get_or xs p d)
+got : {X : Type 0} (xs : List X) (p : ℕ) (d : X) → p < length xs → slice_get xs p ≡ Some (get_or xs p d)
 got [] p d h = absurd (omega (arith, h))
 got (x ∷ xs) zero d h = refl
 got (x ∷ xs) (suc p) d h = got xs p d (omega (arith, h))

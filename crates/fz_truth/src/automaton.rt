@@ -3,28 +3,49 @@ ghost use Rattle.std.specs.Prelude.{◌≡◌, ◌↔◌, ◌+◌, IsTrue, ℤ, 
 ghost use Rattle.fz_sets.specs.Sets.{IsInSet};
 ghost use Rattle.fz_spec.specs.Constraints.{term_values};
 ghost use Rattle.fz_spec.specs.Truth.{IsAccepted, IsState, IsStep};
-ghost use Rattle.fz_truth.specs.Automata.{automaton_of};
+ghost use Rattle.fz_truth.specs.Automata.{automaton_of, posted_of};
 
 use fz_dom::Dom;
 use fz_model::value_of;
 use fz_spec::term::Term;
+use std::sync::Arc;
+
+/// An automaton as a constraint names it.
+#[derive(Clone, Copy)]
+pub(crate) struct Posted<'t> {
+    pub(crate) states: Term,
+    pub(crate) symbols: Term,
+    pub(crate) next: &'t [i32],
+    pub(crate) start: Term,
+    pub(crate) accepting: &'t Arc<Dom>,
+}
 
 /// An automaton, but for its start.
 #[derive(Clone, Copy)]
-pub(crate) struct Automaton<'t> {
-    pub(crate) states: i32,
-    pub(crate) symbols: i32,
-    pub(crate) next: &'t [i32],
-    pub(crate) accepting: &'t Dom,
+struct Automaton<'t> {
+    states: i32,
+    symbols: i32,
+    next: &'t [i32],
+    accepting: &'t Dom,
+}
+
+/// Whether the automaton of a constraint accepts the values of the terms.
+pub(crate) fn is_regular(posted: Posted<'_>, terms: &[Term], values: &[i32]) -> bool
+    ensures { IsTrue result
+        ↔ IsAccepted (posted_of posted.entry values.now) (term_values values.now terms.now) }
+{
+    let automaton = Automaton {
+        states: value_of(posted.states, values),
+        symbols: value_of(posted.symbols, values),
+        next: posted.next,
+        accepting: posted.accepting,
+    };
+    let start = value_of(posted.start, values);
+    is_accepted(automaton, start, terms, values)
 }
 
 /// Whether the automaton accepts the values of the terms.
-pub(crate) fn is_accepted(
-    automaton: Automaton<'_>,
-    start: i32,
-    terms: &[Term],
-    values: &[i32],
-) -> bool
+fn is_accepted(automaton: Automaton<'_>, start: i32, terms: &[Term], values: &[i32]) -> bool
     ensures { IsTrue result
         ↔ IsAccepted (automaton_of automaton.entry start) (term_values values.now terms.now) }
 {
@@ -56,7 +77,10 @@ fn step(automaton: Automaton<'_>, from: i32, symbol: i32) -> Option<i32>
         return None;
     }
     let place = place_of_step(automaton.symbols, from, symbol);
-    automaton.next.get(place).copied()
+    if place >= automaton.next.len() {
+        return None;
+    }
+    Some(automaton.next[place])
 }
 
 /// Whether a number is one of that many, which count from 1.

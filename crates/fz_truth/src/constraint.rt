@@ -10,7 +10,7 @@ ghost use Rattle.fz_spec.specs.declared.shape.Shape.TheVariants as shapes;
 ghost use Rattle.fz_model.specs.Arguments.{argument_of};
 ghost use Rattle.fz_model.specs.Groups.{constraint_at};
 
-use crate::automaton::{Automaton, is_accepted};
+use crate::automaton::{Posted, is_regular};
 use crate::counts::are_counts;
 use crate::element::{is_number_at, is_term_at};
 use crate::inverse::are_inverse;
@@ -60,7 +60,7 @@ fn holds_as(shape: Shape, arguments: &[Argument], values: &[i32]) -> bool
         Shape::Extensional => is_extensional(arguments, values),
         Shape::Distinct => are_distinct(arguments, values),
         Shape::Cumulative => are_cumulative(arguments, values),
-        Shape::Regular => is_regular(arguments, values),
+        Shape::Regular => are_regular(arguments, values),
         Shape::Counts => are_counted(arguments, values),
         Shape::Inverse => are_inverses(arguments, values),
     }
@@ -340,28 +340,52 @@ fn are_cumulative(arguments: &[Argument], values: &[i32]) -> bool
     }
 }
 
-fn is_regular(arguments: &[Argument], values: &[i32]) -> bool
+fn are_regular(arguments: &[Argument], values: &[i32]) -> bool
     ensures { IsTrue result ↔ HoldsAs shapes.Regular (map argument_of arguments.now) values.now }
 {
     match arguments {
+        [Argument::Terms(terms), rest @ ..] => are_regular_by(terms.as_slice(), rest, values),
+        _ => false,
+    }
+}
+
+fn are_regular_by(terms: &[Term], rest: &[Argument], values: &[i32]) -> bool
+    ensures { IsTrue result ↔ HoldsAs shapes.Regular
+        (meaning.Terms terms.now ∷ map argument_of rest.now) values.now }
+{
+    match rest {
         [
-            Argument::Terms(terms),
             Argument::One(states),
             Argument::One(symbols),
             Argument::Numbers(next),
-            Argument::One(start),
-            Argument::Set(accepting),
             rest @ ..,
-        ] => {
-            let automaton = Automaton {
-                states: value_of(*states, values),
-                symbols: value_of(*symbols, values),
-                next: next.as_slice(),
-                accepting: accepting,
+        ] => are_regular_by_steps(terms, *states, *symbols, next.as_slice(), rest, values),
+        _ => false,
+    }
+}
+
+fn are_regular_by_steps(
+    terms: &[Term],
+    states: Term,
+    symbols: Term,
+    next: &[i32],
+    rest: &[Argument],
+    values: &[i32],
+) -> bool
+    ensures { IsTrue result ↔ HoldsAs shapes.Regular (meaning.Terms terms.now
+        ∷ meaning.One states ∷ meaning.One symbols ∷ meaning.Numbers next.now
+        ∷ map argument_of rest.now) values.now }
+{
+    match rest {
+        [Argument::One(start), Argument::Set(accepting), rest @ ..] => {
+            let posted = Posted {
+                states,
+                symbols,
+                next,
+                start: *start,
+                accepting,
             };
-            let start = value_of(*start, values);
-            let holds = is_accepted(automaton, start, terms.as_slice(), values);
-            or_reified(rest, holds, values)
+            or_reified(rest, is_regular(posted, terms, values), values)
         }
         _ => false,
     }

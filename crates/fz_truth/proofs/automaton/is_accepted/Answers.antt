@@ -1,4 +1,4 @@
-use Rattle.std.proofs.Common.{◌≡◌, ℤ, pos, rules, SFits, w32, to_z, of_z, sym, ◌∙◌, subst, ◌+◌}
+use Rattle.std.proofs.Common.{ℤ, pos, rules, SFits, w32, to_z, of_z, sym, ◌∙◌, subst, ◌+◌}
 use Rattle.std.specs.Prelude.{◌↔◌}
 use Rattle.std.proofs.Math.Facts.{to_z-of_z}
 use Rattle.fz_spec.specs.declared.term.Term.TheVariants.{Num}

@@ -1,5 +1,4 @@
-use Rattle.std.proofs.Common.{◌≡◌, ℤ, pos, rules, SFits, w32, get_or, refl, sym, ◌∙◌, ap, subst, to_z, of_z}
-use Rattle.std.specs.Prelude.{◌↔◌, Bool, IsTrue}
+use Rattle.std.proofs.Common.{◌≡◌, pos, rules, SFits, w32, get_or, refl, sym, ◌∙◌, ap, to_z, of_z}
 use Rattle.std.proofs.Math.Facts.{to_z-of_z}
 use Rattle.fz_spec.specs.declared.term.Term.TheVariants.{Num}
 use Rattle.fz_spec.specs.Constraints.{term_value, term_values}

@@ -1,4 +1,4 @@
-use Rattle.std.proofs.Common.{◌≡◌, ℤ, pos, rules, SFits, w32, refl, sym, ◌+◌, subst, to_z, of_z}
+use Rattle.std.proofs.Common.{ℤ, pos, rules, SFits, w32, refl, sym, ◌+◌, subst}
 use Rattle.std.proofs.Math.Facts.{to_z-of_z}
 use Rattle.fz_spec.specs.declared.term.Term.TheVariants.{Num}
 use Rattle.fz_spec.specs.Constraints.{term_value, term_values}

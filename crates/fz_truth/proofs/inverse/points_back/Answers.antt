@@ -1,4 +1,4 @@
-use Rattle.std.proofs.Common.{◌≡◌, ℤ, ◌+◌, pos, rules, SFits, w32, get_or, subst, ◌∙◌}
+use Rattle.std.proofs.Common.{◌≡◌, ℤ, ◌+◌, pos, rules, SFits, w32, subst, ◌∙◌}
 use Rattle.std.specs.Prelude.{◌↔◌, IsTrue}
 use Rattle.std.proofs.Math.Facts.{to_z-of_z}
 use Rattle.fz_spec.specs.declared.term.Term.TheVariants.{Num}
