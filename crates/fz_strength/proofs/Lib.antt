@@ -7,6 +7,7 @@ pub mod ReifiedSumLaws
 pub mod Equations
 pub mod Elements
 pub mod Tables
+pub mod Regular
 pub mod VariableElements
 pub mod OperationLaws
 pub mod Comparisons

@@ -5,7 +5,7 @@ use Rattle.std.specs.List.{AllByRecursion}
 use Rattle.fz_strength.specs.Domains.{AreDomains, IsNarrower, Alone, IsTermOf}
 use Rattle.fz_strength.specs.Events.{AreQuiet, AreBelow}
 use Rattle.fz_strength.specs.Meanings.{IsLawful}
-use Rattle.fz_strength.specs.Sayings.{Saying, saying_of, Compare, CompareIf, Member, MemberIf, Sum, SumIf, Says, Equals, Odd, Select, SelectTerm, Row, Differ, DifferByBounds, SumByNumbers, Share, Other, meaning_of, truth_of, line_of, waits_of, said_terms}
+use Rattle.fz_strength.specs.Sayings.{Saying, saying_of, Compare, CompareIf, Member, MemberIf, Sum, SumIf, Says, Equals, Odd, Select, SelectTerm, Row, Regular, Differ, DifferByBounds, SumByNumbers, Share, Other, meaning_of, truth_of, line_of, waits_of, said_terms}
 use Rattle.fz_strength.specs.Laws.{KeptWhereQuiet, TrueWhereAlone}
 use Rattle.fz_strength.proofs.Comparisons.{comparison_lawful, reified_comparison_lawful}
 use Rattle.fz_strength.proofs.Memberships.{membership_lawful, reified_membership_lawful}
@@ -17,6 +17,7 @@ use Rattle.fz_strength.proofs.Parities.{parity_lawful}
 use Rattle.fz_strength.proofs.Elements.{element_lawful}
 use Rattle.fz_strength.proofs.VariableElements.{variable_element_lawful}
 use Rattle.fz_strength.proofs.Tables.{table_row_lawful}
+use Rattle.fz_strength.proofs.Regular.{regular_lawful}
 use Rattle.fz_strength.proofs.Differences.{all_different_lawful, hall_intervals_lawful}
 use Rattle.fz_strength.proofs.Equations.{partnered_sum_lawful}
 use Rattle.fz_strength.proofs.Cumulatives.{cumulative_lawful}
@@ -36,6 +37,7 @@ lawful (Odd ts) = parity_lawful ts
 lawful (Select xs k c) = element_lawful xs k c
 lawful (SelectTerm xs k c) = variable_element_lawful xs k c
 lawful (Row xs table) = table_row_lawful xs table
+lawful (Regular automaton xs) = regular_lawful automaton xs
 lawful (Differ xs) = all_different_lawful xs
 lawful (DifferByBounds xs) = hall_intervals_lawful xs
 lawful (SumByNumbers ks ts c) = partnered_sum_lawful ks ts c

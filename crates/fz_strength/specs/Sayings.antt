@@ -7,6 +7,7 @@ use Rattle.fz_spec.specs.declared.shape.Shape.TheVariants as shapes
 use Rattle.fz_spec.specs.declared.term.Term.{Term}
 use Rattle.fz_spec.specs.declared.term.Term.TheVariants.{Num}
 use Rattle.fz_spec.specs.Constraints.{Argument, One, Numbers, Terms, Set, Constraint}
+use Rattle.fz_spec.specs.Truth.{Automaton}
 use Rattle.fz_spec.specs.Signatures.{shape_of}
 use Rattle.fz_strength.specs.declared.cost.Cost.{Cost}
 use Rattle.fz_strength.specs.Events.{Wait}
@@ -21,6 +22,7 @@ use Rattle.fz_strength.specs.Parities.{parity}
 use Rattle.fz_strength.specs.Elements.{element}
 use Rattle.fz_strength.specs.VariableElements.{variable_element}
 use Rattle.fz_strength.specs.Tables.{table_row}
+use Rattle.fz_strength.specs.Regular.{regular}
 use Rattle.fz_strength.specs.Differences.{all_different, hall_intervals}
 use Rattle.fz_strength.specs.Equations.{partnered_sum}
 use Rattle.fz_strength.specs.Cumulatives.{cumulative}
@@ -40,6 +42,7 @@ pub data Saying : Type 0 where
   Select : (numbers : List ℤ) (index value : Term) → Saying
   SelectTerm : (terms : List Term) (index value : Term) → Saying
   Row : (terms : List Term) (table : List ℤ) → Saying
+  Regular : (automaton : Automaton) (terms : List Term) → Saying
   Differ : (terms : List Term) → Saying
   DifferByBounds : (terms : List Term) → Saying
   SumByNumbers : (factors : List ℤ) (terms : List Term) (number : ℤ) → Saying
@@ -68,6 +71,8 @@ said (Arithmetic operation) (One z ∷ Terms xs ∷ []) = Equals (equation opera
 said Element (One k ∷ Numbers xs ∷ One c ∷ []) = Select xs k c
 said Element (One k ∷ Terms xs ∷ One c ∷ []) = SelectTerm xs k c
 said Extensional (Terms xs ∷ Numbers table ∷ []) = Row xs table
+said shapes.Regular (Terms xs ∷ One (Num states) ∷ One (Num symbols) ∷ Numbers next ∷ One (Num start) ∷ Set accepting ∷ []) =
+    Regular (record { states = states; symbols = symbols; next = next; start = start; accepting = accepting }) xs
 said Distinct (Terms xs ∷ []) = Differ xs
 said Cumulative (Terms ss ∷ Terms dd ∷ Terms us ∷ One b ∷ []) = Share ss dd us b
 said shape arguments = Other shape arguments
@@ -90,6 +95,7 @@ meaning_of (Odd ts) = parity ts
 meaning_of (Select xs k c) = element xs k c
 meaning_of (SelectTerm xs k c) = variable_element xs k c
 meaning_of (Row xs table) = table_row xs table
+meaning_of (Regular automaton xs) = regular automaton xs
 meaning_of (Differ xs) = all_different xs
 meaning_of (DifferByBounds xs) = hall_intervals xs
 meaning_of (SumByNumbers ks ts c) = partnered_sum ks ts c
