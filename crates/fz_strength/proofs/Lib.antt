@@ -9,6 +9,7 @@ pub mod Elements
 pub mod Tables
 pub mod Regular
 pub mod VariableElements
+pub mod Inverse
 pub mod OperationLaws
 pub mod Comparisons
 pub mod Memberships

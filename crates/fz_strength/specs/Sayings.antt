@@ -26,6 +26,7 @@ use Rattle.fz_strength.specs.Regular.{regular}
 use Rattle.fz_strength.specs.Differences.{all_different, hall_intervals}
 use Rattle.fz_strength.specs.Equations.{partnered_sum}
 use Rattle.fz_strength.specs.Cumulatives.{cumulative}
+use Rattle.fz_strength.specs.Inverse.{inverse}
 use Rattle.fz_strength.specs.Others.{otherwise}
 
 -- a variant for each shape
@@ -47,6 +48,7 @@ pub data Saying : Type 0 where
   DifferByBounds : (terms : List Term) → Saying
   SumByNumbers : (factors : List ℤ) (terms : List Term) (number : ℤ) → Saying
   Share : (starts durations usages : List Term) (bound : Term) → Saying
+  Inverse : (firsts seconds : List Term) → Saying
   Other : (shape : Shape) (arguments : List Argument) → Saying
 
 -- What a constraint of a shape says: with one Boolean more, that this one is 1 exactly where that is so. A sum that is related to a
@@ -75,6 +77,7 @@ said shapes.Regular (Terms xs ∷ One (Num states) ∷ One (Num symbols) ∷ Num
     Regular (record { states = states; symbols = symbols; next = next; start = start; accepting = accepting }) xs
 said Distinct (Terms xs ∷ []) = Differ xs
 said Cumulative (Terms ss ∷ Terms dd ∷ Terms us ∷ One b ∷ []) = Share ss dd us b
+said shapes.Inverse (Terms fs ∷ Terms gs ∷ []) = Inverse fs gs
 said shape arguments = Other shape arguments
 
 -- a constraint says what its row says
@@ -100,6 +103,7 @@ meaning_of (Differ xs) = all_different xs
 meaning_of (DifferByBounds xs) = hall_intervals xs
 meaning_of (SumByNumbers ks ts c) = partnered_sum ks ts c
 meaning_of (Share ss dd us b) = cumulative ss dd us b
+meaning_of (Inverse fs gs) = inverse fs gs
 meaning_of (Other shape arguments) = otherwise shape arguments
 
 -- an assignment makes it true
