@@ -5,6 +5,7 @@ pub mod Spreads
 pub mod SumLaws
 pub mod ReifiedSumLaws
 pub mod Equations
+pub mod Counts
 pub mod Elements
 pub mod Tables
 pub mod Regular

@@ -5,7 +5,7 @@ use Rattle.std.specs.List.{AllByRecursion}
 use Rattle.fz_strength.specs.Domains.{AreDomains, IsNarrower, Alone, IsTermOf}
 use Rattle.fz_strength.specs.Events.{AreQuiet, AreBelow}
 use Rattle.fz_strength.specs.Meanings.{IsLawful}
-use Rattle.fz_strength.specs.Sayings.{Saying, saying_of, Compare, CompareIf, Member, MemberIf, Sum, SumIf, Says, Equals, Odd, Select, SelectTerm, Row, Regular, Differ, DifferByBounds, SumByNumbers, Share, Inverse, Other, meaning_of, truth_of, line_of, waits_of, said_terms}
+use Rattle.fz_strength.specs.Sayings.{Saying, saying_of, Compare, CompareIf, Member, MemberIf, Sum, SumIf, Says, Equals, Odd, Select, SelectTerm, Row, Regular, Differ, DifferByBounds, SumByNumbers, Share, Count, Inverse, Other, meaning_of, truth_of, line_of, waits_of, said_terms}
 use Rattle.fz_strength.specs.Laws.{KeptWhereQuiet, TrueWhereAlone}
 use Rattle.fz_strength.proofs.Comparisons.{comparison_lawful, reified_comparison_lawful}
 use Rattle.fz_strength.proofs.Memberships.{membership_lawful, reified_membership_lawful}
@@ -22,6 +22,7 @@ use Rattle.fz_strength.proofs.Differences.{all_different_lawful, hall_intervals_
 use Rattle.fz_strength.proofs.Equations.{partnered_sum_lawful}
 use Rattle.fz_strength.proofs.Cumulatives.{cumulative_lawful}
 use Rattle.fz_strength.proofs.Inverse.{inverse_lawful}
+use Rattle.fz_strength.proofs.Counts.{global_cardinality_lawful}
 use Rattle.fz_strength.proofs.Others.{otherwise_lawful}
 use Rattle.fz_strength.proofs.Says.{says}
 
@@ -44,6 +45,7 @@ lawful (DifferByBounds xs) = hall_intervals_lawful xs
 lawful (SumByNumbers ks ts c) = partnered_sum_lawful ks ts c
 lawful (Share ss dd us b) = cumulative_lawful ss dd us b
 lawful (Inverse fs gs) = inverse_lawful fs gs
+lawful (Count xs cover counts) = global_cardinality_lawful xs cover counts
 lawful (Other shape arguments) = otherwise_lawful shape arguments
 
 pub kept : (s : Saying) (ds es : List (List (ℤ × ℤ))) → AreDomains es → IsNarrower ds es → AreQuiet (waits_of s) ds es → line_of s ds → line_of s es

@@ -12,16 +12,16 @@ use Rattle.fz_spec.specs.declared.term.Term.{Term}
 use Rattle.fz_strength.specs.Domains.{term_set}
 use Rattle.fz_strength.specs.Differences.{AreSpread, IsClear, IsSpread, confined, interval_size, is_between, is_confined}
 
-abbrev bit : Bool → ℕ
+abbrev pub bit : Bool → ℕ
 bit b = cond b 1 0
 
-count_more : {X : Type 0} (p : X → Bool) (x : X) (xs : List X) → count_by p (x ∷ xs) ≡ bit (p x) + count_by p xs
+pub count_more : {X : Type 0} (p : X → Bool) (x : X) (xs : List X) → count_by p (x ∷ xs) ≡ bit (p x) + count_by p xs
 count_more p x xs = sum_by-cons (λ y. bit (p y)) x xs
 
-both_le : (a b x y : ℤ) → (int_le a b && int_le x y) ≡ true → (a ≤ℤ b) × (x ≤ℤ y)
+pub both_le : (a b x y : ℤ) → (int_le a b && int_le x y) ≡ true → (a ≤ℤ b) × (x ≤ℤ y)
 both_le a b x y h = grind (arith, ints)
 
-both_from : (a b x y : ℤ) → a ≤ℤ b → x ≤ℤ y → (int_le a b && int_le x y) ≡ true
+pub both_from : (a b x y : ℤ) → a ≤ℤ b → x ≤ℤ y → (int_le a b && int_le x y) ≡ true
 both_from a b x y h k = grind (arith, ints)
 
 not_true : (b : Bool) → (b ≡ true → ⊥) → b ≡ false

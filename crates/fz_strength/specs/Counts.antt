@@ -1,12 +1,17 @@
 -- Terms that have the values of a cover so many times.
-use Rattle.std.specs.Prelude.{◌≡◌, ℕ, ℤ, pos, ◌≤ℤ◌, ◌&&◌, Bool, int_le, List, length, slice_get, Some, count_by}
+use Rattle.std.specs.Prelude.{◌≡◌, ℕ, ℤ, pos, ◌≤ℤ◌, ◌&&◌, Bool, int_le, List, [], ◌++◌, length, slice_get, Some, count_by}
 use Rattle.std.specs.Ordering.{int_eq}
 use Rattle.std.specs.List.{AllByRecursion, list_any}
 use Rattle.fz_sets.specs.Sets.{IsInSet}
 use Rattle.fz_dom.specs.Shape.{least, greatest}
 use Rattle.fz_spec.specs.declared.term.Term.{Term}
+use Rattle.fz_spec.specs.Constraints.{term_values}
+use Rattle.fz_spec.specs.Truth.{AreCounts}
+use Rattle.fz_strength.specs.declared.cost.Cost.TheVariants.{Quadratic}
+use Rattle.fz_strength.specs.declared.event.Event.TheVariants.{Any, Bound}
 use Rattle.fz_strength.specs.Domains.{term_set}
-use Rattle.fz_strength.specs.Events.{IsOnly}
+use Rattle.fz_strength.specs.Events.{IsOnly, waits_for}
+use Rattle.fz_strength.specs.Meanings.{Meaning}
 
 -- a value is left of a term, and alone
 abbrev pub may_be : List (List (ℤ × ℤ)) → ℤ → Term → Bool
@@ -38,3 +43,14 @@ pub record IsCountLine (xs : List Term) (ds : List (List (ℤ × ℤ))) (value :
 pub record AreCountLines (xs : List Term) (cover : List ℤ) (counts : List Term) (ds : List (List (ℤ × ℤ))) : Type 0 where
   pub size : length cover ≡ length counts
   pub each : (j : ℕ) (value : ℤ) (count : Term) → slice_get cover j ≡ Some value → slice_get counts j ≡ Some count → IsCountLine xs ds value count
+
+-- that terms have the values of a cover so many times
+abbrev pub global_cardinality : List Term → List ℤ → List Term → Meaning
+global_cardinality xs cover counts = record {
+  truth = λ a. AreCounts (term_values a xs) cover (term_values a counts);
+  line = λ ds. AreCountLines xs cover counts ds;
+  waits = waits_for Any xs ++ waits_for Bound counts;
+  terms = xs ++ counts;
+  truths = [];
+  cost = Quadratic;
+}

@@ -2,7 +2,7 @@
 use Rattle.std.specs.Prelude.{Bool, true, false, ℤ, pos, List, [], ◌∷◌}
 use Rattle.fz_spec.specs.declared.shape.Relation.{Relation}
 use Rattle.fz_spec.specs.declared.shape.Shape.{Shape}
-use Rattle.fz_spec.specs.declared.shape.Shape.TheVariants.{Rel, Dom, Linear, Or, And, Xor, Arithmetic, Element, Extensional, Distinct, Cumulative}
+use Rattle.fz_spec.specs.declared.shape.Shape.TheVariants.{Rel, Dom, Linear, Or, And, Xor, Arithmetic, Element, Extensional, Distinct, Cumulative, Counts}
 use Rattle.fz_spec.specs.declared.shape.Shape.TheVariants as shapes
 use Rattle.fz_spec.specs.declared.term.Term.{Term}
 use Rattle.fz_spec.specs.declared.term.Term.TheVariants.{Num}
@@ -27,6 +27,7 @@ use Rattle.fz_strength.specs.Differences.{all_different, hall_intervals}
 use Rattle.fz_strength.specs.Equations.{partnered_sum}
 use Rattle.fz_strength.specs.Cumulatives.{cumulative}
 use Rattle.fz_strength.specs.Inverse.{inverse}
+use Rattle.fz_strength.specs.Counts.{global_cardinality}
 use Rattle.fz_strength.specs.Others.{otherwise}
 
 -- a variant for each shape
@@ -49,6 +50,7 @@ pub data Saying : Type 0 where
   SumByNumbers : (factors : List ℤ) (terms : List Term) (number : ℤ) → Saying
   Share : (starts durations usages : List Term) (bound : Term) → Saying
   Inverse : (firsts seconds : List Term) → Saying
+  Count : (terms : List Term) (cover : List ℤ) (counts : List Term) → Saying
   Other : (shape : Shape) (arguments : List Argument) → Saying
 
 -- What a constraint of a shape says: with one Boolean more, that this one is 1 exactly where that is so. A sum that is related to a
@@ -78,6 +80,7 @@ said shapes.Regular (Terms xs ∷ One (Num states) ∷ One (Num symbols) ∷ Num
 said Distinct (Terms xs ∷ []) = Differ xs
 said Cumulative (Terms ss ∷ Terms dd ∷ Terms us ∷ One b ∷ []) = Share ss dd us b
 said shapes.Inverse (Terms fs ∷ Terms gs ∷ []) = Inverse fs gs
+said Counts (Terms xs ∷ Numbers cover ∷ Terms counts ∷ []) = Count xs cover counts
 said shape arguments = Other shape arguments
 
 -- a constraint says what its row says
@@ -104,6 +107,7 @@ meaning_of (DifferByBounds xs) = hall_intervals xs
 meaning_of (SumByNumbers ks ts c) = partnered_sum ks ts c
 meaning_of (Share ss dd us b) = cumulative ss dd us b
 meaning_of (Inverse fs gs) = inverse fs gs
+meaning_of (Count xs cover counts) = global_cardinality xs cover counts
 meaning_of (Other shape arguments) = otherwise shape arguments
 
 -- an assignment makes it true
