@@ -82,6 +82,14 @@ but_nothing R D E Left P Q none h = record {
   seconds = λ m. ((λ is. let p = (h.seconds m).0 is in (p.0, p.1)), (λ p. (h.seconds m).1 (p.0, p.1, none p.0)));
 }
 
+-- the same pairs, said in another way
+pub matching_as : (R : ℤ → ℤ → Type 0) (D E P Q : ℤ → Type 0) (M : ℤ → ℤ → Type 0) → ((n m : ℤ) → IsPairOf R D E n m ↔ M n m) → AreMatching R D E P Q
+    → ((n : ℤ) → P n ↔ ((m : ℤ) × M n m)) × ((m : ℤ) → Q m ↔ ((n : ℤ) × M n m))
+matching_as R D E P Q M same h = (
+  (λ n. ((λ is. let p = (h.firsts n).0 is in (p.0, (same n p.0).0 p.1)), (λ p. (h.firsts n).1 (p.0, (same n p.0).1 p.1)))),
+  (λ m. ((λ is. let p = (h.seconds m).0 is in (p.0, (same p.0 m).0 p.1)), (λ p. (h.seconds m).1 (p.0, (same p.0 m).1 p.1)))),
+)
+
 -- ---- words of one base
 
 pub both_bits : (base : ℤ) (a b both : ℕ) → AreOnes both (λ k. HasBit a k × HasBit b k) → (m : ℤ) → IsBit base both m ↔ (IsBit base a m × IsBit base b m)
@@ -93,6 +101,14 @@ both_bits base a b both ones m = (
       let at = one.2 in
       let same : other.0 ≡ one.0 = omega (arith, ints, at, other.2) in
       (one.0, one.1, one.2, (ones one.0 one.1).1 (one.3, subst (λ (k : ℕ). HasBit b k) same other.3))),
+)
+
+-- where one of them has the numbers with a property
+pub bits_with : (base : ℤ) (a b both : ℕ) (S : ℤ → Type 0) → AreOnes a (λ k. S (base +ℤ pos k)) → AreOnes both (λ k. HasBit a k × HasBit b k)
+    → (m : ℤ) → IsBit base both m ↔ (S m × IsBit base b m)
+bits_with base a b both S wanted ones m = (
+  (λ is. let two = (ones is.0 is.1).0 is.3 in (subst S (sym is.2) ((wanted is.0 is.1).0 two.0), (is.0, is.1, is.2, two.1))),
+  (λ h. let is = h.1 in (is.0, is.1, is.2, (ones is.0 is.1).1 ((wanted is.0 is.1).1 (subst S is.2 h.0), is.3))),
 )
 
 pub either_bits : (base : ℤ) (a b one : ℕ) → AreOnes one (λ k. HasBit a k ⊎ HasBit b k) → (m : ℤ) → IsBit base one m ↔ (IsBit base a m ⊎ IsBit base b m)

@@ -9,6 +9,7 @@
 pub mod answer;
 mod cut;
 pub mod indices;
+pub mod matching;
 pub mod propagator;
 pub mod store;
 pub mod terms;
