@@ -1,7 +1,8 @@
 //! What a path asks of a space.
-ghost use Rattle.std.specs.Prelude.{◌≡◌, ◌<◌, ◌++◌, ◌∷◌, [], ℤ, List, Option, None, Some, false, length, IfOk, IfErr, OnOk};
+ghost use Rattle.std.specs.Prelude.{◌≡◌, ◌<◌, ◌++◌, ◌∷◌, [], ℤ, List, Option, None, Some, false, length, map, IfOk, IfErr, OnOk};
 ghost use Rattle.std.specs.List.{slice_get};
 ghost use Rattle.std.specs.Arc.{arc_value};
+ghost use Rattle.fz_dom.specs.Shape.{least};
 ghost use Rattle.fz_spec.specs.Instance.{Instance, IsWhole};
 ghost use Rattle.fz_tree.specs.declared.decision.Decision.{Decision};
 ghost use Rattle.fz_branch.specs.Picks.{AreClosed};
@@ -88,6 +89,13 @@ pub trait SearchSpace: Drop {
     /// A variable before which none has more than one value left, where the space hasn't failed; the first one always is.
     fn closed(&self) -> usize
         ensures { (spaced self.now).failed ≡ false → AreClosed result (spaced self.now).doms };
+
+    /// The least number of each domain.
+    ///
+    /// # Errors
+    /// `AllocError` where there is no memory.
+    fn least(&self, alloc: Global) -> Result<Assignment, AllocError>
+        ensures { IfOk result (λ a. a ≡ map least (spaced self.now).doms) };
 
     /// Another space that is the same.
     ///

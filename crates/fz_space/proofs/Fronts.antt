@@ -1,5 +1,5 @@
 -- The variables at the front that have one number left.
-use Rattle.std.proofs.Common.{◌≡◌, ◌++◌, take, ap, ℕ, zero, suc, get_or, Bool, true, Some, ◌+◌, ◌<◌, ◌≤◌, ◌⊎◌, inl, inr, List, [], ◌∷◌, refl, sym, ◌∙◌, subst, arith, length, false}
+use Rattle.std.proofs.Common.{◌≡◌, ◌++◌, take, map, ap, ap₂, ℕ, zero, suc, get_or, Bool, true, Some, ◌+◌, ◌<◌, ◌≤◌, ◌⊎◌, inl, inr, List, [], ◌∷◌, refl, sym, ◌∙◌, subst, arith, length, false}
 use Rattle.std.specs.Prelude.{ℤ, slice_get}
 use Rattle.std.proofs.lemmas.Bool.{cases_eq}
 use Rattle.std.proofs.lemmas.Int.{ints}
@@ -83,6 +83,15 @@ settled_next ns all ds d x n front before fixed at first pushed settled =
     let is : dom_at ds (length ns) ≡ single x = ap (dom_at ds) settled.0 ∙ one.1 ∙ ap single (sym number) in
     let size = settled.0 in
     subst (λ (l : List ℤ). (length l ≡ n + 1) × AreSettled l ds) (sym pushed) (omega (arith, length_push ns x, size), settled_more ns ds x (omega (arith, size, before, fixed.within)) is settled.1)
+
+-- they are the least of the first domains
+pub settled_least : (ns : List ℤ) (ds : List (List (ℤ × ℤ))) → AreSettled ns ds → ns ≡ map least (take (length ns) ds)
+settled_least [] ds settled = refl
+settled_least (n ∷ ns) [] settled = absurd (omega (arith, settled.within))
+settled_least (n ∷ ns) (d ∷ ds) settled =
+    let first : d ≡ single n = settled.single 0 (omega arith) in
+    let others : AreSettled ns ds = record { within = omega (arith, settled.within); single = λ v h. settled.single (suc v) (omega (arith, h)) } in
+    ap₂ (λ (m : ℤ) (ms : List ℤ). m ∷ ms) (sym (ap least first)) (settled_least ns ds others)
 
 took_at : (k : ℕ) (ns : List ℤ) (v : ℕ) → v < k → number_at (take k ns) v ≡ number_at ns v
 took_at zero ns v h = absurd (omega (arith, h))

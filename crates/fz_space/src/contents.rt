@@ -20,7 +20,7 @@ use fz_kept::Kept;
 use fz_model::Assignment;
 use fz_prop::Store;
 use fz_region::Choice;
-use fz_search_space::Status;
+use fz_search_space::{Status, least_of};
 use std::alloc::{AllocError, AllocFailed, Global};
 use std::marker::Model;
 use std::sync::Arc;
@@ -184,6 +184,10 @@ impl fz_search_space::SearchSpace for Contents {
 
     fn closed(&self) -> usize {
         self.front
+    }
+
+    fn least(&self, alloc: Global) -> Result<Assignment, AllocError> {
+        least_of(alloc, self.settled.numbers(), self.store.doms())
     }
 
     fn copy(&self) -> Result<Contents, AllocError> {

@@ -136,6 +136,10 @@ impl SearchSpace for Space {
         self.contents.closed()
     }
 
+    fn least(&self, alloc: Global) -> Result<Assignment, AllocError> {
+        self.contents.least(alloc)
+    }
+
     fn copy(&self) -> Result<Space, AllocError> {
         let contents = self.contents.copy()?;
         let contents = Box::new(*Box::allocator(&self.contents), contents)?;

@@ -3,5 +3,5 @@ use Rattle.fz_dom.specs.Shape.{least}
 use Rattle.fz_model.specs.Kept.{AreNumbers}
 use Rattle.fz_search_space.proofs.numbers.least_numbers.Given as goal
 
-abbrev pub invariant-doms : goal.invariant-doms
-invariant-doms l = (l.numbers.items ≡ map least (take l.dom-index l.doms)) × AreNumbers l.numbers.items
+abbrev pub invariant-places : goal.invariant-places
+invariant-places l = (l.numbers.items ≡ map least (take l.place l.doms)) × AreNumbers l.numbers.items
