@@ -224,6 +224,7 @@ fit vs (Arithmetic operation) (One z ∷ Terms xs ∷ []) h = made (h.known.0, a
 fit vs shapes.Element (One k ∷ Numbers xs ∷ One c ∷ []) h = made h.known tt tt
 fit vs shapes.Element (One k ∷ Terms xs ∷ One c ∷ []) h = made (h.known.0, ((all_right (IsKnown vs) xs (c ∷ []) h.known.1).0, all_left (IsKnown vs) xs (c ∷ []) h.known.1)) tt tt
 fit vs Extensional (Terms xs ∷ Numbers table ∷ []) h = made (all_left (IsKnown vs) xs [] h.known) tt tt
+fit vs shapes.Regular (Terms xs ∷ One (Num states) ∷ One (Num symbols) ∷ Numbers next ∷ One (Num start) ∷ Set accepting ∷ []) h = made (all_left (IsKnown vs) xs _ h.known) tt tt
 fit vs Distinct (Terms xs ∷ []) h = made (all_left (IsKnown vs) xs [] h.known) tt tt
 fit vs shapes.Cumulative (Terms ss ∷ Terms dd ∷ Terms us ∷ One b ∷ []) h = made h.known tt tt
 fit vs shape arguments h = made h.known tt tt

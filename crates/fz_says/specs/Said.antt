@@ -8,6 +8,8 @@ use Rattle.fz_strength.specs.Sums.{left_factors, left_terms, right_number}
 use Rattle.fz_strength.specs.Sayings as said
 use Rattle.fz_says.specs.declared.waits.Wait as code_waits
 use Rattle.fz_strength.specs.Events.{Wait}
+use Rattle.fz_spec.specs.Truth as truth
+use Rattle.fz_says.specs.declared.saying.Automaton.{Automaton}
 use Rattle.fz_says.specs.declared.saying.Saying.{Saying}
 use Rattle.fz_says.specs.declared.saying.Saying.TheVariants as code
 use Rattle.fz_says.specs.declared.saying.Operands.{Operands}
@@ -17,6 +19,9 @@ abbrev pub operands_of : Operands → List Term
 operands_of (operands.One ts) = ts
 operands_of (operands.Two ts) = ts
 operands_of (operands.Listed ts) = ts.now
+
+abbrev pub automaton_of : Automaton → truth.Automaton
+automaton_of m = record { states = m.states; symbols = m.symbols; next = m.next.now; start = m.start; accepting = m.accepting.now.value }
 
 abbrev pub said_by : Saying → said.Saying
 said_by (code.Compare relation x y) = said.Compare relation x y
@@ -33,6 +38,7 @@ said_by (code.Odd ts) = said.Odd ts.now
 said_by (code.Select xs k c) = said.Select xs.now k c
 said_by (code.SelectTerm xs k c) = said.SelectTerm xs.now k c
 said_by (code.Row xs table) = said.Row xs.now table.now
+said_by (code.Regular m xs) = said.Regular (automaton_of m) xs.now
 said_by (code.Differ xs) = said.Differ xs.now
 said_by (code.DifferByBounds xs) = said.DifferByBounds xs.now
 said_by (code.SumByNumbers ks ts c) = said.SumByNumbers (left_factors ks.now c) (left_terms ts.now c) (right_number c)

@@ -23,7 +23,7 @@ impl<'m> Saying<'m> {
                 cost_of_operands(terms.as_slice().len())
             }
             Saying::Differ(_) | Saying::SumByNumbers(..) | Saying::Share(..) => Cost::Quadratic,
-            Saying::Row(..) | Saying::DifferByBounds(_) => Cost::Cubic,
+            Saying::Row(..) | Saying::Regular(..) | Saying::DifferByBounds(_) => Cost::Cubic,
             _ => Cost::Linear,
         }
     }

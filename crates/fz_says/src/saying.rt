@@ -34,6 +34,16 @@ impl<'m> Operands<'m> {
     }
 }
 
+/// An automaton: how many states and symbols it has, the next state for each of both, where it starts, and where it accepts.
+#[derive(Clone, Copy)]
+pub struct Automaton<'m> {
+    pub states: i32,
+    pub symbols: i32,
+    pub next: &'m Listed<i32>,
+    pub start: i32,
+    pub accepting: &'m Arc<Dom>,
+}
+
 /// What a constraint says, of the arguments of a model.
 #[derive(Clone, Copy)]
 pub enum Saying<'m> {
@@ -65,6 +75,8 @@ pub enum Saying<'m> {
     SelectTerm(&'m Listed<Term>, Term, Term),
     /// The terms are a row of a table.
     Row(&'m [Term], &'m Listed<i32>),
+    /// An automaton accepts the terms.
+    Regular(Automaton<'m>, &'m [Term]),
     /// No two terms are equal.
     Differ(&'m [Term]),
     /// The same, said to the propagator that looks at the bounds of all.
@@ -95,7 +107,8 @@ impl<'m> Saying<'m> {
             Shape::Extensional => row(constraint),
             Shape::Distinct => distinct(constraint),
             Shape::Cumulative => cumulative(constraint),
-            Shape::Regular | Shape::Counts | Shape::Inverse => Saying::Other(constraint),
+            Shape::Regular => regular(constraint),
+            Shape::Counts | Shape::Inverse => Saying::Other(constraint),
         }
     }
 }
@@ -281,6 +294,33 @@ fn row<'m>(constraint: &'m Constraint) -> Saying<'m>
 {
     match constraint.arguments() {
         [Argument::Terms(xs), Argument::Numbers(table)] => Saying::Row(xs.as_slice(), table),
+        _ => Saying::Other(constraint),
+    }
+}
+
+/// Terms that an automaton accepts.
+fn regular<'m>(constraint: &'m Constraint) -> Saying<'m>
+    requires { shape_of constraint.now.name ≡ shapes.Regular }
+    ensures { said_by result ≡ said.said shapes.Regular constraint.now.arguments }
+{
+    match constraint.arguments() {
+        [
+            Argument::Terms(xs),
+            Argument::One(Term::Num(states)),
+            Argument::One(Term::Num(symbols)),
+            Argument::Numbers(next),
+            Argument::One(Term::Num(start)),
+            Argument::Set(accepting),
+        ] => {
+            let automaton = Automaton {
+                states: *states,
+                symbols: *symbols,
+                next,
+                start: *start,
+                accepting,
+            };
+            Saying::Regular(automaton, xs.as_slice())
+        }
         _ => Saying::Other(constraint),
     }
 }

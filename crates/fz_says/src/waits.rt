@@ -72,7 +72,7 @@ fn add_said(waits: &mut Vec<Wait>, saying: &Saying) -> Result<(), AllocError>
             add(waits, Event::Any, *value)?;
             add_all(waits, Event::Any, terms.as_slice())
         }
-        Saying::Row(terms, _) => add_all(waits, Event::Any, terms),
+        Saying::Row(terms, _) | Saying::Regular(_, terms) => add_all(waits, Event::Any, terms),
         Saying::Share(starts, durations, usages, bound) => {
             add_all(waits, Event::Bound, starts)?;
             add_all(waits, Event::Bound, durations)?;
