@@ -185,6 +185,9 @@ literals_all P ps ns rest all = signs_all P ps ns (all_left P ps (ns ++ rest) al
 result_of : (P : Term → Type 0) (ps ns : List Term) (r : Term) → AllByRecursion P (ps ++ (ns ++ r ∷ [])) → P r
 result_of P ps ns r all = (all_right P ns (r ∷ []) (all_right P ps (ns ++ r ∷ []) all)).0
 
+two_lists : (P : Term → Type 0) (fs gs : List Term) → AllByRecursion P (fs ++ (gs ++ [])) → AllByRecursion P (fs ++ gs)
+two_lists P fs gs all = all_both P fs gs (all_left P fs (gs ++ []) all) (all_left P gs [] (all_right P fs (gs ++ []) all))
+
 -- ---- a line a shape
 
 one_boolean : (vs : List Variable) → kept.IsTermOf vs kinds.Bool (Num (pos 1))
@@ -227,6 +230,8 @@ fit vs Extensional (Terms xs ∷ Numbers table ∷ []) h = made (all_left (IsKno
 fit vs shapes.Regular (Terms xs ∷ One (Num states) ∷ One (Num symbols) ∷ Numbers next ∷ One (Num start) ∷ Set accepting ∷ []) h = made (all_left (IsKnown vs) xs _ h.known) tt tt
 fit vs Distinct (Terms xs ∷ []) h = made (all_left (IsKnown vs) xs [] h.known) tt tt
 fit vs shapes.Cumulative (Terms ss ∷ Terms dd ∷ Terms us ∷ One b ∷ []) h = made h.known tt tt
+fit vs shapes.Inverse (Terms fs ∷ Terms gs ∷ []) h = made (two_lists (IsKnown vs) fs gs h.known) tt tt
+fit vs shapes.Counts (Terms xs ∷ Numbers cover ∷ Terms counts ∷ []) h = made (two_lists (IsKnown vs) xs counts h.known) tt tt
 fit vs shape arguments h = made h.known tt tt
 
 -- ---- rows

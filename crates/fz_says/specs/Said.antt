@@ -43,6 +43,8 @@ said_by (code.Differ xs) = said.Differ xs.now
 said_by (code.DifferByBounds xs) = said.DifferByBounds xs.now
 said_by (code.SumByNumbers ks ts c) = said.SumByNumbers (left_factors ks.now c) (left_terms ts.now c) (right_number c)
 said_by (code.Share ss dd us b) = said.Share ss.now dd.now us.now b
+said_by (code.Inverse fs gs) = said.Inverse fs.now gs.now
+said_by (code.Count xs cover counts) = said.Count xs.now cover.now counts.now
 said_by (code.Other c) = said.Other (shape_of c.now.name) c.now.arguments
 
 -- what code waits for

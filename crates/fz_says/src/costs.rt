@@ -22,7 +22,11 @@ impl<'m> Saying<'m> {
             Saying::AnyOf(terms, _) | Saying::AllOf(terms, _) | Saying::Equals(_, terms, _) => {
                 cost_of_operands(terms.as_slice().len())
             }
-            Saying::Differ(_) | Saying::SumByNumbers(..) | Saying::Share(..) => Cost::Quadratic,
+            Saying::Differ(_)
+            | Saying::SumByNumbers(..)
+            | Saying::Share(..)
+            | Saying::Inverse(..)
+            | Saying::Count(..) => Cost::Quadratic,
             Saying::Row(..) | Saying::Regular(..) | Saying::DifferByBounds(_) => Cost::Cubic,
             _ => Cost::Linear,
         }

@@ -1,5 +1,6 @@
 //! What a constraint says.
-ghost use Rattle.std.specs.Prelude.{◌≡◌, ◌∷◌, []};
+ghost use Rattle.std.specs.Prelude.{◌≡◌, ◌∷◌, [], map};
+ghost use Rattle.fz_model.specs.Arguments.{argument_of};
 ghost use Rattle.fz_spec.specs.declared.shape.Shape.TheVariants as shapes;
 ghost use Rattle.fz_spec.specs.Constraints.{One, Numbers, Terms};
 ghost use Rattle.fz_spec.specs.Signatures.{shape_of};
@@ -85,6 +86,10 @@ pub enum Saying<'m> {
     SumByNumbers(&'m [i32], &'m [Term], Term),
     /// Tasks, by their starts, durations and usages, never use more than a bound.
     Share(&'m [Term], &'m [Term], &'m [Term], Term),
+    /// Each of two lists of terms is the inverse of the other.
+    Inverse(&'m [Term], &'m [Term]),
+    /// The first terms have each value of a cover as often as the last terms tell.
+    Count(&'m [Term], &'m [i32], &'m [Term]),
     /// It is true: this is told of a constraint that says none of the others.
     Other(&'m Constraint),
 }
@@ -108,7 +113,8 @@ impl<'m> Saying<'m> {
             Shape::Distinct => distinct(constraint),
             Shape::Cumulative => cumulative(constraint),
             Shape::Regular => regular(constraint),
-            Shape::Counts | Shape::Inverse => Saying::Other(constraint),
+            Shape::Counts => counts(constraint),
+            Shape::Inverse => inverse(constraint),
         }
     }
 }
@@ -148,20 +154,35 @@ fn linear<'m>(relation: Relation, constraint: &'m Constraint) -> Saying<'m>
         [
             Argument::Numbers(factors),
             Argument::Terms(terms),
-            Argument::One(last),
-        ] => Saying::Sum(relation, factors.as_slice(), terms.as_slice(), *last),
-        [
-            Argument::Numbers(factors),
-            Argument::Terms(terms),
-            Argument::One(last),
-            Argument::One(r),
-        ] => linear_if(
+            rest @ ..,
+        ] => linear_to(
             relation,
             constraint,
             factors.as_slice(),
             terms.as_slice(),
-            *last,
-            *r,
+            rest,
+        ),
+        _ => Saying::Other(constraint),
+    }
+}
+
+/// The same of a sum with what it is related to.
+fn linear_to<'m>(
+    relation: Relation,
+    constraint: &'m Constraint,
+    factors: &'m [i32],
+    terms: &'m [Term],
+    rest: &'m [Argument],
+) -> Saying<'m>
+    requires shape { shape_of constraint.now.name ≡ shapes.Linear relation }
+    requires arguments { constraint.now.arguments ≡ Numbers factors.now ∷ Terms terms.now
+        ∷ map argument_of rest.now }
+    ensures { said_by result ≡ said.said (shapes.Linear relation) constraint.now.arguments }
+{
+    match rest {
+        [Argument::One(last)] => Saying::Sum(relation, factors, terms, *last),
+        [Argument::One(last), Argument::One(r)] => linear_if(
+            relation, constraint, factors, terms, *last, *r,
         ),
         _ => Saying::Other(constraint),
     }
@@ -353,6 +374,35 @@ fn cumulative<'m>(constraint: &'m Constraint) -> Saying<'m>
             usages.as_slice(),
             *bound,
         ),
+        _ => Saying::Other(constraint),
+    }
+}
+
+/// Two lists of terms, each the inverse of the other.
+fn inverse<'m>(constraint: &'m Constraint) -> Saying<'m>
+    requires { shape_of constraint.now.name ≡ shapes.Inverse }
+    ensures { said_by result ≡ said.said shapes.Inverse constraint.now.arguments }
+{
+    match constraint.arguments() {
+        [Argument::Terms(firsts), Argument::Terms(seconds)] => Saying::Inverse(
+            firsts.as_slice(),
+            seconds.as_slice(),
+        ),
+        _ => Saying::Other(constraint),
+    }
+}
+
+/// Terms that have the values of a cover so many times.
+fn counts<'m>(constraint: &'m Constraint) -> Saying<'m>
+    requires { shape_of constraint.now.name ≡ shapes.Counts }
+    ensures { said_by result ≡ said.said shapes.Counts constraint.now.arguments }
+{
+    match constraint.arguments() {
+        [
+            Argument::Terms(terms),
+            Argument::Numbers(cover),
+            Argument::Terms(counts),
+        ] => Saying::Count(terms.as_slice(), cover.as_slice(), counts.as_slice()),
         _ => Saying::Other(constraint),
     }
 }

@@ -79,6 +79,14 @@ fn add_said(waits: &mut Vec<Wait>, saying: &Saying) -> Result<(), AllocError>
             add_all(waits, Event::Bound, usages)?;
             add(waits, Event::Bound, *bound)
         }
+        Saying::Inverse(firsts, seconds) => {
+            add_all(waits, Event::Any, firsts)?;
+            add_all(waits, Event::Any, seconds)
+        }
+        Saying::Count(terms, _, counts) => {
+            add_all(waits, Event::Any, terms)?;
+            add_all(waits, Event::Bound, counts)
+        }
         Saying::SumByNumbers(_, terms, last) => add_left(waits, Event::Any, terms, *last),
         Saying::Other(constraint) => add_arguments(waits, constraint.arguments()),
         Saying::Sum(relation, factors, terms, last) => {
