@@ -8,3 +8,4 @@ pub mod Windowed
 pub mod Packing
 pub mod Grids
 pub mod Lines
+pub mod Different

@@ -5,3 +5,4 @@ pub mod Spans
 pub mod Supports
 pub mod Grids
 pub mod Lines
+pub mod Apart

@@ -17,6 +17,7 @@ said_of (forms.Parity parity) = parity
 said_of (forms.Element element) = element
 said_of (forms.VariableElement element) = element
 said_of (forms.Table table) = table
+said_of (forms.Regular regular) = regular
 said_of (forms.AllDifferent different) = different
 said_of (forms.HallIntervals intervals) = intervals
 said_of (forms.Disjunctive disjunctive) = disjunctive

@@ -23,6 +23,7 @@ use fz_linear::Linear;
 use fz_linreif::ReifiedLinear;
 use fz_partners::PartneredSum;
 use fz_prop::{Answer, Propagator, Store};
+use fz_regular::{Automaton, Regular};
 use fz_rel::{Comparison, Membership, ReifiedComparison, ReifiedMembership};
 use fz_says::Saying;
 use fz_table::Table;
@@ -45,6 +46,7 @@ pub enum AnyPropagator {
     Element(Element),
     VariableElement(VariableElement),
     Table(Table),
+    Regular(Regular),
     AllDifferent(AllDifferent),
     HallIntervals(HallIntervals),
     Disjunctive(Disjunctive),
@@ -122,6 +124,18 @@ impl AnyPropagator {
             Saying::Row(terms, numbers) => {
                 let table = Table::new(alloc, terms, numbers.as_slice())?;
                 Ok(AnyPropagator::Table(table))
+            }
+            Saying::Regular(automaton, terms) => {
+                let automaton = Automaton::new(
+                    alloc,
+                    automaton.states,
+                    automaton.symbols,
+                    automaton.next.as_slice(),
+                    automaton.start,
+                    automaton.accepting,
+                )?;
+                let regular = Regular::new(alloc, automaton, terms)?;
+                Ok(AnyPropagator::Regular(regular))
             }
             Saying::Differ(terms) => {
                 let different = AllDifferent::new(alloc, terms)?;
@@ -203,6 +217,7 @@ impl Propagator for AnyPropagator {
             AnyPropagator::Element(element) => element.propagate(store),
             AnyPropagator::VariableElement(element) => element.propagate(store),
             AnyPropagator::Table(table) => table.propagate(store),
+            AnyPropagator::Regular(regular) => regular.propagate(store),
             AnyPropagator::AllDifferent(different) => different.propagate(store),
             AnyPropagator::HallIntervals(intervals) => intervals.propagate(store),
             AnyPropagator::Disjunctive(disjunctive) => disjunctive.propagate(store),

@@ -26,7 +26,8 @@ use Rattle.fz_prop.proofs.TermChanges.{term_within, narrower_term, only_in, with
 use Rattle.fz_prop.proofs.Twice.{shrinks_twice, room_after}
 use Rattle.fz_column.specs.Spans.{IsFilled}
 use Rattle.fz_bits.specs.Members.{HasMember}
-use Rattle.fz_table.specs.Rows.{IsRowAt, AreLeft, Stands, AreApart}
+use Rattle.fz_column.specs.Apart.{AreApart}
+use Rattle.fz_table.specs.Rows.{IsRowAt, AreLeft, Stands}
 use Rattle.fz_column.proofs.Growing.{limits_by_numbers}
 use Rattle.fz_table.proofs.LeftRows.{value_stands}
 use Rattle.fz_column.proofs.Slices.{part_get}

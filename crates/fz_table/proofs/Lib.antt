@@ -1,4 +1,3 @@
-pub mod Different
 pub mod Building
 pub mod LeftRows
 pub mod Keeping

@@ -4,7 +4,7 @@ use Rattle.fz_spec.specs.declared.term.Term.{Term}
 use Rattle.fz_table.specs.declared.layout.Layout.{Layout}
 use Rattle.fz_table.specs.declared.layout.Layout.TheVariants as layout
 use Rattle.fz_table.specs.Partners.{ArePairsOf}
-use Rattle.fz_table.specs.Rows.{AreApart}
+use Rattle.fz_column.specs.Apart.{AreApart}
 use Rattle.fz_column.specs.Supports.{AreColumnsOf}
 
 abbrev pub IsLayoutOf : Layout → List Term → List ℤ → Type 0

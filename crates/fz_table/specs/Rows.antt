@@ -1,7 +1,6 @@
 -- A list of terms that takes the numbers of a row of a table: when an assignment makes it true, and what its propagator finds.
-use Rattle.std.specs.Prelude.{◌≡◌, ◌↔◌, ℕ, ◌<◌, ◌+◌, ◌*◌, ℤ, List, length, slice_get, slice_range, Some}
+use Rattle.std.specs.Prelude.{◌≡◌, ◌↔◌, ℕ, ◌+◌, ◌*◌, ℤ, List, length, slice_get, slice_range, Some}
 use Rattle.fz_spec.specs.declared.term.Term.{Term}
-use Rattle.fz_spec.specs.declared.term.Term.TheVariants.{Var}
 use Rattle.fz_spec.specs.Constraints.{term_values}
 use Rattle.fz_spec.specs.Truth.{IsRowOf}
 use Rattle.fz_strength.specs.Tables.{IsLeftRow}
@@ -10,14 +9,6 @@ use Rattle.fz_bits.specs.Members.{HasMember}
 -- the values of the terms are a row
 abbrev pub IsRowAt : List Term → List ℤ → List ℤ → Type 0
 IsRowAt xs table a = IsRowOf (term_values a xs) table
-
--- no variable stands at two places
-abbrev pub AreApart : List Term → Type 0
-AreApart xs = (j k v : ℕ) → slice_get xs j ≡ Some (Var v) → slice_get xs k ≡ Some (Var v) → j ≡ k
-
--- a term is no variable that stands before a place
-abbrev pub IsNotBefore : List Term → ℕ → Term → Type 0
-IsNotBefore xs place t = (j v : ℕ) → t ≡ Var v → j < place → slice_get xs j ≡ Some (Var v) → ⊥
 
 -- a row that lies in the domains starts here
 abbrev pub IsLeftAt : List Term → List ℤ → List (List (ℤ × ℤ)) → ℕ → Type 0

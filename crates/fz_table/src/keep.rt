@@ -7,7 +7,8 @@ ghost use Rattle.fz_strength.specs.Domains.{IsTermOf};
 ghost use Rattle.fz_prop.specs.Stores.{Shrinks, IsChangeAt};
 ghost use Rattle.fz_bits.specs.Members.{HasMember, words_for};
 ghost use Rattle.fz_column.specs.Supports.{AreSized, StandsIn, AreColumnsOf};
-ghost use Rattle.fz_table.specs.Rows.{IsRowAt, AreLeft, AreApart};
+ghost use Rattle.fz_column.specs.Apart.{AreApart};
+ghost use Rattle.fz_table.specs.Rows.{IsRowAt, AreLeft};
 
 use crate::rows::find_left;
 use fz_column::Column;

@@ -2,10 +2,10 @@
 ghost use Rattle.std.specs.Prelude.{IfOk};
 ghost use Rattle.fz_table.specs.Layouts.{IsLayoutOf};
 
-use crate::apart::do_differ;
 use crate::columns::columns_of;
 use crate::pairs::{Pairs, pairs_of_two};
 use fz_column::Column;
+use fz_column::apart::do_differ;
 use fz_spec::term::Term;
 use std::alloc::{AllocError, Global};
 

@@ -5,7 +5,6 @@
 //! Up to 1,023 rows and 64 numbers nothing is allocated.
 #![tactic(auto)]
 
-mod apart;
 mod columns;
 mod keep;
 mod keep_pairs;

@@ -1,8 +1,8 @@
 use Rattle.std.proofs.Common.{get_or, pos, arith}
 use Rattle.std.proofs.lemmas.Option.{slice_get-get_or}
 use Rattle.fz_spec.specs.declared.term.Term.TheVariants.{Num}
-use Rattle.fz_table.proofs.Different.{apart_none, apart_more, apart_all}
-use Rattle.fz_table.proofs.apart.do_differ.Goals as goal
+use Rattle.fz_column.proofs.Different.{apart_none, apart_more, apart_all}
+use Rattle.fz_column.proofs.apart.do_differ.Goals as goal
 
 pub loop-place-init : goal.loop-place-init
 loop-place-init c = apart_none c.args.terms.now

@@ -1,11 +1,11 @@
 //! Whether terms are different variables.
 ghost use Rattle.std.specs.Prelude.{◌≡◌, ◌≤◌, length, false, IsTrue};
-ghost use Rattle.fz_table.specs.Rows.{AreApart, IsNotBefore};
+ghost use Rattle.fz_column.specs.Apart.{AreApart, IsNotBefore};
 
 use fz_spec::term::Term;
 
 /// That many terms are looked at, each beside all before it.
-const MOST: usize = 64;
+const MOST: usize = 512;
 
 /// Whether no variable stands at two places. Of many terms it says no.
 pub fn do_differ(terms: &[Term]) -> bool

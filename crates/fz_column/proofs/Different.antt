@@ -5,7 +5,7 @@ use Rattle.std.proofs.lemmas.Bool.{cases_eq, cases_lt}
 use Rattle.std.proofs.lemmas.Option.{slice_get_within}
 use Rattle.fz_spec.specs.declared.term.Term.{Term}
 use Rattle.fz_spec.specs.declared.term.Term.TheVariants.{Var}
-use Rattle.fz_table.specs.Rows.{AreApart, IsNotBefore}
+use Rattle.fz_column.specs.Apart.{AreApart, IsNotBefore}
 
 -- no variable stands at two places before one
 abbrev pub AreApartBelow : List Term → ℕ → Type 0

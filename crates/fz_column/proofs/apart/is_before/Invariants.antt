@@ -1,5 +1,5 @@
-use Rattle.fz_table.specs.Rows.{IsNotBefore}
-use Rattle.fz_table.proofs.apart.is_before.Given as goal
+use Rattle.fz_column.specs.Apart.{IsNotBefore}
+use Rattle.fz_column.proofs.apart.is_before.Given as goal
 
 -- it is none of those so far
 abbrev pub invariant-loop-before : goal.invariant-loop-before

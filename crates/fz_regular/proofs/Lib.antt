@@ -1,0 +1,9 @@
+pub mod BitRows
+pub mod Gathering
+pub mod Stepping
+pub mod Layers
+pub mod Words
+pub mod Lists
+pub mod Filling
+pub mod Numbers
+pub mod Keeping

@@ -1,0 +1,3 @@
+pub mod BitRows
+pub mod Runs
+pub mod Layers
