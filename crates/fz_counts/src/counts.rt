@@ -1,0 +1,50 @@
+//! The values of a cover and the numbers of places that have them.
+ghost use Rattle.std.specs.Prelude.{length, IfOk};
+ghost use Rattle.std.specs.List.{AllByRecursion};
+ghost use Rattle.fz_strength.specs.Counts.{AreCountLines};
+ghost use Rattle.fz_strength.specs.Domains.{IsTermOf};
+ghost use Rattle.fz_prop.specs.Answers.{IsAnswerOf, IsCorrectOf};
+ghost use Rattle.fz_prop.specs.Stores.{Shrinks};
+ghost use Rattle.fz_counts.specs.Counting.{AreCountsOf};
+
+use crate::count::keep_count;
+use fz_prop::{Answer, Change, Store};
+use fz_spec::term::Term;
+use std::alloc::AllocError;
+
+/// Narrows a store so that counts are the numbers of the terms that have the values of a cover.
+///
+/// # Errors
+/// `AllocError` where there is no memory; the store is then narrower, and no assignment is lost.
+pub fn keep_counts(
+    store: &mut Store,
+    terms: &[Term],
+    cover: &[i32],
+    counts: &[Term],
+) -> Result<Answer, AllocError>
+    requires terms { AllByRecursion (IsTermOf (length store.old.doms)) terms.now }
+    requires counts { AllByRecursion (IsTermOf (length store.old.doms)) counts.now }
+    ensures shrinks { Shrinks store.old store.new }
+    ensures correct { IsCorrectOf (AreCountsOf terms.now cover.now counts.now)
+        store.old.doms store.new.doms }
+    ensures answer { IfOk result
+        (λ r. IsAnswerOf r (AreCountsOf terms.now cover.now counts.now)
+        (AreCountLines terms.now cover.now counts.now) store.old.doms store.new.doms) }
+{
+    if cover.len() != counts.len() {
+        return Ok(Answer::Failed);
+    }
+    let mut has_changed = false;
+    for place in 0..cover.len() {
+        match keep_count(store, terms, cover[place], counts[place])? {
+            Change::Wiped => return Ok(Answer::Failed),
+            Change::Changed => has_changed = true,
+            Change::Same => {}
+        }
+    }
+    if has_changed {
+        Ok(Answer::NoFix)
+    } else {
+        Ok(Answer::Fix)
+    }
+}
