@@ -21,4 +21,6 @@ said_of (forms.Regular regular) = regular
 said_of (forms.AllDifferent different) = different
 said_of (forms.HallIntervals intervals) = intervals
 said_of (forms.Disjunctive disjunctive) = disjunctive
+said_of (forms.Inverse inverse) = inverse
+said_of (forms.GlobalCardinality cardinality) = cardinality
 said_of (forms.Awaiting awaiting) = awaiting

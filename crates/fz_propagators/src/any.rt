@@ -15,9 +15,11 @@ use crate::awaiting::Awaiting;
 use fz_alldiff::AllDifferent;
 use fz_arith::Arithmetic;
 use fz_bool::{Clause, Parity};
+use fz_counts::GlobalCardinality;
 use fz_disjunctive::Disjunctive;
 use fz_element::{Element, VariableElement};
 use fz_hall::HallIntervals;
+use fz_inverse::Inverse;
 use fz_kept::Kept;
 use fz_linear::Linear;
 use fz_linreif::ReifiedLinear;
@@ -50,6 +52,8 @@ pub enum AnyPropagator {
     AllDifferent(AllDifferent),
     HallIntervals(HallIntervals),
     Disjunctive(Disjunctive),
+    Inverse(Inverse),
+    GlobalCardinality(GlobalCardinality),
     Awaiting(Awaiting),
 }
 
@@ -149,6 +153,14 @@ impl AnyPropagator {
                 let disjunctive = Disjunctive::new(alloc, starts, durations, usages, *bound)?;
                 Ok(AnyPropagator::Disjunctive(disjunctive))
             }
+            Saying::Inverse(firsts, seconds) => {
+                let inverse = Inverse::new(alloc, firsts, seconds)?;
+                Ok(AnyPropagator::Inverse(inverse))
+            }
+            Saying::Count(terms, cover, counts) => {
+                let cardinality = GlobalCardinality::new(alloc, terms, cover, counts)?;
+                Ok(AnyPropagator::GlobalCardinality(cardinality))
+            }
             Saying::Other(constraint) => {
                 let awaiting = Awaiting::new(alloc, constraint)?;
                 Ok(AnyPropagator::Awaiting(awaiting))
@@ -221,6 +233,8 @@ impl Propagator for AnyPropagator {
             AnyPropagator::AllDifferent(different) => different.propagate(store),
             AnyPropagator::HallIntervals(intervals) => intervals.propagate(store),
             AnyPropagator::Disjunctive(disjunctive) => disjunctive.propagate(store),
+            AnyPropagator::Inverse(inverse) => inverse.propagate(store),
+            AnyPropagator::GlobalCardinality(cardinality) => cardinality.propagate(store),
             AnyPropagator::Awaiting(awaiting) => awaiting.propagate(store),
         }
     }
