@@ -1,9 +1,7 @@
 -- What is kept of three variables: the numbers that lie on a plane with what is left of the others.
-use Rattle.std.proofs.Common.{◌≡◌, ◌∙◌, ◌⊎◌, ℕ, ◌+ℤ◌, List, arith, inl, inr, length, pos, refl, subst, sym}
+use Rattle.std.proofs.Common.{◌≡◌, ◌∙◌, ◌⊎◌, ℕ, List, arith, inl, inr, length, refl, subst, sym}
 use Rattle.std.specs.Prelude.{◌↔◌, ℤ}
 use Rattle.fz_sets.specs.Sets.{IsInSet}
-use Rattle.fz_bits.specs.Windows.{IsBit}
-use Rattle.fz_bits.specs.Words.{AreOnes}
 use Rattle.fz_dom.proofs.Ranges.{least_member}
 use Rattle.fz_dom.specs.Shape.{least}
 use Rattle.fz_dom.specs.declared.change.Change.{Change}
@@ -15,7 +13,7 @@ use Rattle.fz_prop.specs.Stores.{IsChangeAt, Stored}
 use Rattle.fz_prop.proofs.TermChanges.{only_in}
 use Rattle.fz_shift.specs.declared.plane.Plane.{Plane}
 use Rattle.fz_shift.specs.Planes.{AreApart, AreInside, HasPartners, IsOnPlane, PlaneTruth, number_on}
-use Rattle.fz_shift.specs.Points.{AreOfPoints, IsPoint, IsThird, KeepsAt, KeepsTwo}
+use Rattle.fz_shift.specs.Points.{AreOfPoints, IsMade, IsPoint, KeepsAt, KeepsTwo}
 
 -- ---- changes of one variable and of two
 
@@ -51,7 +49,7 @@ pub record ArePairs (p : Plane) (ds : List (List (ℤ × ℤ))) (D E P Q T : ℤ
   pub across : (u : ℤ) → D u ↔ IsInSet (dom_at ds p.across) u
   pub first : (w : ℤ) → E w ↔ IsInSet (dom_at ds p.first) w
   pub matching : AreMatching (IsOnPlane p (dom_at ds p.second)) D E P Q
-  pub thirds : (v : ℤ) → IsInSet (dom_at ds p.second) v → T v ↔ IsThird p (dom_at ds p.second) D E v
+  pub thirds : (v : ℤ) → IsInSet (dom_at ds p.second) v → T v ↔ IsMade p P Q v
 
 point_of_pair : (p : Plane) (ds : List (List (ℤ × ℤ))) (D E P Q T : ℤ → Type 0) (u w : ℤ) → ArePairs p ds D E P Q T → IsPairOf (IsOnPlane p (dom_at ds p.second)) D E u w
     → IsPoint p ds u w (number_on p u w)
@@ -87,12 +85,22 @@ of_points p ds es fs D E P Q T apart are one two =
       second = λ v. (
         (λ is.
             let was = (one.kept v).0 (subst (λ (d : List (ℤ × ℤ)). IsInSet d v) two.second is) in
-            let h = (are.thirds v was.0).0 was.1 in
-            (h.0, h.1, subst (IsPoint p ds h.0 h.1) (sym h.3) (point_of_pair p ds D E P Q T h.0 h.1 are h.2))),
-        (λ h. subst (λ (d : List (ℤ × ℤ)). IsInSet d v) (sym two.second) ((one.kept v).1 (
-          h.2.second,
-          (are.thirds v h.2.second).1 (h.0, h.1, pair_of_point p ds D E P Q T h.0 h.1 v are h.2, h.2.on),
-        ))),
+            let h = (are.thirds v was.0).0 was.1 in (
+              h.0,
+              h.1,
+              record {
+                across = (are.across h.0).0 ((are.matching.firsts h.0).0 h.2).1.first;
+                first = (are.first h.1).0 ((are.matching.seconds h.1).0 h.3).1.second;
+                second = was.0;
+                on = h.4;
+              },
+            )),
+        (λ h.
+            let pair = pair_of_point p ds D E P Q T h.0 h.1 v are h.2 in
+            subst (λ (d : List (ℤ × ℤ)). IsInSet d v) (sym two.second) ((one.kept v).1 (
+              h.2.second,
+              (are.thirds v h.2.second).1 (h.0, h.1, (are.matching.firsts h.0).1 (h.1, pair), (are.matching.seconds h.1).1 (h.0, pair), h.2.on),
+            ))),
       );
     }
 
@@ -114,7 +122,9 @@ all_kept p ds D E P Q T a inside are truth within =
     let v = number_at a p.second in
     let point = point_within p ds a inside truth within in
     let pair = pair_of_point p ds D E P Q T u w v are point in
-    ((are.matching.firsts u).1 (w, pair), (are.matching.seconds w).1 (u, pair), (are.thirds v point.second).1 (u, w, pair, truth))
+    let first = (are.matching.firsts u).1 (w, pair) in
+    let second = (are.matching.seconds w).1 (u, pair) in
+    (first, second, (are.thirds v point.second).1 (u, w, first, second, truth))
 
 -- what is kept has partners
 pub partners_left : (p : Plane) (ds es : List (List (ℤ × ℤ))) → AreOfPoints p ds es → HasPartners p es
@@ -128,23 +138,6 @@ partners_left p ds es are = record {
   second = λ v is.
       let h = (are.second v).0 is in
       (h.0, h.1, (are.across h.0).1 (h.1, v, h.2), (are.first h.1).1 (h.0, v, h.2), h.2.on);
-}
-
--- ---- windows
-
--- the bits of numbers of a narrow second variable
-pub near_pairs : (p : Plane) (ds : List (List (ℤ × ℤ))) (D E P Q : ℤ → Type 0) (base : ℤ) (bits found : ℕ) → ((u : ℤ) → D u ↔ IsInSet (dom_at ds p.across) u)
-    → ((w : ℤ) → E w ↔ IsInSet (dom_at ds p.first) w) → ((v : ℤ) → IsBit base bits v ↔ IsInSet (dom_at ds p.second) v)
-    → AreMatching (IsOnPlane p (dom_at ds p.second)) D E P Q → AreOnes found (λ i. IsThird p (dom_at ds p.second) D E (base +ℤ pos i))
-    → ArePairs p ds D E P Q (IsBit base found)
-near_pairs p ds D E P Q base bits found across first second matching ones = record {
-  across = across;
-  first = first;
-  matching = matching;
-  thirds = λ v is. (
-    (λ bit. subst (IsThird p (dom_at ds p.second) D E) (sym bit.2) ((ones bit.0 bit.1).0 bit.3)),
-    (λ third. let bit = (second v).1 is in (bit.0, bit.1, bit.2, (ones bit.0 bit.1).1 (subst (IsThird p (dom_at ds p.second) D E) bit.2 third))),
-  );
 }
 
 -- ---- where two of the three are fixed

@@ -11,14 +11,17 @@ use Rattle.fz_bits.proofs.Windows.{none_in}
 use Rattle.fz_dom.specs.Changes.{IsFromTo}
 use Rattle.fz_dom.proofs.Runs.{offset_in}
 use Rattle.fz_strength.specs.Domains.{Within, dom_at, number_at}
-use Rattle.fz_prop.specs.Matching.{AreMatching}
+use Rattle.fz_prop.specs.Matching.{AreMatching, IsPairOf}
 use Rattle.fz_prop.specs.Stores.{Shrinks, Stored}
+use Rattle.fz_prop.proofs.Partnering.{matching_as}
 use Rattle.fz_prop.proofs.Steps.{same_shrinks}
 use Rattle.fz_prop.proofs.Twice.{shrinks_twice}
 use Rattle.fz_shift.specs.declared.plane.Plane.{Plane}
-use Rattle.fz_shift.specs.Planes.{IsOnPlane}
+use Rattle.fz_shift.specs.Planes.{IsOnPlane, number_on}
 use Rattle.fz_shift.specs.Points.{IsMade, IsSpared, KeepsAt}
 use Rattle.fz_shift.proofs.Kept.{ArePairs}
+use Rattle.fz_shift.proofs.Thirds.{made_of}
+use Rattle.fz_shift.proofs.Turning.{turned_plane}
 
 -- ---- one variable keeps some numbers, twice
 
@@ -146,21 +149,21 @@ word_more base made M ones x = (
 
 pub far_pairs : (p : Plane) (ds : List (List (ℤ × ℤ))) (D E P Q : ℤ → Type 0) → ((u : ℤ) → D u ↔ IsInSet (dom_at ds p.across) u) → ((w : ℤ) → E w ↔ IsInSet (dom_at ds p.first) w)
     → AreMatching (IsOnPlane p (dom_at ds p.second)) D E P Q → ArePairs p ds D E P Q (IsMade p P Q)
-far_pairs p ds D E P Q across first matching = record {
-  across = across;
-  first = first;
-  matching = matching;
-  thirds = λ v is. (
-    (λ made. (
-      made.0,
-      made.1,
-      record {
-        partners = subst (IsInSet (dom_at ds p.second)) made.4 is;
-        first = ((matching.firsts made.0).0 made.2).1.first;
-        second = ((matching.seconds made.1).0 made.3).1.second;
-      },
-      made.4,
-    )),
-    (λ third. (third.0, third.1, (matching.firsts third.0).1 (third.1, third.2), (matching.seconds third.1).1 (third.0, third.2), third.3)),
-  );
-}
+far_pairs p ds D E P Q across first matching = record { across = across; first = first; matching = matching; thirds = λ v is. ((λ made. made), (λ made. made)) }
+
+-- where the second variable is narrow
+pub near_pairs : (p : Plane) (ds : List (List (ℤ × ℤ))) (D E P Q V L T : ℤ → Type 0) → ((u : ℤ) → D u ↔ IsInSet (dom_at ds p.across) u) → ((w : ℤ) → E w ↔ IsInSet (dom_at ds p.first) w)
+    → ((v : ℤ) → V v ↔ IsInSet (dom_at ds p.second) v) → AreMatching (λ u w. V (number_on p u w)) D E P Q → AreMatching (λ u v. Q (number_on (turned_plane p) u v)) P V L T → ArePairs p ds D E P Q T
+near_pairs p ds D E P Q V L T across first second found thirds =
+    let are = matching_as (λ u w. V (number_on p u w)) D E P Q (λ u w. IsPairOf (IsOnPlane p (dom_at ds p.second)) D E u w)
+    (λ u w. (
+      (λ q. record { partners = (second (number_on p u w)).0 q.partners; first = q.first; second = q.second }),
+      (λ q. record { partners = (second (number_on p u w)).1 q.partners; first = q.first; second = q.second }),
+    )) found in
+    let made = made_of p P Q V L T thirds in
+    record {
+      across = across;
+      first = first;
+      matching = record { firsts = are.0; seconds = are.1 };
+      thirds = λ v is. ((λ third. ((made v).0 third).1), (λ h. (made v).1 ((second v).1 is, h)));
+    }

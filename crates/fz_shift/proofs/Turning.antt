@@ -1,12 +1,12 @@
 -- A plane said the other way round, of the first variable less the second.
 use Rattle.std.proofs.Common.{◌≡◌, ◌*◌, ℕ, List, ap, arith, refl, subst, zero, suc}
-use Rattle.std.specs.Prelude.{ℤ, pos, negsuc, neg_ℤ, ◌*ℤ◌}
+use Rattle.std.specs.Prelude.{ℤ, pos, negsuc, neg_ℤ, ◌*ℤ◌, ◌≤ℤ◌}
 use Rattle.std.proofs.lemmas.Int.{ints}
 use Rattle.fz_sets.specs.Sets.{IsInSet}
 use Rattle.fz_strength.specs.Domains.{dom_at, number_at}
 use Rattle.fz_shift.specs.declared.plane.Plane.{Plane}
 use Rattle.fz_prop.specs.Truths.{IsSame}
-use Rattle.fz_shift.specs.Planes.{AreInside, HasPartners, PlaneTruth, number_on}
+use Rattle.fz_shift.specs.Planes.{AreInside, HasPartners, IsSmall, PlaneTruth, number_on}
 
 neg_neg : (n : ℕ) → pos n ≡ neg_ℤ (neg_ℤ (pos n))
 neg_neg zero = refl
@@ -36,6 +36,12 @@ turned_back p u w v on = let e = neg_times p.factor u in omega (arith, ints, on,
 
 pub turned_truth : (p : Plane) (a : List ℤ) → PlaneTruth p a → PlaneTruth (turned_plane p) a
 turned_truth p a on = turned_number p (number_at a p.across) (number_at a p.first) (number_at a p.second) on
+
+pub turned_small : (p : Plane) → IsSmall p → p.number ≤ℤ pos 2147483647 → IsSmall (turned_plane p)
+turned_small p small most =
+    let low = small.least in
+    let high = small.most in
+    record { least = omega (arith, ints, high); most = omega (arith, ints, low); number = omega (arith, ints, most) }
 
 pub turned_inside : (p : Plane) (size : ℕ) → AreInside size p → AreInside size (turned_plane p)
 turned_inside p size inside = record { across = inside.across; first = inside.second; second = inside.first }

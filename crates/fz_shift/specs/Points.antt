@@ -4,13 +4,8 @@ use Rattle.fz_sets.specs.Sets.{IsInSet}
 use Rattle.fz_bits.specs.Words.{HasBit}
 use Rattle.fz_dom.specs.Changes.{IsKeeping}
 use Rattle.fz_strength.specs.Domains.{dom_at}
-use Rattle.fz_prop.specs.Matching.{IsPairOf}
 use Rattle.fz_shift.specs.declared.plane.Plane.{Plane}
-use Rattle.fz_shift.specs.Planes.{IsOnPlane, number_on}
-
--- a number of the second variable that lies on it with a pair of the other two
-abbrev pub IsThird : Plane → List (ℤ × ℤ) → (ℤ → Type 0) → (ℤ → Type 0) → ℤ → Type 0
-IsThird p second D E v = (u : ℤ) × (w : ℤ) × IsPairOf (IsOnPlane p second) D E u w × (v ≡ number_on p u w)
+use Rattle.fz_shift.specs.Planes.{number_on}
 
 -- a number that numbers of two properties make
 abbrev pub IsMade : Plane → (ℤ → Type 0) → (ℤ → Type 0) → ℤ → Type 0

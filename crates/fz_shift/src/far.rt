@@ -12,10 +12,11 @@ ghost use Rattle.fz_shift.specs.Planes.{AreApart, AreInside, IsSmall, PlaneTruth
 ghost use Rattle.fz_shift.specs.Points.{AreOfPoints, IsMade, IsSpared, KeepsAt};
 
 use crate::keeping::keep_two;
-use crate::matching::{Matches, matches_of, seconds_of};
+use crate::matching::{OnDomain, seconds_of};
 use crate::plane::Plane;
 use fz_bits::Window;
 use fz_bits::word::{bits_above, first_run, without};
+use fz_prop::matching::related;
 use fz_prop::{Change, Store};
 use std::alloc::AllocError;
 
@@ -43,39 +44,44 @@ pub fn keep_far(
     ensures some { IfOk result (λ b. (a : List ℤ) → PlaneTruth plane a
         → Within store.old.doms a → IsTrue b) }
 {
-    // Any base would do: its bits of the second variable aren't read.
-    let found = matches_of(plane, across, first, store.dom(plane.second), 0);
-    if !keep_seconds(store, plane, found)? {
+    let second = store.dom(plane.second);
+    let found = related(across, first, &OnDomain { plane, second });
+    if !keep_seconds(store, plane, found.firsts, found.seconds)? {
         return Ok(false);
     }
-    keep_two(store, plane, found)
+    keep_two(store, plane, found.firsts, found.seconds)
 }
 
 /// Keeps the numbers of the second variable that numbers across and of the first one make, and says whether there are some.
-fn keep_seconds(store: &mut Store, plane: Plane, found: Matches) -> Result<bool, AllocError>
+fn keep_seconds(
+    store: &mut Store,
+    plane: Plane,
+    across: Window,
+    first: Window,
+) -> Result<bool, AllocError>
     requires inside { AreInside (length store.old.doms) plane }
     requires small { IsSmall plane }
-    requires across_room { HasRoom found.across.base }
+    requires across_room { HasRoom across.base }
     ensures shrinks { Shrinks store.old store.new }
     ensures stays { (a : List ℤ) → Within store.old.doms a
-        → IsMade plane (λ u. IsBit found.across.base found.across.bits u)
-        (λ w. IsBit found.first.base found.first.bits w) (number_at a plane.second)
+        → IsMade plane (λ u. IsBit across.base across.bits u)
+        (λ w. IsBit first.base first.bits w) (number_at a plane.second)
         → Within store.new.doms a }
     ensures kept { IfOk result (λ b. IsTrue b → KeepsAt plane.second
-        (IsMade plane (λ u. IsBit found.across.base found.across.bits u)
-        (λ w. IsBit found.first.base found.first.bits w)) store.old.doms store.new.doms) }
+        (IsMade plane (λ u. IsBit across.base across.bits u)
+        (λ w. IsBit first.base first.bits w)) store.old.doms store.new.doms) }
     ensures some { IfOk result (λ b. (a : List ℤ) → Within store.old.doms a
-        → IsMade plane (λ u. IsBit found.across.base found.across.bits u)
-        (λ w. IsBit found.first.base found.first.bits w) (number_at a plane.second)
+        → IsMade plane (λ u. IsBit across.base across.bits u)
+        (λ w. IsBit first.base first.bits w) (number_at a plane.second)
         → IsTrue b) }
 {
-    if found.across.bits == 0 {
+    if across.bits == 0 {
         return Ok(false);
     }
     let mut base = i64::from(store.dom(plane.second).min());
     let high = i64::from(store.dom(plane.second).max());
     'words: while base <= high {
-        let made = seconds_of(plane, found.across, found.first, base);
+        let made = seconds_of(plane, across, first, base as i32);
         if !keep_made(store, plane.second, base, made)? {
             return Ok(false);
         }

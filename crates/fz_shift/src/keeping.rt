@@ -9,9 +9,10 @@ ghost use Rattle.fz_prop.specs.Stores.{Shrinks};
 ghost use Rattle.fz_shift.specs.Planes.{AreApart, AreInside, IsSmall, PlaneTruth};
 ghost use Rattle.fz_shift.specs.Points.{AreOfPoints, KeepsAt, KeepsTwo};
 
-use crate::matching::{Matches, matches_of};
+use crate::matching::OnWindow;
 use crate::plane::Plane;
 use fz_bits::Window;
+use fz_prop::matching::related;
 use fz_prop::{Change, Store};
 use std::alloc::AllocError;
 
@@ -42,40 +43,45 @@ pub fn keep_near(
     ensures some { IfOk result (λ b. (a : List ℤ) → PlaneTruth plane a
         → Within store.old.doms a → IsTrue b) }
 {
-    let base = i64::from(second.base);
-    let found = matches_of(plane, across, first, store.dom(plane.second), base);
-    let seconds = Window {
-        base: second.base,
-        bits: found.second,
+    let found = related(across, first, &OnWindow { plane, second });
+    let made = OnWindow {
+        plane: plane.turned(),
+        second: found.seconds,
     };
-    if !keep_some(store, plane.second, seconds)? {
+    let thirds = related(found.firsts, second, &made);
+    if !keep_some(store, plane.second, thirds.seconds)? {
         return Ok(false);
     }
-    keep_two(store, plane, found)
+    keep_two(store, plane, found.firsts, found.seconds)
 }
 
 /// Keeps numbers across and of the first variable, and says whether there are some.
-pub fn keep_two(store: &mut Store, plane: Plane, kept: Matches) -> Result<bool, AllocError>
+pub fn keep_two(
+    store: &mut Store,
+    plane: Plane,
+    across: Window,
+    first: Window,
+) -> Result<bool, AllocError>
     requires inside { AreInside (length store.old.doms) plane }
     requires apart { AreApart plane }
-    requires across_room { HasRoom kept.across.base }
-    requires first_room { HasRoom kept.first.base }
+    requires across_room { HasRoom across.base }
+    requires first_room { HasRoom first.base }
     ensures shrinks { Shrinks store.old store.new }
     ensures stays { (a : List ℤ) → Within store.old.doms a
-        → IsBit kept.across.base kept.across.bits (number_at a plane.across)
-        → IsBit kept.first.base kept.first.bits (number_at a plane.first)
+        → IsBit across.base across.bits (number_at a plane.across)
+        → IsBit first.base first.bits (number_at a plane.first)
         → Within store.new.doms a }
     ensures two { IfOk result (λ b. IsTrue b
-        → KeepsTwo plane (λ u. IsBit kept.across.base kept.across.bits u)
-        (λ w. IsBit kept.first.base kept.first.bits w) store.old.doms store.new.doms) }
+        → KeepsTwo plane (λ u. IsBit across.base across.bits u)
+        (λ w. IsBit first.base first.bits w) store.old.doms store.new.doms) }
     ensures some { IfOk result (λ b. (a : List ℤ) → Within store.old.doms a
-        → IsBit kept.across.base kept.across.bits (number_at a plane.across)
-        → IsBit kept.first.base kept.first.bits (number_at a plane.first) → IsTrue b) }
+        → IsBit across.base across.bits (number_at a plane.across)
+        → IsBit first.base first.bits (number_at a plane.first) → IsTrue b) }
 {
-    if !keep_some(store, plane.first, kept.first)? {
+    if !keep_some(store, plane.first, first)? {
         return Ok(false);
     }
-    keep_some(store, plane.across, kept.across)
+    keep_some(store, plane.across, across)
 }
 
 /// Keeps the numbers of a variable that are those of a window, and says whether there are some.

@@ -1,80 +1,66 @@
-//! The numbers of windows that lie on a plane, where the second variable has a domain.
-ghost use Rattle.std.specs.Prelude.{◌≡◌, ◌↔◌, ◌≤ℤ◌, ◌+ℤ◌, ◌^◌, ℤ, pos, neg_ℤ};
+//! The numbers that lie on a plane with those of a third variable.
+ghost use Rattle.std.specs.Prelude.{◌≡◌, ◌≤ℤ◌, ◌+ℤ◌, ◌^◌, pos, neg_ℤ};
 ghost use Rattle.fz_bits.specs.Windows.{IsBit};
 ghost use Rattle.fz_bits.specs.Words.{AreOnes};
-ghost use Rattle.fz_prop.specs.Matching.{AreMatching, HasRoom};
+ghost use Rattle.fz_prop.specs.Matching.{HasRoom};
 ghost use Rattle.fz_shift.specs.Planes.{IsOnPlane, IsSmall, number_on};
-ghost use Rattle.fz_shift.specs.Points.{IsMade, IsThird};
+ghost use Rattle.fz_shift.specs.Points.{IsMade};
 
 use crate::plane::Plane;
 use fz_bits::Window;
-use fz_bits::word::{common, either, lowered, raised};
+use fz_bits::word::{common, lowered, raised};
 use fz_dom::Dom;
+use fz_prop::matching::{Partners, related};
 
-/// Numbers across, numbers of the first variable, and bits of numbers of the second.
+/// Partners of numbers across are those of the first variable with which they lie on a plane, at a number of the second's domain.
 #[derive(Clone, Copy)]
-pub struct Matches {
-    pub across: Window,
-    pub first: Window,
-    pub second: u64,
+pub struct OnDomain<'d> {
+    pub plane: Plane,
+    pub second: &'d Dom,
 }
 
-/// The numbers of two windows that lie on a plane with one another and a number of the second variable's domain, and of these the bits,
-/// where bit 0 stands for a base.
-pub fn matches_of(plane: Plane, across: Window, first: Window, second: &Dom, base: i64) -> Matches
-    requires small { IsSmall plane }
-    requires across_room { HasRoom across.base }
-    ensures across_base { result.across.base ≡ across.base }
-    ensures first_base { result.first.base ≡ first.base }
-    ensures matching { AreMatching (IsOnPlane plane second.now)
-        (λ u. IsBit across.base across.bits u) (λ w. IsBit first.base first.bits w)
-        (λ u. IsBit across.base result.across.bits u)
-        (λ w. IsBit first.base result.first.bits w) }
-    ensures seconds { AreOnes result.second (λ i. IsThird plane second.now
-        (λ u. IsBit across.base across.bits u) (λ w. IsBit first.base first.bits w)
-        (base +ℤ pos i)) }
-{
-    let mut kept = Window::none(across.base);
-    let mut firsts = Window::none(first.base);
-    let mut seconds = 0;
-    let mut left = across;
-    'numbers: while left.bits != 0 {
-        let number = left.first();
-        left = left.without(number);
-        let from = number_on(plane, number, first.base);
-        let shared = common(first.bits, second.word_at(from));
-        if shared != 0 {
-            kept = kept.with(number);
-            firsts = Window {
-                base: first.base,
-                bits: either(firsts.bits, shared),
-            };
-            seconds = either(seconds, rebased(shared, from, base));
-        }
+impl Partners for OnDomain<'_> {
+    ghost are_partners = { λ s. IsOnPlane s.plane s.second.now };
+
+    ghost takes = { λ s base. IsSmall s.plane };
+
+    fn among(&self, first: i32, seconds: Window) -> u64 {
+        let from = number_on(self.plane, first, seconds.base);
+        common(self.second.word_at(from), seconds.bits)
     }
-    Matches {
-        across: kept,
-        first: firsts,
-        second: seconds,
+}
+
+/// The same, at a number of a window.
+#[derive(Clone, Copy)]
+pub struct OnWindow {
+    pub plane: Plane,
+    pub second: Window,
+}
+
+impl Partners for OnWindow {
+    ghost are_partners = { λ s u w. IsBit s.second.base s.second.bits (number_on s.plane u w) };
+
+    ghost takes = { λ s base. IsSmall s.plane };
+
+    fn among(&self, first: i32, seconds: Window) -> u64 {
+        let from = number_on(self.plane, first, seconds.base);
+        let base = i64::from(self.second.base);
+        common(rebased(self.second.bits, base, from), seconds.bits)
     }
 }
 
 /// The numbers of the second variable that the numbers of two windows make, as bits, where bit 0 stands for a base.
-pub fn seconds_of(plane: Plane, across: Window, first: Window, base: i64) -> u64
+pub fn seconds_of(plane: Plane, across: Window, first: Window, base: i32) -> u64
     requires small { IsSmall plane }
     requires across_room { HasRoom across.base }
     ensures { AreOnes result (λ i. IsMade plane (λ u. IsBit across.base across.bits u)
         (λ w. IsBit first.base first.bits w) (base +ℤ pos i)) }
 {
-    let mut seconds = 0;
-    let mut left = across;
-    'numbers: while left.bits != 0 {
-        let number = left.first();
-        left = left.without(number);
-        let from = number_on(plane, number, first.base);
-        seconds = either(seconds, rebased(first.bits, from, base));
-    }
-    seconds
+    let made = OnWindow {
+        plane: plane.turned(),
+        second: first,
+    };
+    related(across, Window::all(base), &made).seconds.bits
 }
 
 /// The bits of the same numbers, where bit 0 stood for one base and is to stand for another; those that leave the word are lost.

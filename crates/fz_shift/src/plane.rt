@@ -28,7 +28,7 @@ pub struct Plane {
 
 impl Plane {
     /// The same, of the first less the second.
-    fn turned(self) -> Plane
+    pub(crate) fn turned(self) -> Plane
         requires { IsSmall self }
         ensures { result ≡ record {
           across = self.across;

@@ -1,20 +1,22 @@
 use Rattle.std.proofs.Common.{◌≡◌, ◌∙◌, ◌<◌, ◌<ℤ◌, ◌+ℤ◌, ◌-ℤ◌, arith, of_z, pos, rules, to_z, w32, w64}
-use Rattle.std.specs.Prelude.{ℤ, nat_abs}
+use Rattle.std.specs.Prelude.{◌↔◌, ℤ, List, nat_abs}
 use Rattle.std.proofs.lemmas.Int.{ints}
 use Rattle.std.proofs.Math.Facts.{to_z-of_z}
 use mir.Val.{SFits}
 use Rattle.fz_bits.specs.Windows.{IsBit}
-use Rattle.fz_strength.specs.Domains.{number_at}
+use Rattle.fz_strength.specs.Domains.{Within, number_at}
 use Rattle.fz_prop.proofs.Twice.{shrinks_twice}
 use Rattle.fz_shift.specs.Points.{IsMade, IsSpared}
 use Rattle.fz_shift.proofs.Leaving.{keeps_as, kept_more, kept_none, still_within, word_more}
+use Rattle.fz_shift.proofs.far.keep_seconds.Goals.{After-seconds_of-made}
 use Rattle.fz_shift.proofs.far.keep_seconds.Goals as goal
 
 pub words-init : goal.words-init
 words-init c =
     let p = c.args.plane in
-    let found = c.args.found in
-    let M : ℤ → Type 0 = IsMade p (λ u. IsBit found.across.base found.across.bits u) (λ w. IsBit found.first.base found.first.bits w) in
+    let across = c.args.across in
+    let first = c.args.first in
+    let M : ℤ → Type 0 = IsMade p (λ u. IsBit across.base across.bits u) (λ w. IsBit first.base first.bits w) in
     let s = c.args.store.now in
     let fits_min : SFits w32 c.min.result = search rules in
     let fits_max : SFits w32 c.max.result = search rules in
@@ -40,73 +42,47 @@ returns-in_err-keep_made-clause-shrinks c = shrinks_twice c.args.store.now c.wor
 pub returns-then-not-branch-clause-shrinks : goal.returns-then-not-branch-clause-shrinks
 returns-then-not-branch-clause-shrinks c = shrinks_twice c.args.store.now c.words.store c.keep_made.new.store c.words.invariant.kept.shrinks c.keep_made.ensures.shrinks
 
+-- the numbers that are made
+abbrev made : After-seconds_of-made → ℤ → Type 0
+made c = IsMade c.args.plane (λ u. IsBit c.args.across.base c.args.across.bits u) (λ w. IsBit c.args.first.base c.args.first.bits w)
+
+more : (c : After-seconds_of-made) (x : ℤ)
+    → (x <ℤ (to_z w64 c.words.base-bits +ℤ pos 64) → made c x) ↔ ((x <ℤ to_z w64 c.words.base-bits → made c x) × IsSpared (to_z w64 c.words.base-bits) c.seconds_of-made.result x)
+more c =
+    let base : ℤ = to_z w64 c.words.base-bits in
+    let floor = c.words.invariant.floor in
+    let most = c.words.invariant.most in
+    let test = c.words-test.true in
+    let far_high : SFits w64 c.from-high.result = search rules in
+    let same = to_z-of_z far_high in
+    let fits : SFits w32 base = omega (arith, ints, floor, most, test, same) in
+    word_more base c.seconds_of-made.result (made c) (rw (to_z-of_z fits) at c.seconds_of-made.ensures)
+
+-- an assignment whose number is made is left, and its number spared
+spared : (c : After-seconds_of-made) (a : List ℤ) → Within c.args.store.now.doms a → made c (number_at a c.args.plane.second)
+    → Within c.words.store.doms a × IsSpared (to_z w64 c.words.base-bits) c.seconds_of-made.result (number_at a c.args.plane.second)
+spared c a within is = (
+  still_within c.args.plane.second (λ x. x <ℤ to_z w64 c.words.base-bits → made c x) c.args.store.now c.words.store a c.words.invariant.kept within (λ below. is),
+  ((more c (number_at a c.args.plane.second)).0 (λ below. is)).1,
+)
+
 pub returns-in_err-keep_made-clause-stays : goal.returns-in_err-keep_made-clause-stays
 returns-in_err-keep_made-clause-stays c = λ a within is.
-    let p = c.args.plane in
-    let found = c.args.found in
-    let v = p.second in
-    let P : ℤ → Type 0 = λ u. IsBit found.across.base found.across.bits u in
-    let Q : ℤ → Type 0 = λ w. IsBit found.first.base found.first.bits w in
-    let M : ℤ → Type 0 = IsMade p P Q in
-    let s = c.args.store.now in
-    let t = c.words.store in
-    let base : ℤ = to_z w64 c.words.base-bits in
-    let u = c.keep_made.new.store in
-    let made = c.seconds_of-made.result in
-    let more = word_more base made M c.seconds_of-made.ensures in
-    let x = number_at a v in
-    let within_t = still_within v (λ (y : ℤ). y <ℤ base → M y) s t a c.words.invariant.kept within (λ below. is) in
-    let spared = ((more x).0 (λ below. is)).1 in
-    c.keep_made.ensures.stays a within_t spared
+    let h = spared (goal.at.returns-in_err-keep_made-clause-stays c).After-seconds_of-made a within is in
+    c.keep_made.ensures.stays a h.0 h.1
 
 pub returns-then-not-branch-clause-stays : goal.returns-then-not-branch-clause-stays
 returns-then-not-branch-clause-stays c = λ a within is.
-    let p = c.args.plane in
-    let found = c.args.found in
-    let v = p.second in
-    let P : ℤ → Type 0 = λ u. IsBit found.across.base found.across.bits u in
-    let Q : ℤ → Type 0 = λ w. IsBit found.first.base found.first.bits w in
-    let M : ℤ → Type 0 = IsMade p P Q in
-    let s = c.args.store.now in
-    let t = c.words.store in
-    let base : ℤ = to_z w64 c.words.base-bits in
-    let u = c.keep_made.new.store in
-    let made = c.seconds_of-made.result in
-    let more = word_more base made M c.seconds_of-made.ensures in
-    let x = number_at a v in
-    let within_t = still_within v (λ (y : ℤ). y <ℤ base → M y) s t a c.words.invariant.kept within (λ below. is) in
-    let spared = ((more x).0 (λ below. is)).1 in
-    c.keep_made.ensures.stays a within_t spared
+    let h = spared (goal.at.returns-then-not-branch-clause-stays c).After-seconds_of-made a within is in
+    c.keep_made.ensures.stays a h.0 h.1
 
 pub returns-then-not-branch-clause-some : goal.returns-then-not-branch-clause-some
 returns-then-not-branch-clause-some c = λ a within is.
-    let p = c.args.plane in
-    let found = c.args.found in
-    let v = p.second in
-    let P : ℤ → Type 0 = λ u. IsBit found.across.base found.across.bits u in
-    let Q : ℤ → Type 0 = λ w. IsBit found.first.base found.first.bits w in
-    let M : ℤ → Type 0 = IsMade p P Q in
-    let s = c.args.store.now in
-    let t = c.words.store in
-    let base : ℤ = to_z w64 c.words.base-bits in
-    let u = c.keep_made.new.store in
-    let made = c.seconds_of-made.result in
-    let more = word_more base made M c.seconds_of-made.ensures in
-    let x = number_at a v in
-    let within_t = still_within v (λ (y : ℤ). y <ℤ base → M y) s t a c.words.invariant.kept within (λ below. is) in
-    let spared = ((more x).0 (λ below. is)).1 in
-    rw c.if-not-branch.true at (c.in_ok-keep_made.ensures.some a within_t spared)
+    let h = spared (goal.at.returns-then-not-branch-clause-some c).After-seconds_of-made a within is in
+    rw c.if-not-branch.true at (c.in_ok-keep_made.ensures.some a h.0 h.1)
 
 pub words-smaller : goal.words-smaller
 words-smaller c =
-    let p = c.args.plane in
-    let found = c.args.found in
-    let v = p.second in
-    let P : ℤ → Type 0 = λ u. IsBit found.across.base found.across.bits u in
-    let Q : ℤ → Type 0 = λ w. IsBit found.first.base found.first.bits w in
-    let M : ℤ → Type 0 = IsMade p P Q in
-    let s = c.args.store.now in
-    let t = c.words.store in
     let base : ℤ = to_z w64 c.words.base-bits in
     let high : ℤ = to_z w64 (of_z w64 c.from-high.result) in
     let floor = c.words.invariant.floor in
@@ -121,18 +97,8 @@ words-smaller c =
 
 pub words-preserved : goal.words-preserved
 words-preserved c =
-    let p = c.args.plane in
-    let found = c.args.found in
-    let v = p.second in
-    let P : ℤ → Type 0 = λ u. IsBit found.across.base found.across.bits u in
-    let Q : ℤ → Type 0 = λ w. IsBit found.first.base found.first.bits w in
-    let M : ℤ → Type 0 = IsMade p P Q in
-    let s = c.args.store.now in
-    let t = c.words.store in
+    let after = (goal.at.words-preserved c).After-seconds_of-made in
     let base : ℤ = to_z w64 c.words.base-bits in
-    let u = c.keep_made.new.store in
-    let made = c.seconds_of-made.result in
-    let more = word_more base made M c.seconds_of-made.ensures in
     let high : ℤ = to_z w64 (of_z w64 c.from-high.result) in
     let floor = c.words.invariant.floor in
     let ceiling = c.words.invariant.ceiling in
@@ -142,7 +108,8 @@ words-preserved c =
     let same : high ≡ c.from-high.result = to_z-of_z far_high in
     let next : SFits w64 (base +ℤ pos 64) = omega (arith, ints, floor, ceiling, most) in
     rw (to_z-of_z next) (record {
-      kept = kept_more v (λ x. x <ℤ base → M x) (IsSpared base made) (λ x. x <ℤ (base +ℤ pos 64) → M x) s t u (λ x is. more x) c.words.invariant.kept c.keep_made.ensures.shrinks
+      kept = kept_more c.args.plane.second (λ x. x <ℤ base → made after x) (IsSpared base c.seconds_of-made.result) (λ x. x <ℤ (base +ℤ pos 64) → made after x) c.args.store.now c.words.store c.keep_made.new.store
+          (λ x is. more after x) c.words.invariant.kept c.keep_made.ensures.shrinks
           (c.in_ok-keep_made.ensures.kept (search rules));
       floor = omega (arith, ints, floor);
       ceiling = omega (arith, ints, test, same);
@@ -153,10 +120,11 @@ words-preserved c =
 pub returns-clause-stays : goal.returns-clause-stays
 returns-clause-stays c = λ a within is.
     let p = c.args.plane in
-    let found = c.args.found in
+    let across = c.args.across in
+    let first = c.args.first in
     let v = p.second in
-    let P : ℤ → Type 0 = λ u. IsBit found.across.base found.across.bits u in
-    let Q : ℤ → Type 0 = λ w. IsBit found.first.base found.first.bits w in
+    let P : ℤ → Type 0 = λ u. IsBit across.base across.bits u in
+    let Q : ℤ → Type 0 = λ w. IsBit first.base first.bits w in
     let M : ℤ → Type 0 = IsMade p P Q in
     let s = c.args.store.now in
     let t = c.words.store in
@@ -166,10 +134,11 @@ returns-clause-stays c = λ a within is.
 pub returns-clause-kept : goal.returns-clause-kept
 returns-clause-kept c = λ yes.
     let p = c.args.plane in
-    let found = c.args.found in
+    let across = c.args.across in
+    let first = c.args.first in
     let v = p.second in
-    let P : ℤ → Type 0 = λ u. IsBit found.across.base found.across.bits u in
-    let Q : ℤ → Type 0 = λ w. IsBit found.first.base found.first.bits w in
+    let P : ℤ → Type 0 = λ u. IsBit across.base across.bits u in
+    let Q : ℤ → Type 0 = λ w. IsBit first.base first.bits w in
     let M : ℤ → Type 0 = IsMade p P Q in
     let s = c.args.store.now in
     let t = c.words.store in

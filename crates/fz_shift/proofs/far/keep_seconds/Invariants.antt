@@ -9,7 +9,7 @@ use Rattle.fz_shift.proofs.far.keep_seconds.Given as goal
 -- the numbers below the base are kept where they are made
 abbrev pub invariant-words : goal.invariant-words
 invariant-words l = record {
-  kept : HasKept l.plane.second (λ x. x <ℤ l.base → IsMade l.plane (λ u. IsBit l.found.across.base l.found.across.bits u) (λ w. IsBit l.found.first.base l.found.first.bits w) x) l.fn.store l.store;
+  kept : HasKept l.plane.second (λ x. x <ℤ l.base → IsMade l.plane (λ u. IsBit l.across.base l.across.bits u) (λ w. IsBit l.first.base l.first.bits w) x) l.fn.store l.store;
   floor : LEAST ≤ℤ l.base;
   ceiling : l.base ≤ℤ (l.high +ℤ pos 64);
   most : l.high ≤ℤ GREATEST;

@@ -10,5 +10,5 @@ returns-clause-shrinks c = shrinks_twice c.args.store.now c.keep_some.new.store 
 
 pub returns-clause-two : goal.returns-clause-two
 returns-clause-two c = IfOk-weaker c.keep_some-2.result _ _ (λ b kept yes.
-    two_kept c.args.plane (λ u. IsBit c.args.kept.across.base c.args.kept.across.bits u) (λ w. IsBit c.args.kept.first.base c.args.kept.first.bits w)
+    two_kept c.args.plane (λ u. IsBit c.args.across.base c.args.across.bits u) (λ w. IsBit c.args.first.base c.args.first.bits w)
     c.args.store.now.doms c.keep_some.new.store.doms c.keep_some-2.new.store.doms c.requires.apart (c.in_ok-keep_some.ensures.kept (search rules)) (kept yes)) c.keep_some-2.ensures.kept
