@@ -15,8 +15,10 @@ use Rattle.fz_dom.proofs.Runs.{offset_in}
 use Rattle.fz_spec.specs.declared.term.Term.{Term}
 use Rattle.fz_strength.specs.Domains.{term_set}
 use Rattle.fz_strength.specs.VariableElements.{StandsAt, IsMatch}
+use Rattle.fz_prop.specs.Matching.{AreMatching}
 use Rattle.fz_prop.proofs.Grown.{same_or_other, in_more, in_before, in_last, limits_more}
-use Rattle.fz_element.specs.Matching.{IsMatchedAt, IsMatchedBy, AreMatches, AreAllMatched, AreFound, AreShared}
+use Rattle.fz_prop.proofs.Partnering.{matching_as}
+use Rattle.fz_element.specs.Matching.{IsLeftAt, IsMatchedAt, IsMatchedBy, AreMatches, AreAllMatched, AreFound, AreShared}
 
 -- ---- terms at an index
 
@@ -150,6 +152,26 @@ match_is (Some d) xs k c x ds e j stands index same shared =
     let are = matches_at xs k c x ds e d j stands index same shared.0 in
     let first = (least_member d shared.2 shared.1.0).0 in
     ((_, (are (least d)).0 first), shared.1, are)
+
+-- ---- near matches
+
+-- the bits of what is left of the term at an index
+pub left_ones : (xs : List Term) (x : Term) (ds : List (List (ℤ × ℤ))) (j base : ℤ) (word : ℕ) → StandsAt j xs x → AreOnes word (λ i. IsInSet (term_set ds x) (base +ℤ pos i))
+    → AreOnes word (λ i. IsLeftAt xs ds j (base +ℤ pos i))
+left_ones xs x ds j base word stands ones = λ i small. (
+  (λ bit. (x, stands, (ones i small).0 bit)),
+  (λ h. (ones i small).1 (subst (λ (y : Term). IsInSet (term_set ds y) (base +ℤ pos i)) (stands_only j xs h.0 x h.1 stands) h.2)),
+)
+
+pub near_are : (xs : List Term) (k c : Term) (ds : List (List (ℤ × ℤ))) (D E P Q : ℤ → Type 0) → ((i : ℤ) → D i ↔ IsInSet (term_set ds k) i) → ((n : ℤ) → E n ↔ IsInSet (term_set ds c) n)
+    → AreMatching (λ i n. IsLeftAt xs ds i n) D E P Q → AreMatches xs k c ds P Q
+near_are xs k c ds D E P Q indices values h =
+    let are = matching_as (λ i n. IsLeftAt xs ds i n) D E P Q (λ i n. IsMatch xs k c ds i n)
+    (λ i n. (
+      (λ p. record { term = p.partners.0; stands = p.partners.1; index = (indices i).0 p.first; there = p.partners.2; value = (values n).0 p.second }),
+      (λ m. record { partners = (m.term, m.stands, m.there); first = (indices i).1 m.index; second = (values n).1 m.value }),
+    )) h in
+    record { indices_are = are.0; numbers_are = are.1 }
 
 -- ---- words
 

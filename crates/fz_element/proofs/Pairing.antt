@@ -10,9 +10,11 @@ use Rattle.fz_dom.proofs.Ranges.{AreRanges-head, AreRanges-tail, above_gap, prop
 use Rattle.std.proofs.lemmas.Option.{slice_get_within}
 use Rattle.fz_bits.specs.Words.{AreOnes}
 use Rattle.fz_bits.specs.Windows.{IsBit}
-use Rattle.fz_sets.specs.Sets.{IsInRange, IsInSet, IsWithinLimits, AreOneSet, AreRanges, AreWithinLimits}
+use Rattle.fz_sets.specs.Sets.{IsInRange, IsInSet, IsWithinLimits, AreOneSet, AreRanges}
 use Rattle.fz_spec.specs.Truth.{IsElement}
+use Rattle.fz_prop.specs.Matching.{AreMatching}
 use Rattle.fz_prop.proofs.Grown.{same_or_other, in_more, in_before, in_last, limits_more}
+use Rattle.fz_prop.proofs.Partnering.{matching_as}
 use Rattle.fz_element.specs.Selecting.{IsPair, ArePairs, ArePairsBelow, AreAllPairs}
 
 -- ---- elements
@@ -123,6 +125,28 @@ pairs_all xs D E indices numbers s t h is_s is_t = record {
   indices_are = λ k. ((λ is. (h.pairs.indices_are k).0 ((is_s k).0 is)), (λ p. (is_s k).1 ((h.pairs.indices_are k).1 p)));
   numbers_are = λ n. ((λ is. (h.pairs.numbers_are n).0 ((is_t n).0 is)), (λ p. (is_t n).1 ((h.pairs.numbers_are n).1 p)));
 }
+
+-- ---- near pairs
+
+-- the partners of an index are the number that stands there
+pub one_number : (xs : List ℤ) (j number base : ℤ) (bits none one : ℕ) → IsElement j xs number → IsBit base bits number → ((m : ℤ) → IsBit base none m → ⊥)
+    → ((m : ℤ) → IsBit base one m ↔ (IsBit base none m ⊎ (m ≡ number))) → (m : ℤ) → IsBit base one m ↔ (IsElement j xs m × IsBit base bits m)
+one_number xs j number base bits none one stands has empty with m = (
+  (λ is. elim ((with m).0 is) [
+    | inl before ↦ absurd (empty m before)
+    | inr same ↦ (subst (λ (n : ℤ). IsElement j xs n) (sym same) stands, subst (λ (n : ℤ). IsBit base bits n) (sym same) has)
+  ]),
+  (λ h. (with m).1 (inr (element_only j xs m number h.0 stands))),
+)
+
+pub near_are : (xs : List ℤ) (D E F G P Q : ℤ → Type 0) → ((k : ℤ) → D k ↔ F k) → ((n : ℤ) → E n ↔ G n) → AreMatching (λ k n. IsElement k xs n) D E P Q → ArePairs xs F G P Q
+near_are xs D E F G P Q indices values h =
+    let are = matching_as (λ k n. IsElement k xs n) D E P Q (λ k n. IsPair xs F G k n)
+    (λ k n. (
+      (λ p. record { stands = p.partners; index = (indices k).0 p.first; number = (values n).0 p.second }),
+      (λ p. record { partners = p.stands; first = (indices k).1 p.index; second = (values n).1 p.number }),
+    )) h in
+    record { indices_are = are.0; numbers_are = are.1 }
 
 -- ---- an index that is a number
 

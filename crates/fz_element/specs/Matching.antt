@@ -1,5 +1,5 @@
 -- An index into a list of terms: when an assignment makes it true, its matches, and what is done of the work on a store.
-use Rattle.std.specs.Prelude.{◌≡◌, ◌⊎◌, ℕ, ◌<◌, ℤ, pos, ◌+ℤ◌, ◌↔◌, List, length}
+use Rattle.std.specs.Prelude.{◌≡◌, ℕ, ◌<◌, ℤ, pos, ◌+ℤ◌, ◌↔◌, List, length}
 use Rattle.fz_bits.specs.Words.{HasBit}
 use Rattle.fz_sets.specs.Sets.{IsInSet}
 use Rattle.fz_dom.specs.Shape.{IsDomain}
@@ -9,13 +9,17 @@ use Rattle.fz_spec.specs.declared.term.Term.{Term}
 use Rattle.fz_spec.specs.Constraints.{term_value, term_values}
 use Rattle.fz_spec.specs.Truth.{IsElement}
 use Rattle.fz_strength.specs.Domains.{term_set, Within, room}
-use Rattle.fz_strength.specs.VariableElements.{IsMatch, IsVariableElementLine}
+use Rattle.fz_strength.specs.VariableElements.{StandsAt, IsMatch, IsVariableElementLine}
 use Rattle.fz_prop.specs.Stores.{Stored}
 
 abbrev pub IsChosen : List Term → Term → Term → List ℤ → Type 0
 IsChosen xs k c a = IsElement (term_value a k) (term_values a xs) (term_value a c)
 
 -- ---- matches
+
+-- a number that is left of the term at an index
+abbrev pub IsLeftAt : List Term → List (List (ℤ × ℤ)) → ℤ → ℤ → Type 0
+IsLeftAt xs ds i n = (x : Term) × StandsAt i xs x × IsInSet (term_set ds x) n
 
 -- an index, and a number, that has a match
 abbrev pub IsMatchedAt : List Term → Term → Term → List (List (ℤ × ℤ)) → ℤ → Type 0
@@ -28,11 +32,6 @@ IsMatchedBy xs k c ds n = (i : ℤ) × IsMatch xs k c ds i n
 pub record AreMatches (xs : List Term) (k c : Term) (ds : List (List (ℤ × ℤ))) (P Q : ℤ → Type 0) : Type 0 where
   pub indices_are : (i : ℤ) → P i ↔ IsMatchedAt xs k c ds i
   pub numbers_are : (n : ℤ) → Q n ↔ IsMatchedBy xs k c ds n
-
--- indices and numbers, and the matches at one more index
-pub record IsJoined (xs : List Term) (k c : Term) (ds : List (List (ℤ × ℤ))) (j : ℤ) (P Q R S : ℤ → Type 0) : Type 0 where
-  pub indices_are : (i : ℤ) → R i ↔ (P i ⊎ ((i ≡ j) × IsMatchedAt xs k c ds j))
-  pub numbers_are : (n : ℤ) → S n ↔ (Q n ⊎ IsMatch xs k c ds j n)
 
 -- each index that is left and each number that is left of c has a match
 pub record AreAllMatched (xs : List Term) (k c : Term) (ds : List (List (ℤ × ℤ))) : Type 0 where

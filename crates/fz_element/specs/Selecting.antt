@@ -1,5 +1,5 @@
 -- An index into a list of numbers: when an assignment makes it true, its line, and what its propagator makes.
-use Rattle.std.specs.Prelude.{◌≡◌, ◌↔◌, ◌⊎◌, ℤ, pos, ◌+ℤ◌, ◌≤ℤ◌, ◌<ℤ◌, List}
+use Rattle.std.specs.Prelude.{◌↔◌, ℤ, pos, ◌+ℤ◌, ◌≤ℤ◌, ◌<ℤ◌, List}
 use Rattle.std.specs.List.{AllByRecursion}
 use Rattle.fz_sets.specs.Sets.{IsInSet, AreWithinLimits}
 use Rattle.fz_bits.specs.declared.window.Window.{Window}
@@ -42,11 +42,6 @@ pub record AreAllPairs (xs : List ℤ) (D E : ℤ → Type 0) (indices numbers :
   pub pairs : ArePairs xs D E (λ k. IsInSet indices k) (λ n. IsInSet numbers n)
   pub index_limits : AreWithinLimits indices
   pub number_limits : AreWithinLimits numbers
-
--- indices and numbers, and the pair of one more index, if its number has the property
-pub record IsJoined (xs : List ℤ) (j : ℤ) (E P Q R S : ℤ → Type 0) : Type 0 where
-  pub indices_are : (k : ℤ) → R k ↔ (P k ⊎ ((k ≡ j) × ((n : ℤ) × IsElement j xs n × E n)))
-  pub numbers_are : (n : ℤ) → S n ↔ (Q n ⊎ (IsElement j xs n × E n))
 
 -- ---- what a term is to keep
 

@@ -6,9 +6,10 @@ ghost use Rattle.fz_prop.specs.Stores.{FitsTerm};
 ghost use Rattle.fz_element.specs.Selecting.{ArePairs, Has, AreWithin};
 
 use crate::far::far_pairs;
-use crate::near::near_pairs;
-use crate::numbers::Pairs;
+use crate::near::Standing;
+use crate::numbers::{Numbers, Pairs};
 use fz_prop::Store;
+use fz_prop::matching::related;
 use fz_prop::terms::window_of;
 use fz_spec::term::Term;
 use std::alloc::{AllocError, Global};
@@ -38,5 +39,9 @@ pub fn pairs_of(
     let Some(values) = window_of(store, value) else {
         return far_pairs(alloc, store, index, numbers, value);
     };
-    Ok(near_pairs(numbers, indices, values))
+    let pairs = related(indices, values, &Standing { numbers });
+    Ok(Pairs {
+        indices: Numbers::Near(pairs.firsts),
+        values: Numbers::Near(pairs.seconds),
+    })
 }

@@ -1,16 +1,15 @@
-use Rattle.std.proofs.Common.{◌≡◌, true, false, ℕ, ◌+◌, ◌<◌, ◌≤◌, List, inl, refl, ap, sym, subst, arith, rules, length, get_or}
+use Rattle.std.proofs.Common.{◌≡◌, true, false, ℕ, ◌<◌, ◌≤◌, List, inl, refl, ap, arith, rules, length, get_or}
 use Rattle.std.specs.Prelude.{ℤ, pos, ◌+ℤ◌, ◌<ℤ◌, ◌≤ℤ◌}
 use Rattle.std.specs.Int.{int_max, int_min}
 use Rattle.std.proofs.lemmas.Int.{ints, clamps}
 use Rattle.std.proofs.lemmas.Result.{on_ok_weaker}
 use Rattle.std.proofs.Math.Facts.{to_z-of_z}
-use mir.Val.{SFits, to_z, of_z}
+use mir.Val.{SFits, to_z}
 use mir.Syntax.{w32}
 use lib.Signed.{lt_z}
 use Rattle.fz_sets.specs.Sets.{IsInSet, IsWithinLimits}
 use Rattle.fz_dom.specs.Shape.{IsDomain}
 use Rattle.fz_strength.specs.Domains.{dom_at, term_set}
-use Rattle.fz_element.specs.Selecting.{IsPair, ArePairsBelow}
 use Rattle.fz_element.proofs.Pairing.{pairs_none, pairs_whole, element_from, element_to, only_index, in_at, high_limits, reached_start, reached_low, reached_more, reached_passed, reached_all}
 use Rattle.fz_element.proofs.far.add_pairs.Goals.{then-from-until+in_ok-add_range, else-from-until}
 use Rattle.fz_element.proofs.far.add_pairs.Goals as goal
