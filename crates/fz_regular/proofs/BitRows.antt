@@ -1,13 +1,11 @@
 -- Rows of bits.
-use Rattle.std.proofs.Common.{◌≡◌, ℕ, ◌+◌, ◌*◌, ◌/◌, ◌%◌, ◌<◌, ◌≤◌, ◌⊎◌, inl, inr, refl, sym, ap, subst, ◌∙◌, arith, List, length, get_or, set, zero, suc}
-use Rattle.std.specs.Prelude.{◌↔◌}
-use Rattle.std.proofs.lemmas.Bool.{cases_eq}
-use Rattle.std.proofs.lemmas.List.{get_or-set_same, get_or-set_other, length-set}
-use Rattle.std.proofs.lemmas.Nat.{div-mul-add, mod-mul-add, mul-add-lt, row_fits}
+use Rattle.std.proofs.Common.{◌≡◌, ℕ, ◌+◌, ◌*◌, ◌/◌, ◌%◌, ◌<◌, sym, ap, ◌∙◌, arith, List, length, get_or, set}
+use Rattle.std.proofs.lemmas.List.{get_or-set_other}
+use Rattle.std.proofs.lemmas.Nat.{div-mul-add, mod-mul-add}
 use Rattle.std.proofs.lemmas.Nat.Bits.{bit_at-zero}
-use Rattle.fz_bits.specs.Words.{HasBit, AreOnes}
+use Rattle.fz_bits.specs.Words.{HasBit}
 use Rattle.fz_regular.specs.declared.bit_rows.BitRows.{BitRows}
-use Rattle.fz_regular.specs.BitRows.{Has, HasRow, word_at}
+use Rattle.fz_regular.specs.BitRows.{HasRow}
 
 pub no_bit : (k : ℕ) → HasBit 0 k → ⊥
 no_bit k one = let z = bit_at-zero k in omega (arith, z, one)

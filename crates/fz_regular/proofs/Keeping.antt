@@ -1,5 +1,5 @@
 -- Keeping each term to the numbers that stand at its place of a list which is accepted.
-use Rattle.std.proofs.Common.{◌≡◌, ℕ, zero, suc, ◌+◌, ◌<◌, ◌≤◌, List, [], ◌∷◌, inl, inr, refl, sym, ap, subst, ◌∙◌, arith, length, option_map, true, false, Bool}
+use Rattle.std.proofs.Common.{◌≡◌, ℕ, ◌+◌, ◌<◌, ◌≤◌, List, [], ◌∷◌, inl, inr, refl, sym, ap, subst, ◌∙◌, arith, length, option_map, true, false, Bool}
 use Rattle.std.specs.Prelude.{ℤ, slice_get, Some, ◌↔◌}
 use Rattle.std.specs.List.{AllByRecursion}
 use Rattle.std.proofs.lemmas.Bool.{cases_eq}
@@ -12,7 +12,7 @@ use Rattle.fz_dom.specs.declared.change.Change.TheVariants.{Same, Changed, Wiped
 use Rattle.fz_spec.specs.declared.term.Term.{Term}
 use Rattle.fz_spec.specs.declared.term.Term.TheVariants.{Num, Var}
 use Rattle.fz_spec.specs.Constraints.{term_value, term_values}
-use Rattle.fz_spec.specs.Truth.{Automaton, IsAccepted}
+use Rattle.fz_spec.specs.Truth.{Automaton}
 use Rattle.fz_strength.specs.Domains.{dom_at, term_set, room, AreDomains, Within, IsNarrower, IsTermOf}
 use Rattle.fz_strength.specs.Events.{IsFixedIn, AllFixed, AreSingle}
 use Rattle.fz_strength.specs.Tables.{LieWithin}
@@ -29,7 +29,7 @@ use Rattle.fz_prop.proofs.Twice.{shrinks_twice, room_after}
 use Rattle.fz_regular.specs.declared.bit_rows.BitRows.{BitRows}
 use Rattle.fz_regular.specs.BitRows.{Has}
 use Rattle.fz_column.specs.Apart.{AreApart}
-use Rattle.fz_regular.specs.Runs.{number, AreInWords, IsAcceptedAt, IsInRow}
+use Rattle.fz_regular.specs.Runs.{number, AreInWords, IsAcceptedAt}
 
 -- a list has a number at each place before its end
 number_at_place : (ns : List ℤ) (j n : ℕ) → length ns ≡ n → j < n → (m : ℤ) × (slice_get ns j ≡ Some m)

@@ -1,11 +1,11 @@
 -- Layers of states, forward and backward.
-use Rattle.std.proofs.Common.{◌≡◌, ℕ, zero, suc, ◌+◌, ◌-◌, ◌*◌, ◌/◌, ◌<◌, ◌≤◌, ◌⊎◌, inl, inr, refl, sym, subst, ◌∙◌, arith, length}
+use Rattle.std.proofs.Common.{◌≡◌, ℕ, zero, suc, ◌+◌, ◌-◌, ◌<◌, ◌≤◌, ◌⊎◌, inl, inr, refl, sym, subst, ◌∙◌, arith, length}
 use Rattle.std.specs.Prelude.{◌↔◌}
-use Rattle.std.proofs.lemmas.Bool.{cases_eq, cases_lt}
+use Rattle.std.proofs.lemmas.Bool.{cases_eq}
 use Rattle.fz_spec.specs.Truth.{Automaton, IsState}
 use Rattle.fz_regular.specs.declared.bit_rows.BitRows.{BitRows}
 use Rattle.fz_regular.specs.BitRows.{Has, HasRow, IsNext}
-use Rattle.fz_regular.specs.Layers.{FitsStates, AreReached, IsEnding, AreEnding, LedAt, Leads, LeadsIn, SupportsAt}
+use Rattle.fz_regular.specs.Layers.{FitsStates, AreReached, AreEnding, LedAt, Leads, LeadsIn, SupportsAt}
 use Rattle.fz_regular.specs.Runs.{number, LeadsTo, IsReached, IsAccepting, CanEnd, IsOnTheWay}
 use Rattle.fz_regular.proofs.Stepping.{number_same}
 use Rattle.fz_regular.proofs.Gathering.{IsNextOf, Gathered, Filtered, filtered_after}

@@ -1,16 +1,15 @@
 -- The state to which a symbol leads from a state.
-use Rattle.std.proofs.Common.{◌≡◌, ℕ, ◌+◌, ◌*◌, ◌<◌, ◌≤◌, ◌⊎◌, inl, inr, List, sym, ap, subst, ◌∙◌, arith}
+use Rattle.std.proofs.Common.{◌≡◌, ℕ, ◌+◌, ◌*◌, ◌<◌, ◌≤◌, ◌⊎◌, inl, inr, sym, ap, subst, ◌∙◌, arith}
 use Rattle.std.specs.Prelude.{ℤ, pos, ◌-ℤ◌, ◌+ℤ◌, ◌*ℤ◌, ◌↔◌, Bool, IsTrue, Option, Some, None, MatchOption, slice_get}
 use Rattle.std.proofs.Math.IntN.{pos-*ℤ-pos}
 use Rattle.std.proofs.lemmas.Int.{ints}
 use Rattle.std.proofs.lemmas.Nat.{mul-le}
-use Rattle.fz_sets.specs.Sets.{IsInSet}
-use Rattle.fz_spec.specs.Truth.{Automaton, IsElement, IsState, IsSymbol, IsStep, next_place}
+use Rattle.fz_spec.specs.Truth.{Automaton, IsElement, IsState, IsSymbol, next_place}
 use Rattle.fz_spec.proofs.Automata.{one_element}
 use Rattle.fz_regular.specs.declared.bit_rows.BitRows.{BitRows}
 use Rattle.fz_regular.specs.BitRows.{Has}
 use Rattle.fz_regular.specs.Layers.{LeadsAt, LeadsIn}
-use Rattle.fz_regular.specs.Runs.{number, LeadsTo, IsAccepting}
+use Rattle.fz_regular.specs.Runs.{number, LeadsTo}
 
 pub number_same : (p r : ℕ) → number p ≡ number r → p ≡ r
 number_same p r e = omega (arith, ints, e)
@@ -42,12 +41,6 @@ leads_nowhere m p k symbols e none r leads =
     let same : at.0 ≡ p * symbols + k = (let first = at.1 in let here = place_is m p k symbols e in omega (arith, ints, first, here)) in
     let there : slice_get m.next (p * symbols + k) ≡ Some (number r) = subst (λ (i : ℕ). slice_get m.next i ≡ Some (number r)) same at.2 in
     absurd (cc (there, none))
-
-pub accepts_by : (m : Automaton) (set : List (ℤ × ℤ)) (p : ℕ) (n : ℤ) (b : Bool) → set ≡ m.accepting → n ≡ number p → IsState m (number p) → (IsTrue b ↔ IsInSet set n) → IsTrue b ↔ IsAccepting m p
-accepts_by m set p n b is_set is_number state is = (
-  (λ t. (state, subst (λ (s : List (ℤ × ℤ)). IsInSet s (number p)) is_set (subst (IsInSet set) is_number (is.0 t)))),
-  (λ h. is.1 (subst (IsInSet set) (sym is_number) (subst (λ (s : List (ℤ × ℤ)). IsInSet s (number p)) (sym is_set) h.1))),
-)
 
 -- a symbol leads to one state
 leads_once : (m : Automaton) (p k r s : ℕ) → LeadsTo m p k r → LeadsTo m p k s → r ≡ s

@@ -1,5 +1,5 @@
 -- Layers of states as rows of bits, and the symbols at each place.
-use Rattle.std.specs.Prelude.{◌≡◌, ◌↔◌, ◌<◌, ◌≤◌, ◌/◌, ◌-◌, ℕ, suc}
+use Rattle.std.specs.Prelude.{◌≡◌, ◌↔◌, ◌<◌, ◌≤◌, ◌/◌, ◌-◌, ℕ}
 use Rattle.fz_spec.specs.Truth.{Automaton, IsState}
 use Rattle.fz_regular.specs.declared.bit_rows.BitRows.{BitRows}
 use Rattle.fz_regular.specs.BitRows.{Has, HasRow}

@@ -1,4 +1,4 @@
-use Rattle.std.proofs.Common.{ℕ, arith}
+use Rattle.std.proofs.Common.{arith}
 use Rattle.fz_regular.specs.BitRows.{Has}
 use Rattle.fz_regular.specs.Runs.{IsAccepting}
 use Rattle.fz_regular.proofs.Gathering.{filtered_none, filtered_next, filtered_all}

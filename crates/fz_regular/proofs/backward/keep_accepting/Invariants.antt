@@ -1,4 +1,4 @@
-use Rattle.std.proofs.Common.{◌-◌, ◌*◌, ℕ}
+use Rattle.std.proofs.Common.{◌-◌, ◌*◌}
 use Rattle.fz_regular.specs.BitRows.{Has}
 use Rattle.fz_regular.specs.Runs.{IsAccepting}
 use Rattle.fz_regular.proofs.Gathering.{Filtered}

@@ -1,4 +1,4 @@
-use Rattle.std.proofs.Common.{◌≡◌, ℕ, ◌∙◌, inl, inr, refl, sym, subst, arith}
+use Rattle.std.proofs.Common.{◌≡◌, ℕ, inl, inr, refl, sym, subst, arith}
 use Rattle.fz_regular.specs.BitRows.{Has}
 use Rattle.fz_regular.specs.Layers.{LeadsIn}
 use Rattle.fz_regular.proofs.Gathering.{gathered_none, gathered_more, gathered_all, found_none, found_next, found_all}

@@ -2,7 +2,7 @@ use Rattle.std.proofs.Common.{ℕ, inl, inr, arith}
 use Rattle.fz_regular.specs.BitRows.{Has}
 use Rattle.fz_regular.specs.Layers.{LedAt}
 use Rattle.fz_regular.proofs.Gathering.{gathered_none, gathered_more, gathered_all}
-use Rattle.fz_regular.proofs.Layers.{alike_self, alike_twice, row_alike, fits_alike, next_of, next_same, none_same, same_before}
+use Rattle.fz_regular.proofs.Layers.{alike_self, alike_twice, row_alike, fits_alike, next_same, none_same, same_before}
 use Rattle.fz_regular.proofs.forward.step.Goals as goal
 
 pub states-init : goal.states-init

@@ -1,5 +1,4 @@
 use Rattle.std.proofs.Common.{refl}
-use Rattle.std.specs.Prelude.{ℤ, List}
 use Rattle.fz_spec.specs.Constraints.{term_values}
 use Rattle.fz_regular.proofs.Keeping.{fixed_answer, value_word}
 use Rattle.fz_regular.proofs.keep.keep_accepted.Goals as goal

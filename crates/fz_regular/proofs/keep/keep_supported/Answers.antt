@@ -1,5 +1,4 @@
-use Rattle.std.proofs.Common.{◌≡◌, refl, rules, arith, sym, pos}
-use Rattle.std.specs.Prelude.{slice_get, Some}
+use Rattle.std.proofs.Common.{rules, arith, pos}
 use Rattle.std.proofs.lemmas.Option.{slice_get-get_or, slice_get_within}
 use Rattle.fz_spec.specs.declared.term.Term.TheVariants.{Num}
 use Rattle.fz_regular.specs.Runs.{IsInRow}

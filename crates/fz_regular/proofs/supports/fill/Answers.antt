@@ -1,4 +1,4 @@
-use Rattle.std.proofs.Common.{◌≡◌, ℕ, rules, arith, to_z, of_z, w32}
+use Rattle.std.proofs.Common.{◌≡◌, rules, arith, to_z, of_z, w32}
 use Rattle.fz_strength.specs.Domains.{term_set}
 use Rattle.fz_regular.proofs.Layers.{alike_self, alike_twice, row_alike}
 use Rattle.fz_regular.proofs.Filling.{filled_more}

@@ -1,8 +1,11 @@
-use Rattle.std.proofs.Common.{◌≡◌, ◌+◌, ℕ, arith, length}
-use Rattle.std.specs.Prelude.{IsNone}
+use Rattle.std.proofs.Common.{arith, length}
 use Rattle.fz_regular.specs.BitRows.{Has}
+use Rattle.fz_regular.proofs.Filling.{fits_states}
 use Rattle.fz_regular.proofs.Layers.{reached_state, ending_last}
 use Rattle.fz_regular.proofs.supports.on_the_way.Goals as goal
+
+pub reach-requires-clause-states : goal.reach-requires-clause-states
+reach-requires-clause-states c = fits_states c.args.automaton.now c.in_ok-layers.layers c.states.result c.in_ok-layers.ensures.width c.states.ensures.states
 
 pub keep_accepting-requires-clause-states : goal.keep_accepting-requires-clause-states
 keep_accepting-requires-clause-states c = λ p has.

@@ -1,4 +1,4 @@
-use Rattle.std.proofs.Common.{◌≡◌, ℕ, pos, ◌∙◌, arith, length, get_or}
+use Rattle.std.proofs.Common.{pos, ◌∙◌, arith, length}
 use Rattle.std.proofs.lemmas.Option.{slice_get-get_or}
 use Rattle.fz_sets.proofs.Lists.{all_at}
 use Rattle.fz_spec.specs.declared.term.Term.TheVariants.{Num}

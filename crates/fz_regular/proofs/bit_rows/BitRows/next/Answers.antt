@@ -1,7 +1,5 @@
-use Rattle.std.proofs.Common.{◌≡◌, ◌<◌, ◌≤◌, ◌+◌, ◌*◌, ◌/◌, ◌%◌, ℕ, sym, subst, arith}
-use Rattle.std.specs.Prelude.{MatchOption, Option}
+use Rattle.std.proofs.Common.{◌<◌, ◌+◌, ◌%◌, ℕ, subst, arith}
 use Rattle.fz_bits.specs.Words.{HasBit, AreOnes}
-use Rattle.fz_regular.specs.BitRows.{Has, IsNext, word_at}
 use Rattle.fz_regular.proofs.Words.{IsMoved, next_here, next_or}
 use Rattle.fz_regular.proofs.bit_rows.BitRows.next.Goals as goal
 

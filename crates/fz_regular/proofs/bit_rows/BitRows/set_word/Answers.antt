@@ -1,4 +1,4 @@
-use Rattle.std.proofs.Common.{◌≡◌, ◌/◌, ◌%◌, ℕ, sym, subst}
+use Rattle.std.proofs.Common.{◌/◌, ◌%◌, ℕ, sym, subst}
 use Rattle.fz_bits.specs.Words.{HasBit}
 use Rattle.fz_regular.proofs.BitRows.{other_word}
 use Rattle.fz_regular.proofs.bit_rows.BitRows.set_word.Goals as goal
