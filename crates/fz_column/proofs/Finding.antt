@@ -39,12 +39,6 @@ joining_more column dom ranges rest r old rows new is more same h = record {
   size = same ∙ h.size;
 }
 
-pub joining_all : (column : List Support) (dom ranges : List (ℤ × ℤ)) (old rows : List ℕ) → ranges ≡ [] → AreJoining column dom ranges old rows
-    → (i : ℕ) → HasMember rows i ↔ (HasMember old i ⊎ IsLeftIn column dom i)
-joining_all column dom ranges old rows none h = λ i.
-    let all = rw none at h.joining i in
-    ((λ has. all.0 (inl has)), (λ g. elim (all.1 g) [ inl has ↦ has | inr w ↦ absurd w.2 ]))
-
 -- numbers that are found, and those that the ranges that are left have, are all that are to be found
 abbrev pub AreGathering : List Support → List ℕ → List (ℤ × ℤ) → List (ℤ × ℤ) → List (ℤ × ℤ) → Type 0
 AreGathering column rows dom rest numbers = (n : ℤ) → (IsInSet numbers n ⊎ (IsInSet rest n × StandsIn column rows n)) ↔ (IsInSet dom n × StandsIn column rows n)
