@@ -14,7 +14,7 @@ use Rattle.fz_prop.specs.Outcomes.{rested_by}
 use Rattle.fz_bits.specs.Words.{AreOnes}
 use Rattle.fz_bits.specs.Windows.{IsBit}
 use Rattle.fz_table.specs.declared.keep_pairs.Left.{Left}
-use Rattle.fz_table.specs.declared.matching.Matches.{Matches}
+use Rattle.fz_prop.specs.declared.matching.Matches.{Matches}
 use Rattle.fz_table.specs.declared.pairs.Pairs.{Pairs}
 use Rattle.fz_table.specs.Lefts.{AreLeftOf}
 use Rattle.fz_prop.specs.Matching.{IsPairOf, AreMatching}
@@ -116,9 +116,9 @@ bit_of : (base : ℤ) (word k : ℕ) (D : ℤ → Type 0) → AreOnes word (λ i
 bit_of base word k D ones small n at is = (k, small, at, (ones k small).1 (subst D at is))
 
 pub left_matching : (table : List ℤ) (pairs : Pairs) (left : Left) (kept : Matches) (x y : Term) (ds : List (List (ℤ × ℤ))) → ArePairsOf table pairs → AreLeftOf left pairs ds x y
-    → kept.firsts.base ≡ left.first.base → kept.seconds.base ≡ pairs.base
+    → kept.firsts.base ≡ left.first.base → kept.seconds.base ≡ left.second.base
     → AreMatching (ArePartners pairs) (λ n. IsBit left.first.base left.first.bits n) (λ m. IsBit left.second.base left.second.bits m)
-    (λ n. IsBit left.first.base kept.firsts.bits n) (λ m. IsBit pairs.base kept.seconds.bits m)
+    (λ n. IsBit left.first.base kept.firsts.bits n) (λ m. IsBit left.second.base kept.seconds.bits m)
     → MatchLeft (IsRowOfTwo table) x y ds (λ n. IsBit kept.firsts.base kept.firsts.bits n) (λ m. IsBit kept.seconds.base kept.seconds.bits m)
 left_matching table pairs left kept x y ds are is first_base second_base h =
     let D : ℤ → Type 0 = λ n. IsInSet (term_set ds x) n in

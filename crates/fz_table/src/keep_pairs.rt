@@ -10,9 +10,9 @@ ghost use Rattle.fz_table.specs.Partners.{ArePairsOf};
 ghost use Rattle.fz_table.specs.Lefts.{AreLeftOf};
 ghost use Rattle.fz_table.specs.Rows.{IsRowAt};
 
-use crate::matching::matches_of;
 use crate::pairs::Pairs;
 use fz_bits::Window;
+use fz_prop::matching::related;
 use fz_prop::terms::{keep_window, value_of, word_of};
 use fz_prop::{Answer, Change, Store};
 use fz_spec::term::Term;
@@ -63,7 +63,7 @@ pub fn keep_pairs(
 {
     let _ = table;
     let left = left_of(store, first, second, pairs);
-    let kept = matches_of(pairs, left.first, left.second);
+    let kept = related(left.first, left.second, pairs);
     let change = keep_window(store, first, kept.firsts)?;
     if let Change::Wiped = change {
         return Ok(Answer::Failed);

@@ -1,50 +1,21 @@
-//! The numbers of two windows that have a partner in the other.
-ghost use Rattle.std.specs.Prelude.{◌≡◌, ◌↔◌, ◌≤ℤ◌, ℤ, pos, ◌+ℤ◌};
+//! The numbers of two columns that are partners.
+ghost use Rattle.std.specs.Prelude.{◌≡◌, ◌↔◌, ℤ};
 ghost use Rattle.fz_bits.specs.Windows.{IsBit};
-ghost use Rattle.fz_prop.specs.Matching.{AreMatching};
 ghost use Rattle.fz_table.specs.Partners.{ArePartners};
 
 use crate::pairs::Pairs;
 use fz_bits::Window;
-use fz_bits::word::{common, either};
+use fz_bits::word::common;
 use fz_column::places::place_of;
+use fz_prop::matching::Partners;
 
-/// Numbers at the first place, and numbers at the second.
-#[derive(Clone, Copy)]
-pub struct Matches {
-    pub firsts: Window,
-    pub seconds: Window,
-}
+impl Partners for Pairs {
+    ghost are_partners = { λ pairs. ArePartners pairs };
 
-/// The numbers of two windows that have a partner in the other; the second has the base of the pairs.
-pub fn matches_of(pairs: &Pairs, firsts: Window, seconds: Window) -> Matches
-    requires first_base { (firsts.base +ℤ pos 63) ≤ℤ pos 2147483647 }
-    requires second_base { seconds.base ≡ pairs.now.base }
-    ensures first_base { result.firsts.base ≡ firsts.base }
-    ensures second_base { result.seconds.base ≡ pairs.now.base }
-    ensures matching { AreMatching (ArePartners pairs.now)
-        (λ n. IsBit firsts.base firsts.bits n) (λ m. IsBit seconds.base seconds.bits m)
-        (λ n. IsBit firsts.base result.firsts.bits n)
-        (λ m. IsBit pairs.now.base result.seconds.bits m) }
-{
-    let mut kept = Window::none(firsts.base);
-    let mut found = Window::none(pairs.base);
-    let mut left = firsts;
-    'numbers: while left.bits != 0 {
-        let number = left.first();
-        left = left.without(number);
-        let shared = common(partners_of(pairs, number), seconds.bits);
-        if shared != 0 {
-            kept = kept.with(number);
-            found = Window {
-                base: pairs.base,
-                bits: either(found.bits, shared),
-            };
-        }
-    }
-    Matches {
-        firsts: kept,
-        seconds: found,
+    ghost takes = { λ pairs base. base ≡ pairs.base };
+
+    fn among(&self, first: i32, seconds: Window) -> u64 {
+        common(partners_of(self, first), seconds.bits)
     }
 }
 
