@@ -23,7 +23,7 @@ pub fn do_differ(terms: &[Term]) -> bool
 }
 
 /// Whether a term is a variable that stands before a place.
-fn is_before(terms: &[Term], place: usize, term: Term) -> bool
+pub fn is_before(terms: &[Term], place: usize, term: Term) -> bool
     requires { place ≤ length terms.now }
     ensures { result ≡ false → IsNotBefore terms.now place term }
 {

@@ -5,7 +5,8 @@ use Rattle.std.proofs.lemmas.Bool.{cases_eq, cases_lt}
 use Rattle.std.proofs.lemmas.Option.{slice_get_within}
 use Rattle.fz_spec.specs.declared.term.Term.{Term}
 use Rattle.fz_spec.specs.declared.term.Term.TheVariants.{Var}
-use Rattle.fz_inverse.specs.Pointing.{AreApart, IsNotBefore}
+use Rattle.fz_column.specs.Apart.{IsNotBefore}
+use Rattle.fz_inverse.specs.Pointing.{AreApart}
 
 -- so it is of those before a place
 pub record AreApartBelow (fs gs : List Term) (n : ℕ) : Type 0 where

@@ -1,5 +1,5 @@
 -- Terms whose numbers are places of other terms, where each term's own place stands.
-use Rattle.std.specs.Prelude.{◌≡◌, ◌<◌, ℕ, ◌+◌, ℤ, pos, List, slice_get, Some}
+use Rattle.std.specs.Prelude.{◌≡◌, ℕ, ◌+◌, ℤ, pos, List, slice_get, Some}
 use Rattle.fz_sets.specs.Sets.{IsInSet, IsWithinLimits}
 use Rattle.fz_spec.specs.declared.term.Term.{Term}
 use Rattle.fz_spec.specs.declared.term.Term.TheVariants.{Var}
@@ -45,10 +45,6 @@ AreOthers terms others = (i j v : ℕ) → slice_get terms i ≡ Some (Var v) �
 -- none stands at two places
 abbrev pub AreOnce : List Term → Type 0
 AreOnce terms = (i j v : ℕ) → slice_get terms i ≡ Some (Var v) → slice_get terms j ≡ Some (Var v) → i ≡ j
-
--- a term is no variable that stands before a place
-abbrev pub IsNotBefore : List Term → ℕ → Term → Type 0
-IsNotBefore terms place t = (j v : ℕ) → t ≡ Var v → j < place → slice_get terms j ≡ Some (Var v) → ⊥
 
 -- No variable of the second list stands in the first, nor at another place of the second.
 pub record AreApart (fs gs : List Term) : Type 0 where

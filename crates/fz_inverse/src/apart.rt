@@ -1,7 +1,8 @@
 //! Whether the terms of two lists are different variables.
-ghost use Rattle.std.specs.Prelude.{◌≡◌, ◌≤◌, length, false, IsTrue};
-ghost use Rattle.fz_inverse.specs.Pointing.{AreApart, IsNotBefore};
+ghost use Rattle.std.specs.Prelude.{IsTrue};
+ghost use Rattle.fz_inverse.specs.Pointing.{AreApart};
 
+use fz_column::apart::is_before;
 use fz_spec::term::Term;
 
 /// That many terms of a list are looked at, each beside all of the first list and those before it.
@@ -23,20 +24,4 @@ pub fn are_apart(firsts: &[Term], seconds: &[Term]) -> bool
         }
     }
     true
-}
-
-/// Whether a term is a variable that stands before a place.
-fn is_before(terms: &[Term], place: usize, term: Term) -> bool
-    requires { place ≤ length terms.now }
-    ensures { result ≡ false → IsNotBefore terms.now place term }
-{
-    let Term::Var(_) = term else {
-        return false;
-    };
-    for before in 0..place {
-        if terms[before] == term {
-            return true;
-        }
-    }
-    false
 }
