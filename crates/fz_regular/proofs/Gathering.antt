@@ -47,11 +47,6 @@ gathered_more H Q old now new from s next more h i k = (
   ])),
 )
 
--- the next one adds nothing
-pub gathered_passed : (H : ℕ → Type 0) (Q : ℕ → ℕ → ℕ → Type 0) (old now : ℕ → ℕ → Type 0) (from s : ℕ) → IsNextOf H from s → ((i k : ℕ) → Q s i k → ⊥)
-    → Gathered H from Q old now → Gathered H (s + 1) Q old now
-gathered_passed H Q old now from s next none h = gathered_more H Q old now now from s next (λ i k. ((λ is. inl is), (λ is. elim is [ inl was ↦ was | inr q ↦ absurd (none i k q) ]))) h
-
 -- one is added exactly if something holds
 pub added_one : (P : Type 0) (row s : ℕ) (old new : ℕ → ℕ → Type 0) → P → ((i k : ℕ) → new i k ↔ (old i k ⊎ ((i ≡ row) × (k ≡ s)))) → (i k : ℕ) → new i k ↔ (old i k ⊎ ((i ≡ row) × (k ≡ s) × P))
 added_one P row s old new is more i k = (

@@ -7,7 +7,6 @@ use Rattle.fz_regular.specs.declared.bit_rows.BitRows.{BitRows}
 use Rattle.fz_regular.specs.BitRows.{Has, HasRow, IsNext}
 use Rattle.fz_regular.specs.Layers.{FitsStates, AreReached, AreEnding, LedAt, Leads, LeadsIn, SupportsAt}
 use Rattle.fz_regular.specs.Runs.{number, LeadsTo, IsReached, IsAccepting, CanEnd, IsOnTheWay}
-use Rattle.fz_regular.proofs.Stepping.{number_same}
 use Rattle.fz_regular.proofs.Gathering.{IsNextOf, Gathered, Filtered, filtered_after}
 
 -- rows of the same size
@@ -86,24 +85,6 @@ reached_state automaton Allows (suc i) p h = h.4.to
 abbrev pub AreReachedTo : Automaton → BitRows → ℕ → BitRows → Type 0
 AreReachedTo automaton values place layers = (i p : ℕ) → Has layers i p ↔ ((i ≤ place) × IsReached automaton (Has values) i p)
 
-pub reached_start : (automaton : Automaton) (values old new : BitRows) (start : ℕ) → ((i p : ℕ) → Has old i p → ⊥) → automaton.start ≡ number start → IsState automaton (number start)
-    → ((i p : ℕ) → Has new i p ↔ (Has old i p ⊎ ((i ≡ 0) × (p ≡ start)))) → AreReachedTo automaton values 0 new
-reached_start automaton values old new start none is state more zero p = (
-  (λ h. elim ((more 0 p).0 h) [ inl was ↦ absurd (none 0 p was) | inr one ↦ (omega arith, subst (λ (q : ℕ). (automaton.start ≡ number q) × IsState automaton (number q)) (sym one.1) (is, state)) ]),
-  (λ w. (more 0 p).1 (inr (refl, number_same p start (sym w.1.0 ∙ is)))),
-)
-reached_start automaton values old new start none is state more (suc i) p = (
-  (λ h. elim ((more (suc i) p).0 h) [ inl was ↦ absurd (none (suc i) p was) | inr one ↦ (let e = one.0 in absurd (omega (arith, e))) ]),
-  (λ w. let below = w.0 in absurd (omega (arith, below))),
-)
-
-pub reached_nothing : (automaton : Automaton) (values old : BitRows) → ((i p : ℕ) → Has old i p → ⊥) → (IsState automaton automaton.start → ⊥) → AreReachedTo automaton values 0 old
-reached_nothing automaton values old none no_start zero p = (
-  (λ h. absurd (none 0 p h)),
-  (λ w. absurd (no_start (subst (IsState automaton) (sym w.1.0) w.1.1))),
-)
-reached_nothing automaton values old none no_start (suc i) p = ((λ h. absurd (none (suc i) p h)), (λ w. let below = w.0 in absurd (omega (arith, below))))
-
 pub reached_more : (automaton : Automaton) (values old new : BitRows) (place : ℕ)
     → ((i r : ℕ) → Has new i r ↔ (Has old i r ⊎ ((p : ℕ) × Has old place p × LedAt automaton values place (place + 1) p i r)))
     → AreReachedTo automaton values place old → AreReachedTo automaton values (place + 1) new
@@ -123,9 +104,6 @@ reached_more automaton values old new place more h i r = (
     | inr ne ↦ let below = w.0 in inl ((h i r).1 (omega (arith, below, ne), w.1))
   ])),
 )
-
-pub reached_all : (automaton : Automaton) (values layers : BitRows) (place places : ℕ) → place ≡ places → AreReachedTo automaton values place layers → AreReached automaton values places layers
-reached_all automaton values layers place places e h i p inside = ((λ is. ((h i p).0 is).1), (λ w. (h i p).1 (omega (arith, e, inside), w)))
 
 -- ---- backward
 

@@ -1,9 +1,8 @@
 -- The state to which a symbol leads from a state.
-use Rattle.std.proofs.Common.{◌≡◌, ℕ, ◌+◌, ◌*◌, ◌<◌, ◌≤◌, ◌⊎◌, inl, inr, sym, ap, subst, ◌∙◌, arith}
+use Rattle.std.proofs.Common.{◌≡◌, ℕ, ◌+◌, ◌*◌, ◌⊎◌, inl, inr, sym, ap, subst, ◌∙◌, arith}
 use Rattle.std.specs.Prelude.{ℤ, pos, ◌-ℤ◌, ◌+ℤ◌, ◌*ℤ◌, ◌↔◌, Bool, IsTrue, Option, Some, None, MatchOption, slice_get}
 use Rattle.std.proofs.Math.IntN.{pos-*ℤ-pos}
 use Rattle.std.proofs.lemmas.Int.{ints}
-use Rattle.std.proofs.lemmas.Nat.{mul-le}
 use Rattle.fz_spec.specs.Truth.{Automaton, IsElement, IsState, IsSymbol, next_place}
 use Rattle.fz_spec.proofs.Automata.{one_element}
 use Rattle.fz_regular.specs.declared.bit_rows.BitRows.{BitRows}
@@ -11,11 +10,8 @@ use Rattle.fz_regular.specs.BitRows.{Has}
 use Rattle.fz_regular.specs.Layers.{LeadsAt, LeadsIn}
 use Rattle.fz_regular.specs.Runs.{number, LeadsTo}
 
-pub number_same : (p r : ℕ) → number p ≡ number r → p ≡ r
+number_same : (p r : ℕ) → number p ≡ number r → p ≡ r
 number_same p r e = omega (arith, ints, e)
-
-pub place_fits : (p k count symbols : ℕ) → p < count → count ≤ 2147483647 → symbols ≤ 2147483647 → k < symbols → p * symbols + k < 4611686018427387904
-place_fits p k count symbols below few small inside = let most = mul-le p symbols 2147483646 2147483647 (omega (arith, below, few)) small in omega (arith, most, inside, small)
 
 -- where the next state stands in the list, from 0
 place_is : (m : Automaton) (p k symbols : ℕ) → pos symbols ≡ m.symbols → next_place m (number p) (number k) ≡ pos (p * symbols + k + 1)

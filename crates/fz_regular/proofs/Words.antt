@@ -1,5 +1,5 @@
 -- The next bit of a row.
-use Rattle.std.proofs.Common.{◌≡◌, ℕ, ◌^◌, ◌+◌, ◌-◌, ◌*◌, ◌/◌, ◌%◌, ◌<◌, ◌≤◌, inl, inr, sym, subst, ◌∙◌, arith}
+use Rattle.std.proofs.Common.{◌≡◌, ℕ, ◌^◌, ◌+◌, ◌-◌, ◌*◌, ◌/◌, ◌%◌, ◌<◌, ◌≤◌, inl, inr, sym, subst, arith}
 use Rattle.std.specs.Prelude.{Option, Some, None, MatchOption}
 use Rattle.std.specs.Int.{bit_at}
 use Rattle.std.proofs.lemmas.Bool.{cases_lt}
@@ -70,36 +70,3 @@ next_or b row from here (Some s) moved none h = next_later b row from here s mov
 -- none is set in the words from one to another
 abbrev pub AreClear : BitRows → ℕ → ℕ → ℕ → Type 0
 AreClear b row first place = (j : ℕ) → first * 64 ≤ j → j < place * 64 → Has b row j → ⊥
-
-pub clear_none : (b : BitRows) (row first place : ℕ) → place ≤ first → AreClear b row first place
-clear_none b row first place e j above below has = absurd (omega (arith, e, above, below))
-
-pub clear_more : (b : BitRows) (row first place word : ℕ) → word ≡ word_at b row place → word ≡ 0 → AreClear b row first place → AreClear b row first (place + 1)
-clear_more b row first place word is none h j above below has = elim (cases_lt j (place * 64)) [
-  | inl small ↦ h j above small has
-  | inr large ↦
-      let same : j / 64 ≡ place = omega (arith, large, below) in
-      no_bit (j % 64) (subst (λ (w : ℕ). HasBit w (j % 64)) (sym is ∙ none) (subst (λ (p : ℕ). HasBit (word_at b row p) (j % 64)) same has.1))
-]
-
-pub next_in_word : (b : BitRows) (row first place word s : ℕ) → first ≤ place → place < b.width → word ≡ word_at b row place → s < 64 → HasBit word s → ((k : ℕ) → k < s → bit_at word k ≡ 0)
-    → AreClear b row first place → IsNext b row (first * 64) (place * 64 + s)
-next_in_word b row first place word s from inside is small bit none clear =
-    let same : (place * 64 + s) / 64 ≡ place = omega (arith, small) in
-    let at : s ≡ (place * 64 + s) % 64 = omega (arith, small) in
-    record {
-      at_least = omega (arith, from);
-      has = (omega (arith, same, inside), subst (λ (p : ℕ). HasBit (word_at b row p) ((place * 64 + s) % 64)) (sym same) (subst (λ (w : ℕ). HasBit w ((place * 64 + s) % 64)) is (subst (HasBit word) at bit)));
-      first = λ j above below has. elim (cases_lt j (place * 64)) [
-        | inl before ↦ clear j above before has
-        | inr here ↦
-            let there : j / 64 ≡ place = omega (arith, here, below, small) in
-            let low : j % 64 < s = omega (arith, here, below, small) in
-            let zero = none (j % 64) low in
-            let one : HasBit word (j % 64) = subst (λ (w : ℕ). HasBit w (j % 64)) (sym is) (subst (λ (p : ℕ). HasBit (word_at b row p) (j % 64)) there has.1) in
-            omega (arith, zero, one)
-      ];
-    }
-
-pub clear_all : (b : BitRows) (row first place : ℕ) → b.width ≤ place → AreClear b row first place → (j : ℕ) → first * 64 ≤ j → Has b row j → ⊥
-clear_all b row first place end clear j above has = let inside = has.0 in clear j above (omega (arith, inside, end)) has
