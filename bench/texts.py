@@ -1,4 +1,12 @@
 """The text of a model in FlatZinc, as the benchmarks make it."""
+import re
+
+NAMES_OF_GECODE = {
+    "fzn_cumulative": "cumulatives",
+    "fzn_table_int": "gecode_table_int",
+    "fzn_regular": "gecode_regular",
+    "fzn_global_cardinality": "gecode_global_cardinality",
+}
 
 
 def listed(values):
@@ -95,6 +103,18 @@ class Text:
     def cumulative(self, starts, durations, heights, capacity):
         self.add(f"fzn_cumulative({listed(starts)},{listed(durations)},{listed(heights)},{capacity})")
 
+    def regular(self, names, states, symbols, following, start, accepting):
+        """An automaton accepts the numbers: `following` has the next state for each state and symbol, 0 where there is none."""
+        self.add(f"fzn_regular({listed(names)},{states},{symbols},{listed(following)},{start},{accepting})")
+
+    def counts(self, names, cover, counts):
+        """So many of them have each value of the cover."""
+        self.add(f"fzn_global_cardinality({listed(names)},{listed(cover)},{listed(counts)})")
+
+    def inverse(self, firsts, seconds):
+        """Each list is the inverse of the other, from 1 on."""
+        self.add(f"fzn_inverse({listed(firsts)},{listed(seconds)})")
+
     def clause(self, positive, negative):
         self.add(f"bool_clause({listed(positive)},{listed(negative)})")
 
@@ -119,4 +139,7 @@ class Text:
 
     def lines_for_gecode(self):
         """The same in the names that fzn-gecode 6.2 has."""
-        return self.lines().replace("fzn_cumulative(", "cumulatives(").replace("fzn_table_int(", "gecode_table_int(")
+        lines = re.sub(r"fzn_inverse\((\[.*?\]),(\[.*?\])\)", r"inverse_offsets(\1,1,\2,1)", self.lines())
+        for ours, theirs in NAMES_OF_GECODE.items():
+            lines = lines.replace(f"{ours}(", f"{theirs}(")
+        return lines
