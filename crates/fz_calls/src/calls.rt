@@ -8,13 +8,12 @@ use std::thread::Threads;
 
 /// What makes calls of parts.
 #[derive(Drop)]
-pub struct Parts<'r, R> {
-    pub rt: &'r R,
-}
+pub struct Parts;
 
-impl<R: Threads + Wait + Sync> Calls for Parts<'_, R> {
-    fn answer_of(
+impl Calls for Parts {
+    fn answer_of<R: Threads + Wait + Sync>(
         &self,
+        rt: &R,
         alloc: Global,
         case: &Case,
         call: &str,
@@ -30,8 +29,8 @@ impl<R: Threads + Wait + Sync> Calls for Parts<'_, R> {
             b"book" => books::run(alloc, &case.text, &case.steps)?,
             b"search" => books::search(alloc, &case.text, rest)?,
             b"seeds" => seeds::run(alloc, &case.text, rest)?,
-            b"collecting" => collecting::run(self.rt, alloc, &case.text)?,
-            b"team" => collecting::team(self.rt, alloc, &case.text)?,
+            b"collecting" => collecting::run(rt, alloc, &case.text)?,
+            b"team" => collecting::team(rt, alloc, &case.text)?,
             b"frontier" => frontiers::run(alloc, rest, &case.steps)?,
             b"domain" => domains::run(alloc, rest, &case.steps)?,
             b"true" => truth_of(alloc, rest, 0)?,

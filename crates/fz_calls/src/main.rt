@@ -36,11 +36,10 @@ fn main(rt: HostRuntime) -> ExitCode {
 
 /// Runs the cases of the files that the arguments name, and prints what comes of them.
 fn run_all<R: Env + Files + Print + AllocGlobal + Threads + Wait + Sync>(rt: &R) -> io::Result<()> {
-    let calls = Parts { rt };
     for name in env::args(rt)?.skip(1) {
         let text = fs::read_to_string(rt, &name)?;
         let mut report = Report::new(rt.alloc(), &name);
-        report.run(&calls, &text)?;
+        report.run(rt, &Parts, &text)?;
         let told = report.text()?;
         print!(rt; "{told}")?;
     }

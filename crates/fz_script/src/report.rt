@@ -2,12 +2,15 @@
 use crate::answer::Answer;
 use crate::case::Case;
 use std::alloc::{AllocError, Global};
+use std::sync::Wait;
+use std::thread::Threads;
 
 /// What makes the calls of a case.
 pub trait Calls {
     /// What a call of a case answers; none where it is no call.
-    fn answer_of(
+    fn answer_of<R: Threads + Wait + Sync>(
         &self,
+        rt: &R,
         alloc: Global,
         case: &Case,
         call: &str,
@@ -47,28 +50,38 @@ impl<'a> Report<'a> {
     }
 
     /// Runs the cases of a file's text.
-    pub fn run<C: Calls>(&mut self, calls: &C, text: &str) -> Result<(), AllocError> {
+    pub fn run<R: Threads + Wait + Sync, C: Calls>(
+        &mut self,
+        rt: &R,
+        calls: &C,
+        text: &str,
+    ) -> Result<(), AllocError> {
         let mut case = Case::new(self.alloc);
         for line in text.split('\n') {
             self.line = self.line.saturating_add(1);
             if line.is_empty() {
-                self.run_case(calls, &case)?;
+                self.run_case(rt, calls, &case)?;
                 case = Case::new(self.alloc);
             } else if !line.starts_with('#') && !case.read(line)? {
                 self.tell(line, "no line of a case")?;
             }
         }
-        self.run_case(calls, &case)
+        self.run_case(rt, calls, &case)
     }
 
     /// Makes the calls of a case.
-    fn run_case<C: Calls>(&mut self, calls: &C, case: &Case) -> Result<(), AllocError> {
+    fn run_case<R: Threads + Wait + Sync, C: Calls>(
+        &mut self,
+        rt: &R,
+        calls: &C,
+        case: &Case,
+    ) -> Result<(), AllocError> {
         if case.has_lines && case.calls.is_empty() {
             self.tell("", "no call")?;
         }
         for call in &case.calls {
             self.calls = self.calls.saturating_add(1);
-            match calls.answer_of(self.alloc, case, call)? {
+            match calls.answer_of(rt, self.alloc, case, call)? {
                 Some(answer) if answer.is_wanted(self.alloc, case)? => {}
                 Some(answer) => self.tell_answer(call, &answer)?,
                 None => self.tell(call, "no call")?,

@@ -9,13 +9,12 @@ use std::thread::Threads;
 
 /// What makes calls of programs.
 #[derive(Drop)]
-pub struct Programs<'r, R> {
-    pub rt: &'r R,
-}
+pub struct Programs;
 
-impl<R: Threads + Wait + Sync> Calls for Programs<'_, R> {
-    fn answer_of(
+impl Calls for Programs {
+    fn answer_of<R: Threads + Wait + Sync>(
         &self,
+        rt: &R,
         alloc: Global,
         case: &Case,
         call: &str,
@@ -23,12 +22,12 @@ impl<R: Threads + Wait + Sync> Calls for Programs<'_, R> {
         let (kind, rest) = call.split_once(' ').unwrap_or((call, ""));
         let words = words_of(alloc, rest)?;
         let answer = match kind.as_bytes() {
-            b"fzn" => run(self.rt, alloc, case, &words)?,
+            b"fzn" => run(rt, alloc, case, &words)?,
             b"fzcheck" => check(alloc, case, &words)?,
-            b"meeting" => run_meeting(self.rt, alloc, case, &words)?,
-            b"learning" => run_learning(self.rt, alloc, case, &words)?,
-            b"abreast" => run_abreast(self.rt, alloc, case, &words)?,
-            b"showing" => run_showing(self.rt, alloc, case, &words)?,
+            b"meeting" => run_meeting(rt, alloc, case, &words)?,
+            b"learning" => run_learning(rt, alloc, case, &words)?,
+            b"abreast" => run_abreast(rt, alloc, case, &words)?,
+            b"showing" => run_showing(rt, alloc, case, &words)?,
             b"words" => words::read(alloc, &words)?,
             b"knapsack" => knapsack_of(alloc, rest)?,
             _ => return Ok(None),
