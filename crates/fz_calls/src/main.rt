@@ -16,7 +16,7 @@ mod spaces;
 mod steps;
 mod values;
 
-use calls::Parts;
+use calls::answer_of;
 use fz_script::Report;
 use std::alloc::AllocGlobal;
 use std::env::Env;
@@ -39,7 +39,13 @@ fn run_all<R: Env + Files + Print + AllocGlobal + Threads + Wait + Sync>(rt: &R)
     for name in env::args(rt)?.skip(1) {
         let text = fs::read_to_string(rt, &name)?;
         let mut report = Report::new(rt.alloc(), &name);
-        report.run(rt, &Parts, &text)?;
+        for case in &report.cases(&text)? {
+            report.begin(case)?;
+            for call in &case.calls {
+                let answer = answer_of(rt, rt.alloc(), case, call)?;
+                report.compare(case, call, answer)?;
+            }
+        }
         let told = report.text()?;
         print!(rt; "{told}")?;
     }

@@ -7,4 +7,4 @@ pub mod report;
 
 pub use answer::Answer;
 pub use case::Case;
-pub use report::{Calls, Report};
+pub use report::Report;

@@ -2,20 +2,6 @@
 use crate::answer::Answer;
 use crate::case::Case;
 use std::alloc::{AllocError, Global};
-use std::sync::Wait;
-use std::thread::Threads;
-
-/// What makes the calls of a case.
-pub trait Calls {
-    /// What a call of a case answers; none where it is no call.
-    fn answer_of<R: Threads + Wait + Sync>(
-        &self,
-        rt: &R,
-        alloc: Global,
-        case: &Case,
-        call: &str,
-    ) -> Result<Option<Answer>, AllocError>;
-}
 
 /// How many calls of a file were made, and what differs.
 #[derive(Drop)]
@@ -49,48 +35,47 @@ impl<'a> Report<'a> {
         )
     }
 
-    /// Runs the cases of a file's text.
-    pub fn run<R: Threads + Wait + Sync, C: Calls>(
-        &mut self,
-        rt: &R,
-        calls: &C,
-        text: &str,
-    ) -> Result<(), AllocError> {
+    /// The cases of a file's text. A line that is none of a case is told.
+    pub fn cases<'t>(&mut self, text: &'t str) -> Result<Vec<Case<'t>>, AllocError> {
+        let mut cases = Vec::new(self.alloc);
         let mut case = Case::new(self.alloc);
         for line in text.split('\n') {
             self.line = self.line.saturating_add(1);
             if line.is_empty() {
-                self.run_case(rt, calls, &case)?;
+                cases.push(case)?;
                 case = Case::new(self.alloc);
             } else if !line.starts_with('#') && !case.read(line)? {
                 self.tell(line, "no line of a case")?;
             }
         }
-        self.run_case(rt, calls, &case)
+        cases.push(case)?;
+        Ok(cases)
     }
 
-    /// Makes the calls of a case.
-    fn run_case<R: Threads + Wait + Sync, C: Calls>(
-        &mut self,
-        rt: &R,
-        calls: &C,
-        case: &Case,
-    ) -> Result<(), AllocError> {
+    /// A case without a call is told.
+    pub fn begin(&mut self, case: &Case) -> Result<(), AllocError> {
         if case.has_lines && case.calls.is_empty() {
-            self.tell("", "no call")?;
-        }
-        for call in &case.calls {
-            self.calls = self.calls.saturating_add(1);
-            match calls.answer_of(rt, self.alloc, case, call)? {
-                Some(answer) if answer.is_wanted(self.alloc, case)? => {}
-                Some(answer) => self.tell_answer(call, &answer)?,
-                None => self.tell(call, "no call")?,
-            }
+            return self.tell("", "no call");
         }
         Ok(())
     }
 
-    /// Says what is wrong before the line at hand.
+    /// What a call answered is told where it isn't what the case wants; none where it is no call.
+    pub fn compare(
+        &mut self,
+        case: &Case,
+        call: &str,
+        answer: Option<Answer>,
+    ) -> Result<(), AllocError> {
+        self.calls = self.calls.saturating_add(1);
+        match answer {
+            Some(answer) if answer.is_wanted(self.alloc, case)? => Ok(()),
+            Some(answer) => self.tell_answer(call, &answer),
+            None => self.tell(call, "no call"),
+        }
+    }
+
+    /// Says what is wrong, and up to which line it was read.
     fn tell(&mut self, line: &str, fault: &str) -> Result<(), AllocError> {
         self.differing = self.differing.saturating_add(1);
         let told = format!(in self.alloc;
