@@ -1,6 +1,6 @@
 -- Rules that an item may break, and where: each a list of places in the order of the text (fzn's own rules; the types are those of
 -- the MiniZinc Handbook, "FlatZinc").
-use Rattle.std.specs.Prelude.{ℕ, ℤ, pos, ◌+◌, ◌*◌, Bool, true, false, cond, ◌==◌, nat_lt, Option, Some, None, List, [], ◌∷◌, ◌++◌, map, flat_map, length, codes, bytes_eq, reverse, ◌&&◌, ◌||◌}
+use Rattle.std.specs.Prelude.{ℕ, pos, ◌+◌, Bool, true, false, cond, ◌==◌, nat_lt, Option, Some, None, List, [], ◌∷◌, ◌++◌, map, flat_map, length, codes, bytes_eq, reverse, ◌&&◌, ◌||◌}
 use Rattle.std.specs.Ordering.{int_eq}
 use Rattle.std.specs.Prelude.{Result, Ok, Err}
 use Rattle.fz_spec.specs.declared.kind.Kind.{Kind}

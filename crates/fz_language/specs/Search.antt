@@ -2,9 +2,10 @@
 -- form is ignored.
 use Rattle.std.specs.Prelude.{ℕ, Bool, true, cond, Option, Some, None, option_map, List, [], ◌∷◌, ◌++◌, map, flat_map, find, bytes_eq, codes}
 use Rattle.fz_spec.specs.declared.search.Pick.{Pick}
-use Rattle.fz_spec.specs.declared.search.Pick.TheVariants.{InputOrder, FirstFail, AntiFirstFail, Smallest, Largest}
+use Rattle.fz_spec.specs.declared.search.Pick.TheVariants.{InputOrder}
+use Rattle.fz_spec.specs.declared.search.TheConstants.{PICKS, VALUES}
 use Rattle.fz_spec.specs.declared.search.Value.{Value}
-use Rattle.fz_spec.specs.declared.search.Value.TheVariants.{IndomainMin, IndomainMax, IndomainMedian, IndomainSplit, IndomainReverseSplit, Indomain}
+use Rattle.fz_spec.specs.declared.search.Value.TheVariants.{IndomainMin}
 use Rattle.fz_spec.specs.declared.term.Term.{Term}
 use Rattle.fz_spec.specs.declared.term.Term.TheVariants.{Num, Var}
 use Rattle.fz_spec.specs.Instance.{SearchPart}
@@ -14,18 +15,15 @@ use Rattle.fz_language.specs.Entries as entries
 use Rattle.fz_language.specs.Annotations.{list_of}
 use Rattle.fz_language.specs.Numerals.{all_of}
 
--- other words are `input_order` and `indomain_min`
+-- what stands in a table beside a word; else the default
+abbrev pub worded : {A : Type 0} → List (record { now : List ℕ } × A) → A → List ℕ → A
+worded rows default word = elim (find (λ row. bytes_eq word row.0.now) rows) [ Some row ↦ row.1 | None ↦ default ]
+
 abbrev pub pick_of : List ℕ → Pick
-pick_of word =
-    cond (bytes_eq word (codes "first_fail")) FirstFail
-    (cond (bytes_eq word (codes "anti_first_fail")) AntiFirstFail (cond (bytes_eq word (codes "smallest")) Smallest (cond (bytes_eq word (codes "largest")) Largest InputOrder)))
+pick_of = worded PICKS InputOrder
 
 abbrev pub value_of : List ℕ → Value
-value_of word =
-    cond (bytes_eq word (codes "indomain_max")) IndomainMax
-    (cond (bytes_eq word (codes "indomain_median")) IndomainMedian
-    (cond (bytes_eq word (codes "indomain_split")) IndomainSplit
-    (cond (bytes_eq word (codes "indomain_reverse_split")) IndomainReverseSplit (cond (bytes_eq word (codes "indomain")) Indomain IndomainMin))))
+value_of = worded VALUES IndomainMin
 
 -- the variables among terms
 abbrev pub variables_of_terms : List Term → List ℕ

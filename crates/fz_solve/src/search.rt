@@ -9,7 +9,7 @@ ghost use Rattle.fz_solve.specs.Searches.{parts_of_call, option_list, word_of, p
 
 use fz_model::{Listed, SearchPart};
 use fz_resolve::{Entry, Names};
-use fz_spec::search::{Pick, Value};
+use fz_spec::search::{PICKS, Pick, VALUES, Value};
 use fz_syntax::{Annotation, Argument, Basic, Name, Nested, first_at, first_of, only_of};
 use std::alloc::{AllocError, Global};
 
@@ -360,33 +360,21 @@ fn member<'a>(names: &Names<'a>, argument: Nested<'_, 'a>) -> Option<Option<u32>
 fn pick_of(word: &[u8]) -> Pick
     ensures { result ≡ searches.pick_of word.now }
 {
-    if word == b"first_fail".as_slice() {
-        Pick::FirstFail
-    } else if word == b"anti_first_fail".as_slice() {
-        Pick::AntiFirstFail
-    } else if word == b"smallest".as_slice() {
-        Pick::Smallest
-    } else if word == b"largest".as_slice() {
-        Pick::Largest
-    } else {
-        Pick::InputOrder
-    }
+    worded(&PICKS, Pick::InputOrder, word)
 }
 
 fn value_of(word: &[u8]) -> Value
     ensures { result ≡ searches.value_of word.now }
 {
-    if word == b"indomain_max".as_slice() {
-        Value::IndomainMax
-    } else if word == b"indomain_median".as_slice() {
-        Value::IndomainMedian
-    } else if word == b"indomain_split".as_slice() {
-        Value::IndomainSplit
-    } else if word == b"indomain_reverse_split".as_slice() {
-        Value::IndomainReverseSplit
-    } else if word == b"indomain".as_slice() {
-        Value::Indomain
-    } else {
-        Value::IndomainMin
+    worded(&VALUES, Value::IndomainMin, word)
+}
+
+/// What stands beside a word, the default where the word isn't there.
+fn worded<T: Copy>(rows: &[(&'static [u8], T)], default: T, word: &[u8]) -> T
+    ensures { result ≡ searches.worded rows.now default word.now }
+{
+    match rows.iter().find(|row| row.0 == word) {
+        Some(row) => row.1,
+        None => default,
     }
 }

@@ -15,6 +15,15 @@ pub enum Pick {
     Largest,
 }
 
+/// The word of each pick; any other word is `input_order`, too.
+pub const PICKS: [(&'static [u8], Pick); 5] = [
+    (b"input_order", Pick::InputOrder),
+    (b"first_fail", Pick::FirstFail),
+    (b"anti_first_fail", Pick::AntiFirstFail),
+    (b"smallest", Pick::Smallest),
+    (b"largest", Pick::Largest),
+];
+
 /// How the values of the picked variable are parted.
 #[derive(Clone, Copy, Debug, PartialEq, Eq)]
 pub enum Value {
@@ -31,3 +40,13 @@ pub enum Value {
     /// Each value by itself, in rising order.
     Indomain,
 }
+
+/// The word of each way to part values; any other word is `indomain_min`, too.
+pub const VALUES: [(&'static [u8], Value); 6] = [
+    (b"indomain_min", Value::IndomainMin),
+    (b"indomain_max", Value::IndomainMax),
+    (b"indomain_median", Value::IndomainMedian),
+    (b"indomain_split", Value::IndomainSplit),
+    (b"indomain_reverse_split", Value::IndomainReverseSplit),
+    (b"indomain", Value::Indomain),
+];
