@@ -39,15 +39,19 @@ HasDefault (Defaulted least most default) = (least ≤ default) × (default ≤ 
 HasDefault takes = Unit {0}
 
 -- each number is in its range
-pub record AreInRange (count plans distance adaptive : ℕ) (items : Option ℕ) : Type 0 where
-  pub workers : IsTakenBy WORKERS.2 count
-  pub assets : IsTakenBy ASSETS.2 plans
-  pub commit_distance : IsTakenBy COMMIT_DISTANCE.2 distance
-  pub adaptive_distance : IsTakenBy ADAPTIVE_DISTANCE.2 adaptive
-  pub generate : IfSome items (IsTakenBy GENERATE.2)
+pub record AreInRange (n : Numbers) : Type 0 where
+  pub workers : IsTakenBy WORKERS.2 n.workers
+  pub assets : IsTakenBy ASSETS.2 n.assets
+  pub commit_distance : IsTakenBy COMMIT_DISTANCE.2 n.commit_distance
+  pub adaptive_distance : IsTakenBy ADAPTIVE_DISTANCE.2 n.adaptive_distance
+  pub generate : IfSome n.generate (IsTakenBy GENERATE.2)
+
+-- the numbers among the options
+abbrev pub numbers_in : Options → Numbers
+numbers_in o = record { limit = o.limit; workers = o.workers; assets = o.assets; commit_distance = o.commit_distance; adaptive_distance = o.adaptive_distance; interleave = o.interleave; generate = o.generate }
 
 abbrev pub HasRanges : Options → Type 0
-HasRanges o = AreInRange o.workers o.assets o.commit_distance o.adaptive_distance o.generate
+HasRanges o = AreInRange (numbers_in o)
 
 -- Several assets have a worker each, and search in threads for one solution or a best one.
 pub record AreForAssets (o : Options) : Type 0 where

@@ -62,8 +62,7 @@ fn with_file(
     numbers: Numbers,
     file: Option<&str>,
 ) -> Result<Option<Options>, AllocError>
-    requires { AreInRange numbers.workers numbers.assets numbers.commit_distance
-        numbers.adaptive_distance numbers.generate }
+    requires { AreInRange numbers }
     ensures { IfOk result (λ r. r ≡ meaning.with_file (rows_of (found_of matches.now)) numbers
         (option_map (λ s. s.now) file.entry)) }
 {
@@ -122,8 +121,7 @@ fn suits_no_certificate(matches: &ArgMatches<'_>, numbers: Numbers) -> bool
 /// The numbers that the matches give, each within its bounds.
 fn numbers_of(matches: &ArgMatches<'_>) -> Option<Numbers>
     ensures is { result ≡ meaning.numbers_of (rows_of (found_of matches.now)) }
-    ensures within { IfSome result (λ n. AreInRange n.workers n.assets n.commit_distance
-        n.adaptive_distance n.generate) }
+    ensures within { IfSome result AreInRange }
 {
     let limit = number(matches, &LIMIT)?;
     let workers = number(matches, &WORKERS)?;
