@@ -13,11 +13,10 @@ ghost use Rattle.fz_account.specs.Parts.{AreParts};
 ghost use Rattle.fz_account.specs.Learning.{IsNews, Learns};
 ghost use Rattle.fz_tree.specs.Account.{AccountLaw, SuitsMode, begun, with_after, with_found, with_given, rest_begun};
 
-use fz_better::better;
 use fz_model::Assignment;
 use fz_region::{Choice, Frontier};
 use fz_tree::mode::Mode;
-use fz_truth::holds;
+use fz_truth::{better, holds};
 use std::alloc::{AllocError, AllocFailed, Global};
 use std::marker::Model;
 use std::mem;

@@ -10,8 +10,8 @@ use Rattle.fz_sets.proofs.Lists.{all_at}
 use Rattle.fz_strength.specs.Differences.{AreApart}
 use Rattle.fz_strength.specs.Domains.{term_set, Within, IsNarrower, IsTermOf}
 use Rattle.fz_strength.specs.Events.{IsOnly}
-use Rattle.fz_kept.specs.Told.{AreEndsDone, IsAlone}
-use Rattle.fz_kept.proofs.Lasting.{alone_lasts}
+use Rattle.fz_prop.specs.Told.{AreEndsDone, IsAlone}
+use Rattle.fz_prop.proofs.Lasting.{alone_lasts}
 use Rattle.fz_prop.specs.declared.answer.Answer.{Answer}
 use Rattle.fz_prop.specs.declared.answer.Answer.TheVariants.{Fix, NoFix, Subsumed, Failed}
 use Rattle.fz_prop.specs.Answers.{IsAnswerOf, Narrows}

@@ -1,7 +1,7 @@
 -- Terms at both ends that have no number in common with any other, and those between.
 use Rattle.std.specs.Prelude.{◌≡◌, ℕ, ◌<◌, ◌≤◌, ◌+◌, ◌-◌, ℤ, List, length, slice_get, Some}
 use Rattle.fz_spec.specs.declared.term.Term.{Term}
-use Rattle.fz_kept.specs.Told.{IsAlone}
+use Rattle.fz_prop.specs.Told.{IsAlone}
 
 -- none of that many at the front has a number in common with another
 abbrev pub AreAloneBelow : List Term → List (List (ℤ × ℤ)) → ℕ → Type 0

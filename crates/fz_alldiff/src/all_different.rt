@@ -4,14 +4,13 @@ ghost use Rattle.std.specs.List.{AllByRecursion};
 ghost use Rattle.fz_strength.specs.Differences.{AreApart};
 ghost use Rattle.fz_strength.specs.Domains.{AreDomains, IsTermOf};
 ghost use Rattle.fz_strength.specs.Sayings.{Differ, line_of, said_terms, truth_of};
-ghost use Rattle.fz_kept.specs.Told.{AreEndsDone, IsAlone, IsLong, IsTold};
+ghost use Rattle.fz_prop.specs.Told.{AreEndsDone, IsAlone, IsLong, IsTold};
 ghost use Rattle.fz_prop.specs.Answers.{Narrows};
 ghost use Rattle.fz_alldiff.specs.Differing.{IsDifferent};
 
 use crate::differ::keep_different;
 use crate::ends::{is_long, move_ends, terms_between};
-use fz_kept::Kept;
-use fz_prop::{Answer, Propagator, Store};
+use fz_prop::{Answer, Kept, Propagator, Store};
 use fz_spec::term::Term;
 use std::alloc::{AllocError, Global};
 use std::marker::Model;

@@ -2,12 +2,11 @@
 ghost use Rattle.std.specs.Prelude.{◌↔◌, ◌<◌, length, IsTrue};
 ghost use Rattle.std.specs.List.{AllByRecursion};
 ghost use Rattle.fz_strength.specs.Differences.{AreApart};
-ghost use Rattle.fz_kept.specs.Told.{AreEndsDone, IsAlone};
+ghost use Rattle.fz_prop.specs.Told.{AreEndsDone, IsAlone};
 ghost use Rattle.fz_strength.specs.Domains.{IsTermOf};
 ghost use Rattle.fz_alldiff.specs.Ends.{AreAloneBelow, AreAloneBehind, IsBetween};
 
-use fz_kept::{Kept, count_of};
-use fz_prop::Store;
+use fz_prop::{Kept, Store, count_of};
 use fz_prop::terms::value_of;
 use fz_spec::term::Term;
 

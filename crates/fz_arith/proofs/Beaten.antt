@@ -18,8 +18,8 @@ use Rattle.fz_strength.specs.Operations.{equation, EquationTruth, IsEquationLine
 use Rattle.fz_strength.proofs.Clauses.{all_unmap, some_map, some_append}
 use Rattle.fz_strength.proofs.OperationLaws.{least_is, greatest_is}
 use Rattle.fz_strength.proofs.Terms.{within_before}
-use Rattle.fz_kept.specs.Told.{IsBeaten, AreDoneBelow, AreDoneBehind}
-use Rattle.fz_kept.proofs.Lasting.{done_lasts, beaten_lasts}
+use Rattle.fz_prop.specs.Told.{IsBeaten, AreDoneBelow, AreDoneBehind}
+use Rattle.fz_prop.proofs.Lasting.{done_lasts, beaten_lasts}
 use Rattle.fz_prop.specs.declared.answer.Answer.{Answer}
 use Rattle.fz_prop.specs.declared.answer.Answer.TheVariants.{Fix, NoFix, Subsumed, Failed}
 use Rattle.fz_prop.specs.Answers.{IsAnswerOf, IsCorrectOf}

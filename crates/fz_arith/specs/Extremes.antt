@@ -4,7 +4,7 @@ use Rattle.std.specs.Int.{int_min, int_max}
 use Rattle.fz_spec.specs.declared.shape.Operation.{Operation}
 use Rattle.fz_spec.specs.declared.shape.Operation.TheVariants.{Min, Max}
 use Rattle.fz_spec.specs.declared.term.Term.{Term}
-use Rattle.fz_kept.specs.Told.{AreEndsDone, IsBeaten}
+use Rattle.fz_prop.specs.Told.{AreEndsDone, IsBeaten}
 
 -- the lesser of two, or the greater
 abbrev pub pick : Operation → ℤ → ℤ → ℤ

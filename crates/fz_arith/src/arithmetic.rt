@@ -5,12 +5,11 @@ ghost use Rattle.fz_strength.specs.Domains.{AreDomains, IsTermOf};
 ghost use Rattle.fz_strength.specs.Operations.{equation};
 ghost use Rattle.fz_strength.specs.Promises.{Suits};
 ghost use Rattle.fz_strength.specs.Sayings.{Equals, line_of, said_terms, truth_of};
-ghost use Rattle.fz_kept.specs.Told.{IsLong, IsTold};
+ghost use Rattle.fz_prop.specs.Told.{IsLong, IsTold};
 ghost use Rattle.fz_prop.specs.Answers.{Narrows};
 
 use crate::extremes::{is_long, keep_between_ends};
-use fz_kept::Kept;
-use fz_prop::{Answer, Propagator, Store};
+use fz_prop::{Answer, Kept, Propagator, Store};
 use fz_spec::shape::Operation;
 use fz_spec::term::Term;
 use std::alloc::AllocError;

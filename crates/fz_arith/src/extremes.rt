@@ -2,16 +2,15 @@
 ghost use Rattle.std.specs.Prelude.{◌≡◌, ◌↔◌, ◌<◌, ◌≤◌, ◌-◌, drop, length, min, take, IfOk, IsTrue};
 ghost use Rattle.std.specs.List.{AllByRecursion};
 ghost use Rattle.fz_strength.specs.Operations.{equation, EquationTruth, IsEquationLine};
-ghost use Rattle.fz_kept.specs.Told.{AreDoneBehind, AreDoneBelow, IsBeaten};
+ghost use Rattle.fz_prop.specs.Told.{AreDoneBehind, AreDoneBelow, IsBeaten};
 ghost use Rattle.fz_prop.specs.Answers.{IsAnswerOf, IsCorrectOf};
 ghost use Rattle.fz_strength.specs.Domains.{IsTermOf};
 ghost use Rattle.fz_prop.specs.Stores.{Shrinks};
 ghost use Rattle.fz_arith.specs.Extremes.{AreEndsBeaten, IsExtreme};
 
 use crate::narrow::keep_equation;
-use fz_kept::{Kept, count_of};
 use fz_prop::terms::{greatest_of, least_of};
-use fz_prop::{Answer, Store};
+use fz_prop::{Answer, Kept, Store, count_of};
 use fz_spec::shape::Operation;
 use fz_spec::term::Term;
 use std::alloc::AllocError;

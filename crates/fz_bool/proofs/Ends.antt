@@ -9,7 +9,7 @@ use Rattle.fz_spec.specs.Truth.{is_one}
 use Rattle.fz_strength.specs.Domains.{Within, IsTermOf}
 use Rattle.fz_strength.specs.Events.{IsFixedIn}
 use Rattle.fz_strength.specs.Clauses.{positive, IsTrueIn, IsUntrueIn}
-use Rattle.fz_kept.specs.Told.{AreEndsOdd}
+use Rattle.fz_prop.specs.Told.{AreEndsOdd}
 use Rattle.fz_bool.specs.Parity.{flip, is_odd, turned, OddTruth, IsOpenAt, IsLastTerm}
 use Rattle.fz_bool.proofs.Odd.{flips, odd_more, bit_true, bit_false}
 use Rattle.fz_bool.proofs.Parities.{bit, by_bit, odd_count}

@@ -11,7 +11,7 @@ use Rattle.fz_strength.specs.Domains.{term_set}
 use Rattle.fz_strength.specs.Events.{IsFixedIn}
 use Rattle.fz_strength.specs.Clauses.{IsTrueIn, IsUntrueIn, true_number}
 use Rattle.fz_strength.proofs.Terms.{only_number}
-use Rattle.fz_kept.specs.Told.{AreUntrueBelow, AreEndsUntrue}
+use Rattle.fz_prop.specs.Told.{AreUntrueBelow, AreEndsUntrue}
 use Rattle.fz_bool.specs.declared.literals.State.{State}
 use Rattle.fz_bool.specs.declared.literals.State.TheVariants.{True, False, Open}
 use Rattle.fz_bool.specs.Looks.{IsOpen, IsLastOf, HasTwoOpen, IsTruthAmong}

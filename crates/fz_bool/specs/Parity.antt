@@ -9,7 +9,7 @@ use Rattle.fz_strength.specs.Domains.{Within, IsTermOf}
 use Rattle.fz_strength.specs.Events.{IsFixedIn}
 use Rattle.fz_strength.specs.Parities.{AreOthersFixed}
 use Rattle.fz_strength.specs.Promises.{IsTruth}
-use Rattle.fz_kept.specs.declared.kept.Kept.{Kept}
+use Rattle.fz_prop.specs.declared.kept.Kept.{Kept}
 use Rattle.fz_bool.specs.declared.parity.Seen.{Seen}
 use Rattle.fz_bool.specs.declared.parity.Seen.TheVariants.{All, Last, More}
 

@@ -5,7 +5,7 @@ ghost use Rattle.fz_strength.specs.Clauses.{clause, conjunction, disjunction, ne
 ghost use Rattle.fz_strength.specs.Domains.{AreDomains, IsTermOf};
 ghost use Rattle.fz_strength.specs.Promises.{Suits};
 ghost use Rattle.fz_strength.specs.Sayings.{Says, line_of, said_terms, truth_of};
-ghost use Rattle.fz_kept.specs.Told.{AreEndsUntrue, IsLong, IsTold};
+ghost use Rattle.fz_prop.specs.Told.{AreEndsUntrue, IsLong, IsTold};
 ghost use Rattle.fz_prop.specs.Answers.{IsAnswerOf, IsCorrectOf, Narrows};
 ghost use Rattle.fz_prop.specs.Stores.{Shrinks};
 ghost use Rattle.fz_bool.specs.Looks.{IsLiteralOf, AreLiteralsOf, IsOpen};
@@ -14,8 +14,7 @@ ghost use Rattle.fz_bool.specs.Clausal.{TruthOf, LineOf};
 use crate::literals::{
     Left, State, is_long, keep_false, left_between, make_false, make_true, state_of, truth_among,
 };
-use fz_kept::Kept;
-use fz_prop::{Answer, Propagator, Store};
+use fz_prop::{Answer, Kept, Propagator, Store};
 use fz_spec::term::Term;
 use fz_strength::literal::Literal;
 use std::alloc::{AllocError, Global};

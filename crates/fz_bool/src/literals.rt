@@ -4,13 +4,12 @@ ghost use Rattle.fz_strength.specs.Clauses.{true_number, false_number};
 ghost use Rattle.fz_prop.specs.Answers.{IsAnswerOf, IsCorrectOf};
 ghost use Rattle.fz_strength.specs.Domains.{IsTermOf};
 ghost use Rattle.fz_prop.specs.Stores.{Shrinks, IsStore, IsTermChange};
-ghost use Rattle.fz_kept.specs.Told.{AreUntrueBelow, AreUntrueBehind, AreEndsUntrue};
+ghost use Rattle.fz_prop.specs.Told.{AreUntrueBelow, AreUntrueBehind, AreEndsUntrue};
 ghost use Rattle.fz_bool.specs.Looks.{AreTermsOf, IsStateOf, IsLeft, IsTruthAmong};
 ghost use Rattle.fz_bool.specs.Clausal.{AreMadeFalse, AreFalseIn};
 
-use fz_kept::{Kept, count_of};
 use fz_prop::terms::{keep_only, value_of};
-use fz_prop::{Answer, Change, Store};
+use fz_prop::{Answer, Change, Kept, Store, count_of};
 use fz_strength::literal::Literal;
 use std::alloc::AllocError;
 

@@ -5,15 +5,14 @@ ghost use Rattle.fz_strength.specs.Clauses.{positive};
 ghost use Rattle.fz_strength.specs.Domains.{AreDomains, IsTermOf};
 ghost use Rattle.fz_strength.specs.Promises.{Suits};
 ghost use Rattle.fz_strength.specs.Sayings.{Odd, line_of, said_terms, truth_of};
-ghost use Rattle.fz_kept.specs.Told.{AreEndsOdd, IsLong, IsTold};
+ghost use Rattle.fz_prop.specs.Told.{AreEndsOdd, IsLong, IsTold};
 ghost use Rattle.fz_prop.specs.Answers.{IsAnswerOf, IsCorrectOf, Narrows};
 ghost use Rattle.fz_prop.specs.Stores.{Shrinks, IsTermChange};
 ghost use Rattle.fz_bool.specs.Parity.{OddTruth, OddLine, AreBooleansOf, IsOpenAt, IsSeen, missing_number, turned_ends};
 
 use crate::literals::{State, state_of};
-use fz_kept::{Kept, count_of};
 use fz_prop::terms::keep_only;
-use fz_prop::{Answer, Change, Propagator, Store};
+use fz_prop::{Answer, Change, Kept, Propagator, Store, count_of};
 use fz_spec::term::Term;
 use fz_strength::literal::Literal;
 use std::alloc::AllocError;

@@ -1,7 +1,7 @@
 //! Running propagators until all rest.
 ghost use Rattle.std.specs.Prelude.{◌≡◌, ◌⊎◌, ℕ, ◌<◌, true, false, IfOk, slice_index, slice_index_or};
 ghost use Rattle.fz_strength.specs.Domains.{room};
-ghost use Rattle.fz_kept.specs.Told.{nothing, owned, AreTold};
+ghost use Rattle.fz_prop.specs.Told.{nothing, owned, AreTold};
 ghost use Rattle.fz_agenda.specs.Queues.{IsFirst};
 ghost use Rattle.fz_agenda.specs.Wakes.{IsDrained};
 ghost use Rattle.fz_engine.specs.Runs.{IsAlive, IsRun, AreNeverTrue, AllRest};
@@ -9,8 +9,7 @@ ghost use Rattle.fz_engine.specs.Steps.{IsAnswerAt, IsAdvance, IsProgress};
 
 use crate::network::Network;
 use fz_agenda::{Agenda, drain, drain_but};
-use fz_kept::Kept;
-use fz_prop::{Answer, Propagator, Store};
+use fz_prop::{Answer, Kept, Propagator, Store};
 use std::alloc::AllocError;
 
 /// What a step did.

@@ -19,8 +19,8 @@ use Rattle.fz_prop.specs.declared.answer.Answer.TheVariants.{Fix, NoFix, Subsume
 use Rattle.fz_prop.specs.Answers.{IsCorrectOf}
 use Rattle.fz_prop.proofs.TermChanges.{term_within, only_in}
 use Rattle.fz_prop.proofs.Twice.{narrower_twice}
-use Rattle.fz_kept.specs.Told.{IsToldSum}
-use Rattle.fz_kept.proofs.Lasting.{sum_lasts}
+use Rattle.fz_prop.specs.Told.{IsToldSum}
+use Rattle.fz_prop.proofs.Lasting.{sum_lasts}
 use Rattle.fz_linear.specs.Terms.{AreTermsOf}
 use Rattle.fz_linear.specs.Precisions.{Allows}
 use Rattle.fz_linear.specs.declared.narrow.Precision.{Precision}

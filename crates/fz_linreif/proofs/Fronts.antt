@@ -16,8 +16,8 @@ use Rattle.fz_prop.specs.declared.answer.Answer.TheVariants.{Fix, NoFix, Subsume
 use Rattle.fz_prop.specs.Answers.{IsAnswerOf, IsCorrectOf}
 use Rattle.fz_prop.specs.Truths.{TruthWith, LineWith}
 use Rattle.fz_prop.proofs.Twice.{narrower_twice}
-use Rattle.fz_kept.specs.Told.{IsToldSum}
-use Rattle.fz_kept.proofs.Lasting.{sum_lasts}
+use Rattle.fz_prop.specs.Told.{IsToldSum}
+use Rattle.fz_prop.proofs.Lasting.{sum_lasts}
 use Rattle.fz_linear.specs.Terms.{AreTermsOf}
 use Rattle.fz_linear.specs.Sums.{SumTruth, AgainstLine}
 use Rattle.fz_linear.proofs.Slacks.{drop_negated}

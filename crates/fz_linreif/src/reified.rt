@@ -6,15 +6,14 @@ ghost use Rattle.fz_spec.specs.declared.shape.Relation.TheVariants.{Below};
 ghost use Rattle.fz_strength.specs.Domains.{AreDomains, IsTermOf};
 ghost use Rattle.fz_strength.specs.Promises.{Suits};
 ghost use Rattle.fz_strength.specs.Sayings.{SumIf, line_of, said_terms, truth_of};
-ghost use Rattle.fz_kept.specs.Told.{IsLong, IsTold};
+ghost use Rattle.fz_prop.specs.Told.{IsLong, IsTold};
 ghost use Rattle.fz_prop.specs.Answers.{Narrows};
 ghost use Rattle.fz_prop.specs.Stores.{FitsTerm};
 
 use crate::front::keep_rest;
-use fz_kept::Kept;
 use fz_linear::front::is_long;
 use fz_linear::narrow::{Precision, Weighted, precision_of};
-use fz_prop::{Answer, Propagator, Store};
+use fz_prop::{Answer, Kept, Propagator, Store};
 use fz_spec::shape::Relation;
 use fz_spec::term::Term;
 use std::alloc::{AllocError, Global};

@@ -11,7 +11,7 @@ ghost use Rattle.fz_machine.specs.Schedule.{HasNews, IsNext, NoneActs, FirstActs
 use crate::machine::Machine;
 use crate::schedule::{next_number, picked};
 use crate::slot::{can_be_cut, is_busy, is_ready};
-use fz_better::better;
+use fz_truth::better;
 use fz_book::{End, has_enough};
 use fz_core::event::Event;
 use fz_path::Path;

@@ -9,7 +9,7 @@ use Rattle.fz_model.specs.Kept.{IsModel}
 use Rattle.fz_refutes.specs.Trees.{Line}
 use Rattle.fz_refutes.specs.Texts.{IsCert, IsHead, comment, lines_text}
 use Rattle.fz_refutes.specs.Makers.{HasNoBetter}
-use Rattle.fz_certain.proofs.Growing.{cert_exists}
+use Rattle.fz_refutes.proofs.Growing.{cert_exists}
 use Rattle.fz_maker.specs.declared.maker.Stage.{Stage}
 use Rattle.fz_maker.specs.declared.maker.Stage.TheVariants as stages
 use Rattle.fz_maker.specs.Making.{AreAhead, HasRest, IsAhead, IsEnded, IsWritten, Making}

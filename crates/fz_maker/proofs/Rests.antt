@@ -6,7 +6,7 @@ use Rattle.fz_model.specs.Kept.{IsModel}
 use Rattle.fz_refutes.specs.Trees.{Line, lines_of}
 use Rattle.fz_refutes.specs.Texts.{IsHead, comment, head_text, lines_text, cert_text}
 use Rattle.fz_refutes.specs.Makers.{HasNoBetter, AreTreesOf}
-use Rattle.fz_certain.proofs.Growing.{tree_exists}
+use Rattle.fz_refutes.proofs.Growing.{tree_exists}
 use Rattle.fz_maker.specs.declared.maker.Stage.{Stage}
 use Rattle.fz_maker.specs.declared.maker.Stage.TheVariants as stages
 use Rattle.fz_maker.specs.Making.{AreBoxes, AreKept, HasRest, IsMaker, Making}

@@ -1,3 +1,4 @@
+pub mod Lasting
 pub mod Levels
 pub mod Listed
 pub mod Steps

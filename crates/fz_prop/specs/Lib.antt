@@ -1,3 +1,4 @@
+pub mod Told
 pub mod Cuts
 pub mod Stores
 pub mod Answers

@@ -8,15 +8,19 @@
 
 pub mod answer;
 mod cut;
+pub mod ends;
 pub mod indices;
+pub mod kept;
 pub mod matching;
 pub mod propagator;
 pub mod store;
 pub mod terms;
 
 pub use answer::Answer;
+pub use ends::count_of;
 pub use fz_dom::Change;
 pub use fz_strength::cost::Cost;
 pub use fz_strength::event::Event;
+pub use kept::Kept;
 pub use propagator::Propagator;
 pub use store::Store;

@@ -1,3 +1,8 @@
+pub mod Decisions
+mod Trying
+mod Refuting
+mod Fitting
+pub mod Growing
 pub mod Halves
 pub mod Hulls
 pub mod Insides

@@ -1,3 +1,4 @@
+pub mod Certain
 pub mod Boxes
 pub mod Refuted
 pub mod Trees

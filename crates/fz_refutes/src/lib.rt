@@ -2,4 +2,6 @@
 //! certificates as text. The laws say that what proves is best, or that none satisfies.
 #![tactic(auto)]
 
+pub mod certain;
 pub mod laws;
+

@@ -16,9 +16,8 @@ use crate::settled::Settled;
 use fz_agenda::Agenda;
 use fz_dom::Dom;
 use fz_engine::Network;
-use fz_kept::Kept;
 use fz_model::Assignment;
-use fz_prop::Store;
+use fz_prop::{Kept, Store};
 use fz_region::Choice;
 use fz_search_space::{Status, least_of};
 use std::alloc::{AllocError, AllocFailed, Global};
@@ -43,7 +42,7 @@ pub struct Contents {
 impl Model for Contents {
     ghost use Rattle.std.specs.Prelude.{◌≡◌, false};
     ghost use Rattle.std.specs.Arc.{arc_value};
-    ghost use Rattle.fz_kept.specs.Told.{AreTold};
+    ghost use Rattle.fz_prop.specs.Told.{AreTold};
     ghost use Rattle.fz_engine.specs.Runs.{IsAlive};
     ghost use Rattle.fz_search_space.specs.Spaces.{Spaced};
     ghost use Rattle.fz_space.specs.Alive.{spaced, FrontFixed, AreSettled};

@@ -1,6 +1,6 @@
 //! One propagator of a space.
 ghost use Rattle.std.specs.Prelude.{◌≡◌, ℕ, ℤ, List, Option, true, false, IfOk, OnOk};
-ghost use Rattle.fz_kept.specs.Told.{AreTold};
+ghost use Rattle.fz_prop.specs.Told.{AreTold};
 ghost use Rattle.fz_tree.specs.declared.decision.Decision.{Decision};
 ghost use Rattle.fz_engine.specs.Runs.{IsAlive};
 ghost use Rattle.fz_search_space.specs.Spaces.{Covers, IsNarrower};
@@ -9,8 +9,7 @@ ghost use Rattle.fz_space.specs.Alive.{spaced, FrontFixed, AreSettled, HasRun};
 use fz_agenda::Agenda;
 use fz_engine::Network;
 use fz_engine::engine::{Progress, advance};
-use fz_kept::Kept;
-use fz_prop::Store;
+use fz_prop::{Kept, Store};
 use std::alloc::AllocError;
 
 /// Runs the next propagator of the parts of a space, if one is queued; whether one ran. In what has failed none runs.

@@ -2,7 +2,7 @@
 ghost use Rattle.std.specs.Prelude.{◌≡◌, ◌<◌, ℤ, List, Option, length, true, false, IfOk, OnOk};
 ghost use Rattle.fz_sets.specs.Sets.{set_size};
 ghost use Rattle.fz_strength.specs.Domains.{AreDomains, dom_at};
-ghost use Rattle.fz_kept.specs.Told.{AreTold};
+ghost use Rattle.fz_prop.specs.Told.{AreTold};
 ghost use Rattle.fz_tree.specs.declared.decision.Decision.{Decision};
 ghost use Rattle.fz_engine.specs.Runs.{IsAlive};
 ghost use Rattle.fz_search_space.specs.Spaces.{Covers, IsNarrower, IsStatus};
@@ -12,8 +12,7 @@ use fz_agenda::Agenda;
 use fz_dom::Dom;
 use fz_engine::Network;
 use fz_engine::engine::settle;
-use fz_kept::Kept;
-use fz_prop::Store;
+use fz_prop::{Kept, Store};
 use fz_search_space::Status;
 use std::alloc::AllocError;
 

@@ -1,6 +1,6 @@
 //! The parts of the space of a root.
 ghost use Rattle.std.specs.Prelude.{◌≡◌, None, [], false, IfOk};
-ghost use Rattle.fz_kept.specs.Told.{AreTold};
+ghost use Rattle.fz_prop.specs.Told.{AreTold};
 ghost use Rattle.fz_prop.specs.Stores.{HasEmpty, declared_sets, fresh};
 ghost use Rattle.fz_engine.specs.Runs.{IsAlive};
 ghost use Rattle.fz_search_space.specs.Spaces.{Covers};
@@ -8,8 +8,7 @@ ghost use Rattle.fz_space.specs.Alive.{spaced};
 
 use fz_agenda::Agenda;
 use fz_engine::Network;
-use fz_kept::Kept;
-use fz_prop::Store;
+use fz_prop::{Kept, Store};
 use std::alloc::{AllocError, Global};
 
 /// The store and the agenda of a space, what its propagators keep, and whether it has failed.

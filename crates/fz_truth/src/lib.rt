@@ -3,6 +3,7 @@
 #![tactic(auto)]
 
 mod automaton;
+pub mod better;
 mod constraint;
 mod counts;
 mod element;
@@ -15,5 +16,6 @@ mod table;
 mod tasks;
 mod terms;
 
+pub use better::better;
 pub use constraint::is_true;
 pub use model::holds;

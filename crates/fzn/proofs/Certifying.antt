@@ -6,7 +6,7 @@ use Rattle.fz_spec.specs.declared.goal.Goal.TheVariants.{Satisfy, Minimize, Maxi
 use Rattle.fz_spec.specs.declared.term.Term.{Term}
 use Rattle.fz_spec.specs.Instance.{Instance}
 use Rattle.fz_model.specs.Kept.{IsModel}
-use Rattle.fz_certain.proofs.Growing.{cert_exists}
+use Rattle.fz_refutes.proofs.Growing.{cert_exists}
 use Rattle.fz_cmd.specs.Meaning.{Options}
 use Rattle.fz_runs.specs.Runs.{EndsBest, IsCertificate, PrintsFor, PrintsGoal, PrintsWanted, ListsEach, certified, wanted, wanted_of}
 use Rattle.fzn.specs.Begun.{IsCertifiable}

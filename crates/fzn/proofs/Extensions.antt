@@ -13,7 +13,7 @@ use Rattle.fz_tree.proofs.Same.{same_means, same_self, one_more, found_both, all
 use Rattle.fz_tree.proofs.Orders.{better_transitive}
 use Rattle.fz_runs.specs.Runs.{EndsBest, ListsEach}
 use Rattle.fz_runs.specs.Modes.{mode_of}
-use Rattle.fz_certain.proofs.Decisions.{satisfies, better}
+use Rattle.fz_refutes.proofs.Decisions.{satisfies, better}
 use Rattle.fzn.proofs.Among.{IsAmong, declared_among}
 
 -- ---- all solutions

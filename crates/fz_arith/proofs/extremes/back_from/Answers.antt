@@ -2,7 +2,7 @@ use Rattle.std.proofs.Common.{◌+◌, ◌-◌, length, arith, inl, inr}
 use Rattle.std.specs.Prelude.{pos}
 use Rattle.std.proofs.lemmas.Bool.{cases_lt}
 use Rattle.fz_spec.specs.declared.term.Term.TheVariants.{Num}
-use Rattle.fz_kept.specs.Told.{IsBeaten}
+use Rattle.fz_prop.specs.Told.{IsBeaten}
 use Rattle.fz_arith.proofs.Beaten.{one_behind}
 use Rattle.fz_arith.proofs.extremes.back_from.Goals as goal
 

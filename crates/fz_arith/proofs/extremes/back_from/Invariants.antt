@@ -1,4 +1,4 @@
-use Rattle.fz_kept.specs.Told.{IsBeaten, AreDoneBehind}
+use Rattle.fz_prop.specs.Told.{IsBeaten, AreDoneBehind}
 use Rattle.fz_arith.proofs.extremes.back_from.Given as goal
 
 -- none of that many at the back is it

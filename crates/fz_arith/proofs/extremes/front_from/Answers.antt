@@ -2,7 +2,7 @@ use Rattle.std.proofs.Common.{arith, inl, inr}
 use Rattle.std.specs.Prelude.{pos}
 use Rattle.std.proofs.lemmas.Bool.{cases_lt}
 use Rattle.fz_spec.specs.declared.term.Term.TheVariants.{Num}
-use Rattle.fz_kept.specs.Told.{IsBeaten}
+use Rattle.fz_prop.specs.Told.{IsBeaten}
 use Rattle.fz_arith.proofs.Beaten.{one_before}
 use Rattle.fz_arith.proofs.extremes.front_from.Goals as goal
 

@@ -1,4 +1,4 @@
-use Rattle.fz_kept.specs.Told.{IsBeaten, AreDoneBelow}
+use Rattle.fz_prop.specs.Told.{IsBeaten, AreDoneBelow}
 use Rattle.fz_arith.proofs.extremes.front_from.Given as goal
 
 -- none before this place is it

@@ -1,4 +1,4 @@
-use Rattle.fz_kept.proofs.Lasting.{ends_last}
+use Rattle.fz_prop.proofs.Lasting.{ends_last}
 use Rattle.fz_bool.proofs.clause.keep_clause.Goals as goal
 
 pub returns-in-False-clause-told : goal.returns-in-False-clause-told

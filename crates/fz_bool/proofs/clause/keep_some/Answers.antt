@@ -2,7 +2,7 @@ use Rattle.std.proofs.Common.{◌≡◌}
 use Rattle.fz_sets.proofs.Lists.{all_at}
 use Rattle.fz_prop.specs.Truths.{IsAbout}
 use Rattle.fz_prop.proofs.Settling.{settled_correct, settled_answer}
-use Rattle.fz_kept.proofs.Lasting.{ends_last}
+use Rattle.fz_prop.proofs.Lasting.{ends_last}
 use Rattle.fz_bool.specs.Looks.{IsLiteralOf}
 use Rattle.fz_strength.specs.Clauses.{true_number}
 use Rattle.fz_bool.specs.Clausal.{TruthOf, LineOf}

@@ -1,4 +1,4 @@
-use Rattle.fz_kept.specs.Told.{AreUntrueBehind}
+use Rattle.fz_prop.specs.Told.{AreUntrueBehind}
 use Rattle.fz_bool.proofs.literals.back_from.Given as goal
 
 -- none of that many at the back may get true

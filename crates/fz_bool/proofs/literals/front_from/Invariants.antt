@@ -1,4 +1,4 @@
-use Rattle.fz_kept.specs.Told.{AreUntrueBelow}
+use Rattle.fz_prop.specs.Told.{AreUntrueBelow}
 use Rattle.fz_bool.proofs.literals.front_from.Given as goal
 
 -- none before this place may get true

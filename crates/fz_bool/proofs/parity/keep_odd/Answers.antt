@@ -6,7 +6,7 @@ use Rattle.fz_strength.specs.Promises.{IsTruth}
 use Rattle.fz_strength.specs.Domains.{IsTermOf}
 use Rattle.fz_prop.specs.Truths.{IsAbout}
 use Rattle.fz_prop.proofs.Settling.{settled_correct, settled_answer}
-use Rattle.fz_kept.proofs.Lasting.{odd_lasts}
+use Rattle.fz_prop.proofs.Lasting.{odd_lasts}
 use Rattle.fz_bool.specs.Parity.{OddTruth, OddLine, missing_number}
 use Rattle.fz_bool.proofs.Odd.{last_odd}
 use Rattle.fz_bool.proofs.parity.keep_odd.Goals as goal

@@ -3,7 +3,7 @@ use Rattle.std.specs.Prelude.{pos}
 use Rattle.fz_sets.proofs.Lists.{all_at}
 use Rattle.fz_spec.specs.declared.term.Term.TheVariants.{Num}
 use Rattle.fz_strength.specs.Clauses.{IsTrueIn, IsUntrueIn}
-use Rattle.fz_kept.specs.Told.{AreEndsOdd}
+use Rattle.fz_prop.specs.Told.{AreEndsOdd}
 use Rattle.fz_strength.specs.Domains.{IsTermOf}
 use Rattle.fz_bool.specs.Looks.{IsOpen}
 use Rattle.fz_bool.proofs.Odd.{at_place}

@@ -1,5 +1,5 @@
 use Rattle.std.proofs.Common.{◌≡◌}
-use Rattle.fz_kept.specs.Told.{AreEndsOdd}
+use Rattle.fz_prop.specs.Told.{AreEndsOdd}
 use Rattle.fz_bool.proofs.parity.pass_back.Given as goal
 
 -- the terms before this are passed, and nothing else

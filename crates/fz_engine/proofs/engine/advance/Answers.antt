@@ -1,7 +1,7 @@
 use Rattle.std.proofs.Common.{List, sym, subst}
 use Rattle.std.proofs.lemmas.Result.{IfOk-weaker}
 use Rattle.std.specs.Prelude.{ℤ}
-use Rattle.fz_kept.specs.Told.{AreTold}
+use Rattle.fz_prop.specs.Told.{AreTold}
 use Rattle.fz_agenda.specs.Wakes.{Waking, IsDraining}
 use Rattle.fz_engine.specs.declared.engine.Progress.{Progress}
 use Rattle.fz_engine.specs.Steps.{IsProgress, IsAdvance}

@@ -1,5 +1,5 @@
 use Rattle.std.proofs.Common.{inl, inr, refl, ◌∙◌}
-use Rattle.fz_kept.proofs.Lasting.{set_at}
+use Rattle.fz_prop.proofs.Lasting.{set_at}
 use Rattle.fz_engine.proofs.engine.keep_at.Goals as goal
 
 pub returns-then-slot-kept : goal.returns-then-slot-kept

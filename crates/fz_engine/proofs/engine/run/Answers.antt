@@ -1,4 +1,4 @@
-use Rattle.fz_kept.proofs.Lasting.{all_last}
+use Rattle.fz_prop.proofs.Lasting.{all_last}
 use Rattle.fz_engine.proofs.engine.run.Goals as goal
 
 pub returns-then-not-has_cell-clause-told : goal.returns-then-not-has_cell-clause-told

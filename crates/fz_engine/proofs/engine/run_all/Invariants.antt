@@ -1,5 +1,5 @@
 use Rattle.fz_agenda.specs.Wakes.{IsDrained}
-use Rattle.fz_kept.specs.Told.{AreTold}
+use Rattle.fz_prop.specs.Told.{AreTold}
 use Rattle.fz_engine.specs.Runs.{IsRun, work}
 use Rattle.fz_engine.proofs.engine.run_all.Given as goal
 

@@ -1,5 +1,5 @@
 use Rattle.std.proofs.Common.{arith}
-use Rattle.fz_kept.proofs.Lasting.{own_told, all_after}
+use Rattle.fz_prop.proofs.Lasting.{own_told, all_after}
 use Rattle.fz_propagators.specs.Forms.{said_of}
 use Rattle.fz_engine.proofs.Running.{queued_within, ran, answered}
 use Rattle.fz_engine.proofs.engine.run_kept.Goals as goal

@@ -1,6 +1,6 @@
 use Rattle.std.proofs.Common.{List, ◌≡◌, ◌<◌, ◌∙◌, refl, sym, subst, length, inl}
 use Rattle.std.specs.Prelude.{ℤ, slice_get, Some}
-use Rattle.fz_kept.specs.Told.{AreTold}
+use Rattle.fz_prop.specs.Told.{AreTold}
 use Rattle.fz_strength.specs.Domains.{room}
 use Rattle.fz_strength.specs.Promises.{RestsForGood}
 use Rattle.fz_strength.specs.Sayings.{Saying, line_of}

@@ -1,6 +1,6 @@
 use Rattle.std.proofs.Common.{List, sym, subst}
 use Rattle.std.specs.Prelude.{ℤ}
-use Rattle.fz_kept.specs.Told.{AreTold}
+use Rattle.fz_prop.specs.Told.{AreTold}
 use Rattle.fz_agenda.specs.Wakes.{Waking, IsDraining}
 use Rattle.fz_engine.proofs.Running.{run_none, run_drained, sized}
 use Rattle.fz_engine.proofs.engine.settle.Goals as goal

@@ -3,7 +3,7 @@ use Rattle.std.proofs.Math.Facts.{to_z-of_z}
 use mir.Val.{SFits}
 use mir.Syntax.{w32, w64}
 use Rattle.fz_spec.specs.declared.term.Term.TheVariants.{Num}
-use Rattle.fz_kept.specs.Told.{IsToldSum}
+use Rattle.fz_prop.specs.Told.{IsToldSum}
 use Rattle.fz_linear.proofs.Summing.{at_place}
 use Rattle.fz_linear.proofs.Told.{told_inside, told_more}
 use Rattle.fz_linear.proofs.front.pass_fixed.Goals as goal

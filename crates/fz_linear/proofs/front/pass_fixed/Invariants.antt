@@ -1,5 +1,5 @@
 use Rattle.std.proofs.Common.{◌≡◌}
-use Rattle.fz_kept.specs.Told.{IsToldSum}
+use Rattle.fz_prop.specs.Told.{IsToldSum}
 use Rattle.fz_linear.proofs.front.pass_fixed.Given as goal
 
 -- the terms before this place are passed

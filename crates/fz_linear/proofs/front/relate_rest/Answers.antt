@@ -1,4 +1,4 @@
-use Rattle.fz_kept.proofs.Lasting.{sum_lasts}
+use Rattle.fz_prop.proofs.Lasting.{sum_lasts}
 use Rattle.fz_linear.proofs.front.relate_rest.Goals as goal
 
 pub returns-then-not-is_long-clause-told : goal.returns-then-not-is_long-clause-told

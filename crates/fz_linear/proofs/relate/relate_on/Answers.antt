@@ -6,7 +6,7 @@ use Rattle.fz_prop.specs.declared.answer.Answer.{Answer}
 use Rattle.fz_prop.specs.Answers.{IsAnswerOf, IsCorrectOf}
 use Rattle.fz_prop.proofs.Answering.{answer_twice, correct_twice}
 use Rattle.fz_prop.proofs.Twice.{shrinks_twice}
-use Rattle.fz_kept.proofs.Lasting.{sum_lasts}
+use Rattle.fz_prop.proofs.Lasting.{sum_lasts}
 use Rattle.fz_shift.specs.Planes.{AreInside, HasPartners, PlaneTruth}
 use Rattle.fz_linear.specs.Sums.{SumTruth, SumLine, IsAnswerSum}
 use Rattle.fz_linear.proofs.Lying.{answer_on, correct_on}

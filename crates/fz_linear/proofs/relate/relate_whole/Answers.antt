@@ -5,7 +5,7 @@ use Rattle.std.proofs.lemmas.Result.{IfOk-weaker}
 use Rattle.fz_spec.specs.declared.shape.Relation.TheVariants.{Equal, NotEqual}
 use Rattle.fz_prop.specs.declared.answer.Answer.{Answer}
 use Rattle.fz_prop.proofs.Answering.{same_answer, same_correct}
-use Rattle.fz_kept.proofs.Lasting.{sum_lasts}
+use Rattle.fz_prop.proofs.Lasting.{sum_lasts}
 use Rattle.fz_shift.specs.Differences.{DifferenceTruth, DifferenceLine, IsAnswerDifference, IsDifferenceIn}
 use Rattle.fz_linear.specs.Shapes.{IsShapeIn, IsPruned}
 use Rattle.fz_linear.specs.declared.shape.Shape.TheVariants.{Three}

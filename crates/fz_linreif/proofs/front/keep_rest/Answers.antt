@@ -1,5 +1,5 @@
 use Rattle.std.proofs.Math.Facts.{to_z-of_z}
-use Rattle.fz_kept.proofs.Lasting.{sum_lasts}
+use Rattle.fz_prop.proofs.Lasting.{sum_lasts}
 use Rattle.fz_linreif.proofs.front.keep_rest.Goals as goal
 
 pub returns-then-not-is_long-clause-told : goal.returns-then-not-is_long-clause-told

@@ -1,4 +1,4 @@
-use Rattle.fz_kept.proofs.Lasting.{all_last}
+use Rattle.fz_prop.proofs.Lasting.{all_last}
 use Rattle.fz_space.proofs.Deciding.{alive_lasts, covers_failed, covers_taken, met_left}
 use Rattle.fz_space.proofs.Fronts.{front_lasts, settled_lasts}
 use Rattle.fz_space.proofs.commit.take.Goals as goal

@@ -1,4 +1,4 @@
-use Rattle.fz_kept.proofs.Lasting.{none_told}
+use Rattle.fz_prop.proofs.Lasting.{none_told}
 use Rattle.fz_space.proofs.Living.{covers_empty}
 use Rattle.fz_space.proofs.root.failed_parts.Goals as goal
 

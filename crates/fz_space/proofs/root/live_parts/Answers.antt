@@ -1,6 +1,6 @@
 use Rattle.std.proofs.Common.{ap}
 use Rattle.fz_prop.specs.Stores.{Stored}
-use Rattle.fz_kept.proofs.Lasting.{none_told}
+use Rattle.fz_prop.proofs.Lasting.{none_told}
 use Rattle.fz_space.proofs.Living.{covers_root, alive_root}
 use Rattle.fz_space.proofs.root.live_parts.Goals as goal
 

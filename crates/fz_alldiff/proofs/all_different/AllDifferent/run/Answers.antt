@@ -1,6 +1,6 @@
 use Rattle.fz_strength.specs.Domains.{AreDomains}
 use Rattle.fz_strength.specs.Sayings.{Differ, truth_of, line_of}
-use Rattle.fz_kept.specs.Told.{IsTold}
+use Rattle.fz_prop.specs.Told.{IsTold}
 use Rattle.fz_prop.specs.Answers.{Narrows}
 use Rattle.fz_alldiff.proofs.all_different.AllDifferent.run.Goals as goal
 

@@ -1,7 +1,7 @@
 use Rattle.std.proofs.Common.{sym, subst}
-use Rattle.fz_kept.specs.declared.kept.Kept.{Kept}
-use Rattle.fz_kept.specs.Told.{IsTold}
-use Rattle.fz_kept.proofs.Lasting.{nothing_told}
+use Rattle.fz_prop.specs.declared.kept.Kept.{Kept}
+use Rattle.fz_prop.specs.Told.{IsTold}
+use Rattle.fz_prop.proofs.Lasting.{nothing_told}
 use Rattle.fz_alldiff.proofs.all_different.AllDifferentPropagator.propagate.Goals as goal
 
 pub run-requires-clause-told : goal.run-requires-clause-told

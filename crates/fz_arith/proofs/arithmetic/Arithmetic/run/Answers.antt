@@ -1,4 +1,4 @@
-use Rattle.fz_kept.specs.Told.{IsTold}
+use Rattle.fz_prop.specs.Told.{IsTold}
 use Rattle.fz_strength.specs.Operations.{equation}
 use Rattle.fz_strength.specs.Sayings.{Equals}
 use Rattle.fz_arith.proofs.arithmetic.Arithmetic.run.Goals as goal

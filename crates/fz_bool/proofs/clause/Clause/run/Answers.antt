@@ -1,6 +1,6 @@
 use Rattle.fz_strength.specs.Domains.{AreDomains}
 use Rattle.fz_strength.specs.Sayings.{Says}
-use Rattle.fz_kept.specs.Told.{IsTold}
+use Rattle.fz_prop.specs.Told.{IsTold}
 use Rattle.fz_bool.proofs.Sayings.{literals_of, narrowed}
 use Rattle.fz_bool.proofs.clause.Clause.run.Goals as goal
 

@@ -1,4 +1,4 @@
-use Rattle.fz_kept.specs.Told.{IsTold}
+use Rattle.fz_prop.specs.Told.{IsTold}
 use Rattle.fz_strength.specs.Sayings.{Odd}
 use Rattle.fz_bool.proofs.Parities.{booleans_of, odd_narrowed}
 use Rattle.fz_bool.proofs.parity.Parity.run.Goals as goal

@@ -5,7 +5,7 @@ use mir.Syntax.{w32}
 use Rattle.std.proofs.lemmas.Result.{IfOk-weaker}
 use Rattle.fz_strength.specs.Domains.{AreDomains}
 use Rattle.fz_strength.specs.Sayings.{Sum, truth_of, line_of}
-use Rattle.fz_kept.specs.Told.{IsTold}
+use Rattle.fz_prop.specs.Told.{IsTold}
 use Rattle.fz_prop.specs.declared.answer.Answer.{Answer}
 use Rattle.fz_prop.specs.Answers.{Narrows}
 use Rattle.fz_linear.specs.Linears.{IsPrunedOf}

@@ -4,7 +4,7 @@ use mir.Val.{SFits}
 use mir.Syntax.{w32}
 use Rattle.fz_strength.specs.Domains.{AreDomains}
 use Rattle.fz_strength.specs.Sayings.{SumIf, truth_of, line_of}
-use Rattle.fz_kept.specs.Told.{IsTold}
+use Rattle.fz_prop.specs.Told.{IsTold}
 use Rattle.fz_prop.specs.Answers.{Narrows}
 use Rattle.fz_linreif.proofs.reified.ReifiedLinear.run.Goals as goal
 

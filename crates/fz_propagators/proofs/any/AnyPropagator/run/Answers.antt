@@ -1,4 +1,4 @@
-use Rattle.fz_kept.proofs.Lasting.{told_lasts}
+use Rattle.fz_prop.proofs.Lasting.{told_lasts}
 use Rattle.fz_propagators.specs.Forms.{said_of}
 use Rattle.fz_propagators.proofs.any.AnyPropagator.run.Goals as goal
 

@@ -2,8 +2,8 @@ use Rattle.std.proofs.Common.{◌≡◌, ◌∙◌, ◌++◌, ℕ, List, ap, sym
 use Rattle.std.specs.Prelude.{take, drop}
 use Rattle.std.specs.Arc.{arc_value}
 use Rattle.std.proofs.Math.Seq.{take-append_seam}
-use Rattle.fz_kept.specs.declared.kept.Kept.{Kept}
-use Rattle.fz_kept.specs.Told.{AreTold}
+use Rattle.fz_prop.specs.declared.kept.Kept.{Kept}
+use Rattle.fz_prop.specs.Told.{AreTold}
 use Rattle.fz_engine.specs.Networks.{Networked}
 use Rattle.fz_engine.specs.Runs.{IsAlive}
 use Rattle.fz_space.proofs.contents.Contents.advance.Goals as goal

@@ -19,8 +19,8 @@ use Rattle.fz_refutes.proofs.Opening.{not_more, open_within}
 use Rattle.fz_refutes.proofs.Lone.{some_is_open}
 use Rattle.fz_refutes.proofs.Shrinking.{has_middle, picked_open}
 use Rattle.fz_refutes.proofs.Within.{part_length, part_limits, word_limits}
-use Rattle.fz_certain.proofs.Refuting.{has_empty, first_failing, worse}
-use Rattle.fz_certain.specs.Certain.{SomeFits}
+use Rattle.fz_refutes.proofs.Refuting.{has_empty, first_failing, worse}
+use Rattle.fz_refutes.specs.Certain.{SomeFits}
 
 -- ---- the first open variable
 

@@ -13,8 +13,8 @@ use Rattle.fz_spec.specs.declared.shape.Operation.TheVariants.{Min, Max}
 use Rattle.fz_strength.specs.Sayings.{Saying, Sum, SumIf, Says, Equals, Odd, Differ}
 use Rattle.fz_strength.proofs.Clauses.{only_still}
 use Rattle.fz_strength.proofs.Terms.{term_narrower, within_before}
-use Rattle.fz_kept.specs.declared.kept.Kept.{Kept}
-use Rattle.fz_kept.specs.Told.{nothing, owned, IsToldSum, AreEndsDone, AreEndsUntrue, IsAlone, IsBeaten, AreEndsOdd, IsTold, AreTold}
+use Rattle.fz_prop.specs.declared.kept.Kept.{Kept}
+use Rattle.fz_prop.specs.Told.{nothing, owned, IsToldSum, AreEndsDone, AreEndsUntrue, IsAlone, IsBeaten, AreEndsOdd, IsTold, AreTold}
 
 pub sum_lasts : (ks : List ℤ) (ts : List Term) (front : ℕ) (n : ℤ) (ds es : List (List (ℤ × ℤ))) → AreDomains es → IsNarrower ds es → IsToldSum ks ts front n ds → IsToldSum ks ts front n es
 sum_lasts ks ts zero n ds es domains narrower told = told

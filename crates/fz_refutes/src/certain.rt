@@ -1,5 +1,5 @@
 //! Certificates exist.
-ghost use Rattle.fz_certain.specs.Certain.{SomeFits, TreeExists, CertExists};
+ghost use Rattle.fz_refutes.specs.Certain.{SomeFits, TreeExists, CertExists};
 
 /// Some line of a tree fits a box.
 pub fn some_fits()

@@ -11,7 +11,7 @@ use Rattle.fz_strength.specs.Domains.{term_set, Within}
 use Rattle.fz_strength.specs.Events.{IsOnly}
 use Rattle.fz_strength.specs.Clauses.{IsUntrueIn}
 use Rattle.fz_strength.specs.Sayings.{Saying, Sum, SumIf, Says, Equals, Odd, Differ}
-use Rattle.fz_kept.specs.declared.kept.Kept.{Kept}
+use Rattle.fz_prop.specs.declared.kept.Kept.{Kept}
 
 abbrev pub nothing : Kept
 nothing = record { owner = 0; number = pos 0; front = 0; back = 0 }

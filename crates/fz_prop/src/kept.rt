@@ -1,6 +1,6 @@
 //! What one propagator keeps.
 ghost use Rattle.std.specs.Prelude.{◌≡◌};
-ghost use Rattle.fz_kept.specs.Told.{nothing, owned};
+ghost use Rattle.fz_prop.specs.Told.{nothing, owned};
 
 /// Two places and a number, and whose they are. What they are about is told by what the owner says.
 #[derive(Clone, Copy)]

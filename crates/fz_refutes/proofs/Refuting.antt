@@ -22,8 +22,8 @@ use Rattle.fz_refutes.specs.Smalls.{HasFixed}
 use Rattle.fz_refutes.proofs.Insides.{ranges_of_term}
 use Rattle.fz_refutes.proofs.Agreeing.{small_is}
 use Rattle.fz_refutes.proofs.Lone.{leasts}
-use Rattle.fz_certain.proofs.Decisions.{never, either, at_most, below}
-use Rattle.fz_certain.proofs.Trying.{never_from}
+use Rattle.fz_refutes.proofs.Decisions.{never, either, at_most, below}
+use Rattle.fz_refutes.proofs.Trying.{never_from}
 
 -- ---- empty sets
 

@@ -9,7 +9,7 @@ use Rattle.fz_language.proofs.Decisions.{Decided, by, both}
 use Rattle.fz_refutes.specs.Boxes.{set_at}
 use Rattle.fz_refutes.specs.Smalls.{NeverFrom}
 use Rattle.fz_spec.specs.Signatures.{shape_of}
-use Rattle.fz_certain.proofs.Decisions.{holds, without}
+use Rattle.fz_refutes.proofs.Decisions.{holds, without}
 
 last_or_less : (P : ℕ → Type 0) (n k : ℕ) → ((j : ℕ) → j < n → P j) → P n → k < suc n → P k
 last_or_less P n k all last less = elim (cases_lt k n) [ inl below ↦ all k below | inr over ↦ subst P (omega (arith, less, over)) last ]

@@ -11,8 +11,8 @@ use Rattle.fz_refutes.proofs.Insides.{low_sets, high_sets}
 use Rattle.fz_refutes.proofs.Soundness.{declared_sets}
 use Rattle.fz_refutes.proofs.Shrinking.{are_smaller, picked_open}
 use Rattle.fz_refutes.proofs.Within.{declared_part, low_part, high_part}
-use Rattle.fz_certain.proofs.Fitting.{some_fits}
-use Rattle.fz_certain.specs.Certain.{TreeExists, CertExists}
+use Rattle.fz_refutes.proofs.Fitting.{some_fits}
+use Rattle.fz_refutes.specs.Certain.{TreeExists, CertExists}
 
 -- what is known of each box on the way
 record IsBoxOf (m : Instance) (box : List (List (ℤ × ℤ))) : Type 0 where

@@ -1,5 +1,0 @@
-pub mod Decisions
-mod Trying
-mod Refuting
-mod Fitting
-pub mod Growing
