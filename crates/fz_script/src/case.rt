@@ -41,6 +41,8 @@ enum Place {
 #[derive(Drop)]
 pub struct Case<'a> {
     alloc: Global,
+    /// The line at which it ends, from 1.
+    pub end: u64,
     pub has_lines: bool,
     pub calls: Vec<&'a str>,
     pub text: String,
@@ -68,6 +70,7 @@ impl<'a> Case<'a> {
     pub fn new(alloc: Global) -> Case<'a> {
         Case {
             alloc,
+            end: 0,
             has_lines: false,
             calls: Vec::new(alloc),
             text: String::new(alloc),

@@ -42,18 +42,21 @@ impl<'a> Report<'a> {
         for line in text.split('\n') {
             self.line = self.line.saturating_add(1);
             if line.is_empty() {
+                case.end = self.line;
                 cases.push(case)?;
                 case = Case::new(self.alloc);
             } else if !line.starts_with('#') && !case.read(line)? {
                 self.tell(line, "no line of a case")?;
             }
         }
+        case.end = self.line;
         cases.push(case)?;
         Ok(cases)
     }
 
     /// A case without a call is told.
     pub fn begin(&mut self, case: &Case) -> Result<(), AllocError> {
+        self.line = case.end;
         if case.has_lines && case.calls.is_empty() {
             return self.tell("", "no call");
         }
