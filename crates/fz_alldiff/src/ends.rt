@@ -6,8 +6,8 @@ ghost use Rattle.fz_prop.specs.Told.{AreEndsDone, IsAlone};
 ghost use Rattle.fz_strength.specs.Domains.{IsTermOf};
 ghost use Rattle.fz_alldiff.specs.Ends.{AreAloneBelow, AreAloneBehind, IsBetween};
 
-use fz_prop::{Kept, Store, count_of};
 use fz_prop::terms::value_of;
+use fz_prop::{Kept, Store, count_of};
 use fz_spec::term::Term;
 
 /// Whether there are so many terms that it serves to keep which ones at both ends have no number in common with another.

@@ -11,11 +11,11 @@ ghost use Rattle.fz_machine.specs.Schedule.{HasNews, IsNext, NoneActs, FirstActs
 use crate::machine::Machine;
 use crate::schedule::{next_number, picked};
 use crate::slot::{can_be_cut, is_busy, is_ready};
-use fz_truth::better;
 use fz_book::{End, has_enough};
 use fz_core::event::Event;
 use fz_path::Path;
 use fz_search_space::SearchSpace;
+use fz_truth::better;
 use std::alloc::AllocError;
 
 impl<S: SearchSpace> Machine<S> {

@@ -4,4 +4,3 @@
 
 pub mod certain;
 pub mod laws;
-

@@ -3,19 +3,19 @@
 #![tactic(auto)]
 
 mod automaton;
-pub mod better;
 mod constraint;
 mod counts;
 mod element;
 mod inverse;
 pub mod model;
 mod numbers;
+pub mod order;
 mod reified;
 mod sums;
 mod table;
 mod tasks;
 mod terms;
 
-pub use better::better;
 pub use constraint::is_true;
 pub use model::holds;
+pub use order::better;
