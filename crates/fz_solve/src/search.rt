@@ -1,5 +1,5 @@
 //! Search annotations of the solve item. One that isn't of their form is ignored.
-ghost use Rattle.std.specs.Prelude.{◌≡◌, ◌↔◌, ◌≤◌, ◌++◌, ◌∷◌, [], IfOk, OnOk, IsTrue, Some, None, length, map, flat_map, bytes_eq, option_map, codes};
+ghost use Rattle.std.specs.Prelude.{◌≡◌, ◌↔◌, ◌≤◌, ◌++◌, ◌∷◌, [], IfOk, OnOk, IsTrue, Some, None, length, map, flat_map, find, bytes_eq, option_map, codes};
 ghost use Rattle.fz_language.specs.Numerals.{all_of};
 ghost use Rattle.fz_language.specs.Search as searches;
 ghost use Rattle.fz_language.specs.Trees as lang;
@@ -360,21 +360,39 @@ fn member<'a>(names: &Names<'a>, argument: Nested<'_, 'a>) -> Option<Option<u32>
 fn pick_of(word: &[u8]) -> Pick
     ensures { result ≡ searches.pick_of word.now }
 {
-    worded(&PICKS, Pick::InputOrder, word)
+    match pick_among(&PICKS, word) {
+        Some(row) => row.1,
+        None => Pick::InputOrder,
+    }
+}
+
+/// The row of a word.
+fn pick_among<'r>(
+    rows: &'r [(&'static [u8], Pick)],
+    word: &[u8],
+) -> Option<&'r (&'static [u8], Pick)>
+    ensures { option_map (λ row. row.now) result
+        ≡ find (λ row. bytes_eq word.now row.0.now) rows.now }
+{
+    rows.iter().find(|row| word == row.0)
 }
 
 fn value_of(word: &[u8]) -> Value
     ensures { result ≡ searches.value_of word.now }
 {
-    worded(&VALUES, Value::IndomainMin, word)
+    match value_among(&VALUES, word) {
+        Some(row) => row.1,
+        None => Value::IndomainMin,
+    }
 }
 
-/// What stands beside a word, the default where the word isn't there.
-fn worded<T: Copy>(rows: &[(&'static [u8], T)], default: T, word: &[u8]) -> T
-    ensures { result ≡ searches.worded rows.now default word.now }
+/// The row of a word.
+fn value_among<'r>(
+    rows: &'r [(&'static [u8], Value)],
+    word: &[u8],
+) -> Option<&'r (&'static [u8], Value)>
+    ensures { option_map (λ row. row.now) result
+        ≡ find (λ row. bytes_eq word.now row.0.now) rows.now }
 {
-    match rows.iter().find(|row| row.0 == word) {
-        Some(row) => row.1,
-        None => default,
-    }
+    rows.iter().find(|row| word == row.0)
 }
