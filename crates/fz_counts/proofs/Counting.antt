@@ -128,6 +128,10 @@ decided : (ds : List (List (ℤ × ℤ))) (value : ℤ) (xs : List Term) → All
 decided ds value [] terms domains back = tt
 decided ds value (x ∷ xs) terms domains back = ((λ member. only_of ds value x terms.0 domains (back.0 (is_left (term_set ds x) value member))), decided ds value xs terms.1 domains back.1)
 
+-- no fewer may have it than are sure to
+pub no_fewer : (ds : List (List (ℤ × ℤ))) (value : ℤ) (xs : List Term) → AllByRecursion (IsTermOf (length ds)) xs → AreDomains ds → fewest xs ds value ≤ most xs ds value
+no_fewer ds value xs terms domains = count_le (is_surely ds value) (may_be ds value) xs (all_left ds value xs terms domains)
+
 pub decided_by : (ds : List (List (ℤ × ℤ))) (value : ℤ) (xs : List Term) → AllByRecursion (IsTermOf (length ds)) xs → AreDomains ds → most xs ds value ≤ fewest xs ds value → IsDecided xs ds value
 decided_by ds value xs terms domains few = decided ds value xs terms domains (count_back (is_surely ds value) (may_be ds value) xs (all_left ds value xs terms domains) few)
 

@@ -2,3 +2,4 @@ pub mod Counting
 pub mod Settling
 pub mod Covering
 pub mod Between
+pub mod Deciding

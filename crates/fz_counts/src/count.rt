@@ -1,6 +1,7 @@
 //! One value and the number of places that have it.
 ghost use Rattle.std.specs.Prelude.{◌≡◌, ◌↔◌, ◌≤◌, ℤ, pos, ◌≤ℤ◌, length, IfOk, IsTrue, OnErr};
 ghost use Rattle.std.specs.List.{AllByRecursion};
+ghost use Rattle.fz_sets.specs.Sets.{IsInSet};
 ghost use Rattle.fz_dom.specs.Changes.{IsFromTo};
 ghost use Rattle.fz_dom.specs.Shape.{least, greatest};
 ghost use Rattle.fz_dom.specs.declared.change.Change.TheVariants as changes;
@@ -13,13 +14,13 @@ ghost use Rattle.fz_prop.specs.Stores.{Shrinks, IsTermChange};
 ghost use Rattle.fz_counts.specs.Counting.{IsCount};
 
 use crate::places::{Choice, settle};
-use crate::tally::{Tally, tally_of};
+use crate::tally::Tally;
 use fz_prop::terms::{greatest_of, keep_range, least_of};
 use fz_prop::{Change, Store};
 use fz_spec::term::Term;
 use std::alloc::AllocError;
 
-/// Narrows a store so that a count is the number of the terms that have a value.
+/// Narrows a store so that a count is the number of the terms that have a value, by the value's tally.
 ///
 /// # Errors
 /// `AllocError` where there is no memory; the store is then narrower, and no assignment is lost.
@@ -28,18 +29,23 @@ pub fn keep_count(
     terms: &[Term],
     value: i32,
     count: Term,
+    tally: Tally,
 ) -> Result<Change, AllocError>
     requires terms { AllByRecursion (IsTermOf (length store.old.doms)) terms.now }
     requires count { IsTermOf (length store.old.doms) count }
+    requires fewest { tally.fewest ≡ line.fewest terms.now store.old.doms value }
+    requires most { tally.most ≡ line.most terms.now store.old.doms value }
     ensures shrinks { Shrinks store.old store.new }
     ensures correct { IsCorrectOf (IsCount terms.now value count) store.old.doms store.new.doms }
     ensures outcome { IfOk result
         (λ r. IsOutcome r (IsCount terms.now value count) store.old store.new) }
     ensures line { IfOk result
         (λ r. r ≡ changes.Same → IsCountLine terms.now store.new.doms value count) }
+    ensures between { IfOk result (λ r. (r ≡ changes.Wiped → ⊥)
+        → (x : ℤ) → IsInSet (term_set store.new.doms count) x
+        → IsFromTo (pos tally.fewest) (pos tally.most) x) }
 {
     let _ = store.doms();
-    let tally = tally_of(store, terms, value);
     let change = keep_between(store, count, tally)?;
     if let Change::Wiped = change {
         return Ok(Change::Wiped);

@@ -8,11 +8,13 @@ ghost use Rattle.fz_prop.specs.Stores.{Shrinks};
 ghost use Rattle.fz_counts.specs.Counting.{AreCountsOf};
 
 use crate::count::keep_count;
+use crate::tally::tally_of;
 use fz_prop::{Answer, Change, Store};
 use fz_spec::term::Term;
 use std::alloc::AllocError;
 
-/// Narrows a store so that counts are the numbers of the terms that have the values of a cover.
+/// Narrows a store so that counts are the numbers of the terms that have the values of a cover. Where as many places are sure to have
+/// each value as may have it, they hold for good.
 ///
 /// # Errors
 /// `AllocError` where there is no memory; the store is then narrower, and no assignment is lost.
@@ -35,12 +37,21 @@ pub fn keep_counts(
         return Ok(Answer::Failed);
     }
     let mut has_changed = false;
+    let mut are_decided = true;
     for place in 0..cover.len() {
-        match keep_count(store, terms, cover[place], counts[place])? {
+        let _ = store.doms();
+        let tally = tally_of(store, terms, cover[place]);
+        match keep_count(store, terms, cover[place], counts[place], tally)? {
             Change::Wiped => return Ok(Answer::Failed),
             Change::Changed => has_changed = true,
             Change::Same => {}
         }
+        let _ = store.doms();
+        are_decided &= tally.is_decided();
+    }
+    let _ = store.doms();
+    if are_decided {
+        return Ok(Answer::Subsumed);
     }
     if has_changed {
         Ok(Answer::NoFix)

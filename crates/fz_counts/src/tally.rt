@@ -1,5 +1,5 @@
 //! At how many places a value is alone, and at how many it is left.
-ghost use Rattle.std.specs.Prelude.{◌≡◌, length};
+ghost use Rattle.std.specs.Prelude.{◌≡◌, ◌↔◌, IsTrue, length};
 ghost use Rattle.std.specs.List.{AllByRecursion};
 ghost use Rattle.fz_strength.specs.Counts as line;
 ghost use Rattle.fz_strength.specs.Domains.{IsTermOf};
@@ -13,6 +13,15 @@ use fz_spec::term::Term;
 pub struct Tally {
     pub fewest: usize,
     pub most: usize,
+}
+
+impl Tally {
+    /// Whether as many places are sure to have the value as may have it.
+    pub fn is_decided(self) -> bool
+        ensures { IsTrue result ↔ (self.fewest ≡ self.most) }
+    {
+        self.fewest == self.most
+    }
 }
 
 /// The tally of a value among terms.

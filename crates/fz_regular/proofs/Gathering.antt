@@ -2,15 +2,10 @@
 use Rattle.std.proofs.Common.{◌≡◌, ℕ, ◌+◌, ◌<◌, ◌≤◌, ◌⊎◌, inl, inr, sym, subst, arith, false, Bool}
 use Rattle.std.specs.Prelude.{◌↔◌, ◌||◌, IsTrue}
 use Rattle.std.proofs.lemmas.Bool.{cases_eq, cases_lt, or_cases, or_left, or_right}
-
--- the next number with a property, from one on
-pub record IsNextOf (H : ℕ → Type 0) (from s : ℕ) : Type 0 where
-  pub at_least : from ≤ s
-  pub has : H s
-  pub first : (j : ℕ) → from ≤ j → j < s → H j → ⊥
+use Rattle.fz_regular.specs.BitRows.{IsNext}
 
 -- below the one after it are those below and itself
-pub below_next : (H : ℕ → Type 0) (from s b : ℕ) → IsNextOf H from s → b < s + 1 → H b → (b < from) ⊎ (b ≡ s)
+pub below_next : (H : ℕ → Type 0) (from s b : ℕ) → IsNext H from s → b < s + 1 → H b → (b < from) ⊎ (b ≡ s)
 below_next H from s b next less has = elim (cases_eq b s) [
   | inl e ↦ inr e
   | inr ne ↦ elim (cases_lt b from) [
@@ -28,7 +23,7 @@ Gathered H from Q old now = (i k : ℕ) → now i k ↔ (old i k ⊎ ((b : ℕ) 
 pub gathered_none : (H : ℕ → Type 0) (Q : ℕ → ℕ → ℕ → Type 0) (old : ℕ → ℕ → Type 0) → Gathered H 0 Q old old
 gathered_none H Q old i k = ((λ h. inl h), (λ h. elim h [ inl was ↦ was | inr w ↦ (let below = w.1 in absurd (omega (arith, below))) ]))
 
-pub gathered_more : (H : ℕ → Type 0) (Q : ℕ → ℕ → ℕ → Type 0) (old now new : ℕ → ℕ → Type 0) (from s : ℕ) → IsNextOf H from s → ((i k : ℕ) → new i k ↔ (now i k ⊎ Q s i k))
+pub gathered_more : (H : ℕ → Type 0) (Q : ℕ → ℕ → ℕ → Type 0) (old now new : ℕ → ℕ → Type 0) (from s : ℕ) → IsNext H from s → ((i k : ℕ) → new i k ↔ (now i k ⊎ Q s i k))
     → Gathered H from Q old now → Gathered H (s + 1) Q old new
 gathered_more H Q old now new from s next more h i k = (
   (λ is. elim ((more i k).0 is) [
@@ -46,6 +41,13 @@ gathered_more H Q old now new from s next more h i k = (
     ]
   ])),
 )
+
+-- what the next one would add is there
+pub gathered_had : (H P : ℕ → Type 0) (row from s : ℕ) (old now : ℕ → ℕ → Type 0) → IsNext H from s → now row s → Gathered H from (λ b i k. (i ≡ row) × (k ≡ b) × P b) old now
+    → Gathered H (s + 1) (λ b i k. (i ≡ row) × (k ≡ b) × P b) old now
+gathered_had H P row from s old now next has h =
+    gathered_more H (λ b i k. (i ≡ row) × (k ≡ b) × P b) old now now from s next
+    (λ i k. ((λ is. inl is), (λ is. elim is [ inl was ↦ was | inr one ↦ subst (λ (j : ℕ). now j k) (sym one.0) (subst (λ (b : ℕ). now row b) (sym one.1) has) ]))) h
 
 -- one is added exactly if something holds
 pub added_one : (P : Type 0) (row s : ℕ) (old new : ℕ → ℕ → Type 0) → P → ((i k : ℕ) → new i k ↔ (old i k ⊎ ((i ≡ row) × (k ≡ s)))) → (i k : ℕ) → new i k ↔ (old i k ⊎ ((i ≡ row) × (k ≡ s) × P))
@@ -84,7 +86,7 @@ pub filtered_after : (row from : ℕ) (E : ℕ → Type 0) (old now : ℕ → �
 filtered_after row from E old now h k above was = (h row k).1 (was, λ e below. absurd (omega (arith, above, below)))
 
 -- the next one is left if it has the property
-pub filtered_next : (row from s : ℕ) (E : ℕ → Type 0) (old now new : ℕ → ℕ → Type 0) → IsNextOf (now row) from s → ((i k : ℕ) → new i k ↔ (now i k × ((i ≡ row) × (k ≡ s) → E s)))
+pub filtered_next : (row from s : ℕ) (E : ℕ → Type 0) (old now new : ℕ → ℕ → Type 0) → IsNext (now row) from s → ((i k : ℕ) → new i k ↔ (now i k × ((i ≡ row) × (k ≡ s) → E s)))
     → Filtered row from E old now → Filtered row (s + 1) E old new
 filtered_next row from s E old now new next less h i k = (
   (λ is.
@@ -134,7 +136,7 @@ pub found_none : (H : ℕ → Type 0) → Found H 0 false
 found_none H = ((λ h. absurd (cc h)), (λ w. let below = w.1 in absurd (omega (arith, below))))
 
 -- the next one has it too, or hasn't
-pub found_next : (R G : ℕ → Type 0) (from s : ℕ) (some one : Bool) → IsNextOf R from s → (IsTrue one ↔ G s) → Found (λ k. R k × G k) from some → Found (λ k. R k × G k) (s + 1) (some || one)
+pub found_next : (R G : ℕ → Type 0) (from s : ℕ) (some one : Bool) → IsNext R from s → (IsTrue one ↔ G s) → Found (λ k. R k × G k) from some → Found (λ k. R k × G k) (s + 1) (some || one)
 found_next R G from s some one next is h = (
   (λ t. elim (or_cases some one t) [
     | inl before ↦ let w = h.0 before in let below = w.1 in let least = next.at_least in (w.0, omega (arith, below, least), w.2)
@@ -145,6 +147,10 @@ found_next R G from s some one next is h = (
     | inr e ↦ or_right some one (is.1 (subst G e w.2.1))
   ]),
 )
+
+-- one that is found stays so
+pub found_still : (H : ℕ → Type 0) (from s : ℕ) (some : Bool) → from ≤ s → IsTrue some → Found H from some → Found H (s + 1) some
+found_still H from s some least is h = ((λ t. let w = h.0 t in let below = w.1 in (w.0, omega (arith, below, least), w.2)), (λ w. is))
 
 pub found_all : (H : ℕ → Type 0) (from : ℕ) (some : Bool) → ((j : ℕ) → from ≤ j → H j → ⊥) → Found H from some → IsTrue some ↔ ((k : ℕ) × H k)
 found_all H from some none h = (

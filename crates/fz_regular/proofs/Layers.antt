@@ -7,7 +7,7 @@ use Rattle.fz_regular.specs.declared.bit_rows.BitRows.{BitRows}
 use Rattle.fz_regular.specs.BitRows.{Has, HasRow, IsNext}
 use Rattle.fz_regular.specs.Layers.{FitsStates, AreReached, AreEnding, LedAt, Leads, LeadsIn, SupportsAt}
 use Rattle.fz_regular.specs.Runs.{number, LeadsTo, IsReached, IsAccepting, CanEnd, IsOnTheWay}
-use Rattle.fz_regular.proofs.Gathering.{IsNextOf, Gathered, Filtered, filtered_after}
+use Rattle.fz_regular.proofs.Gathering.{Gathered, Filtered, filtered_after}
 
 -- rows of the same size
 pub record AreAlike (b c : BitRows) : Type 0 where
@@ -23,9 +23,6 @@ alike_twice b c d p q = record { width = q.width ∙ p.width; size = q.size ∙ 
 pub row_alike : (b c : BitRows) (i : ℕ) → AreAlike b c → HasRow b i → HasRow c i
 row_alike b c i alike row = rw (alike.width, alike.size) row
 
-pub next_of : (b : BitRows) (i from s : ℕ) → IsNext b i from s → IsNextOf (Has b i) from s
-next_of b i from s next = record { at_least = next.at_least; has = next.has; first = next.first }
-
 pub fits_alike : (automaton : Automaton) (b c : BitRows) → AreAlike b c → FitsStates automaton b → FitsStates automaton c
 fits_alike automaton b c alike fits k state = rw alike.width (fits k state)
 
@@ -40,7 +37,7 @@ same_before old now row other from m values differ h k = (
   (λ was. (h row k).1 (inl was)),
 )
 
-pub next_same : (old now : BitRows) (row from s : ℕ) → IsSameRow old now row → IsNext now row from s → IsNextOf (Has old row) from s
+pub next_same : (old now : BitRows) (row from s : ℕ) → IsSameRow old now row → IsNext (Has now row) from s → IsNext (Has old row) from s
 next_same old now row from s same next = record {
   at_least = next.at_least;
   has = (same s).0 next.has;
@@ -51,7 +48,7 @@ pub none_same : (old now : BitRows) (row from : ℕ) → IsSameRow old now row �
 none_same old now row from same none k above has = none k above ((same k).1 has)
 
 -- of a row that is filtered the bits from one on are as before, and so are other rows
-pub next_left : (old now : BitRows) (row from s : ℕ) (E : ℕ → Type 0) → Filtered row from E (Has old) (Has now) → IsNext now row from s → IsNextOf (Has old row) from s
+pub next_left : (old now : BitRows) (row from s : ℕ) (E : ℕ → Type 0) → Filtered row from E (Has old) (Has now) → IsNext (Has now row) from s → IsNext (Has old row) from s
 next_left old now row from s E h next = record {
   at_least = next.at_least;
   has = ((h row s).0 next.has).0;

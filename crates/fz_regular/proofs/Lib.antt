@@ -2,6 +2,7 @@ pub mod BitRows
 pub mod Gathering
 pub mod Stepping
 pub mod Layers
+pub mod Leading
 pub mod Words
 pub mod Lists
 pub mod Filling

@@ -11,7 +11,6 @@ use Rattle.fz_regular.specs.declared.bit_rows.BitRows.{BitRows}
 use Rattle.fz_regular.specs.BitRows.{Has, IsNext, word_at}
 use Rattle.fz_regular.specs.Runs.{number, IsInRow}
 use Rattle.fz_regular.proofs.Gathering.{below_next}
-use Rattle.fz_regular.proofs.Layers.{next_of}
 
 -- the ranges have the numbers of the symbols of a row below one
 abbrev pub AreNumbersBelow : BitRows → ℕ → ℕ → List (ℤ × ℤ) → Type 0
@@ -20,14 +19,14 @@ AreNumbersBelow b row from ranges = (n : ℤ) → IsInSet ranges n ↔ ((k : ℕ
 pub numbers_none : (b : BitRows) (row : ℕ) → AreNumbersBelow b row 0 []
 numbers_none b row n = ((λ h. absurd h), (λ w. let below = w.1 in absurd (omega (arith, below))))
 
-pub numbers_more : (b : BitRows) (row from s : ℕ) (x : ℤ) (ranges : List (ℤ × ℤ)) → x ≡ number s → IsNext b row from s → AreNumbersBelow b row from ranges
+pub numbers_more : (b : BitRows) (row from s : ℕ) (x : ℤ) (ranges : List (ℤ × ℤ)) → x ≡ number s → IsNext (Has b row) from s → AreNumbersBelow b row from ranges
     → AreNumbersBelow b row (s + 1) (ranges ++ (x, x) ∷ [])
 numbers_more b row from s x ranges is next h n = (
   (λ has. elim (in_more ranges x n has) [
     | inl was ↦ let w = (h n).0 was in let below = w.1 in let least = next.at_least in (w.0, omega (arith, below, least), w.2, w.3)
     | inr e ↦ (s, omega arith, next.has, e ∙ is)
   ]),
-  (λ w. elim (below_next (Has b row) from s w.0 (next_of b row from s next) w.1 w.2) [
+  (λ w. elim (below_next (Has b row) from s w.0 next w.1 w.2) [
     | inl below ↦ in_before ranges x n ((h n).1 (w.0, below, w.2, w.3))
     | inr e ↦ in_last ranges x n (w.3 ∙ ap (λ (k : ℕ). number k) e ∙ sym is)
   ]),

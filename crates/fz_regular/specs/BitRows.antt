@@ -19,8 +19,12 @@ word_at b i place = slice_index b.words.items (i * b.width + place)
 abbrev pub Has : BitRows → ℕ → ℕ → Type 0
 Has b i k = (k / 64 < b.width) × HasBit (word_at b i (k / 64)) (k % 64)
 
--- the first bit of a row from one on that is set
-pub record IsNext (b : BitRows) (i from k : ℕ) : Type 0 where
+-- the first number from one on with a property
+pub record IsNext (P : ℕ → Type 0) (from k : ℕ) : Type 0 where
   pub at_least : from ≤ k
-  pub has : Has b i k
-  pub first : (j : ℕ) → from ≤ j → j < k → Has b i j → ⊥
+  pub has : P k
+  pub first : (j : ℕ) → from ≤ j → j < k → P j → ⊥
+
+-- a bit of a row of each of two is set
+abbrev pub HaveBoth : BitRows → ℕ → BitRows → ℕ → ℕ → Type 0
+HaveBoth b i c j k = Has b i k × Has c j k

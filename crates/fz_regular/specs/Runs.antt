@@ -1,6 +1,6 @@
 -- Runs of an automaton over symbols that are allowed at each place. States and symbols are counted from 0 here: state p is the number
 -- p + 1, and so is a symbol.
-use Rattle.std.specs.Prelude.{◌≡◌, ◌<◌, ◌↔◌, ℕ, zero, suc, ◌+◌, ◌-◌, ℤ, pos, List, length, slice_get, Some}
+use Rattle.std.specs.Prelude.{◌≡◌, ◌<◌, ◌↔◌, ℕ, zero, suc, ◌+◌, ◌-◌, ℤ, pos, List, [], length, slice_get, Some}
 use Rattle.fz_sets.specs.Sets.{IsInSet}
 use Rattle.fz_spec.specs.declared.term.Term.{Term}
 use Rattle.fz_spec.specs.Constraints.{term_values}
@@ -8,7 +8,7 @@ use Rattle.fz_spec.specs.Truth.{Automaton, IsState, IsSymbol, IsStep, IsAccepted
 use Rattle.fz_strength.specs.Domains.{term_set}
 use Rattle.fz_strength.specs.Regular.{IsInLeftWord}
 use Rattle.fz_regular.specs.declared.bit_rows.BitRows.{BitRows}
-use Rattle.fz_regular.specs.BitRows.{Has}
+use Rattle.fz_regular.specs.BitRows.{Has, HasRow}
 
 -- the number of a state or of a symbol
 abbrev pub number : ℕ → ℤ
@@ -19,6 +19,23 @@ pub record LeadsTo (automaton : Automaton) (p k r : ℕ) : Type 0 where
   pub from : IsState automaton (number p)
   pub step : IsStep automaton (number p) (number k) (number r)
   pub to : IsState automaton (number r)
+
+-- from state p symbol k leads somewhere
+abbrev pub LeadsOn : Automaton → ℕ → ℕ → Type 0
+LeadsOn automaton p k = (r : ℕ) × LeadsTo automaton p k r
+
+-- an automaton of these states and steps
+abbrev pub automaton_of : ℤ → ℤ → List ℤ → Automaton
+automaton_of states symbols next = record { states = states; symbols = symbols; next = next; start = pos 1; accepting = [] }
+
+-- In the row of each state are the symbols that lead somewhere from it.
+pub record AreLeading (automaton : Automaton) (b : BitRows) : Type 0 where
+  pub rows : (p : ℕ) → IsState automaton (number p) → HasRow b p
+  pub symbols : (p k : ℕ) → IsState automaton (number p) → Has b p k ↔ LeadsOn automaton p k
+
+-- a symbol in a row leads somewhere from state p
+abbrev pub LeadsBy : Automaton → BitRows → ℕ → ℕ → ℕ → Type 0
+LeadsBy automaton b i p k = Has b i k × LeadsOn automaton p k
 
 -- from the start state r is reached by symbols that are allowed at the first places, so many
 abbrev pub IsReached : Automaton → (ℕ → ℕ → Type 0) → ℕ → ℕ → Type 0

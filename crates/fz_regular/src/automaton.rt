@@ -1,8 +1,11 @@
 //! Automata.
 ghost use Rattle.std.specs.Prelude.{◌≡◌, ◌<◌, ◌≤◌, ◌≤ℤ◌, ◌↔◌, ℕ, pos, IsTrue, MatchOption, IfOk};
 ghost use Rattle.fz_spec.specs.Truth.{IsState, IsSymbol};
-ghost use Rattle.fz_regular.specs.Runs.{LeadsTo, IsAccepting, number};
+ghost use Rattle.fz_regular.specs.BitRows.{HasRow, IsNext};
+ghost use Rattle.fz_regular.specs.Runs.{LeadsBy, LeadsTo, IsAccepting, number};
 
+use crate::bit_rows::BitRows;
+use crate::steps::{count_to, leading_of, next_of, state_of};
 use fz_dom::Dom;
 use std::alloc::{AllocError, Global};
 use std::marker::Model;
@@ -16,10 +19,13 @@ pub struct Automaton {
     next: Vec<i32>,
     start: i32,
     accepting: Dom,
+    /// For each state the symbols that lead somewhere from it.
+    leading: BitRows,
 }
 
 impl Model for Automaton {
     ghost use Rattle.fz_spec.specs.Truth as truth;
+    ghost use Rattle.fz_regular.specs.Runs.{AreLeading};
 
     ghost Value = { truth.Automaton };
 
@@ -30,6 +36,14 @@ impl Model for Automaton {
       start = a.start;
       accepting = a.accepting;
     } };
+
+    ghost invariant = { λ a. AreLeading (record {
+      states = a.states;
+      symbols = a.symbols;
+      next = a.next.items;
+      start = a.start;
+      accepting = a.accepting;
+    }) a.leading };
 }
 
 impl Automaton {
@@ -55,6 +69,7 @@ impl Automaton {
           accepting = accepting.now;
         }) }
     {
+        let leading = leading_of(alloc, states, symbols, next)?;
         let accepting = accepting.copy()?;
         let next = Vec::from_slice(alloc, next)?;
         Ok(Automaton {
@@ -63,6 +78,7 @@ impl Automaton {
             next,
             start,
             accepting,
+            leading,
         })
     }
 
@@ -71,7 +87,7 @@ impl Automaton {
         ensures states { (k : ℕ) → IsState self.now (number k) ↔ (k < result) }
         ensures bound { result ≤ 2147483647 }
     {
-        self.states.max(0) as u32
+        count_to(self.states)
     }
 
     /// How many symbols it has.
@@ -80,7 +96,7 @@ impl Automaton {
         ensures exact { pos 0 ≤ℤ self.now.symbols → pos result ≡ self.now.symbols }
         ensures bound { result ≤ 2147483647 }
     {
-        self.symbols.max(0) as u32
+        count_to(self.symbols)
     }
 
     /// The state where it starts, if it is one.
@@ -88,18 +104,7 @@ impl Automaton {
         ensures { MatchOption result (IsState self.now self.now.start → ⊥)
             (λ p. (self.now.start ≡ number p) × IsState self.now (number p)) }
     {
-        self.state_of(self.start)
-    }
-
-    /// The state that a number stands for, if it is one.
-    fn state_of(&self, value: i32) -> Option<usize>
-        ensures { MatchOption result (IsState self.now value → ⊥)
-            (λ p. (value ≡ number p) × IsState self.now (number p)) }
-    {
-        if value < 1 || self.states < value {
-            return None;
-        }
-        Some((value - 1) as usize)
+        state_of(self.states, self.start)
     }
 
     /// Whether it accepts in a state.
@@ -117,14 +122,23 @@ impl Automaton {
         ensures { MatchOption result ((r : ℕ) → LeadsTo self.now state symbol r → ⊥)
             (λ r. LeadsTo self.now state symbol r) }
     {
-        let _ = self.states();
-        let symbols = self.symbols() as usize;
-        if symbol >= symbols {
-            return None;
-        }
-        match self.next.get(state * symbols + symbol) {
-            Some(next) => self.state_of(*next),
-            None => None,
-        }
+        next_of(self.states, self.symbols, &self.next, state, symbol)
+    }
+
+    /// The first symbol of a row from one on that leads somewhere from a state, if there is one.
+    pub fn next_symbol(
+        &self,
+        state: usize,
+        symbols: &BitRows,
+        row: usize,
+        from: usize,
+    ) -> Option<usize>
+        requires state { IsState self.now (number state) }
+        requires row { HasRow symbols.now row }
+        ensures { MatchOption result
+            ((k : ℕ) → from ≤ k → LeadsBy self.now symbols.now row state k → ⊥)
+            (λ k. IsNext (LeadsBy self.now symbols.now row state) from k) }
+    {
+        symbols.next_common(row, &self.leading, state, from)
     }
 }

@@ -155,8 +155,10 @@ fn support(
 {
     let mut some = false;
     let mut from = 0;
-    'symbols: while let Some(symbol) = values.next(place, from) {
-        some |= add_symbol(automaton, layers, after, state, symbol, place, supports);
+    'symbols: while let Some(symbol) = automaton.next_symbol(state, values, place, from) {
+        if !some || !supports.has(place, symbol) {
+            some |= add_symbol(automaton, layers, after, state, symbol, place, supports);
+        }
         from = symbol + 1;
     }
     some

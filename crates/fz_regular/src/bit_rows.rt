@@ -1,9 +1,9 @@
 //! Rows of bits.
 ghost use Rattle.std.specs.Prelude.{◌≡◌, ◌<◌, ◌≤◌, ◌/◌, ◌%◌, ◌*◌, ◌↔◌, ◌⊎◌, ℕ, length, IfOk, IsTrue, MatchOption};
 ghost use Rattle.fz_bits.specs.Words.{HasBit};
-ghost use Rattle.fz_regular.specs.BitRows.{Has, HasRow, IsNext, word_at, width_for};
+ghost use Rattle.fz_regular.specs.BitRows.{Has, HasRow, HaveBoth, IsNext, word_at, width_for};
 
-use fz_bits::word::{either, has_bit, lowered, lowest_bit, with_bit, without_bit};
+use fz_bits::word::{common, either, has_bit, lowered, lowest_bit, with_bit, without_bit};
 use std::alloc::{AllocError, Global};
 
 /// Rows of bits, each as many words.
@@ -121,27 +121,53 @@ impl BitRows {
     pub fn next(&self, row: usize, from: usize) -> Option<usize>
         requires { HasRow self.now row }
         ensures { MatchOption result ((k : ℕ) → from ≤ k → Has self.now row k → ⊥)
-            (λ k. IsNext self.now row from k) }
+            (λ k. IsNext (Has self.now row) from k) }
+    {
+        self.next_common(row, self, row, from)
+    }
+
+    /// The first bit from one on that is set in a row and in one of other rows, if there is one.
+    pub fn next_common(
+        &self,
+        row: usize,
+        other: &BitRows,
+        other_row: usize,
+        from: usize,
+    ) -> Option<usize>
+        requires here { HasRow self.now row }
+        requires there { HasRow other.now other_row }
+        ensures { MatchOption result
+            ((k : ℕ) → from ≤ k → HaveBoth self.now row other.now other_row k → ⊥)
+            (λ k. IsNext (HaveBoth self.now row other.now other_row) from k) }
     {
         let first = from / 64;
-        if first >= self.width {
+        if first >= self.width.min(other.width) {
             return None;
         }
-        let here = lowered(self.word(row, first), (from % 64) as u32);
+        let both = common(self.word(row, first), other.word(other_row, first));
+        let here = lowered(both, (from % 64) as u32);
         if here != 0 {
             return Some(from + lowest_bit(here) as usize);
         }
-        self.first_after(row, first + 1)
+        self.first_common(row, other, other_row, first + 1)
     }
 
-    /// The first bit that is set of the words of a row from one on, if there is one.
-    fn first_after(&self, row: usize, first: usize) -> Option<usize>
-        requires { HasRow self.now row }
-        ensures { MatchOption result ((k : ℕ) → first * 64 ≤ k → Has self.now row k → ⊥)
-            (λ k. IsNext self.now row (first * 64) k) }
+    /// The first bit that is set in both rows of the words from one on, if there is one.
+    fn first_common(
+        &self,
+        row: usize,
+        other: &BitRows,
+        other_row: usize,
+        first: usize,
+    ) -> Option<usize>
+        requires here { HasRow self.now row }
+        requires there { HasRow other.now other_row }
+        ensures { MatchOption result
+            ((k : ℕ) → first * 64 ≤ k → HaveBoth self.now row other.now other_row k → ⊥)
+            (λ k. IsNext (HaveBoth self.now row other.now other_row) (first * 64) k) }
     {
-        for place in first..self.width {
-            let word = self.word(row, place);
+        for place in first..self.width.min(other.width) {
+            let word = common(self.word(row, place), other.word(other_row, place));
             if word != 0 {
                 return Some(place * 64 + lowest_bit(word) as usize);
             }

@@ -65,7 +65,7 @@ fn lead(
     ensures size { length layers.new.words.items ≡ length layers.old.words.items }
 {
     let mut from = 0;
-    'symbols: while let Some(symbol) = values.next(place, from) {
+    'symbols: while let Some(symbol) = automaton.next_symbol(state, values, place, from) {
         add_next(automaton, state, symbol, after, layers);
         from = symbol + 1;
     }

@@ -12,6 +12,7 @@ mod bit_rows;
 mod forward;
 mod keep;
 pub mod regular;
+mod steps;
 mod supports;
 
 pub use automaton::Automaton;

@@ -2,7 +2,7 @@ use Rattle.std.proofs.Common.{arith}
 use Rattle.fz_regular.specs.BitRows.{Has}
 use Rattle.fz_regular.specs.Runs.{IsAccepting}
 use Rattle.fz_regular.proofs.Gathering.{filtered_none, filtered_next, filtered_all}
-use Rattle.fz_regular.proofs.Layers.{alike_self, alike_twice, row_alike, fits_alike, next_of}
+use Rattle.fz_regular.proofs.Layers.{alike_self, alike_twice, row_alike, fits_alike}
 use Rattle.fz_regular.proofs.backward.keep_accepting.Goals as goal
 
 pub states-init : goal.states-init
@@ -45,7 +45,7 @@ states-preserved c =
     record {
       alike = alike_twice layers c.states.layers new c.states.invariant.alike (record { width = c.accept.ensures.width; size = c.accept.ensures.size });
       filtered = filtered_next row c.states.from state (IsAccepting c.args.automaton.now) (Has layers) (Has c.states.layers) (Has new)
-          (next_of c.states.layers row c.states.from state c.in-Some.ensures) c.accept.ensures.states c.states.invariant.filtered;
+          c.in-Some.ensures c.accept.ensures.states c.states.invariant.filtered;
     }
 
 pub returns-clause-states : goal.returns-clause-states

@@ -2,7 +2,7 @@ use Rattle.std.proofs.Common.{inl, inr, arith}
 use Rattle.fz_regular.specs.BitRows.{Has}
 use Rattle.fz_regular.specs.Layers.{Leads, SupportsAt}
 use Rattle.fz_regular.proofs.Gathering.{gathered_none, gathered_more, gathered_all, filtered_none, filtered_next, filtered_all}
-use Rattle.fz_regular.proofs.Layers.{alike_self, alike_twice, row_alike, fits_alike, next_of, next_left, none_left, leads_same, leads_in_same}
+use Rattle.fz_regular.proofs.Layers.{alike_self, alike_twice, row_alike, fits_alike, next_left, none_left, leads_same, leads_in_same}
 use Rattle.fz_regular.proofs.backward.keep_ending.Goals as goal
 
 pub states-init : goal.states-init
@@ -66,7 +66,7 @@ states-preserved c =
       alike = alike_twice layers c.states.layers c.keep_state.new.layers inv.alike (record { width = c.keep_state.ensures.layers_width; size = c.keep_state.ensures.layers_size });
       alike_supports = alike_twice supports c.states.supports c.keep_state.new.supports inv.alike_supports (record { width = c.keep_state.ensures.width; size = c.keep_state.ensures.size });
       filtered = filtered_next place from state (Leads m values layers place after) (Has layers) (Has c.states.layers) (Has c.keep_state.new.layers)
-          (next_of c.states.layers place from state c.in-Some.ensures)
+          c.in-Some.ensures
           (λ i p. (
             (λ h. let w = (c.keep_state.ensures.states i p).0 h in (w.0, λ both. leads.0 (w.1 both))),
             (λ w. (c.keep_state.ensures.states i p).1 (w.0, λ both. leads.1 (w.1 both))),

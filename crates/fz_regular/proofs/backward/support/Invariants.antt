@@ -1,6 +1,7 @@
 use Rattle.std.proofs.Common.{◌≡◌, ◌-◌, ◌*◌}
 use Rattle.fz_regular.specs.BitRows.{Has}
 use Rattle.fz_regular.specs.Layers.{LeadsIn}
+use Rattle.fz_regular.specs.Runs.{LeadsBy}
 use Rattle.fz_regular.proofs.Gathering.{Gathered, Found}
 use Rattle.fz_regular.proofs.Layers.{AreAlike}
 use Rattle.fz_regular.proofs.backward.support.Given as goal
@@ -9,8 +10,8 @@ use Rattle.fz_regular.proofs.backward.support.Given as goal
 abbrev pub invariant-symbols : goal.invariant-symbols
 invariant-symbols l = record {
   alike : AreAlike l.initial.supports l.supports;
-  gathered : Gathered (Has l.values l.place) l.from (λ s i k. (i ≡ l.place) × (k ≡ s) × LeadsIn l.automaton l.layers l.after l.state s) (Has l.initial.supports) (Has l.supports);
-  found : Found (λ k. Has l.values l.place k × LeadsIn l.automaton l.layers l.after l.state k) l.from l.some;
+  gathered : Gathered (LeadsBy l.automaton l.values l.place l.state) l.from (λ s i k. (i ≡ l.place) × (k ≡ s) × LeadsIn l.automaton l.layers l.after l.state s) (Has l.initial.supports) (Has l.supports);
+  found : Found (λ k. LeadsBy l.automaton l.values l.place l.state k × LeadsIn l.automaton l.layers l.after l.state k) l.from l.some;
 }
 
 abbrev pub decreases-symbols : goal.decreases-symbols
