@@ -1,0 +1,4 @@
+pub mod Wording
+pub mod Reading
+pub mod Meeting
+pub mod Listing
