@@ -8,3 +8,4 @@ pub mod Lists
 pub mod Filling
 pub mod Numbers
 pub mod Keeping
+pub mod Fronts

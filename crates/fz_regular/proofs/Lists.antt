@@ -14,7 +14,7 @@ use Rattle.fz_regular.specs.BitRows.{Has}
 use Rattle.fz_regular.specs.Runs.{number, LeadsTo, IsReached, IsAccepting, CanEnd, IsOnTheWay, IsLeftAt, AllowsLeft, AreInWords}
 
 -- a positive number is one of a state or a symbol
-counted : (n : ℤ) → pos 1 ≤ℤ n → (k : ℕ) × (n ≡ number k)
+pub counted : (n : ℤ) → pos 1 ≤ℤ n → (k : ℕ) × (n ≡ number k)
 counted (pos zero) above = absurd (omega (arith, ints, above))
 counted (pos (suc k)) above = (k, omega (arith, ints))
 counted (negsuc k) above = absurd (omega (arith, ints, above))
@@ -178,7 +178,7 @@ some_word a xs ds Allows allow p reached accepts =
 
 -- ---- from lists to states
 
-run_state : (a : Automaton) (p : ℤ) (states ns : List ℤ) → IsRun a (p ∷ states) ns → IsState a p
+pub run_state : (a : Automaton) (p : ℤ) (states ns : List ℤ) → IsRun a (p ∷ states) ns → IsState a p
 run_state a p [] [] run = run.0
 run_state a p (to ∷ states) (n ∷ ns) run = run.0
 run_state a p [] (n ∷ ns) run = absurd run

@@ -1,3 +1,4 @@
 pub mod BitRows
 pub mod Runs
 pub mod Layers
+pub mod Fronts

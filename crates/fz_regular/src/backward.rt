@@ -5,11 +5,11 @@ ghost use Rattle.fz_regular.specs.BitRows.{Has, HasRow};
 ghost use Rattle.fz_regular.specs.Layers.{HasRows, FitsStates, AreEnding, Leads, LeadsIn, SupportsAt};
 ghost use Rattle.fz_regular.specs.Runs.{IsAccepting, IsOnTheWay, number};
 
-use crate::automaton::Automaton;
 use crate::bit_rows::BitRows;
+use crate::started::Started;
 
 /// Keeps of the states after the last of that many places those in which it accepts.
-pub fn keep_accepting(automaton: &Automaton, places: usize, layers: &mut BitRows)
+pub fn keep_accepting(automaton: &Started<'_>, places: usize, layers: &mut BitRows)
     requires row { HasRow layers.old places }
     requires fits { FitsStates automaton.now layers.old }
     requires states { (p : ℕ) → Has layers.old places p → IsState automaton.now (number p) }
@@ -26,7 +26,7 @@ pub fn keep_accepting(automaton: &Automaton, places: usize, layers: &mut BitRows
 }
 
 /// Takes a state from a row, unless it accepts in it.
-fn accept(automaton: &Automaton, row: usize, state: usize, layers: &mut BitRows)
+fn accept(automaton: &Started<'_>, row: usize, state: usize, layers: &mut BitRows)
     requires row { HasRow layers.old row }
     requires fits { FitsStates automaton.now layers.old }
     requires state { IsState automaton.now (number state) }
@@ -43,7 +43,7 @@ fn accept(automaton: &Automaton, row: usize, state: usize, layers: &mut BitRows)
 
 /// Keeps the states from which it can end, and adds the symbols on the way, where this is done behind the last of that many places.
 pub fn retreat(
-    automaton: &Automaton,
+    automaton: &Started<'_>,
     values: &BitRows,
     places: usize,
     layers: &mut BitRows,
@@ -68,7 +68,7 @@ pub fn retreat(
 
 /// Keeps the states before a place from which a symbol leads to a state after it, and adds these symbols.
 fn keep_ending(
-    automaton: &Automaton,
+    automaton: &Started<'_>,
     values: &BitRows,
     place: usize,
     after: usize,
@@ -101,7 +101,7 @@ fn keep_ending(
 
 /// Takes a state from those before a place, unless a symbol leads from it to one after it, and adds these symbols.
 fn keep_state(
-    automaton: &Automaton,
+    automaton: &Started<'_>,
     values: &BitRows,
     place: usize,
     after: usize,
@@ -133,7 +133,7 @@ fn keep_state(
 
 /// Adds the symbols at a place that lead from a state to one after it, and says whether there is one.
 fn support(
-    automaton: &Automaton,
+    automaton: &Started<'_>,
     values: &BitRows,
     place: usize,
     after: usize,
@@ -166,7 +166,7 @@ fn support(
 
 /// Adds a symbol to a row if it leads from a state to one of another row, and says whether it does.
 fn add_symbol(
-    automaton: &Automaton,
+    automaton: &Started<'_>,
     layers: &BitRows,
     after: usize,
     state: usize,
@@ -194,7 +194,7 @@ fn add_symbol(
 
 /// Whether a symbol leads from a state to one of a row.
 fn does_lead(
-    automaton: &Automaton,
+    automaton: &Started<'_>,
     layers: &BitRows,
     row: usize,
     state: usize,

@@ -5,11 +5,11 @@ ghost use Rattle.fz_regular.specs.BitRows.{Has, HasRow};
 ghost use Rattle.fz_regular.specs.Layers.{HasRows, FitsStates, AreReached, LeadsAt, LedAt};
 ghost use Rattle.fz_regular.specs.Runs.{number};
 
-use crate::automaton::Automaton;
 use crate::bit_rows::BitRows;
+use crate::started::Started;
 
 /// Fills layers with the states that are reached before each of that many places, and after the last one.
-pub fn reach(automaton: &Automaton, values: &BitRows, places: usize, layers: &mut BitRows)
+pub fn reach(automaton: &Started<'_>, values: &BitRows, places: usize, layers: &mut BitRows)
     requires none { (i p : ℕ) → Has layers.old i p → ⊥ }
     requires rows { HasRows layers.old (places + 1) }
     requires values { HasRows values.now places }
@@ -18,16 +18,14 @@ pub fn reach(automaton: &Automaton, values: &BitRows, places: usize, layers: &mu
     ensures width { layers.new.width ≡ layers.old.width }
     ensures size { length layers.new.words.items ≡ length layers.old.words.items }
 {
-    if let Some(start) = automaton.start() {
-        layers.insert(0, start);
-    }
+    layers.insert(0, automaton.start());
     for place in 0..places {
         step(automaton, values, place, place + 1, layers);
     }
 }
 
 /// Adds the states to which the symbols at a place lead from the states before it, to those after it.
-fn step(automaton: &Automaton, values: &BitRows, place: usize, after: usize, layers: &mut BitRows)
+fn step(automaton: &Started<'_>, values: &BitRows, place: usize, after: usize, layers: &mut BitRows)
     requires differ { place ≡ after → ⊥ }
     requires before { HasRow layers.old place }
     requires after { HasRow layers.old after }
@@ -48,7 +46,7 @@ fn step(automaton: &Automaton, values: &BitRows, place: usize, after: usize, lay
 
 /// Adds the states to which the symbols at a place lead from a state.
 fn lead(
-    automaton: &Automaton,
+    automaton: &Started<'_>,
     values: &BitRows,
     place: usize,
     after: usize,
@@ -72,7 +70,13 @@ fn lead(
 }
 
 /// Adds the state to which a symbol leads from a state, if there is one.
-fn add_next(automaton: &Automaton, state: usize, symbol: usize, after: usize, layers: &mut BitRows)
+fn add_next(
+    automaton: &Started<'_>,
+    state: usize,
+    symbol: usize,
+    after: usize,
+    layers: &mut BitRows,
+)
     requires after { HasRow layers.old after }
     requires fits { FitsStates automaton.now layers.old }
     requires state { IsState automaton.now (number state) }

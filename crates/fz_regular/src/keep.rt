@@ -1,5 +1,5 @@
 //! Keeping each term to the numbers that stand at its place of a list which is accepted.
-ghost use Rattle.std.specs.Prelude.{◌≡◌, ◌↔◌, ℕ, ℤ, List, length, IfOk, OnErr, IsTrue};
+ghost use Rattle.std.specs.Prelude.{◌≡◌, ◌↔◌, ◌≤◌, ℕ, ℤ, List, drop, length, IfOk, OnErr, IsTrue};
 ghost use Rattle.std.specs.List.{AllByRecursion};
 ghost use Rattle.fz_sets.specs.Sets.{IsInSet, IsWithinLimits};
 ghost use Rattle.fz_strength.specs.Domains.{IsTermOf};
@@ -13,6 +13,8 @@ ghost use Rattle.fz_regular.specs.Runs.{AreInWords, IsAcceptedAt, IsInRow, numbe
 
 use crate::automaton::Automaton;
 use crate::bit_rows::BitRows;
+use crate::front::front_of;
+use crate::started::Started;
 use crate::supports::supports_of;
 use fz_bits::Window;
 use fz_dom::Dom;
@@ -22,12 +24,50 @@ use fz_spec::term::Term;
 use std::alloc::{AllocError, Global};
 
 /// Narrows a store so that an automaton accepts terms: each keeps the numbers that stand at its place of a list within the domains
-/// which is accepted. Where no variable stands at two places these lists still lie in what is left, and it rests at once.
+/// which is accepted. Terms at the front that are fixed are passed over, by the state behind them.
+///
+/// # Errors
+/// `AllocError` where there is no memory; the store is then narrower, and no assignment is lost.
 pub fn keep_accepted(
     alloc: Global,
     store: &mut Store,
     terms: &[Term],
     automaton: &Automaton,
+    differ: bool,
+) -> Result<Answer, AllocError>
+    requires terms { AllByRecursion (IsTermOf (length store.old.doms)) terms.now }
+    requires fits { AllByRecursion FitsTerm terms.now }
+    requires differ { IsTrue differ → AreApart terms.now }
+    ensures shrinks { Shrinks store.old store.new }
+    ensures correct { IsCorrectOf (IsAcceptedAt automaton.now terms.now) store.old.doms store.new.doms }
+    ensures answer { IfOk result (λ r. IsAnswerOf r (IsAcceptedAt automaton.now terms.now)
+        (IsRegularLine automaton.now terms.now) store.old.doms store.new.doms) }
+{
+    let Some(front) = front_of(store, terms, automaton) else {
+        return Ok(Answer::Failed);
+    };
+    let rest = terms_behind(terms, front.places);
+    let started = Started::at(automaton, front.state);
+    let answer = keep_rest(alloc, store, rest, &started, differ);
+    let _ = store.doms();
+    answer
+}
+
+/// The terms after that many.
+fn terms_behind(terms: &[Term], front: usize) -> &[Term]
+    requires { front ≤ length terms.now }
+    ensures { result.now ≡ drop front terms.now }
+{
+    &terms[front..]
+}
+
+/// Narrows a store so that an automaton accepts terms, as `keep_accepted` does. Where no variable stands at two places the lists within
+/// the domains that are accepted still lie in what is left, and it rests at once.
+fn keep_rest(
+    alloc: Global,
+    store: &mut Store,
+    terms: &[Term],
+    automaton: &Started<'_>,
     differ: bool,
 ) -> Result<Answer, AllocError>
     requires terms { AllByRecursion (IsTermOf (length store.old.doms)) terms.now }
@@ -53,7 +93,7 @@ fn keep_supported(
     alloc: Global,
     store: &mut Store,
     terms: &[Term],
-    automaton: &Automaton,
+    automaton: &Started<'_>,
     supports: &BitRows,
     differ: bool,
 ) -> Result<Answer, AllocError>

@@ -8,10 +8,10 @@ ghost use Rattle.fz_regular.specs.BitRows.{Has, HasRow};
 ghost use Rattle.fz_regular.specs.Layers.{HasRows};
 ghost use Rattle.fz_regular.specs.Runs.{AllowsLeft, AreInWords, IsAccepting, IsOnTheWay, IsReached, number};
 
-use crate::automaton::Automaton;
 use crate::backward::{keep_accepting, retreat};
 use crate::bit_rows::BitRows;
 use crate::forward::reach;
+use crate::started::Started;
 use fz_prop::Store;
 use fz_prop::terms::word_of;
 use fz_spec::term::Term;
@@ -25,7 +25,7 @@ pub fn supports_of(
     alloc: Global,
     store: &Store,
     terms: &[Term],
-    automaton: &Automaton,
+    automaton: &Started<'_>,
 ) -> Result<Option<BitRows>, AllocError>
     requires { AllByRecursion (IsTermOf (length store.now.doms)) terms.now }
     ensures none { IfOk result (λ o. IsNone o → (word : List ℤ)
@@ -43,7 +43,7 @@ pub fn supports_of(
 fn on_the_way(
     alloc: Global,
     terms: &[Term],
-    automaton: &Automaton,
+    automaton: &Started<'_>,
     values: &BitRows,
 ) -> Result<Option<BitRows>, AllocError>
     requires { HasRows values.now (length terms.now) }
@@ -75,7 +75,7 @@ fn symbols_of(
     alloc: Global,
     store: &Store,
     terms: &[Term],
-    automaton: &Automaton,
+    automaton: &Started<'_>,
 ) -> Result<BitRows, AllocError>
     requires { AllByRecursion (IsTermOf (length store.now.doms)) terms.now }
     ensures rows { IfOk result (λ b. HasRows b (length terms.now)) }

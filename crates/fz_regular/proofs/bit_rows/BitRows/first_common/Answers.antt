@@ -1,6 +1,5 @@
-use Rattle.std.proofs.Common.{◌≡◌, ℕ, ◌+◌, ◌*◌, ◌<◌, subst, arith}
-use Rattle.fz_bits.specs.Words.{HasBit, AreOnes}
-use Rattle.fz_regular.specs.BitRows.{HaveBoth, word_at}
+use Rattle.std.proofs.Common.{ℕ, ◌+◌, ◌*◌, arith}
+use Rattle.fz_regular.specs.BitRows.{HaveBoth}
 use Rattle.fz_regular.proofs.Words.{clear_more, moved_whole, next_clear, next_here}
 use Rattle.fz_regular.proofs.bit_rows.BitRows.first_common.Goals as goal
 

@@ -1,6 +1,6 @@
-use Rattle.std.proofs.Common.{◌/◌, ◌<◌, ℕ, arith}
+use Rattle.std.proofs.Common.{ℕ, arith}
 use Rattle.fz_regular.specs.BitRows.{HaveBoth}
-use Rattle.fz_regular.proofs.Words.{IsMoved, moved_common, next_here, next_or}
+use Rattle.fz_regular.proofs.Words.{moved_common, next_here, next_or}
 use Rattle.fz_regular.proofs.bit_rows.BitRows.next_common.Goals as goal
 
 pub returns-then-here-ne0 : goal.returns-then-here-ne0
