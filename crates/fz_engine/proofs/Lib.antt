@@ -4,4 +4,5 @@ mod Listing
 mod Watching
 mod Queuing
 mod Shapes
+mod Totals
 pub mod Posting

@@ -7,23 +7,26 @@ use Rattle.std.proofs.lemmas.List.{length-set}
 use Rattle.std.proofs.lemmas.List.Sums.{sum_by-cons, sum_by-set}
 use Rattle.fz_sets.proofs.Lists.{all_at}
 use Rattle.fz_spec.specs.declared.term.Term.{Term}
-use Rattle.fz_strength.specs.Domains.{Within, IsNarrower, room, IsTermOf}
+use Rattle.fz_spec.specs.Constraints.{IsTrueOf}
+use Rattle.fz_strength.specs.Domains.{Within, IsNarrower, number_at, room, IsTermOf}
 use Rattle.fz_strength.specs.Promises.{IsTruth, RestsForGood}
 use Rattle.fz_strength.specs.Sayings.{Saying, line_of, said_terms, saying_of, truth_of, truths_of}
 use Rattle.fz_strength.proofs.Terms.{term_narrower}
 use Rattle.fz_prop.specs.declared.answer.Answer.{Answer}
 use Rattle.fz_prop.specs.declared.answer.Answer.TheVariants.{Fix, NoFix, Subsumed, Failed}
 use Rattle.fz_prop.specs.Answers.{IsAnswerOf, IsCorrectOf}
-use Rattle.fz_prop.specs.Stores.{Stored, IsStore, Shrinks}
+use Rattle.fz_prop.specs.Stores.{Stored, IsStore, Shrinks, declared_sets}
 use Rattle.fz_prop.proofs.Twice.{narrower_twice}
 use Rattle.fz_agenda.specs.Agendas.{IsSettled}
 use Rattle.fz_agenda.specs.Queues.{Lineup, IsAtRest, counts_queued, queued}
 use Rattle.fz_agenda.specs.Wakes.{Waking, HaveSize, IsDraining, IsDrainingBut, IsDrained}
 use Rattle.fz_agenda.proofs.Settled.{settled_lasts, all_rest_at_rest, may_be_gone}
 use Rattle.fz_agenda.proofs.Places.{within_of}
-use Rattle.fz_engine.specs.Networks.{Networked, AreOf, IsNetwork}
+use Rattle.fz_engine.specs.Networks.{Networked, AreOf, IsAmong, IsNetwork}
 use Rattle.fz_engine.specs.Steps.{IsAnswerAt}
 use Rattle.fz_engine.specs.Runs.{IsAlive, IsRun, AreNeverTrue, AllRest, HasMoved, work}
+use Rattle.fz_engine.specs.Stronger.{stronger_of}
+use Rattle.fz_engine.proofs.Posting.{all_each}
 
 -- ---- what is said fits a narrower store
 
@@ -43,6 +46,7 @@ sized n states s network alive = subst (λ (k : ℕ). HaveSize n.wakes k) (sym a
 pub alive_last : (n : Networked) (states after : List ℕ) (s t : Stored) → IsNarrower s.doms t.doms → IsAlive n states s → IsSettled n.sayings after t → IsAlive n after t
 alive_last n states after s t narrower alive settled = record {
   size = narrower.size ∙ alive.size;
+  declared = narrower_twice (declared_sets n.model.variables) s.doms t.doms alive.declared narrower;
   terms = terms_last n.sayings s.doms t.doms narrower alive.terms;
   settled = settled;
 }
@@ -72,10 +76,22 @@ run_drained n r s t mid after network run draining = record {
   correct = λ a all within. subst (λ (ds : List (List (ℤ × ℤ))). Within ds a) (sym draining.doms) (run.correct a all within);
   alive = record {
     size = ap length draining.doms ∙ run.alive.size;
+    declared = subst (λ (ds : List (List (ℤ × ℤ))). IsNarrower (declared_sets n.model.variables) ds) (sym draining.doms) run.alive.declared;
     terms = subst (λ (ds : List (List (ℤ × ℤ))). AreOf n.sayings ds) (sym draining.doms) run.alive.terms;
     settled = draining.settled n.sayings network.listing.index run.alive.settled;
   };
 }
+
+-- what is said is true of an assignment of all constraints that lies within domains of the declared sets
+within_wider : (ds es : List (List (ℤ × ℤ))) (a : List ℤ) → IsNarrower ds es → Within es a → Within ds a
+within_wider ds es a narrower within =
+    let size = narrower.size in
+    record { size = within.size ∙ size; members = λ v h. narrower.members v (number_at a v) (within.members v (omega (arith, h, size))) }
+
+follows : (n : Networked) (ds : List (List (ℤ × ℤ))) (a : List ℤ) (i : ℕ) (saying : Saying) → IsNetwork n → IsNarrower (declared_sets n.model.variables) ds → slice_get n.sayings i ≡ Some saying
+    → AllByRecursion (IsTrueOf a) n.model.constraints → Within ds a → truth_of saying a
+follows n ds a i saying network declared is all within =
+    all_at (λ (x : Saying). truth_of x a) n.sayings i saying (network.said.follow a (within_wider (declared_sets n.model.variables) ds a declared within) all) is
 
 -- one propagator ran
 pub ran : (n : Networked) (s t : Stored) (states : List ℕ) (i : ℕ) (saying : Saying) → IsNetwork n → IsStore t → slice_get n.sayings i ≡ Some saying → Shrinks s t → IsCorrectOf (truth_of saying) s.doms t.doms
@@ -83,7 +99,7 @@ pub ran : (n : Networked) (s t : Stored) (states : List ℕ) (i : ℕ) (saying :
 ran n s t states i saying network store is shrinks correct alive = record {
   store = store;
   narrower = shrinks.narrower;
-  correct = λ a all within. correct a (all_at (λ (x : Saying). truth_of x a) n.sayings i saying (network.said.follow a all) is) within;
+  correct = λ a all within. correct a (follows n s.doms a i saying network alive.declared is all within) within;
   alive = alive_last n states states s t shrinks.narrower alive (settled_lasts n.sayings states s t store shrinks alive.settled);
 }
 
@@ -92,7 +108,7 @@ with_states n s t states after run settled = record {
   store = run.store;
   narrower = run.narrower;
   correct = run.correct;
-  alive = record { size = run.alive.size; terms = run.alive.terms; settled = settled };
+  alive = record { size = run.alive.size; declared = run.alive.declared; terms = run.alive.terms; settled = settled };
 }
 
 -- the first rests, and all others that wait for its changes are woken
@@ -104,6 +120,7 @@ run_drained_but n r s t mid after place saying network run draining is rests = r
   correct = λ a all within. subst (λ (ds : List (List (ℤ × ℤ))). Within ds a) (sym draining.doms) (run.correct a all within);
   alive = record {
     size = ap length draining.doms ∙ run.alive.size;
+    declared = subst (λ (ds : List (List (ℤ × ℤ))). IsNarrower (declared_sets n.model.variables) ds) (sym draining.doms) run.alive.declared;
     terms = subst (λ (ds : List (List (ℤ × ℤ))). AreOf n.sayings ds) (sym draining.doms) run.alive.terms;
     settled = draining.settled n.sayings saying network.listing.index run.alive.settled is rests;
   };
@@ -114,18 +131,18 @@ pub ran_gone : (n : Networked) (s t : Stored) (states after : List ℕ) (i : ℕ
 ran_gone n s t states after i saying run is within rests at =
     with_states n s t states after run (subst (λ (x : List ℕ). IsSettled n.sayings x t) (sym at) (may_be_gone n.sayings states t i saying run.alive.settled is within rests))
 
-pub never_true : (n : Networked) (ds : List (List (ℤ × ℤ))) (i : ℕ) (saying : Saying) → IsNetwork n → slice_get n.sayings i ≡ Some saying → ((a : List ℤ) → Within ds a → truth_of saying a → ⊥)
-    → AreNeverTrue n.model.constraints ds
-never_true n ds i saying network is never = λ a all within. never a within (all_at (λ (x : Saying). truth_of x a) n.sayings i saying (network.said.follow a all) is)
+pub never_true : (n : Networked) (ds : List (List (ℤ × ℤ))) (i : ℕ) (saying : Saying) → IsNetwork n → IsNarrower (declared_sets n.model.variables) ds → slice_get n.sayings i ≡ Some saying
+    → ((a : List ℤ) → Within ds a → truth_of saying a → ⊥) → AreNeverTrue n.model.constraints ds
+never_true n ds i saying network declared is never = λ a all within. never a within (follows n ds a i saying network declared is all within)
 
 -- what a run answers
-pub answered : {E : Type 0} (r : Result Answer E) (n : Networked) (place : ℕ) (saying : Saying) (s t : Stored) → IsNetwork n → slice_get n.sayings place ≡ Some saying
-    → IfOk r (λ x. IsAnswerOf x (truth_of saying) (line_of saying) s.doms t.doms) → IfOk r (λ x. IsAnswerAt x n place s t)
-answered (Err x) n place saying s t network is answer = tt
-answered (Ok Fix) n place saying s t network is answer = (saying, is, answer)
-answered (Ok NoFix) n place saying s t network is answer = answer
-answered (Ok Subsumed) n place saying s t network is answer = (saying, is, answer.1)
-answered (Ok Failed) n place saying s t network is answer = never_true n s.doms place saying network is answer
+pub answered : {E : Type 0} (r : Result Answer E) (n : Networked) (place : ℕ) (saying : Saying) (s t : Stored) → IsNetwork n → IsNarrower (declared_sets n.model.variables) s.doms
+    → slice_get n.sayings place ≡ Some saying → IfOk r (λ x. IsAnswerOf x (truth_of saying) (line_of saying) s.doms t.doms) → IfOk r (λ x. IsAnswerAt x n place s t)
+answered (Err x) n place saying s t network declared is answer = tt
+answered (Ok Fix) n place saying s t network declared is answer = (saying, is, answer)
+answered (Ok NoFix) n place saying s t network declared is answer = answer
+answered (Ok Subsumed) n place saying s t network declared is answer = (saying, is, answer.1)
+answered (Ok Failed) n place saying s t network declared is answer = never_true n s.doms place saying network declared is answer
 
 pub all_rest : (n : Networked) (states : List ℕ) (s : Stored) → IsNetwork n → IsStore s → IsDrained s → IsAtRest states → IsAlive n states s → AllRest n.model s.doms
 all_rest n states s network store drained rest alive = λ i c is.
@@ -133,7 +150,7 @@ all_rest n states s network store drained rest alive = λ i c is.
     let there = network.said.each i c is in
     record {
       first = lines there.0 (saying_of c) there.1;
-      more = λ saying stronger. (let also = network.said.more i c saying is stronger in lines also.0 saying also.1);
+      more = all_each (IsAmong n.sayings) (λ (saying : Saying). line_of saying s.doms) (stronger_of n.model.variables c) (λ saying at. lines at.0 saying at.1) (network.said.more i c is);
     }
 
 -- ---- the measure

@@ -1,12 +1,12 @@
 -- What the spaces of a model share.
-use Rattle.std.specs.Prelude.{◌≡◌, ◌⊎◌, ◌≤◌, ◌+◌, ◌^◌, ℕ, ℤ, List, ◌++◌, ◌∷◌, [], length, map, replicate, slice_get, Option, Some, None}
+use Rattle.std.specs.Prelude.{◌≡◌, ◌⊎◌, ◌≤◌, ◌+◌, ◌^◌, ℕ, ℤ, List, ◌++◌, ◌∷◌, [], length, map, replicate, slice_get, Some}
 use Rattle.std.specs.List.{AllByRecursion}
 use Rattle.fz_spec.specs.Constraints.{Constraint, IsTrueOf}
 use Rattle.fz_spec.specs.Instance.{Instance, Variable}
 use Rattle.fz_strength.specs.declared.cost.Cost.{Cost}
 use Rattle.fz_strength.specs.Promises.{Suits}
 use Rattle.fz_strength.specs.Sayings.{Saying, said_terms, saying_of, truth_of, cost_of}
-use Rattle.fz_strength.specs.Domains.{IsTermOf}
+use Rattle.fz_strength.specs.Domains.{IsTermOf, Within}
 use Rattle.fz_prop.specs.Stores.{declared_sets}
 use Rattle.fz_agenda.specs.Queues.{Lineup, queue_at, class_of, cost_at}
 use Rattle.fz_agenda.specs.Wakes.{Waking, IsIndexOf, HaveSize}
@@ -25,26 +25,26 @@ pub record Networked : Type 0 where
 abbrev pub sayings_of : List AnyPropagator → List Saying
 sayings_of propagators = map said_of propagators
 
--- What each constraint says is among these, and what is said once more of it, and all of these are true where all constraints are.
+-- one of these
+abbrev pub IsAmong : List Saying → Saying → Type 0
+IsAmong sayings saying = (j : ℕ) × (slice_get sayings j ≡ Some saying)
+
+-- What each constraint says is among these, and what is said once more of it; and of numbers in the declared sets all of these are true
+-- where all constraints are.
 pub record AreSaid (vs : List Variable) (cs : List Constraint) (sayings : List Saying) : Type 0 where
-  pub each : (i : ℕ) (c : Constraint) → slice_get cs i ≡ Some c → (j : ℕ) × (slice_get sayings j ≡ Some (saying_of c))
-  pub more : (i : ℕ) (c : Constraint) (saying : Saying) → slice_get cs i ≡ Some c → stronger_of vs c ≡ Some saying → (j : ℕ) × (slice_get sayings j ≡ Some saying)
-  pub follow : (a : List ℤ) → AllByRecursion (IsTrueOf a) cs → AllByRecursion (λ (saying : Saying). truth_of saying a) sayings
+  pub each : (i : ℕ) (c : Constraint) → slice_get cs i ≡ Some c → IsAmong sayings (saying_of c)
+  pub more : (i : ℕ) (c : Constraint) → slice_get cs i ≡ Some c → AllByRecursion (IsAmong sayings) (stronger_of vs c)
+  pub follow : (a : List ℤ) → Within (declared_sets vs) a → AllByRecursion (IsTrueOf a) cs → AllByRecursion (λ (saying : Saying). truth_of saying a) sayings
 
 -- what was said, and maybe a plainer form of something
 abbrev pub IsSaidPlain : Saying → List Saying → List Saying → Type 0
 IsSaidPlain saying before after = (after ≡ before) ⊎ ((plain : Saying) × IsPlainOf saying plain × (after ≡ before ++ plain ∷ []))
 
--- something, and what is said once more, if there is such
-abbrev pub and_more : Saying → Option Saying → List Saying
-and_more saying None = saying ∷ []
-and_more saying (Some more) = saying ∷ more ∷ []
-
--- What constraints of these variables say fits the model, and is at most three times as much.
+-- What constraints of these variables say fits the model, and is at most four times as much.
 pub record AreSaidOf (vs : List Variable) (cs : List Constraint) (sayings : List Saying) : Type 0 where
   pub said : AreSaid vs cs sayings
   pub fit : AllByRecursion (IsFit vs) sayings
-  pub few : length sayings ≤ length cs + length cs + length cs
+  pub few : length sayings ≤ length cs + length cs + length cs + length cs
 
 -- over that many variables, each is listed at all changes that it waits for, and the class of its cost is known
 pub record IsListing (sayings : List Saying) (w : Waking) (n : ℕ) : Type 0 where
@@ -56,7 +56,7 @@ pub record IsListing (sayings : List Saying) (w : Waking) (n : ℕ) : Type 0 whe
 abbrev pub AreOf : List Saying → List (List (ℤ × ℤ)) → Type 0
 AreOf sayings ds = (i : ℕ) (saying : Saying) → slice_get sayings i ≡ Some saying → AllByRecursion (IsTermOf (length ds)) (said_terms saying) × Suits saying ds
 
--- propagators of a model: of each constraint at least one, and one more of what is said once more
+-- propagators of a model: of each constraint at least one, and more of what is said once more
 pub record IsNetwork (n : Networked) : Type 0 where
   pub said : AreSaid n.model.variables n.model.constraints n.sayings
   pub listing : IsListing n.sayings n.wakes (length n.model.variables)

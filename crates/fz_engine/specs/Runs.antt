@@ -5,15 +5,16 @@ use Rattle.fz_spec.specs.Constraints.{Constraint, IsTrueOf}
 use Rattle.fz_spec.specs.Instance.{Instance, Variable}
 use Rattle.fz_strength.specs.Domains.{Within, IsNarrower, room}
 use Rattle.fz_strength.specs.Sayings.{Saying, Rests, line_of}
-use Rattle.fz_prop.specs.Stores.{Stored, IsStore}
+use Rattle.fz_prop.specs.Stores.{Stored, IsStore, declared_sets}
 use Rattle.fz_agenda.specs.Agendas.{IsSettled}
 use Rattle.fz_agenda.specs.Queues.{queued}
 use Rattle.fz_engine.specs.Networks.{Networked, AreOf}
 use Rattle.fz_engine.specs.Stronger.{stronger_of}
 
--- a domain for each variable, to which what is said fits, and propagators that are settled
+-- a domain for each variable, of its declared set, to which what is said fits, and propagators that are settled
 pub record IsAlive (n : Networked) (states : List ℕ) (s : Stored) : Type 0 where
   pub size : length s.doms ≡ length n.model.variables
+  pub declared : IsNarrower (declared_sets n.model.variables) s.doms
   pub terms : AreOf n.sayings s.doms
   pub settled : IsSettled n.sayings states s
 
@@ -31,7 +32,7 @@ AreNeverTrue cs ds = (a : List ℤ) → AllByRecursion (IsTrueOf a) cs → Withi
 -- the line of a constraint holds, and that of what is said once more of it
 pub record RestsWhole (vs : List Variable) (c : Constraint) (ds : List (List (ℤ × ℤ))) : Type 0 where
   pub first : Rests c ds
-  pub more : (saying : Saying) → stronger_of vs c ≡ Some saying → line_of saying ds
+  pub more : AllByRecursion (λ (saying : Saying). line_of saying ds) (stronger_of vs c)
 
 -- so it is for each constraint of a model
 abbrev pub AllRest : Instance → List (List (ℤ × ℤ)) → Type 0

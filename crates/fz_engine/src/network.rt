@@ -18,10 +18,10 @@ ghost use Rattle.fz_says.specs.Said.{said_by, waits_in};
 ghost use Rattle.fz_propagators.specs.Forms.{said_of};
 ghost use Rattle.fz_agenda.specs.Agendas.{IsSettled};
 ghost use Rattle.fz_agenda.specs.Wakes.{waiting_at, watch, IsIndexedAt, IsListedAt, IsWatch, HaveSize, Extends};
-ghost use Rattle.fz_engine.specs.Networks.{AreSaidOf, IsFull, IsListing, IsNetwork, IsSaidPlain, and_more, sayings_of};
+ghost use Rattle.fz_engine.specs.Networks.{AreSaidOf, IsFull, IsListing, IsNetwork, IsSaidPlain, sayings_of};
 ghost use Rattle.fz_engine.specs.Stronger as stronger;
 
-use crate::stronger::said_once_more;
+use crate::stronger::{More, said_once_more};
 use fz_agenda::{Agenda, Wakes, Watch};
 use fz_model::{ConstraintAt, Variable};
 use fz_plain::plain_of;
@@ -218,7 +218,28 @@ fn post(alloc: Global, posted: &mut Posted, saying: &Saying) -> Result<(), Alloc
     Ok(())
 }
 
-/// Adds a propagator of what is said, and one of what is said once more, if there is such.
+/// The same, of what fits a model.
+fn post_fit(
+    alloc: Global,
+    posted: &mut Posted,
+    saying: &Saying,
+    variables: &[Variable],
+) -> Result<(), AllocError>
+    requires fit { IsFit variables.now (said_by saying.now) }
+    requires size { length posted.old.wakes.any ≡ length variables.now }
+    requires few { length posted.old.propagators.items < 2 ^ 32 }
+    requires listing { IsListing (sayings_of posted.old.propagators.items) posted.old.wakes
+        (length posted.old.wakes.any) }
+    ensures said { OnOk result (sayings_of posted.new.propagators.items
+        ≡ sayings_of posted.old.propagators.items ++ said_by saying.now ∷ []) }
+    ensures listing { OnOk result (IsListing (sayings_of posted.new.propagators.items)
+        posted.new.wakes (length posted.old.wakes.any)) }
+{
+    let _ = variables;
+    post(alloc, posted, saying)
+}
+
+/// Adds a propagator of what is said, and those of what is said once more.
 fn post_said(
     alloc: Global,
     posted: &mut Posted,
@@ -228,19 +249,49 @@ fn post_said(
 ) -> Result<(), AllocError>
     requires fit { IsFit variables.now (said_by saying.now) }
     requires size { length posted.old.wakes.any ≡ length variables.now }
+    requires few { length posted.old.propagators.items + 2 < 2 ^ 32 }
+    requires listing { IsListing (sayings_of posted.old.propagators.items) posted.old.wakes
+        (length posted.old.wakes.any) }
+    ensures said { OnOk result (sayings_of posted.new.propagators.items
+        ≡ sayings_of posted.old.propagators.items ++ said_by saying.now
+        ∷ stronger.said_once_more variables.now whole (said_by saying.now)) }
+    ensures listing { OnOk result (IsListing (sayings_of posted.new.propagators.items)
+        posted.new.wakes (length posted.old.wakes.any)) }
+{
+    post_fit(alloc, posted, saying, variables)?;
+    let more = said_once_more(saying, whole, variables);
+    post_more(alloc, posted, more, variables)
+}
+
+/// Adds propagators of what is said once more.
+fn post_more(
+    alloc: Global,
+    posted: &mut Posted,
+    more: More,
+    variables: &[Variable],
+) -> Result<(), AllocError>
+    requires fit { AllByRecursion (IsFit variables.now) (stronger.more_by more) }
+    requires size { length posted.old.wakes.any ≡ length variables.now }
     requires few { length posted.old.propagators.items + 1 < 2 ^ 32 }
     requires listing { IsListing (sayings_of posted.old.propagators.items) posted.old.wakes
         (length posted.old.wakes.any) }
     ensures said { OnOk result (sayings_of posted.new.propagators.items
-        ≡ sayings_of posted.old.propagators.items ++ and_more (said_by saying.now)
-        (stronger.said_once_more variables.now whole (said_by saying.now))) }
+        ≡ sayings_of posted.old.propagators.items ++ stronger.more_by more.entry) }
     ensures listing { OnOk result (IsListing (sayings_of posted.new.propagators.items)
         posted.new.wakes (length posted.old.wakes.any)) }
 {
-    post(alloc, posted, saying)?;
-    match said_once_more(saying, whole, variables) {
-        Some(more) => post(alloc, posted, &more),
-        None => Ok(()),
+    match more {
+        More::Nothing => Ok(()),
+        More::One(saying) => post_fit(alloc, posted, &saying, variables),
+        More::Two(first, second) => {
+            post_fit(alloc, posted, &first, variables)?;
+            post_fit(alloc, posted, &second, variables)
+        }
+        More::Total(terms, number) => {
+            let ones = Vec::from_elem(alloc, 1, terms.len())?;
+            let total = Saying::Sum(Relation::Equal, &ones, terms, Term::Num(number));
+            post_fit(alloc, posted, &total, variables)
+        }
     }
 }
 
@@ -261,9 +312,8 @@ fn post_plain(
     ensures listing { OnOk result (IsListing (sayings_of posted.new.propagators.items)
         posted.new.wakes (length posted.old.wakes.any)) }
 {
-    let _ = variables;
     match plain_of(alloc, saying)? {
-        Some(plain) => post(alloc, posted, &plain.saying()),
+        Some(plain) => post_fit(alloc, posted, &plain.saying(), variables),
         None => Ok(()),
     }
 }

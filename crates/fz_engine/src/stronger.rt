@@ -1,38 +1,146 @@
 //! What is said once more, to a propagator that looks at more.
-ghost use Rattle.std.specs.Prelude.{◌≡◌, ◌<◌, ◌∷◌, ◌&&◌, [], get_or, MatchOption, None, Some, length, negsuc, pos};
+ghost use Rattle.std.specs.Prelude.{◌≡◌, ◌↔◌, ◌<◌, ◌∷◌, ◌&&◌, ◌+ℤ◌, [], false, get_or, int_le, int_lt, length, nat_lt, negsuc, pos, IsTrue};
+ghost use Rattle.std.specs.List.{list_all};
+ghost use Rattle.fz_dom.specs.Shape.{greatest, least};
 ghost use Rattle.fz_spec.specs.declared.term.Term.TheVariants.{Num};
+ghost use Rattle.fz_strength.specs.Sayings as said;
 ghost use Rattle.fz_strength.specs.Sums.{left_factors, left_terms};
 ghost use Rattle.fz_says.specs.Said.{said_by};
 ghost use Rattle.fz_engine.specs.Stronger as stronger;
 
+use fz_dom::Dom;
 use fz_model::Variable;
 use fz_says::Saying;
+use fz_spec::limits::ELEMENT_LIMIT;
 use fz_spec::shape::Relation;
 use fz_spec::term::Term;
 
-/// What is said once more: that terms differ, by their bounds, and a sum of two or three terms, by their numbers, where the constraint asks
-/// for whole domains and the sum's own propagator doesn't keep them.
-pub fn said_once_more<'m>(
-    saying: &Saying<'m>,
-    whole: bool,
-    variables: &[Variable],
-) -> Option<Saying<'m>>
-    ensures { MatchOption result
-        (stronger.said_once_more variables.now whole (said_by saying.now) ≡ None)
-        (λ more. stronger.said_once_more variables.now whole (said_by saying.now)
-        ≡ Some (said_by more)) }
+/// What is said once more.
+#[derive(Clone, Copy)]
+pub enum More<'m> {
+    Nothing,
+    One(Saying<'m>),
+    Two(Saying<'m>, Saying<'m>),
+    /// The sum of terms is a number.
+    Total(&'m [Term], i32),
+}
+
+/// What is said once more: that terms differ, by their bounds, of inverses those of both lists; a sum of two or three terms, by their
+/// numbers, where the constraint asks for whole domains and the sum's own propagator doesn't keep them; and the sum of the counts of
+/// a closed cover.
+pub fn said_once_more<'m>(saying: &Saying<'m>, whole: bool, variables: &[Variable]) -> More<'m>
+    ensures { stronger.more_by result
+        ≡ stronger.said_once_more variables.now whole (said_by saying.now) }
 {
     match saying {
-        Saying::Differ(terms) => Some(Saying::DifferByBounds(terms)),
+        Saying::Differ(terms) => More::One(Saying::DifferByBounds(terms)),
+        Saying::Inverse(firsts, seconds) => More::Two(
+            Saying::DifferByBounds(firsts),
+            Saying::DifferByBounds(seconds),
+        ),
         Saying::Sum(Relation::Equal, factors, terms, last) => {
             if whole && is_short(terms, *last) && !is_kept_whole(factors, terms, *last, variables) {
-                Some(Saying::SumByNumbers(factors, terms, *last))
+                More::One(Saying::SumByNumbers(factors, terms, *last))
             } else {
-                None
+                More::Nothing
             }
         }
-        _ => None,
+        Saying::Count(terms, cover, counts) => total_of(terms, cover, counts, variables),
+        _ => More::Nothing,
     }
+}
+
+/// That the counts of a closed cover add up to the number of places.
+fn total_of<'m>(
+    terms: &[Term],
+    cover: &[i32],
+    counts: &'m [Term],
+    variables: &[Variable],
+) -> More<'m>
+    ensures { stronger.more_by result ≡ stronger.said_once_more variables.now false
+        (said.Count terms.now cover.now counts.now) }
+{
+    if terms.len() <= ELEMENT_LIMIT
+        && counts.len() <= ELEMENT_LIMIT
+        && is_closed(terms, cover, variables)
+    {
+        More::Total(counts, terms.len() as i32)
+    } else {
+        More::Nothing
+    }
+}
+
+/// Whether a cover has its values one after the other, and terms have no others.
+fn is_closed(terms: &[Term], cover: &[i32], variables: &[Variable]) -> bool
+    ensures { result ≡ stronger.is_closed variables.now terms.now cover.now }
+{
+    let Some(first) = cover.first() else {
+        return false;
+    };
+    are_from(*first, cover) && are_terms_from(*first, end_of(*first, cover), terms, variables)
+}
+
+/// The number behind so many from a first one on.
+fn end_of(first: i32, values: &[i32]) -> i128
+    ensures { result ≡ stronger.end_of first values.now }
+{
+    i128::from(first) + values.len() as i128
+}
+
+/// Whether numbers stand one after the other, from a first one on.
+fn are_from(first: i32, values: &[i32]) -> bool
+    ensures { result ≡ stronger.are_from first values.now }
+{
+    for (place, value) in values.iter().enumerate() {
+        if !is_behind(*value, first, place) {
+            return false;
+        }
+    }
+    true
+}
+
+/// Whether a number is so far behind a first one.
+fn is_behind(value: i32, first: i32, place: usize) -> bool
+    ensures { IsTrue result ↔ (value ≡ (first +ℤ pos place)) }
+{
+    i128::from(value) == i128::from(first) + place as i128
+}
+
+/// Whether terms have numbers from a first one on, and before an end.
+fn are_terms_from(first: i32, end: i128, terms: &[Term], variables: &[Variable]) -> bool
+    ensures { result ≡ list_all (stronger.is_term_from variables.now first end) terms.now }
+{
+    terms
+        .iter()
+        .all(|term| is_term_from(first, end, *term, variables))
+}
+
+/// Whether a term has numbers from a first one on, and before an end.
+fn is_term_from(first: i32, end: i128, term: Term, variables: &[Variable]) -> bool
+    ensures { result ≡ stronger.is_term_from variables.now first end term }
+{
+    match term {
+        Term::Num(value) => is_between(first, end, value, value),
+        Term::Var(place) => match variables.get(place as usize) {
+            Some(variable) => is_set_from(first, end, variable.set()),
+            None => false,
+        },
+    }
+}
+
+/// Whether a set has such numbers, and no others.
+fn is_set_from(first: i32, end: i128, set: &Dom) -> bool
+    ensures { result ≡ (nat_lt 0 (length set.now) && (int_le first (least set.now)
+        && int_lt (greatest set.now) end)) }
+{
+    !set.is_empty() && is_between(first, end, set.min(), set.max())
+}
+
+/// Whether numbers from a low one to a high one are such.
+fn is_between(first: i32, end: i128, low: i32, high: i32) -> bool
+    ensures { result ≡ (int_le first low && int_lt high end) }
+{
+    first <= low && i128::from(high) < end
 }
 
 /// Whether a sum has two or three terms, a variable that it is being one of them.

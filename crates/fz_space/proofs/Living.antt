@@ -7,7 +7,7 @@ use Rattle.fz_sets.proofs.Lists.{all_of, below_or_same}
 use Rattle.fz_sets.proofs.Sizes.{some_size}
 use Rattle.fz_spec.specs.Instance.{Instance, Variable, AreDeclared}
 use Rattle.fz_spec.specs.Constraints.{IsTrueOf}
-use Rattle.fz_strength.specs.Domains.{Within, Alone, AreDomains, dom_at, number_at}
+use Rattle.fz_strength.specs.Domains.{Within, Alone, AreDomains, IsNarrower, dom_at, number_at}
 use Rattle.fz_strength.proofs.Terms.{is_single}
 use Rattle.fz_strength.proofs.Sayings.{true_where_alone, below}
 use Rattle.fz_strength.specs.Sayings.{saying_of}
@@ -65,6 +65,7 @@ covers_empty m s empty = record {
 pub alive_root : (n : Networked) (states : List ℕ) (s : Stored) → IsNetwork n → s.doms ≡ declared_sets n.model.variables → IsSettled n.sayings states s → IsAlive n states s
 alive_root n states s network is settled = record {
   size = ap length is ∙ declared_length n.model.variables;
+  declared = subst (λ (ds : List (List (ℤ × ℤ))). IsNarrower (declared_sets n.model.variables) ds) (sym is) (record { size = refl; members = λ v x member. member });
   terms = subst (λ (ds : List (List (ℤ × ℤ))). AreOf n.sayings ds) (sym is) network.terms;
   settled = settled;
 }

@@ -23,7 +23,7 @@ returns-clause-run c =
 
 pub returns-clause-answer : goal.returns-clause-answer
 returns-clause-answer c =
-    answered c.run-answer.result c.args.network.now c.args.place (said_of c.propagator.result.now) c.args.store.now c.run-answer.new.store c.wakes.ensures.network c.propagator.ensures
+    answered c.run-answer.result c.args.network.now c.args.place (said_of c.propagator.result.now) c.args.store.now c.run-answer.new.store c.wakes.ensures.network c.requires.alive.declared c.propagator.ensures
     c.run-answer.ensures.narrows.answer
 
 pub returns-clause-told : goal.returns-clause-told

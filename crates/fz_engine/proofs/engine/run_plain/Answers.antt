@@ -18,5 +18,5 @@ returns-clause-run c =
 
 pub returns-clause-answer : goal.returns-clause-answer
 returns-clause-answer c =
-    answered c.propagate-answer.result c.args.network.now c.args.place (said_of c.propagator.result.now) c.args.store.now c.propagate-answer.new.store c.wakes.ensures.network c.propagator.ensures
+    answered c.propagate-answer.result c.args.network.now c.args.place (said_of c.propagator.result.now) c.args.store.now c.propagate-answer.new.store c.wakes.ensures.network c.requires.alive.declared c.propagator.ensures
     c.propagate-answer.ensures.answer

@@ -1,9 +1,9 @@
-use Rattle.std.proofs.Common.{◌≡◌, ℕ, ◌+◌, List, ◌++◌, ◌∙◌, ap, sym, subst, arith, rules, length, take}
+use Rattle.std.proofs.Common.{◌≡◌, ℕ, ◌+◌, List, ◌∷◌, ◌++◌, ◌∙◌, ap, sym, subst, arith, rules, length, take}
 use Rattle.fz_spec.specs.Constraints.{Constraint}
 use Rattle.fz_model.specs.Groups.{constraint_at}
 use Rattle.fz_strength.specs.Sayings.{Saying, saying_of}
 use Rattle.fz_says.specs.Said.{said_by}
-use Rattle.fz_engine.specs.Networks.{AreSaidOf, IsListing, IsSaidPlain, and_more, sayings_of}
+use Rattle.fz_engine.specs.Networks.{AreSaidOf, IsListing, IsSaidPlain, sayings_of}
 use Rattle.fz_engine.specs.Stronger.{stronger_of}
 use Rattle.fz_engine.proofs.Listing.{listing_self}
 use Rattle.fz_engine.proofs.Posting.{said_none, fits_of, said_next, said_all, few_so_far, few_after}
@@ -66,12 +66,12 @@ loop-number-preserved c =
     let plain = sayings_of c.post_plain.new.posted.propagators.items in
     let after = c.post_said.new.posted in
     let one : IsSaidPlain (saying_of item) before plain = rw c.saying_of-saying.ensures at c.in_ok-post_plain.ensures.said in
-    let all : sayings_of after.propagators.items ≡ plain ++ and_more (saying_of item) (stronger_of m.variables item) =
+    let all : sayings_of after.propagators.items ≡ plain ++ saying_of item ∷ stronger_of m.variables item =
     rw (c.saying_of-saying.ensures, c.is_whole-whole.ensures, c.variables-in-loop-number-2.ensures.variables) at c.in_ok-post_said.ensures.said in
     let width = c.in_ok-post_plain.ensures.listing.size.any ∙ c.loop-number.invariant.listing.size.any in
     record {
       said = subst (λ (l : List Saying). AreSaidOf m.variables (take (c.loop-number.number + 1) cs) l) (sym all)
-          (said_next m.variables cs c.loop-number.number item before plain c.at-constraint.ensures c.loop-number.invariant.said fit one);
+          (said_next m.variables cs c.loop-number.number item before plain c.constraints-constraints.ensures.kept.sets c.at-constraint.ensures c.loop-number.invariant.said fit one);
       listing = subst (λ (n : ℕ). IsListing (sayings_of after.propagators.items) after.wakes n) width c.in_ok-post_said.ensures.listing;
     }
 
