@@ -166,10 +166,6 @@ front_ends a xs ds front from to value t assigned terms within h at only none ru
     let value_is = only_in (term_set ds t) value (term_value assigned t) only (term_within ds assigned t (all_at (IsTermOf (length ds)) xs front t terms at) within) in
     none first.0 (subst (λ (n : ℤ). IsStep a to n first.0) value_is first.2) (run_state a first.0 first.3.0 (term_values assigned (drop (suc front) xs)) first.3.1)
 
--- nor where it starts in no state
-pub start_ends : (a : Automaton) (xs : List Term) (assigned : List ℤ) → (IsState a a.start → ⊥) → IsAcceptedAt a xs assigned → ⊥
-start_ends a xs assigned none runs = none (run_state a a.start runs.0 (term_values assigned xs) runs.1)
-
 -- ---- steps, from wherever it starts
 
 leads_started : (a : Automaton) (start : ℤ) (p k r : ℕ) → LeadsTo a p k r ↔ LeadsTo (started a start) p k r

@@ -49,9 +49,6 @@ row_all m state symbol count old now are end h i k =
 abbrev pub AreLeadingTo : Automaton → ℕ → BitRows → Type 0
 AreLeadingTo m state b = (i k : ℕ) → Has b i k ↔ ((i < state) × LeadsOn m i k)
 
-pub leading_none : (m : Automaton) (b : BitRows) → ((i k : ℕ) → Has b i k → ⊥) → AreLeadingTo m 0 b
-leading_none m b none i k = ((λ has. absurd (none i k has)), (λ w. let below = w.0 in absurd (omega (arith, below))))
-
 pub leading_more : (m : Automaton) (old new : BitRows) (state : ℕ) → ((i k : ℕ) → Has new i k ↔ (Has old i k ⊎ ((i ≡ state) × LeadsOn m state k))) → AreLeadingTo m state old
     → AreLeadingTo m (state + 1) new
 leading_more m old new state more h i k = (

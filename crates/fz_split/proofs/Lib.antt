@@ -1,0 +1,4 @@
+pub mod Dividing
+pub mod Covering
+pub mod Weighing
+pub mod Fronts

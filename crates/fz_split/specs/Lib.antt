@@ -1,0 +1,4 @@
+pub mod Splits
+pub mod Divisions
+pub mod Weights
+pub mod Fronts
