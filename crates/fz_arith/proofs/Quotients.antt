@@ -49,10 +49,10 @@ high_between : (m a b z : ℤ) → a ≤ℤ m → b ≤ℤ m → IsBetween a b z
 high_between m a b z from_a from_b (inl h) = let high = h.1 in omega (arith, ints, from_b, high)
 high_between m a b z from_a from_b (inr h) = let high = h.1 in omega (arith, ints, from_a, high)
 
-abbrev lowest : ℤ → ℤ → ℤ → ℤ → ℤ
+abbrev pub lowest : ℤ → ℤ → ℤ → ℤ → ℤ
 lowest a b c d = fold int_min a (b ∷ c ∷ d ∷ [])
 
-abbrev highest : ℤ → ℤ → ℤ → ℤ → ℤ
+abbrev pub highest : ℤ → ℤ → ℤ → ℤ → ℤ
 highest a b c d = fold int_max a (b ∷ c ∷ d ∷ [])
 
 min_left : (a b : ℤ) → int_min a b ≤ℤ a
@@ -70,7 +70,7 @@ max_right a b = omega (arith, ints, clamps)
 le_le : (a b c : ℤ) → a ≤ℤ b → b ≤ℤ c → a ≤ℤ c
 le_le a b c p q = omega (arith, ints, p, q)
 
-lowest_is : (a b c d : ℤ) → (lowest a b c d ≤ℤ a) × (lowest a b c d ≤ℤ b) × (lowest a b c d ≤ℤ c) × (lowest a b c d ≤ℤ d)
+pub lowest_is : (a b c d : ℤ) → (lowest a b c d ≤ℤ a) × (lowest a b c d ≤ℤ b) × (lowest a b c d ≤ℤ c) × (lowest a b c d ≤ℤ d)
 lowest_is a b c d =
     let to_ab = le_le (lowest a b c d) (int_min (int_min a b) c) (int_min a b) (min_left (int_min (int_min a b) c) d) (min_left (int_min a b) c) in (
       le_le (lowest a b c d) (int_min a b) a to_ab (min_left a b),
@@ -79,7 +79,7 @@ lowest_is a b c d =
       min_right (int_min (int_min a b) c) d,
     )
 
-highest_is : (a b c d : ℤ) → (a ≤ℤ highest a b c d) × (b ≤ℤ highest a b c d) × (c ≤ℤ highest a b c d) × (d ≤ℤ highest a b c d)
+pub highest_is : (a b c d : ℤ) → (a ≤ℤ highest a b c d) × (b ≤ℤ highest a b c d) × (c ≤ℤ highest a b c d) × (d ≤ℤ highest a b c d)
 highest_is a b c d =
     let from_ab = le_le (int_max a b) (int_max (int_max a b) c) (highest a b c d) (max_left (int_max a b) c) (max_left (int_max (int_max a b) c) d) in (
       le_le a (int_max a b) (highest a b c d) (max_left a b) from_ab,

@@ -228,7 +228,7 @@ rested_answer true false e r s n passed are h same told =
     subsumed e s.doms (subst (λ (u : Stored). AllByRecursion (IsTermOf (length u.doms)) (equation_terms e)) (sym h.steps.0) are) (told.0 refl) line
 
 -- the line holds of a store that stays
-pub rested_line : (fixed : Bool) (e : Equation) (s : Stored) → AllByRecursion (IsTermOf (length s.doms)) (equation_terms e) → IsEquationLine e s.doms → IsTrue fixed ↔ AllFixed s.doms (equation_terms e)
-    → IsAnswerOf (rested_by fixed) (EquationTruth e) (IsEquationLine e) s.doms s.doms
-rested_line false e s are line told = line
-rested_line true e s are line told = subsumed e s.doms are (told.0 refl) line
+pub rested_line : (fixed : Bool) (e : Equation) (before : List (List (ℤ × ℤ))) (s : Stored) → AllByRecursion (IsTermOf (length s.doms)) (equation_terms e) → IsEquationLine e s.doms
+    → IsTrue fixed ↔ AllFixed s.doms (equation_terms e) → IsAnswerOf (rested_by fixed) (EquationTruth e) (IsEquationLine e) before s.doms
+rested_line false e before s are line told = line
+rested_line true e before s are line told = subsumed e s.doms are (told.0 refl) line

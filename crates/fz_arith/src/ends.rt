@@ -18,7 +18,7 @@ use fz_spec::term::Term;
 use fz_strength::bounds::Bounds;
 
 /// A term between the least and the greatest of four numbers.
-fn around(term: Term, a: i64, b: i64, c: i64, d: i64) -> Bounds
+pub fn around(term: Term, a: i64, b: i64, c: i64, d: i64) -> Bounds
     ensures { result ≡ between term (fold int_min a (b ∷ c ∷ d ∷ []))
         (fold int_max a (b ∷ c ∷ d ∷ [])) }
 {

@@ -12,7 +12,7 @@ mod ends;
 mod extremes;
 mod factors;
 mod narrow;
-mod positive;
+mod products;
 mod sized;
 
 pub use arithmetic::Arithmetic;

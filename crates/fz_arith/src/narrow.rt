@@ -1,5 +1,5 @@
 //! Keeping the terms of an equation between their bounds.
-ghost use Rattle.std.specs.Prelude.{◌≡◌, ◌≤◌, ◌<◌, [], ◌∷◌, MatchOption, ◌↔◌, List, length, IfOk, OnErr, IsTrue};
+ghost use Rattle.std.specs.Prelude.{◌≡◌, ◌⊎◌, ◌≤◌, ◌<◌, ℤ, [], ◌∷◌, MatchOption, ◌↔◌, List, length, IfOk, OnErr, IsTrue};
 ghost use Rattle.std.specs.List.{AllByRecursion};
 ghost use Rattle.fz_dom.specs.Changes.{IsFromTo};
 ghost use Rattle.fz_dom.specs.declared.change.Change.TheVariants as changes;
@@ -12,7 +12,7 @@ ghost use Rattle.fz_arith.specs.Narrowing.{IsClamped, IsDivided, IsStep, answer_
 
 use crate::bounds::bounds_at;
 use crate::factors::keep_operands;
-use crate::positive::rests_as_product;
+use crate::products::rests_as_product;
 use fz_prop::terms::{are_fixed, remove, value_of};
 use fz_prop::{Answer, Change, Store};
 use fz_spec::shape::Operation;
@@ -76,7 +76,24 @@ fn keep_line(
     if rests_as_product(store, operation, operands, value) {
         return Ok(Answer::rested(are_all_fixed(store, operands, value)));
     }
-    keep_bounds(store, operation, operands, value)
+    match keep_bounds(store, operation, operands, value)? {
+        Answer::NoFix => Ok(after_changes(store, operation, operands, value)),
+        answer => Ok(answer),
+    }
+}
+
+/// What a run answers that changed something: that all are between their bounds, where a look at the ends shows it.
+fn after_changes(store: &Store, operation: Operation, operands: &[Term], value: Term) -> Answer
+    requires value { IsTermOf (length store.now.doms) value }
+    requires operands { AllByRecursion (IsTermOf (length store.now.doms)) operands.now }
+    ensures { (result ≡ Answer.NoFix) ⊎ ((before : List (List (ℤ × ℤ)))
+        → IsAnswerOf result (EquationTruth (equation operation operands.now value))
+        (IsEquationLine (equation operation operands.now value)) before store.now.doms) }
+{
+    if !rests_as_product(store, operation, operands, value) {
+        return Answer::NoFix;
+    }
+    Answer::rested(are_all_fixed(store, operands, value))
 }
 
 /// Keeps each term between the bounds that the ends of the others give.
