@@ -3,3 +3,8 @@ pub mod Settling
 pub mod Covering
 pub mod Between
 pub mod Deciding
+pub mod Words
+pub mod Totals
+pub mod Nearing
+pub mod Gaps
+pub mod Wholes

@@ -1,14 +1,17 @@
 //! The values of a cover and the numbers of places that have them.
-ghost use Rattle.std.specs.Prelude.{length, IfOk};
+ghost use Rattle.std.specs.Prelude.{length, IfOk, IfSome};
 ghost use Rattle.std.specs.List.{AllByRecursion};
 ghost use Rattle.fz_strength.specs.Counts.{AreCountLines};
 ghost use Rattle.fz_strength.specs.Domains.{IsTermOf};
 ghost use Rattle.fz_prop.specs.Answers.{IsAnswerOf, IsCorrectOf};
 ghost use Rattle.fz_prop.specs.Stores.{Shrinks};
 ghost use Rattle.fz_counts.specs.Counting.{AreCountsOf};
+ghost use Rattle.fz_counts.specs.Covers.{IsCoverOf};
 
 use crate::count::keep_count;
+use crate::cover::Cover;
 use crate::tally::tally_of;
+use crate::whole::keep_whole;
 use fz_prop::{Answer, Change, Store};
 use fz_spec::term::Term;
 use std::alloc::AllocError;
@@ -23,9 +26,11 @@ pub fn keep_counts(
     terms: &[Term],
     cover: &[i32],
     counts: &[Term],
+    whole: Option<Cover>,
 ) -> Result<Answer, AllocError>
     requires terms { AllByRecursion (IsTermOf (length store.old.doms)) terms.now }
     requires counts { AllByRecursion (IsTermOf (length store.old.doms)) counts.now }
+    requires whole { IfSome whole (λ c. IsCoverOf c cover.now) }
     ensures shrinks { Shrinks store.old store.new }
     ensures correct { IsCorrectOf (AreCountsOf terms.now cover.now counts.now)
         store.old.doms store.new.doms }
@@ -54,8 +59,11 @@ pub fn keep_counts(
         return Ok(Answer::Subsumed);
     }
     if has_changed {
-        Ok(Answer::NoFix)
-    } else {
-        Ok(Answer::Fix)
+        return Ok(Answer::NoFix);
+    }
+    match keep_whole(store, terms, cover, counts, whole)? {
+        Change::Wiped => Ok(Answer::Failed),
+        Change::Changed => Ok(Answer::NoFix),
+        Change::Same => Ok(Answer::Fix),
     }
 }

@@ -6,10 +6,11 @@ use Rattle.fz_dom.specs.declared.change.Change.TheVariants.{Changed, Wiped}
 use Rattle.fz_spec.specs.declared.term.Term.{Term}
 use Rattle.fz_spec.specs.declared.term.Term.TheVariants.{Num}
 use Rattle.fz_spec.specs.Constraints.{term_values}
-use Rattle.fz_strength.specs.Counts.{fewest, most, IsCountLine}
+use Rattle.fz_strength.specs.Counts.{fewest, most, IsCountLine, AreCountLines}
 use Rattle.fz_strength.specs.Domains.{IsTermOf}
 use Rattle.fz_prop.specs.Answers.{IsCorrectOf}
 use Rattle.fz_prop.specs.Outcomes.{IsOutcome}
+use Rattle.fz_prop.specs.Stores.{Stored}
 use Rattle.fz_prop.proofs.Keeping.{correct_more, kept_wiped}
 use Rattle.fz_prop.proofs.Twice.{shrinks_twice}
 use Rattle.fz_counts.specs.Counting.{IsCount, AreCountsOf}
@@ -138,8 +139,13 @@ returns-then-are_decided-clause-answer c =
     entailed_all xs c.args.cover.now counts r.doms s.doms c.loop-place.place c.if-cover-counts.false (omega (arith, end)) (subst (λ (n : ℕ). AllByRecursion (IsTermOf n) xs) (sym size) c.requires.terms)
     (subst (λ (n : ℕ). AllByRecursion (IsTermOf n) counts) (sym size) c.requires.counts) c.doms-2.ensures.store.domains (c.loop-place.invariant.entailed c.if-are_decided.true)
 
-pub returns-else-has_changed-clause-answer : goal.returns-else-has_changed-clause-answer
-returns-else-has_changed-clause-answer c =
+pub returns-in-Same-2-clause-answer : goal.returns-in-Same-2-clause-answer
+returns-in-Same-2-clause-answer c =
+    let xs = c.args.terms.now in
+    let cover = c.args.cover.now in
+    let counts = c.args.counts.now in
     let end = c.loop-place-test.false in
     let still = c.if-has_changed.false in
-    counting_all c.args.terms.now c.args.cover.now c.args.counts.now c.args.store.now c.loop-place.store c.loop-place.place c.if-cover-counts.false (omega (arith, end)) (rw still at c.loop-place.invariant.counting)
+    let same = rw c.in-Same-2.is at c.in_ok-keep_whole.ensures.outcome in
+    let lines = counting_all xs cover counts c.args.store.now c.loop-place.store c.loop-place.place c.if-cover-counts.false (omega (arith, end)) (rw still at c.loop-place.invariant.counting) in
+    subst (λ (u : Stored). AreCountLines xs cover counts u.doms) (sym same) lines
