@@ -11,12 +11,12 @@ use Rattle.fz_language.specs.Entries.{Environment}
 use Rattle.fz_language.specs.Models.{Scope, empty_scope, behind, scope_behind, made, variables_of, constraints_of, outputs_of, type_set}
 use Rattle.fz_language.specs.Reads.{faults_from}
 use Rattle.fz_resolve.specs.Meant.{environment_of}
-use Rattle.fz_room.specs.Rooms.{IsRoom}
+use Rattle.fz_syntax.specs.Rooms.{IsRoom}
 use Rattle.fz_check.specs.Drafts.{scope_of, IsCounted, Adds, IsGrown, IsAhead}
 use Rattle.fz_check.specs.declared.draft.Draft.{Draft}
-use Rattle.fz_fits.proofs.Counting.{variables_in, variables_both, elements_both, few}
-use Rattle.fz_fits.proofs.ItemFits.{variable_fits}
-use Rattle.fz_fits.proofs.Keeps.{variable_typed, array_keeps, array_placed}
+use Rattle.fz_check.proofs.Counting.{variables_in, variables_both, elements_both, few}
+use Rattle.fz_check.proofs.ItemFits.{variable_fits}
+use Rattle.fz_check.proofs.Keeps.{variable_typed, array_keeps, array_placed}
 
 -- ---- only variables count as variables
 

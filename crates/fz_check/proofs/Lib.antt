@@ -1,3 +1,13 @@
+pub mod ArgumentFits
+pub mod Counting
+pub mod ItemFits
+pub mod Keeps
+pub mod Mapped
+pub mod RowLaws
+pub mod SetFits
+pub mod TermFits
+pub mod ModelFits
+pub mod SearchFits
 pub mod Beginnings
 pub mod CallLaws
 pub mod CheckLaws

@@ -7,7 +7,7 @@ use Rattle.fz_language.specs.Models.{Scope, empty_scope, behind, scope_behind, m
 use Rattle.fz_language.specs.Reads.{faults_from, program_faults}
 use Rattle.fz_resolve.specs.declared.fault.Fault.{Fault}
 use Rattle.fz_resolve.specs.Meant.{environment_of}
-use Rattle.fz_room.specs.Rooms.{IsRoom}
+use Rattle.fz_syntax.specs.Rooms.{IsRoom}
 use Rattle.fz_check.specs.Checked.{IsFirstFault}
 use Rattle.fz_check.specs.Parts.{scope}
 use Rattle.fz_check.specs.declared.draft.Draft.{Draft}

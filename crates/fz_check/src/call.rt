@@ -23,10 +23,10 @@ use fz_model::{Argument, Constraint};
 use fz_resolve::annotations::asks_whole;
 use fz_resolve::resolve::resolve;
 use fz_resolve::{Fault, Names, fault_at};
-use fz_room::floats::first_float_of_arguments;
 use fz_spec::asked::{Asked, Lengths};
 use fz_spec::row::{Row, Signatures};
 use fz_spec::term::Term;
+use fz_syntax::floats::first_float_of_arguments;
 use fz_syntax::{ConstraintItem, Expression};
 use std::alloc::{AllocError, Global};
 

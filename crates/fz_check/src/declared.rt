@@ -20,8 +20,8 @@ use fz_resolve::rules::{
     unsupported_parameter, unsupported_variable, wrong_length_at,
 };
 use fz_resolve::{Entry, Fault, Names, fault_at};
-use fz_room::types::term_asked;
 use fz_spec::asked::{Asked, Element};
+use fz_syntax::types::term_asked;
 use fz_syntax::{ArrayItem, Basic, ParameterItem, ValueType, VariableItem};
 
 /// The first rule that the declaration of a variable breaks.

@@ -24,9 +24,10 @@ use crate::parts::{push_array, push_bounds, push_scalar, push_value, value_of, v
 use fz_model::{Constraint, Constraints, Output, Variable};
 use fz_resolve::annotations::output_shape;
 use fz_resolve::{Entry, Fault, Names};
-use fz_room::Room;
-use fz_room::types::kind_of;
-use fz_syntax::{ArrayItem, ConstraintItem, Item, Name, ParameterItem, ValueType, VariableItem};
+use fz_syntax::types::kind_of;
+use fz_syntax::{
+    ArrayItem, ConstraintItem, Item, Name, ParameterItem, Room, ValueType, VariableItem,
+};
 use std::alloc::{AllocError, Global};
 
 /// The parts of a model that the items so far make, what their names stand for, and how much more there may be.

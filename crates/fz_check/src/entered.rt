@@ -11,10 +11,10 @@ ghost use Rattle.fz_check.specs.Entered.{value_entry, set_entry, IsArrayEntry};
 
 use fz_resolve::resolve::{numbers_in, set, term, terms};
 use fz_resolve::{Entry, Names, NumberList, TermList};
-use fz_room::types::kind_of;
 use fz_spec::asked::Element;
 use fz_spec::kind::Kind;
 use fz_spec::term::Term;
+use fz_syntax::types::kind_of;
 use fz_syntax::{ArrayItem, Basic, Elements, Integer, ParameterItem, ValueType};
 use std::alloc::{AllocError, Global};
 

@@ -4,13 +4,12 @@ ghost use Rattle.fz_language.specs.Rules as rules;
 ghost use Rattle.fz_language.specs.Rules.{Counts, at_places, over, all_counted, additions};
 ghost use Rattle.fz_language.specs.declared.fault.RuleFault.TheVariants.{OverLimit};
 ghost use Rattle.fz_syntax.specs.Trees.{item_of};
-ghost use Rattle.fz_room.specs.Rooms.{IsRoom};
+ghost use Rattle.fz_syntax.specs.Rooms.{IsRoom};
 ghost use Rattle.fz_check.specs.Checked.{IsFirstOf, IsFirstFault};
 
 use fz_language::fault::RuleFault;
 use fz_resolve::Fault;
-use fz_room::Room;
-use fz_syntax::Item;
+use fz_syntax::{Item, Room};
 
 /// The first of two places that there is.
 pub(crate) fn first_place(first: Option<u32>, second: Option<u32>) -> Option<u32>

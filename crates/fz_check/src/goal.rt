@@ -12,10 +12,10 @@ use fz_language::fault::RuleFault;
 use fz_model::Goal;
 use fz_resolve::resolve::term;
 use fz_resolve::{Fault, Names, fault_at};
-use fz_room::floats::first_float;
 use fz_spec::asked::Element;
 use fz_spec::kind::Kind;
 use fz_spec::term::Term;
+use fz_syntax::floats::first_float;
 use fz_syntax::{Basic, Method, SolveItem};
 
 /// What a goal is asked to be: an integer, or an integer variable.

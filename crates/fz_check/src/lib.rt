@@ -3,7 +3,7 @@
 //! with the place.
 //!
 //! The whole fault of an item is computed, in the order of the rules. A row of the table of constraints is found by binary
-//! search.
+//! search. That the model of a program that keeps all rules is one that `Model::new` takes is a law about definitions alone.
 #![tactic(auto)]
 
 mod call;
@@ -13,6 +13,7 @@ mod draft;
 mod entered;
 mod faults;
 mod goal;
+pub mod laws;
 mod parts;
 mod rows;
 

@@ -18,8 +18,8 @@ use fz_model::{Argument, Constraint, Constraints, Kind, Listed, Output, Term, Te
 use fz_resolve::annotations::output_var_at;
 use fz_resolve::resolve::{literal, term};
 use fz_resolve::{Entry, Names};
-use fz_room::types::{is_bound, kind_of, term_asked};
 use fz_spec::builtin::Builtin;
+use fz_syntax::types::{is_bound, kind_of, term_asked};
 use fz_syntax::{ArrayItem, Name, Plain, ValueType, VariableItem};
 use std::alloc::{AllocError, Global};
 use std::sync::Arc;

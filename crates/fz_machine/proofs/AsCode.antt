@@ -22,18 +22,18 @@ use Rattle.fz_path.specs.Starts.{TakesUp}
 use Rattle.fz_path.specs.Steps.{Steps, StepsTo, Falls, FallsFrom, Stays}
 use Rattle.fz_path.specs.Cuts.{IsNearOf, held_behind_cut}
 use Rattle.fz_path.specs.Learns.{Learns}
-use Rattle.fz_core.specs.declared.event.Event.{Event}
-use Rattle.fz_core.specs.declared.event.Event.TheVariants.{Claim, Start, Step, Report, Steal, Learn}
-use Rattle.fz_core.specs.declared.event.Outcome.{Outcome}
-use Rattle.fz_core.specs.Cores.{Worker, Core, CoreLaw, idle_by, worker_at}
-use Rattle.fz_core.specs.Lawful.{is_lawful, is_free, is_busy, can_be_cut, has_unclaimed, improving_in, improving}
-use Rattle.fz_core.specs.Events.{ClaimsAt, StartsAt, StepsAt, ReportsAt, StealsAt, LearnsAt, StaysAt, holding, step_outcome, learned_outcome}
+use Rattle.fz_machine.specs.declared.event.Event.{Event}
+use Rattle.fz_machine.specs.declared.event.Event.TheVariants.{Claim, Start, Step, Report, Steal, Learn}
+use Rattle.fz_machine.specs.declared.event.Outcome.{Outcome}
+use Rattle.fz_machine.specs.Cores.{Worker, Core, CoreLaw, idle_by, worker_at}
+use Rattle.fz_machine.specs.Lawfulness.{is_lawful, is_free, is_busy, can_be_cut, has_unclaimed, improving_in, improving}
+use Rattle.fz_machine.specs.Events.{ClaimsAt, StartsAt, StepsAt, ReportsAt, StealsAt, LearnsAt, StaysAt, holding, step_outcome, learned_outcome}
 use Rattle.fz_book.specs.Reports.{IsReportable}
 use Rattle.fz_machine.proofs.Lawful.{IsFree, CanCut, free, ready, busy, cuttable, some_is_there}
-use Rattle.fz_core.proofs.Held.{held_is_claimed}
-use Rattle.fz_core.proofs.Workers.{held_by}
-use Rattle.fz_core.proofs.Reaching.{start_law}
-use Rattle.fz_core.proofs.Keeping.{worker_of, get_set_other, event_keeps, refusal_keeps}
+use Rattle.fz_machine.proofs.Held.{held_is_claimed}
+use Rattle.fz_machine.proofs.Workers.{held_by}
+use Rattle.fz_machine.proofs.Reaching.{start_law}
+use Rattle.fz_machine.proofs.Keeping.{worker_of, get_set_other, event_keeps, refusal_keeps}
 
 pub on_err : {A E : Type 0} (r : Result A E) (P : Type 0) → P → OnErr r P
 on_err (Ok x) P p = tt

@@ -17,13 +17,13 @@ use Rattle.fz_branch.specs.Plans.{plan_asset}
 use Rattle.fz_book.specs.Offering.{Offers}
 use Rattle.fz_book.specs.declared.offered.Offered.{Offered}
 use Rattle.fz_book.specs.declared.offered.Offered.TheVariants as offered
-use Rattle.fz_core.specs.declared.event.Event.{Event}
-use Rattle.fz_core.specs.declared.event.Answer.{Answer}
-use Rattle.fz_core.specs.Cores.{Core, CoreLaw, starting_by, told}
-use Rattle.fz_core.specs.Events.{Refuses}
-use Rattle.fz_core.specs.Runs.{Answers}
-use Rattle.fz_core.proofs.Keeping.{refusal_keeps}
-use Rattle.fz_core.proofs.Reaching.{answer_keeps, offer_keeps, start_law}
+use Rattle.fz_machine.specs.declared.event.Event.{Event}
+use Rattle.fz_machine.specs.declared.event.Answer.{Answer}
+use Rattle.fz_machine.specs.Cores.{Core, CoreLaw, starting_by, told}
+use Rattle.fz_machine.specs.Events.{Refuses}
+use Rattle.fz_machine.specs.Runs.{Answers}
+use Rattle.fz_machine.proofs.Keeping.{refusal_keeps}
+use Rattle.fz_machine.proofs.Reaching.{answer_keeps, offer_keeps, start_law}
 use Rattle.fz_machine.specs.declared.shared.Shared.{Shared}
 use Rattle.fz_machine.specs.declared.shared.Shared.TheVariants.{Better, NotBetter}
 use Rattle.fz_machine.specs.Portfolios.{Portfolio, PortfolioLaw, Call, OnAsset, Between, Turns, Runs, Reaches, IsBestWhereClosed, gathered, IsCoreOf, AppliesAt, RefusesAt, assets_of, IsAhead, IsIncumbentAt, IsOffered, IsOfferedAt, Shares, core_at, with_core}

@@ -4,15 +4,15 @@ use Rattle.std.specs.Prelude.{◌↔◌, IsSomeAnd}
 use Rattle.std.proofs.lemmas.Bool.{cases_lt}
 use Rattle.fz_model.specs.Kept.{IsModel}
 use Rattle.fz_tree.specs.Book.{Book}
-use Rattle.fz_core.specs.declared.event.Event.{Event}
-use Rattle.fz_core.specs.declared.event.Event.TheVariants.{Claim, Start, Step, Report, Steal, Learn}
-use Rattle.fz_core.specs.declared.event.Outcome.{Outcome}
-use Rattle.fz_core.specs.declared.event.Answer.{Answer}
-use Rattle.fz_core.specs.declared.event.Answer.TheVariants.{Applied, Unlawful}
-use Rattle.fz_core.specs.Cores.{Core, CoreLaw}
-use Rattle.fz_core.specs.Lawful.{is_lawful}
-use Rattle.fz_core.specs.Events.{Happens, Refuses}
-use Rattle.fz_core.specs.Runs.{Answers, Turns, Runs}
+use Rattle.fz_machine.specs.declared.event.Event.{Event}
+use Rattle.fz_machine.specs.declared.event.Event.TheVariants.{Claim, Start, Step, Report, Steal, Learn}
+use Rattle.fz_machine.specs.declared.event.Outcome.{Outcome}
+use Rattle.fz_machine.specs.declared.event.Answer.{Answer}
+use Rattle.fz_machine.specs.declared.event.Answer.TheVariants.{Applied, Unlawful}
+use Rattle.fz_machine.specs.Cores.{Core, CoreLaw}
+use Rattle.fz_machine.specs.Lawfulness.{is_lawful}
+use Rattle.fz_machine.specs.Events.{Happens, Refuses}
+use Rattle.fz_machine.specs.Runs.{Answers, Turns, Runs}
 use Rattle.fz_machine.specs.Schedule.{IsNext, NoneActs, FirstActs, IsTurn, HasTurn, Goes, HasStopped, HasEnough, next_number, picked}
 use Rattle.fz_machine.specs.Measure.{core_left}
 use Rattle.fz_machine.proofs.Turns.{next_lawful, next_leaves_less, nobody_closes}

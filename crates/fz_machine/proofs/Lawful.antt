@@ -5,8 +5,8 @@ use Rattle.std.proofs.lemmas.Bool.{and_parts}
 use Rattle.fz_tree.specs.Frontier.{can_cut}
 use Rattle.fz_tree.specs.Account.{Account}
 use Rattle.fz_path.specs.Paths.{can_cut_held}
-use Rattle.fz_core.specs.Cores.{Worker}
-use Rattle.fz_core.specs.Lawful.{is_free, is_ready, is_busy, can_be_cut}
+use Rattle.fz_machine.specs.Cores.{Worker}
+use Rattle.fz_machine.specs.Lawfulness.{is_free, is_ready, is_busy, can_be_cut}
 
 pub none_is : {X : Type 0} (o : Option X) → is_none o ≡ true → o ≡ None
 none_is None h = refl

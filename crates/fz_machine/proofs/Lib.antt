@@ -1,3 +1,14 @@
+pub mod Frontiers
+pub mod Held
+pub mod Keeping
+pub mod Order
+pub mod Once
+pub mod Ends
+pub mod Sums
+pub mod Reaching
+pub mod Steps
+pub mod Workers
+pub mod CoreScores
 pub mod Tests
 pub mod Lawful
 pub mod Scores

@@ -19,15 +19,15 @@ use Rattle.fz_path.specs.declared.step.Step.TheVariants.{Expanded, Found, Closed
 use Rattle.fz_path.specs.Paths.{Pathed, held_behind}
 use Rattle.fz_path.specs.Tasks.{bare_task}
 use Rattle.fz_path.specs.Steps.{at_node, added, NodeTo, StepsTo, Falls}
-use Rattle.fz_core.specs.declared.event.Outcome.{Outcome}
-use Rattle.fz_core.specs.Cores.{Worker, Core, CoreLaw}
-use Rattle.fz_core.specs.Events.{ClaimsAt, StartsAt, StepsAt, ReportsAt, StealsAt, holding}
+use Rattle.fz_machine.specs.declared.event.Outcome.{Outcome}
+use Rattle.fz_machine.specs.Cores.{Worker, Core, CoreLaw}
+use Rattle.fz_machine.specs.Events.{ClaimsAt, StartsAt, StepsAt, ReportsAt, StealsAt, holding}
 use Rattle.fz_machine.specs.Measure.{SCORES, score_left, frontier_left, path_left, hand_left, worker_left, part_left, core_left}
 use Rattle.fz_machine.proofs.Scores.{score_most, better_less}
-use Rattle.fz_core.proofs.Sums.{set_adds}
-use Rattle.fz_core.proofs.Steps.{step_follows}
-use Rattle.fz_core.proofs.Keeping.{worker_of, get_set_other, taken_claimed}
-use Rattle.fz_core.proofs.Workers.{held_by, taking_worker}
+use Rattle.fz_machine.proofs.Sums.{set_adds}
+use Rattle.fz_machine.proofs.Steps.{step_follows}
+use Rattle.fz_machine.proofs.Keeping.{worker_of, get_set_other, taken_claimed}
+use Rattle.fz_machine.proofs.Workers.{held_by, taking_worker}
 
 -- ---- frontiers
 

@@ -9,8 +9,8 @@ use Rattle.fz_tree.specs.declared.mode.Mode.{Mode}
 use Rattle.fz_tree.specs.declared.mode.Mode.TheVariants.{All, Rows, Best}
 use Rattle.fz_tree.specs.Better.{Betters}
 use Rattle.fz_tree.specs.Book.{Book, BookLaw, SuitsRecord}
-use Rattle.fz_core.proofs.Scores.{is_score}
-use Rattle.fz_core.specs.Lawful.{improving, improving_in}
+use Rattle.fz_machine.proofs.CoreScores.{is_score}
+use Rattle.fz_machine.specs.Lawfulness.{improving, improving_in}
 use Rattle.fz_machine.specs.Measure.{SCORES, score_left}
 
 -- what is known scores no more than nothing

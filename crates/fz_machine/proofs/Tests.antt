@@ -7,8 +7,8 @@ use Rattle.std.proofs.lemmas.Option.{slice_get_read, slice_get_within}
 use Rattle.fz_tree.specs.Account.{Account}
 use Rattle.fz_path.specs.Paths.{Pathed}
 use Rattle.fz_path.specs.Tasks.{Tasked}
-use Rattle.fz_core.specs.Cores.{Worker}
-use Rattle.fz_core.specs.Lawful.{is_free, is_ready, is_busy}
+use Rattle.fz_machine.specs.Cores.{Worker}
+use Rattle.fz_machine.specs.Lawfulness.{is_free, is_ready, is_busy}
 
 -- what a path says of whether it is idle
 pub idle_test : (r : Bool) (o : Option Account) → IsTrue r ↔ (o ≡ None) → r ≡ is_none o

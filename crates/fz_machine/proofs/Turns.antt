@@ -18,20 +18,20 @@ use Rattle.fz_path.specs.Tasks.{Tasked}
 use Rattle.fz_path.specs.Learns.{IsNews, Learns, held_with, with_known}
 use Rattle.fz_account.specs.declared.account.Learned.{Learned}
 use Rattle.fz_account.specs.declared.account.Learned.TheVariants as learned
-use Rattle.fz_core.specs.declared.event.Event.{Event}
-use Rattle.fz_core.specs.declared.event.Event.TheVariants.{Claim, Start, Step, Report, Steal, Learn}
-use Rattle.fz_core.specs.declared.event.Outcome.{Outcome}
-use Rattle.fz_core.specs.Cores.{Worker, Core, CoreLaw, IsOwn, worker_at}
-use Rattle.fz_core.specs.Lawful.{is_free, is_ready, is_busy, can_be_cut, has_unclaimed, improving, improving_in, is_lawful}
-use Rattle.fz_core.specs.Events.{LearnsAt, Happens}
-use Rattle.fz_core.specs.Laws.{IsIdle}
+use Rattle.fz_machine.specs.declared.event.Event.{Event}
+use Rattle.fz_machine.specs.declared.event.Event.TheVariants.{Claim, Start, Step, Report, Steal, Learn}
+use Rattle.fz_machine.specs.declared.event.Outcome.{Outcome}
+use Rattle.fz_machine.specs.Cores.{Worker, Core, CoreLaw, IsOwn, worker_at}
+use Rattle.fz_machine.specs.Lawfulness.{is_free, is_ready, is_busy, can_be_cut, has_unclaimed, improving, improving_in, is_lawful}
+use Rattle.fz_machine.specs.Events.{LearnsAt, Happens}
+use Rattle.fz_machine.specs.Laws.{IsIdle}
 use Rattle.fz_machine.specs.Schedule.{is_to_report, HasNews, can, first_cut, IsNext, NoneActs}
 use Rattle.fz_machine.specs.Measure.{score_left, path_left, core_left}
 use Rattle.fz_machine.proofs.Tests.{is_there}
 use Rattle.fz_machine.proofs.Scores.{better_less}
-use Rattle.fz_core.proofs.Ends.{closes}
-use Rattle.fz_core.proofs.Keeping.{worker_of}
-use Rattle.fz_core.proofs.Workers.{held_by}
+use Rattle.fz_machine.proofs.Ends.{closes}
+use Rattle.fz_machine.proofs.Keeping.{worker_of}
+use Rattle.fz_machine.proofs.Workers.{held_by}
 use Rattle.fz_machine.proofs.Remaining.{replaced_less, known_sound, claim_less, start_less, step_less, report_less, steal_less}
 
 -- ---- what is chosen, and why

@@ -1,8 +1,8 @@
 -- The first worker of whose frontier a part can be cut off, from some place on.
 use Rattle.std.proofs.Common.{◌≡◌, ◌+◌, ◌<◌, ℕ, zero, suc, List, [], ◌∷◌, true, false, cond, length, drop, ap, arith, Some}
 use Rattle.std.specs.List.{slice_get, position_from}
-use Rattle.fz_core.specs.Cores.{Worker}
-use Rattle.fz_core.specs.Lawful.{can_be_cut}
+use Rattle.fz_machine.specs.Cores.{Worker}
+use Rattle.fz_machine.specs.Lawfulness.{can_be_cut}
 use Rattle.fz_machine.specs.Schedule.{can}
 
 pub cut_here : (ws : List Worker) (i n : ℕ) → i < length ws → can_be_cut (slice_get ws i) ≡ true → position_from can n (drop i ws) ≡ Some n

@@ -6,7 +6,7 @@ use Rattle.fz_tree.specs.Account.{Account}
 use Rattle.fz_tree.specs.Book.{Part}
 use Rattle.fz_tree.specs.Measure.{weight}
 use Rattle.fz_path.specs.Tasks.{Tasked}
-use Rattle.fz_core.specs.Cores.{Worker, Core}
+use Rattle.fz_machine.specs.Cores.{Worker, Core}
 
 -- more than the score of any satisfying assignment
 abbrev pub SCORES : ℕ

@@ -7,11 +7,11 @@ use Rattle.fz_tree.specs.declared.mode.Mode.TheVariants.{Best, Rows}
 use Rattle.fz_tree.specs.Better.{IsModeOf, Betters}
 use Rattle.fz_tree.specs.Book.{Book, incumbent}
 use Rattle.fz_branch.specs.Plans.{plan_asset}
-use Rattle.fz_core.specs.declared.event.Event.{Event}
-use Rattle.fz_core.specs.declared.event.Answer.{Answer}
-use Rattle.fz_core.specs.Cores.{Core, CoreLaw, starting_by, told}
-use Rattle.fz_core.specs.Events.{Refuses}
-use Rattle.fz_core.specs.Runs.{Answers}
+use Rattle.fz_machine.specs.declared.event.Event.{Event}
+use Rattle.fz_machine.specs.declared.event.Answer.{Answer}
+use Rattle.fz_machine.specs.Cores.{Core, CoreLaw, starting_by, told}
+use Rattle.fz_machine.specs.Events.{Refuses}
+use Rattle.fz_machine.specs.Runs.{Answers}
 use Rattle.fz_machine.specs.declared.shared.Shared.{Shared}
 use Rattle.fz_machine.specs.declared.shared.Shared.TheVariants.{Better, NotBetter}
 

@@ -5,13 +5,13 @@ use Rattle.fz_tree.specs.Better.{Betters}
 use Rattle.fz_tree.specs.Account.{Account}
 use Rattle.fz_tree.specs.Book.{incumbent}
 use Rattle.fz_path.specs.Paths.{is_spent, can_cut_held, found_held}
-use Rattle.fz_core.specs.declared.event.Event.{Event}
-use Rattle.fz_core.specs.declared.event.Event.TheVariants.{Claim, Start, Step, Report, Steal, Learn}
-use Rattle.fz_core.specs.declared.event.Outcome.{Outcome}
+use Rattle.fz_machine.specs.declared.event.Event.{Event}
+use Rattle.fz_machine.specs.declared.event.Event.TheVariants.{Claim, Start, Step, Report, Steal, Learn}
+use Rattle.fz_machine.specs.declared.event.Outcome.{Outcome}
 use Rattle.fz_machine.specs.declared.schedule.TheConstants.{MULTIPLIER, INCREMENT}
-use Rattle.fz_core.specs.Cores.{Worker, Core, worker_at}
-use Rattle.fz_core.specs.Lawful.{is_ready, is_busy, has_unclaimed, improving}
-use Rattle.fz_core.specs.Events.{Happens, Refuses}
+use Rattle.fz_machine.specs.Cores.{Worker, Core, worker_at}
+use Rattle.fz_machine.specs.Lawfulness.{is_ready, is_busy, has_unclaimed, improving}
+use Rattle.fz_machine.specs.Events.{Happens, Refuses}
 
 -- ---- the numbers that pick workers
 

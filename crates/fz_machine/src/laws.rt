@@ -1,7 +1,7 @@
 //! Laws of portfolios: each is the clause of a function that does nothing, so that the clause is proved.
 ghost use Rattle.fz_machine.specs.Portfolios.{CallsKeepLaw, RecordedSatisfy, ClosedIsBest};
 
-/// Whatever the events and shares, and in whatever order, each core keeps its law, and so all that fz_core says of such cores.
+/// Whatever the events and shares, and in whatever order, each core keeps its law, and so all that `event_laws` says of such cores.
 pub fn calls_keep_law()
     ensures { CallsKeepLaw }
 {}

@@ -6,18 +6,18 @@ ghost use Rattle.fz_tree.specs.Better.{IsModeOf};
 ghost use Rattle.fz_tree.specs.Book.{BookLaw};
 ghost use Rattle.fz_branch.specs.Plans.{IsPlanOf};
 ghost use Rattle.fz_path.specs.Paths.{bare};
-ghost use Rattle.fz_core.specs.Cores.{CoreLaw, starting, starting_by, worker_at};
-ghost use Rattle.fz_core.specs.Lawful.{is_lawful, has_unclaimed, improving};
-ghost use Rattle.fz_core.specs.Events.{Happens, Refuses};
-ghost use Rattle.fz_core.specs.Runs.{Answers};
+ghost use Rattle.fz_machine.specs.Cores.{CoreLaw, starting, starting_by, worker_at};
+ghost use Rattle.fz_machine.specs.Lawfulness.{is_lawful, has_unclaimed, improving};
+ghost use Rattle.fz_machine.specs.Events.{Happens, Refuses};
+ghost use Rattle.fz_machine.specs.Runs.{Answers};
 ghost use Rattle.fz_machine.specs.Portfolios.{IsOffered};
 
+use crate::event::{Answer, Event, Outcome, outcome_of_learned, outcome_of_step};
 use crate::shared::Shared;
 use crate::slot::{Slot, can_be_cut, idle_slots, is_busy, is_free, is_ready, is_worker, slots_by};
 use fz_account::Mode;
 use fz_book::{Book, Offered};
 use fz_branch::Plan;
-use fz_core::event::{Answer, Event, Outcome, outcome_of_learned, outcome_of_step};
 use fz_model::Assignment;
 use fz_path::{Path, Task};
 use fz_search_space::SearchSpace;
@@ -34,7 +34,7 @@ pub struct Machine<S: SearchSpace> {
 }
 
 impl<S: SearchSpace> Model for Machine<S> {
-    ghost use Rattle.fz_core.specs.Cores as cores;
+    ghost use Rattle.fz_machine.specs.Cores as cores;
 
     ghost Value = { cores.Core };
 

@@ -3,14 +3,14 @@ ghost use Rattle.std.specs.Prelude.{◌≡◌, ◌≢◌, ◌≤◌, ◌<◌, le
 ghost use Rattle.std.specs.Arc.{arc_value};
 ghost use Rattle.fz_spec.specs.Instance.{Satisfies};
 ghost use Rattle.fz_tree.specs.Better.{IsModeOf};
-ghost use Rattle.fz_core.specs.Cores.{CoreLaw};
+ghost use Rattle.fz_machine.specs.Cores.{CoreLaw};
 ghost use Rattle.fz_machine.specs.Portfolios.{AppliesAt, RefusesAt, Shares, IsIncumbentAt, IsOfferedAt, IsBestWhereClosed, PortfolioLaw, assets_of, core_at, gathered};
 
+use crate::event::{Answer, Event};
 use crate::machine::Machine;
 use crate::shared::Shared;
 use fz_account::Mode;
 use fz_branch::Plan;
-use fz_core::event::{Answer, Event};
 use fz_model::Assignment;
 use fz_search_space::SearchSpace;
 use std::alloc::{AllocError, AllocFailed, Global};

@@ -1,18 +1,18 @@
 //! A whole search by one schedule.
 ghost use Rattle.std.specs.Prelude.{◌≡◌, ◌↔◌, ◌≤◌, ◌<◌, ◌-◌, [], List, length, true, IsTrue, IsSomeAnd, MatchOption, IfOk, OnOk, OnErr};
 ghost use Rattle.fz_model.specs.Kept.{IsModel};
-ghost use Rattle.fz_core.specs.declared.event.Event.{Event};
-ghost use Rattle.fz_core.specs.Cores.{CoreLaw, worker_at};
-ghost use Rattle.fz_core.specs.Lawful.{improving};
-ghost use Rattle.fz_core.specs.Runs.{Runs};
+ghost use Rattle.fz_machine.specs.declared.event.Event.{Event};
+ghost use Rattle.fz_machine.specs.Cores.{CoreLaw, worker_at};
+ghost use Rattle.fz_machine.specs.Lawfulness.{improving};
+ghost use Rattle.fz_machine.specs.Runs.{Runs};
 ghost use Rattle.fz_machine.specs.Schedule as schedule;
 ghost use Rattle.fz_machine.specs.Schedule.{HasNews, IsNext, NoneActs, FirstActs, IsTurn, HasGone, HasStopped};
 
+use crate::event::Event;
 use crate::machine::Machine;
 use crate::schedule::{next_number, picked};
 use crate::slot::{can_be_cut, is_busy, is_ready};
 use fz_book::{End, has_enough};
-use fz_core::event::Event;
 use fz_path::Path;
 use fz_search_space::SearchSpace;
 use fz_truth::better;

@@ -12,9 +12,9 @@ ghost use Rattle.fz_path.specs.Paths.{bare, held_behind, can_cut_held};
 ghost use Rattle.fz_path.specs.Tasks as tasks;
 ghost use Rattle.fz_path.specs.Starts.{TakesUp};
 ghost use Rattle.fz_path.specs.Cuts.{IsNearOf, held_behind_cut};
-ghost use Rattle.fz_core.specs.Cores.{idle, idle_by};
-ghost use Rattle.fz_core.specs.Events.{holding};
-ghost use Rattle.fz_core.specs.Lawful.{is_free, is_ready, is_busy, can_be_cut};
+ghost use Rattle.fz_machine.specs.Cores.{idle, idle_by};
+ghost use Rattle.fz_machine.specs.Events.{holding};
+ghost use Rattle.fz_machine.specs.Lawfulness.{is_free, is_ready, is_busy, can_be_cut};
 ghost use Rattle.fz_book.specs.Reports.{IsReportable};
 
 use fz_account::Mode;
@@ -36,7 +36,7 @@ pub struct Slot<S: SearchSpace> {
 impl<S: SearchSpace> Model for Slot<S> {
     ghost use Rattle.fz_branch.specs.Plans.{IsPlanOf};
     ghost use Rattle.fz_path.specs.Paths.{bare};
-    ghost use Rattle.fz_core.specs.Cores.{Worker};
+    ghost use Rattle.fz_machine.specs.Cores.{Worker};
 
     ghost Value = { Worker };
 

@@ -2,12 +2,12 @@
 use Rattle.std.proofs.Common.{◌≡◌, ◌∙◌, ◌≤◌, ◌<◌, ◌^◌, ◌-◌, ◌⊎◌, inl, inr, ℕ, List, length, true, Option, Some, None, is_some, refl, sym, ap, subst, arith}
 use Rattle.std.proofs.lemmas.Bool.{cases_lt}
 use Rattle.fz_tree.specs.Book.{Book}
-use Rattle.fz_printing.specs.declared.printer.Stop.{Stop}
+use Rattle.fz_printer.specs.declared.printing.Stop.{Stop}
 use Rattle.fz_printer.specs.declared.printer.Printer.{Printer}
 use Rattle.fz_printer.specs.Printed.{book_of, wanted_of, as_found_of, printed_of, stopped_of, due_among, due_of, CountsMark, Grew, IsBelow, IsReady, KeepsPrinting}
 use Rattle.fz_printer.specs.Gathered.{Gathers, HasEnough, IsFilled, IsFilledFor, IsWorking}
 use Rattle.fz_printer.specs.Gatherings.{same_count}
-use Rattle.fz_printer.proofs.Printing.{printed_on, marked, within_due, within_recorded}
+use Rattle.fz_printer.proofs.PrintLaws.{printed_on, marked, within_due, within_recorded}
 
 below_of : (wanted : Option ℕ) (printed count : ℕ) → (IsFilledFor wanted count → ⊥) → printed ≤ count → IsBelow wanted printed
 below_of None printed count not few = tt

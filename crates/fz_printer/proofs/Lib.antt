@@ -1,2 +1,4 @@
-pub mod Printing
+pub mod Fronts
+pub mod Counts
+pub mod PrintLaws
 pub mod Gathering

@@ -1,7 +1,7 @@
 -- That taking in nothing gathers, and one call after another.
 use Rattle.std.specs.Prelude.{◌≡◌, ℕ, List, Option, None}
 use Rattle.std.proofs.Common.{◌∙◌, refl, sym, subst, arith}
-use Rattle.fz_printing.specs.declared.printer.Stop.{Stop}
+use Rattle.fz_printer.specs.declared.printing.Stop.{Stop}
 use Rattle.fz_printer.specs.declared.printer.Printer.{Printer}
 use Rattle.fz_printer.specs.Printed.{stopped_of, CountsMark, IsReady, KeepsPrinting}
 use Rattle.fz_printer.specs.Gathered.{Gathers}

@@ -7,9 +7,9 @@ use Rattle.fz_book.specs.declared.offered.Offered.{Offered}
 use Rattle.fz_book.specs.Offering.{Offers}
 use Rattle.fz_book.specs.Outcomes.{IsOwn}
 use Rattle.fz_io.specs.Outside.{with_more}
-use Rattle.fz_printing.specs.declared.printer.Stop.{Stop}
-use Rattle.fz_printing.specs.declared.printer.Stop.TheVariants.{Memory}
-use Rattle.fz_printing.specs.Texts.{TakesFront, CountsAtStop}
+use Rattle.fz_printer.specs.declared.printing.Stop.{Stop}
+use Rattle.fz_printer.specs.declared.printing.Stop.TheVariants.{Memory}
+use Rattle.fz_printer.specs.Texts.{TakesFront, CountsAtStop}
 use Rattle.fz_printer.specs.declared.printer.Printer.{Printer}
 
 -- ---- what it holds

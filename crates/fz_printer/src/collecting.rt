@@ -1,6 +1,6 @@
 //! Printing what several workers tell.
 ghost use Rattle.std.specs.Prelude.{◌≡◌, ◌≢◌, ◌↔◌, ◌<◌, ◌^◌, ◌-◌, None, Some, IsTrue, IsFalse};
-ghost use Rattle.fz_printing.specs.declared.printer.Stop.TheVariants as stops;
+ghost use Rattle.fz_printer.specs.declared.printing.Stop.TheVariants as stops;
 ghost use Rattle.fz_printer.specs.Printed.{book_of, printed_of, stopped_of, CountsMark, KeepsPrinting};
 ghost use Rattle.fz_printer.specs.Gathered.{Gathers, HasEnough, IsFilled, IsWorking};
 ghost use Rattle.fz_printer.specs.Gatherings.{gathers_both, gathers_none};

@@ -3,11 +3,11 @@ ghost use Rattle.std.specs.Prelude.{◌≡◌, ◌<◌, ◌≤◌, ◌^◌, ◌-
 ghost use Rattle.fz_spec.specs.Instance.{Satisfies};
 ghost use Rattle.fz_book.specs.Outcomes.{IsOwn};
 
+use crate::{Stop, print_blocks};
 use fz_account::Account;
 use fz_book::{Book, Taken};
 use fz_io::outside::Sink;
 use fz_model::Assignment;
-use fz_printing::{Stop, print_blocks};
 use std::alloc::Global;
 
 /// A book of its own, how many of its recorded solutions it handed to the sink, and why it stopped, where it did. Where it prints

@@ -1,1 +1,4 @@
+pub mod RoomLaws
+pub mod Firsts
+pub mod Integers
 pub mod Arguments

@@ -3,13 +3,19 @@
 //!
 //! A leaf is a name, which is its bytes, an integer, or a mark. Each has its place, `at`: the count of bytes of the text before
 //! it. The definitions of `fz_language` have the same trees; `specs/Trees.antt` says which tree stands for which.
+//!
+//! What is seen of them before any name is known stands here too: floats, what types of declarations ask for, and how much more
+//! a program may declare.
 #![tactic(auto)]
 
 pub mod annotation;
 pub mod expression;
+pub mod floats;
 pub mod item;
 pub mod leaf;
+pub mod limits;
 pub mod program;
+pub mod types;
 pub mod value_type;
 
 pub use annotation::{Annotation, Argument, Nested, first_at, first_of, only_of};
@@ -19,5 +25,6 @@ pub use item::{
     VariableItem,
 };
 pub use leaf::{Integer, Name};
+pub use limits::Room;
 pub use program::{Method, Program, SolveItem};
 pub use value_type::{Plain, ValueType};

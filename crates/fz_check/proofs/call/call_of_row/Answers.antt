@@ -7,7 +7,7 @@ use Rattle.fz_syntax.specs.Trees as trees
 use Rattle.fz_syntax.specs.declared.expression.Expression.{Expression}
 use Rattle.fz_resolve.specs.Meant.{environment_of}
 use Rattle.fz_check.specs.Rows.{row_of}
-use Rattle.fz_fits.proofs.RowLaws.{signature_length}
+use Rattle.fz_check.proofs.RowLaws.{signature_length}
 use Rattle.fz_check.proofs.CallLaws.{rowed_signed, length_of_map}
 use Rattle.fz_check.proofs.call.call_of_row.Goals as goal
 

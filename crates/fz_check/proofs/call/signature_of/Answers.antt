@@ -2,7 +2,7 @@ use Rattle.std.proofs.Common.{List, length}
 use Rattle.std.specs.Prelude.{◌==◌}
 use Rattle.std.proofs.lemmas.Bool.{eq-eqb, ne_eqb}
 use Rattle.fz_spec.specs.declared.asked.Asked.{Asked}
-use Rattle.fz_room.proofs.Firsts.{still_none, first_found, passes_none}
+use Rattle.fz_syntax.proofs.Firsts.{still_none, first_found, passes_none}
 use Rattle.fz_check.proofs.call.signature_of.Goals as goal
 
 pub returns-then-signature-arity : goal.returns-then-signature-arity

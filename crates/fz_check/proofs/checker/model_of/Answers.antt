@@ -8,7 +8,7 @@ use Rattle.fz_syntax.specs.Trees as trees
 use Rattle.fz_syntax.specs.declared.annotation.Annotation.{Annotation}
 use Rattle.fz_resolve.specs.Meant.{environment_of}
 use Rattle.fz_check.proofs.CheckLaws.{model_is}
-use Rattle.fz_fits.proofs.ModelFits.{models_fit}
+use Rattle.fz_check.proofs.ModelFits.{models_fit}
 use Rattle.fz_check.proofs.checker.model_of.Goals as goal
 
 pub new-requires : goal.new-requires

@@ -4,9 +4,9 @@ use Rattle.fz_language.specs.declared.fault.RuleFault.TheVariants.{OverLimit}
 use Rattle.fz_language.specs.Rules as rules
 use Rattle.fz_language.specs.Rules.{Counts, at_places, over, all_counted, additions, Addition}
 use Rattle.fz_resolve.specs.declared.fault.Fault.{Fault}
-use Rattle.fz_room.specs.declared.limits.Room.{Room}
+use Rattle.fz_syntax.specs.declared.limits.Room.{Room}
 use Rattle.fz_resolve.specs.Meant.{fault_of}
-use Rattle.fz_room.specs.Rooms.{IsRoom}
+use Rattle.fz_syntax.specs.Rooms.{IsRoom}
 use Rattle.fz_syntax.specs.Trees.{item_of}
 use Rattle.fz_check.specs.Checked.{IsFirstFault}
 use Rattle.fz_check.proofs.FaultLaws.{first_front, behind_none, no_first}

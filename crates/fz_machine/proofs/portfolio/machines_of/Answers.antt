@@ -2,7 +2,7 @@ use Rattle.std.proofs.Common.{◌≡◌, List}
 use Rattle.std.specs.Arc.{arc_value}
 use Rattle.fz_spec.specs.Instance.{SearchPart}
 use Rattle.fz_branch.specs.Plans.{plan_asset}
-use Rattle.fz_core.specs.Cores.{Core, starting_by}
+use Rattle.fz_machine.specs.Cores.{Core, starting_by}
 use Rattle.fz_machine.proofs.Assets.{assets_more}
 use Rattle.fz_machine.proofs.portfolio.machines_of.Goals as goal
 

@@ -1,5 +1,5 @@
 use Rattle.std.proofs.Common.{ap, sym}
-use Rattle.fz_core.specs.Lawful.{can_be_cut}
+use Rattle.fz_machine.specs.Lawfulness.{can_be_cut}
 use Rattle.fz_machine.proofs.Tests.{none_there}
 use Rattle.fz_machine.proofs.slot.can_be_cut.Goals as goal
 

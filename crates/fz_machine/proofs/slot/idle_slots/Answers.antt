@@ -1,5 +1,5 @@
 use Rattle.std.specs.Arc.{arc_value}
-use Rattle.fz_core.specs.Cores.{idle}
+use Rattle.fz_machine.specs.Cores.{idle}
 use Rattle.fz_machine.proofs.Tests.{one_more, as_many}
 use Rattle.fz_machine.proofs.slot.idle_slots.Goals as goal
 

@@ -1,6 +1,6 @@
 use Rattle.std.proofs.Common.{◌≡◌, replicate}
 use Rattle.std.specs.Arc.{arc_value}
-use Rattle.fz_core.specs.Cores.{idle}
+use Rattle.fz_machine.specs.Cores.{idle}
 use Rattle.fz_machine.proofs.slot.idle_slots.Given as goal
 
 abbrev pub invariant-loop-worker : goal.invariant-loop-worker

@@ -1,6 +1,6 @@
 use Rattle.std.proofs.Common.{ap, sym}
 use Rattle.fz_path.specs.Paths.{bare}
-use Rattle.fz_core.specs.Lawful.{is_busy}
+use Rattle.fz_machine.specs.Lawfulness.{is_busy}
 use Rattle.fz_machine.proofs.Tests.{none_there, busy_read}
 use Rattle.fz_machine.proofs.slot.is_busy.Goals as goal
 

@@ -1,6 +1,6 @@
 use Rattle.std.proofs.Common.{ap, sym}
 use Rattle.fz_path.specs.Paths.{bare}
-use Rattle.fz_core.specs.Lawful.{is_free}
+use Rattle.fz_machine.specs.Lawfulness.{is_free}
 use Rattle.fz_machine.proofs.Tests.{none_there, free_read, held_not_free, empty_by}
 use Rattle.fz_machine.proofs.slot.is_free.Goals as goal
 

@@ -1,6 +1,6 @@
 use Rattle.std.proofs.Common.{ap, sym}
 use Rattle.fz_path.specs.Paths.{bare}
-use Rattle.fz_core.specs.Lawful.{is_ready}
+use Rattle.fz_machine.specs.Lawfulness.{is_ready}
 use Rattle.fz_machine.proofs.Tests.{none_there, ready_read, held_not_ready}
 use Rattle.fz_machine.proofs.slot.is_ready.Goals as goal
 

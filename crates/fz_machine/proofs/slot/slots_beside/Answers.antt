@@ -1,6 +1,6 @@
 use Rattle.std.proofs.Common.{None, ap}
 use Rattle.fz_path.specs.Paths.{Pathed, bare}
-use Rattle.fz_core.specs.Cores.{Worker}
+use Rattle.fz_machine.specs.Cores.{Worker}
 use Rattle.fz_machine.proofs.Tests.{one_more, as_many}
 use Rattle.fz_machine.proofs.slot.slots_beside.Goals as goal
 

@@ -1,6 +1,6 @@
 use Rattle.std.proofs.Common.{◌≡◌, replicate, None}
 use Rattle.fz_path.specs.Paths.{bare}
-use Rattle.fz_core.specs.Cores.{Worker}
+use Rattle.fz_machine.specs.Cores.{Worker}
 use Rattle.fz_machine.proofs.slot.slots_beside.Given as goal
 
 abbrev pub invariant-loop-worker : goal.invariant-loop-worker

@@ -6,7 +6,7 @@ use Rattle.fz_language.specs.Rules.{item_faults, wrong_element}
 use Rattle.fz_syntax.specs.Trees as trees
 use Rattle.fz_resolve.specs.Meant.{environment_of, meant}
 use Rattle.fz_check.specs.Entered.{IsArrayEntry}
-use Rattle.fz_fits.proofs.Keeps.{array_keeps}
+use Rattle.fz_check.proofs.Keeps.{array_keeps}
 use Rattle.fz_check.proofs.DraftLaws.{grown_item, unplaced}
 use Rattle.fz_check.proofs.draft.Draft.array.Goals as goal
 

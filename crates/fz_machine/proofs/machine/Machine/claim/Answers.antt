@@ -1,10 +1,10 @@
 use Rattle.std.proofs.Common.{◌≡◌, ◌<◌, length, refl, subst, sym, rules}
 use Rattle.std.specs.Vec.{vec_len}
-use Rattle.fz_core.specs.declared.event.Event.TheVariants.{Claim}
-use Rattle.fz_core.specs.declared.event.Outcome.TheVariants.{Moved}
+use Rattle.fz_machine.specs.declared.event.Event.TheVariants.{Claim}
+use Rattle.fz_machine.specs.declared.event.Outcome.TheVariants.{Moved}
 use Rattle.fz_path.specs.Paths.{bare}
-use Rattle.fz_core.specs.Cores.{Core, CoreLaw}
-use Rattle.fz_core.proofs.Keeping.{event_keeps}
+use Rattle.fz_machine.specs.Cores.{Core, CoreLaw}
+use Rattle.fz_machine.proofs.Keeping.{event_keeps}
 use Rattle.fz_machine.proofs.AsCode.{claim_code, some_unclaimed, claims_within}
 use Rattle.fz_machine.proofs.machine.Machine.claim.Goals as goal
 

@@ -1,4 +1,4 @@
-use Rattle.fz_core.specs.Cores.{Core}
+use Rattle.fz_machine.specs.Cores.{Core}
 use Rattle.fz_machine.proofs.AsCode.{steal_lawful, steal_unlawful}
 use Rattle.fz_machine.proofs.machine.Machine.is_lawful.Goals as goal
 

@@ -1,9 +1,9 @@
 use Rattle.std.proofs.Common.{◌≡◌, ◌<◌, length, ap, sym, subst, rules}
 use Rattle.std.specs.Vec.{vec_len}
-use Rattle.fz_core.specs.declared.event.Event.TheVariants as event
+use Rattle.fz_machine.specs.declared.event.Event.TheVariants as event
 use Rattle.fz_path.specs.Paths.{bare}
-use Rattle.fz_core.specs.Cores.{Core, CoreLaw}
-use Rattle.fz_core.proofs.Keeping.{event_keeps}
+use Rattle.fz_machine.specs.Cores.{Core, CoreLaw}
+use Rattle.fz_machine.proofs.Keeping.{event_keeps}
 use Rattle.fz_machine.proofs.AsCode.{on_err, learn_code, unlearned_code, learns_within, learns_recorded}
 use Rattle.fz_machine.proofs.machine.Machine.learn.Goals as goal
 

@@ -1,4 +1,4 @@
-use Rattle.fz_core.specs.Cores.{Core}
+use Rattle.fz_machine.specs.Cores.{Core}
 use Rattle.fz_machine.proofs.Assets.{offer_law, offer_better, offer_none}
 use Rattle.fz_machine.proofs.machine.Machine.offer.Goals as goal
 

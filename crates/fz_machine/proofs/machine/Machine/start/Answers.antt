@@ -1,8 +1,8 @@
 use Rattle.std.proofs.Common.{◌∙◌, arith, refl, subst, sym}
-use Rattle.fz_core.specs.declared.event.Event.TheVariants as event
-use Rattle.fz_core.specs.declared.event.Outcome.TheVariants.{Moved}
-use Rattle.fz_core.specs.Cores.{Core, CoreLaw}
-use Rattle.fz_core.proofs.Keeping.{event_keeps}
+use Rattle.fz_machine.specs.declared.event.Event.TheVariants as event
+use Rattle.fz_machine.specs.declared.event.Outcome.TheVariants.{Moved}
+use Rattle.fz_machine.specs.Cores.{Core, CoreLaw}
+use Rattle.fz_machine.proofs.Keeping.{event_keeps}
 use Rattle.fz_machine.proofs.AsCode.{on_err, starts_within, start_ready, start_code, unchanged_code}
 use Rattle.fz_machine.proofs.machine.Machine.start.Goals as goal
 

@@ -1,9 +1,9 @@
 use Rattle.std.proofs.Common.{refl, subst}
-use Rattle.fz_core.specs.declared.event.Event.TheVariants as event
-use Rattle.fz_core.specs.declared.event.Outcome.TheVariants.{Moved}
+use Rattle.fz_machine.specs.declared.event.Event.TheVariants as event
+use Rattle.fz_machine.specs.declared.event.Outcome.TheVariants.{Moved}
 use Rattle.fz_path.specs.Paths.{bare}
-use Rattle.fz_core.specs.Cores.{Core, CoreLaw}
-use Rattle.fz_core.proofs.Keeping.{event_keeps}
+use Rattle.fz_machine.specs.Cores.{Core, CoreLaw}
+use Rattle.fz_machine.proofs.Keeping.{event_keeps}
 use Rattle.std.proofs.Common.{arith}
 use Rattle.fz_machine.proofs.AsCode.{on_err, steal_within, thief_within, steal_can, steal_reports, steal_code, unchanged_code}
 use Rattle.fz_machine.proofs.machine.Machine.steal.Goals as goal

@@ -1,6 +1,6 @@
 use Rattle.std.proofs.Common.{◌∙◌, arith, sym}
 use Rattle.fz_path.specs.Paths.{bare}
-use Rattle.fz_core.specs.Cores.{Core}
+use Rattle.fz_machine.specs.Cores.{Core}
 use Rattle.fz_machine.proofs.AsCode.{on_err, steps_within, step_code, stay_code, never_idle, step_law}
 use Rattle.fz_machine.proofs.machine.Machine.step.Goals as goal
 

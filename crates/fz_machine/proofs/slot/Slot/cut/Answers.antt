@@ -4,7 +4,7 @@ use Rattle.fz_tree.specs.Frontier.{Frontier}
 use Rattle.fz_tree.specs.Account.{Account}
 use Rattle.fz_tree.specs.Book.{Book, IsAt}
 use Rattle.fz_book.specs.Reports.{IsReportable}
-use Rattle.fz_core.specs.Cores.{Worker}
+use Rattle.fz_machine.specs.Cores.{Worker}
 use Rattle.fz_path.specs.declared.task.Cut.{Cut}
 use Rattle.fz_path.specs.Cuts.{IsCutOf}
 use Rattle.fz_path.specs.Paths.{can_cut_held}

@@ -1,5 +1,5 @@
 use Rattle.std.proofs.Common.{refl}
-use Rattle.fz_printer.proofs.Printing.{unmoved}
+use Rattle.fz_printer.proofs.PrintLaws.{unmoved}
 use Rattle.fz_printer.proofs.printer.Printer.account.Goals as goal
 
 pub returns-else-is_own-clause-grew : goal.returns-else-is_own-clause-grew

@@ -1,7 +1,7 @@
 use Rattle.std.proofs.Common.{refl, subst}
 use Rattle.fz_book.specs.Outcomes.{IsTaken}
-use Rattle.fz_printing.specs.declared.printer.Stop.TheVariants.{Memory}
-use Rattle.fz_printer.proofs.Printing.{stopped_there, unmoved}
+use Rattle.fz_printer.specs.declared.printing.Stop.TheVariants.{Memory}
+use Rattle.fz_printer.proofs.PrintLaws.{stopped_there, unmoved}
 use Rattle.fz_printer.proofs.printer.Printer.account_own.Goals as goal
 
 pub returns-in-Stranger-clause-grew : goal.returns-in-Stranger-clause-grew

@@ -1,5 +1,5 @@
 use Rattle.std.proofs.Common.{arith, refl, ◌∙◌}
-use Rattle.fz_printer.proofs.Printing.{printed_due}
+use Rattle.fz_printer.proofs.PrintLaws.{printed_due}
 use Rattle.fz_printer.proofs.printer.Printer.print_due.Goals as goal
 
 pub returns-in-Ok-clause-grew : goal.returns-in-Ok-clause-grew

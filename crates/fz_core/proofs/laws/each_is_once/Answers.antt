@@ -1,5 +1,0 @@
-use Rattle.fz_core.proofs.Once.{each_is_once}
-use Rattle.fz_core.proofs.laws.each_is_once.Goals as goal
-
-pub returns : goal.returns
-returns c = each_is_once

@@ -1,5 +1,0 @@
-use Rattle.fz_printing.proofs.Fronts.{front_of_piece}
-use Rattle.fz_printing.proofs.printer.put.Goals as goal
-
-pub returns-in-Err-clause-front : goal.returns-in-Err-clause-front
-returns-in-Err-clause-front g c = front_of_piece c.args.piece.now c.in-Err.ensures.prefix.0 _ _ c.in-Err.ensures.prefix.1 c.in-Err.ensures.prefix.2

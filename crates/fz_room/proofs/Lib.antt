@@ -1,3 +1,0 @@
-pub mod RoomLaws
-pub mod Firsts
-pub mod Integers

@@ -1,0 +1,14 @@
+use Rattle.std.proofs.Common.{[], ◌∷◌}
+use Rattle.fz_language.specs.Trees.{basic_at}
+use Rattle.fz_language.specs.Rules.{AConstraint, all_counted, members_in}
+use Rattle.fz_syntax.specs.Trees.{basic_of}
+use Rattle.fz_syntax.proofs.RoomLaws.{both, stops}
+use Rattle.fz_syntax.proofs.limits.Room.behind_value_and_members.Goals as goal
+
+pub returns-in-Ok : goal.returns-in-Ok
+returns-in-Ok c = λ n h.
+    let first = (AConstraint (basic_at (basic_of c.args.basic.now)) ∷ []) in
+    both n first (members_in (basic_of c.args.basic.now)) c.in-Ok.room c.behind_members.result (c.in-Ok.ensures n h) (c.behind_members.ensures (all_counted n first) (c.in-Ok.ensures n h).0)
+
+pub returns-in-Err : goal.returns-in-Err
+returns-in-Err c = λ n h. stops n ((AConstraint (basic_at (basic_of c.args.basic.now)) ∷ [])) (members_in (basic_of c.args.basic.now)) c.in-Err.at (c.in-Err.ensures n h)
