@@ -1,4 +1,4 @@
 pub mod Numbers
 pub mod Parses
 pub mod Rules
-pub mod Assets
+pub mod Together

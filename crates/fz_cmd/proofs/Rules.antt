@@ -1,6 +1,7 @@
 -- Rules one after another, and numbers that are given or have a default.
-use Rattle.std.proofs.Common.{◌≡◌, ◌∙◌, ℕ, zero, suc, ◌+◌, ◌<◌, List, [], ◌∷◌, Option, Some, None, refl, sym, ap, subst, arith, length, take, fold, get_or, IfSome}
-use Rattle.std.specs.Prelude.{option_map, unwrap_or}
+use Rattle.std.proofs.Common.{◌≡◌, ◌∙◌, ℕ, zero, suc, ◌+◌, ◌<◌, ◌≤◌, List, [], ◌∷◌, Option, Some, None, refl, sym, ap, subst, arith, length, take, fold, get_or, IfSome}
+use Rattle.std.specs.Prelude.{ℤ, pos, negsuc, ◌≤ℤ◌, option_map, unwrap_or}
+use Rattle.std.proofs.lemmas.Int.{ints}
 use Rattle.fz_cmd.specs.declared.options.Takes.TheVariants.{Defaulted}
 use Rattle.fz_cmd.specs.Meaning.{IsTakenBy}
 
@@ -25,3 +26,13 @@ given_or least most default (Some g) None is within = absurd (cc is)
 pub always_taken : (least most default : ℕ) (given : Option (Option ℕ)) (n : Option ℕ) (k : ℕ) → k ≡ unwrap_or n 0 → Some n ≡ option_map (λ g. Some (unwrap_or g default)) given
     → IfSome n (IsTakenBy (Defaulted least most default)) → IsTakenBy (Defaulted least most default) k
 always_taken least most default given n k at is within = subst (IsTakenBy (Defaulted least most default)) (sym at) (given_or least most default given n is within)
+
+-- ---- numbers of 32 bits
+
+pub is_short : (least most : ℕ) (n : Option ℕ) → most ≤ 4294967295 → IfSome n (λ (k : ℕ). (least ≤ k) × (k ≤ most)) → IfSome n (λ (k : ℕ). k ≤ 4294967295)
+is_short least most None few within = tt
+is_short least most (Some k) few within = let high = within.1 in omega (arith, few, high)
+
+pub is_short_signed : (n : Option ℤ) → IfSome n (λ (k : ℤ). (negsuc 2147483645 ≤ℤ k) × (k ≤ℤ pos 2147483646)) → IfSome n (λ (k : ℤ). (negsuc 2147483647 ≤ℤ k) × (k ≤ℤ pos 2147483647))
+is_short_signed None within = tt
+is_short_signed (Some k) within = let low = within.0 in let high = within.1 in (omega (arith, ints, low, high), omega (arith, ints, low, high))

@@ -7,9 +7,9 @@ use Rattle.clap.specs.Words.{Text}
 use Rattle.clap.specs.declared.builder.action.ArgAction.{ArgAction}
 use Rattle.clap.specs.declared.builder.action.ArgAction.TheVariants.{Set, SetTrue}
 use Rattle.clap.specs.declared.builder.value_parser.ValueParser.{ValueParser}
-use Rattle.clap.specs.declared.builder.value_parser.ValueParser.TheVariants.{Unsigned}
+use Rattle.clap.specs.declared.builder.value_parser.ValueParser.TheVariants.{Signed, Unsigned}
 use Rattle.fz_cmd.specs.declared.options.Takes.{Takes}
-use Rattle.fz_cmd.specs.declared.options.Takes.TheVariants.{Nothing, Number, Defaulted}
+use Rattle.fz_cmd.specs.declared.options.Takes.TheVariants as takes
 use Rattle.fz_cmd.specs.declared.options.TheConstants.{OPTIONS}
 
 -- one without a letter is called by its name
@@ -18,18 +18,19 @@ word_of name None = Some name
 word_of name (Some letter) = None
 
 abbrev pub action_of : Takes → ArgAction
-action_of Nothing = SetTrue
-action_of (Number least most) = Set
-action_of (Defaulted least most default) = Set
+action_of takes.Nothing = SetTrue
+action_of other = Set
 
 abbrev pub parser_of : Takes → Option ValueParser
-parser_of Nothing = None
-parser_of (Number least most) = Some (Unsigned least most)
-parser_of (Defaulted least most default) = Some (Unsigned least most)
+parser_of takes.Nothing = None
+parser_of (takes.Number least most) = Some (Unsigned least most)
+parser_of (takes.Defaulted least most default) = Some (Unsigned least most)
+parser_of takes.Text = None
+parser_of (takes.Signed least most) = Some (Signed least most)
 
 -- the rule of an option
 abbrev pub option_rule : Text → Option ℕ → Takes → Rule
-option_rule name letter takes = record (new_rule name) { short = letter; long = word_of name letter; action = Some (action_of takes); parser = parser_of takes }
+option_rule name letter taken = record (new_rule name) { short = letter; long = word_of name letter; action = Some (action_of taken); parser = parser_of taken }
 
 abbrev pub rule_of_row : Bor Text × Option ℕ × Takes × Bor Text → Rule
 rule_of_row r = option_rule r.0.now r.1 r.2

@@ -1,18 +1,19 @@
 -- What the words of a command line mean.
-use Rattle.std.specs.Prelude.{◌≡◌, ℕ, Bool, false, ◌≤◌, ◌<◌, nat_lt, ◌&&◌, ◌||◌, Option, Some, None, IfSome, List, codes, cond, bytes_eq, is_some, option_map, option_and_then, unwrap_or}
+use Rattle.std.specs.Prelude.{◌≡◌, ℕ, ℤ, Bool, false, ◌≤◌, ◌<◌, ◌≤ℤ◌, nat_lt, not, ◌&&◌, ◌||◌, Option, Some, None, IfSome, MatchOption, List, codes, cond, bytes_eq, is_some, option_map, option_and_then, unwrap_or}
 use Rattle.std.specs.Option.{option_map_or}
-use Rattle.std.specs.Str.Parse.{digits_value, without_leading_plus}
+use Rattle.std.specs.Str.Parse.{digits_value, signed_digits_value, without_leading_plus}
 use Rattle.clap.specs.Words.{Row, Text, first_of, matches_of, fault_of}
-use Rattle.clap.specs.ValueTests.{is_unsigned_in}
+use Rattle.clap.specs.ValueTests.{is_signed_in, is_unsigned_in}
 use Rattle.clap.specs.Walk.{is_empty}
 use Rattle.fz_cmd.specs.declared.words.Numbers.{Numbers}
 use Rattle.fz_cmd.specs.declared.options.Takes.{Takes}
-use Rattle.fz_cmd.specs.declared.options.Takes.TheVariants.{Nothing, Number, Defaulted}
-use Rattle.fz_cmd.specs.declared.options.TheConstants.{ALL, LIMIT, DISTINCT, WORKERS, ASSETS, STATS, CERTIFICATE, COMMIT_DISTANCE, ADAPTIVE_DISTANCE, INTERLEAVE, GENERATE}
+use Rattle.fz_cmd.specs.declared.options.Takes.TheVariants.{Number, Defaulted, Signed}
+use Rattle.fz_cmd.specs.declared.options.TheConstants.{ALL, LIMIT, DISTINCT, WORKERS, ASSETS, STATS, CERTIFICATE, COMMIT_DISTANCE, ADAPTIVE_DISTANCE, INTERLEAVE, GENERATE, SPLIT, PART, BETTER}
 use Rattle.fz_cmd.specs.Command.{fzn_app}
 
 -- All solutions or not, how many of them, whether each block of values is printed once, by how many workers, by how many plans side by side, the commit distance, the adaptive distance, the seed of the workers' turns,
--- whether statistics are printed, whether a certificate is, of how many items a model is generated, and the text that is read.
+-- whether statistics are printed, whether a certificate is, of how many items a model is generated, into how many parts a model is split, the text of the part that is run, what its solutions are to be better than,
+-- and the text that is read.
 pub record Options : Type 0 where
   pub all : Bool
   pub limit : Option ℕ
@@ -25,13 +26,21 @@ pub record Options : Type 0 where
   pub stats : Bool
   pub certificate : Bool
   pub generate : Option ℕ
+  pub split : Option ℕ
+  pub part : Option (List ℕ)
+  pub better : Option ℤ
   pub file : List ℕ
 
 -- a number is one that an option takes
 abbrev pub IsTakenBy : Takes → ℕ → Type 0
-IsTakenBy Nothing n = ⊥
 IsTakenBy (Number least most) n = (least ≤ n) × (n ≤ most)
 IsTakenBy (Defaulted least most default) n = (least ≤ n) × (n ≤ most)
+IsTakenBy takes n = ⊥
+
+-- a number that may be below 0 is one that an option takes
+abbrev pub IsSignedBy : Takes → ℤ → Type 0
+IsSignedBy (Signed least most) n = (least ≤ℤ n) × (n ≤ℤ most)
+IsSignedBy takes n = ⊥
 
 -- its default is one, if it has one
 abbrev pub HasDefault : Takes → Type 0
@@ -45,10 +54,12 @@ pub record AreInRange (n : Numbers) : Type 0 where
   pub commit_distance : IsTakenBy COMMIT_DISTANCE.2 n.commit_distance
   pub adaptive_distance : IsTakenBy ADAPTIVE_DISTANCE.2 n.adaptive_distance
   pub generate : IfSome n.generate (IsTakenBy GENERATE.2)
+  pub split : IfSome n.split (IsTakenBy SPLIT.2)
+  pub better : IfSome n.better (IsSignedBy BETTER.2)
 
 -- the numbers among the options
 abbrev pub numbers_in : Options → Numbers
-numbers_in o = record { limit = o.limit; workers = o.workers; assets = o.assets; commit_distance = o.commit_distance; adaptive_distance = o.adaptive_distance; interleave = o.interleave; generate = o.generate }
+numbers_in o = record { limit = o.limit; workers = o.workers; assets = o.assets; commit_distance = o.commit_distance; adaptive_distance = o.adaptive_distance; interleave = o.interleave; generate = o.generate; split = o.split; better = o.better }
 
 abbrev pub HasRanges : Options → Type 0
 HasRanges o = AreInRange (numbers_in o)
@@ -63,6 +74,36 @@ pub record AreForAssets (o : Options) : Type 0 where
 
 abbrev pub SuitsAssets : Options → Type 0
 SuitsAssets o = 1 < o.assets → AreForAssets o
+
+-- of a text that is read one search, by threads or alone, and nothing but its solutions is printed
+pub record ArePlain (o : Options) : Type 0 where
+  pub limit : o.limit ≡ None
+  pub distinct : o.distinct ≡ false
+  pub assets : o.assets ≤ 1
+  pub interleave : o.interleave ≡ None
+  pub stats : o.stats ≡ false
+  pub certificate : o.certificate ≡ false
+  pub generate : o.generate ≡ None
+
+-- A part is run as a whole model is, for one solution, or a best one, or all.
+pub record AreForPart (o : Options) : Type 0 where
+  pub plain : ArePlain o
+  pub split : o.split ≡ None
+
+-- only a part has something to be better than
+abbrev pub SuitsPart : Options → Type 0
+SuitsPart o = MatchOption o.part (o.better ≡ None) (λ text. AreForPart o)
+
+-- A model is split by one worker, and neither all solutions nor a part are asked for.
+pub record AreForSplit (o : Options) : Type 0 where
+  pub plain : ArePlain o
+  pub all : o.all ≡ false
+  pub workers : o.workers ≤ 1
+  pub part : o.part ≡ None
+  pub better : o.better ≡ None
+
+abbrev pub SuitsSplit : Options → Type 0
+SuitsSplit o = IfSome o.split (λ parts. AreForSplit o)
 
 -- a flag was given
 abbrev pub is_on : Text → List Row → Bool
@@ -79,36 +120,43 @@ given_in least most (Some t) = option_map (λ n. Some n) (number_in least most t
 
 -- the number of an option that takes one: its own, its default if it has one, or none
 abbrev pub number_at : List Row → Text → Takes → Option (Option ℕ)
-number_at rows id Nothing = Some None
 number_at rows id (Number least most) = given_in least most (first_of id rows)
 number_at rows id (Defaulted least most default) = option_map (λ given. Some (unwrap_or given default)) (given_in least most (first_of id rows))
+number_at rows id takes = Some None
+
+-- the same of a number that may be below 0, a text of digits with a plus or a minus before it or not
+abbrev pub signed_in : ℤ → ℤ → Text → Option ℤ
+signed_in least most t = cond (is_signed_in least most t) (Some (signed_digits_value 10 t)) None
+
+abbrev pub given_signed : ℤ → ℤ → Option Text → Option (Option ℤ)
+given_signed least most None = Some None
+given_signed least most (Some t) = option_map (λ n. Some n) (signed_in least most t)
+
+abbrev pub signed_at : List Row → Text → Takes → Option (Option ℤ)
+signed_at rows id (Signed least most) = given_signed least most (first_of id rows)
+signed_at rows id takes = Some None
+
+-- the numbers of all options, where each has one that is within its bounds
+abbrev pub numbers_by : (limit workers assets distance adaptive interleave generate split : Option (Option ℕ)) → Option (Option ℤ) → Option Numbers
+numbers_by (Some limit) (Some workers) (Some assets) (Some distance) (Some adaptive) (Some interleave) (Some generate) (Some split) (Some better) = Some (record {
+  limit = limit;
+  workers = unwrap_or workers 0;
+  assets = unwrap_or assets 0;
+  commit_distance = unwrap_or distance 0;
+  adaptive_distance = unwrap_or adaptive 0;
+  interleave = interleave;
+  generate = generate;
+  split = split;
+  better = better;
+})
+numbers_by limit workers assets distance adaptive interleave generate split better = None
 
 -- the numbers that the matches give, each within its bounds
 abbrev pub numbers_of : List Row → Option Numbers
 numbers_of rows =
-    option_and_then (λ limit.
-    option_and_then (λ workers.
-    option_and_then (λ assets.
-    option_and_then (λ distance.
-    option_and_then (λ adaptive.
-    option_and_then (λ interleave.
-    option_and_then (λ generate.
-    Some (record {
-      limit = limit;
-      workers = unwrap_or workers 0;
-      assets = unwrap_or assets 0;
-      commit_distance = unwrap_or distance 0;
-      adaptive_distance = unwrap_or adaptive 0;
-      interleave = interleave;
-      generate = generate;
-    }))
-    (number_at rows GENERATE.0.now GENERATE.2))
-    (number_at rows INTERLEAVE.0.now INTERLEAVE.2))
-    (number_at rows ADAPTIVE_DISTANCE.0.now ADAPTIVE_DISTANCE.2))
-    (number_at rows COMMIT_DISTANCE.0.now COMMIT_DISTANCE.2))
-    (number_at rows ASSETS.0.now ASSETS.2))
-    (number_at rows WORKERS.0.now WORKERS.2))
-    (number_at rows LIMIT.0.now LIMIT.2)
+    numbers_by (number_at rows LIMIT.0.now LIMIT.2) (number_at rows WORKERS.0.now WORKERS.2) (number_at rows ASSETS.0.now ASSETS.2) (number_at rows COMMIT_DISTANCE.0.now COMMIT_DISTANCE.2)
+    (number_at rows ADAPTIVE_DISTANCE.0.now ADAPTIVE_DISTANCE.2) (number_at rows INTERLEAVE.0.now INTERLEAVE.2) (number_at rows GENERATE.0.now GENERATE.2) (number_at rows SPLIT.0.now SPLIT.2)
+    (signed_at rows BETTER.0.now BETTER.2)
 
 -- A certificate is of one best solution of a model that is read, or of none, and nothing else is printed after it.
 abbrev pub suits_no_certificate : List Row → Numbers → Bool
@@ -118,15 +166,32 @@ suits_no_certificate rows n = is_on ALL.0.now rows || is_some n.limit || is_on D
 abbrev pub suits_no_assets : List Row → Numbers → Bool
 suits_no_assets rows n = nat_lt n.workers n.assets || is_on ALL.0.now rows || is_some n.limit || is_on DISTINCT.0.now rows || is_some n.interleave
 
+-- the text of the part that is run
+abbrev pub part_of : List Row → Option Text
+part_of rows = first_of PART.0.now rows
+
+-- Neither a part nor a split model has a number of solutions, several assets, turns, or anything to print but its own.
+abbrev pub are_not_plain : List Row → Numbers → Bool
+are_not_plain rows n =
+    is_some n.limit || is_on DISTINCT.0.now rows || nat_lt 1 n.assets || is_some n.interleave || is_on STATS.0.now rows || is_on CERTIFICATE.0.now rows || is_some n.generate
+
+-- A model is split by one worker, and searched for nothing.
+abbrev pub suits_no_split : List Row → Numbers → Bool
+suits_no_split rows n = is_on ALL.0.now rows || nat_lt 1 n.workers || is_some (part_of rows)
+
+-- Beside a split, a part, or what the solutions of a part are to be better than, stands an option that doesn't suit it.
+abbrev pub parts_are_apart : List Row → Numbers → Bool
+parts_are_apart rows n =
+    ((is_some n.split || is_some (part_of rows)) && are_not_plain rows n) || (is_some n.split && suits_no_split rows n) || (is_some n.better && not (is_some (part_of rows)))
+
 -- two options that don't go together
 abbrev pub are_apart : List Row → Numbers → Option Text → Bool
 are_apart rows n file =
-    (is_some n.generate && is_some file) || (is_on CERTIFICATE.0.now rows && suits_no_certificate rows n) || (nat_lt 1 n.assets && suits_no_assets rows n)
+    (is_some n.generate && is_some file) || (is_on CERTIFICATE.0.now rows && suits_no_certificate rows n) || (nat_lt 1 n.assets && suits_no_assets rows n) || parts_are_apart rows n
 
--- The options that the numbers, the flags and the name of a file give. Where a model is generated no file may be named; beside a certificate,
--- or several assets, stands no option that they don't suit.
-abbrev pub with_file : List Row → Numbers → Option Text → Option Options
-with_file rows n file = cond (are_apart rows n file) None (Some (record {
+-- the options that the numbers, the flags, the part and the name of a file give
+abbrev pub options_given : List Row → Numbers → Option Text → Options
+options_given rows n file = record {
   all = is_on ALL.0.now rows;
   limit = n.limit;
   distinct = is_on DISTINCT.0.now rows;
@@ -138,8 +203,16 @@ with_file rows n file = cond (are_apart rows n file) None (Some (record {
   stats = is_on STATS.0.now rows;
   certificate = is_on CERTIFICATE.0.now rows;
   generate = n.generate;
+  split = n.split;
+  part = part_of rows;
+  better = n.better;
   file = unwrap_or file (codes "-");
-}))
+}
+
+-- Where a model is generated no file may be named; beside a certificate, several assets, a split or a part stands no option that they
+-- don't suit.
+abbrev pub with_file : List Row → Numbers → Option Text → Option Options
+with_file rows n file = cond (are_apart rows n file) None (Some (options_given rows n file))
 
 -- the options that the matches give
 abbrev pub read : List Row → Option Options

@@ -3,7 +3,6 @@ ghost use Rattle.std.specs.Prelude.{◌≡◌, false, Some, None, IfOk, fold, ma
 ghost use Rattle.clap.specs.Words.{app_of, rule_of, with_rule, rows_of, found_of, matches_of, fault_of, FailsBy};
 ghost use Rattle.clap.specs.Simple.{new_rule};
 ghost use Rattle.clap.specs.declared.builder.action.ArgAction.TheVariants.{Set};
-ghost use Rattle.clap.specs.declared.builder.value_parser.ValueParser.TheVariants.{Unsigned};
 ghost use Rattle.fz_cmd.specs.Command.{rule_of_row, word_of, file_rule, plain_app, fzn_app};
 
 use crate::options::{OPTIONS, Row, Takes};
@@ -20,8 +19,10 @@ fn option_arg<'a>(alloc: Global, row: &Row) -> Arg<'a>
     let arg = called(alloc, name, letter);
     match takes {
         Takes::Nothing => arg.action(ArgAction::SetTrue),
-        Takes::Number(least, most) => numbered(arg, least, most),
-        Takes::Defaulted(least, most, _) => numbered(arg, least, most),
+        Takes::Number(least, most) => parsed(arg, ValueParser::Unsigned(least, most)),
+        Takes::Defaulted(least, most, _) => parsed(arg, ValueParser::Unsigned(least, most)),
+        Takes::Text => arg.action(ArgAction::Set),
+        Takes::Signed(least, most) => parsed(arg, ValueParser::Signed(least, most)),
     }
 }
 
@@ -39,14 +40,13 @@ fn called<'a>(alloc: Global, name: &'static str, letter: Option<char>) -> Arg<'a
     }
 }
 
-/// An argument that takes a number within these bounds.
-fn numbered<'a>(arg: Arg<'a>, least: u64, most: u64) -> Arg<'a>
+/// An argument that takes a value by this parser.
+fn parsed<'a>(arg: Arg<'a>, parser: ValueParser<'a>) -> Arg<'a>
     ensures rule { rule_of result
-        ≡ record (rule_of arg.entry) { action = Some Set; parser = Some (Unsigned least most) } }
+        ≡ record (rule_of arg.entry) { action = Some Set; parser = Some parser.entry } }
     ensures local { result.global ≡ arg.entry.global }
 {
-    arg.action(ArgAction::Set)
-        .value_parser(ValueParser::Unsigned(least, most))
+    arg.action(ArgAction::Set).value_parser(parser)
 }
 
 /// FILE

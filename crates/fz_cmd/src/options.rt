@@ -1,6 +1,6 @@
 //! Options.
-ghost use Rattle.std.specs.Prelude.{◌≡◌};
-ghost use Rattle.fz_cmd.specs.Meaning.{HasRanges, SuitsAssets};
+ghost use Rattle.std.specs.Prelude.{◌≡◌, option_map};
+ghost use Rattle.fz_cmd.specs.Meaning.{HasRanges, SuitsAssets, SuitsPart, SuitsSplit};
 
 use crate::name::Name;
 use fz_gen::text::{ITEMS_LEAST, ITEMS_MOST};
@@ -15,6 +15,10 @@ pub enum Takes {
     Number(u64, u64),
     /// A number from the first to the second; the third if it isn't given.
     Defaulted(u64, u64, u64),
+    /// Any text.
+    Text,
+    /// A number, maybe below 0, from the first to the second.
+    Signed(i64, i64),
 }
 
 /// An option: its name, by which it is read, and which is its word unless it has a letter; its letter; what it takes; and its line of
@@ -98,8 +102,29 @@ pub const GENERATE: Row = (
     "--generate N           a knapsack of N items is solved, and no text is read: 1 to 1000",
 );
 
+pub const SPLIT: Row = (
+    "split",
+    None,
+    Takes::Number(1, 1_000_000),
+    "--split N              at most N parts of the model, a line each, and no search: 1 to 1000000; beside it the two distances alone",
+);
+
+pub const PART: Row = (
+    "part",
+    None,
+    Takes::Text,
+    "--part TEXT            one part of the model, as 0=3,5!=2; beside it -a, -p, the two distances and --better alone",
+);
+
+pub const BETTER: Row = (
+    "better",
+    None,
+    Takes::Signed(-2_147_483_646, 2_147_483_646),
+    "--better=V             of the part of --part what is better than V: -2147483646 to 2147483646",
+);
+
 /// All options, in the order of the usage.
-pub const OPTIONS: [Row; 11] = [
+pub const OPTIONS: [Row; 14] = [
     ALL,
     LIMIT,
     DISTINCT,
@@ -111,6 +136,9 @@ pub const OPTIONS: [Row; 11] = [
     ADAPTIVE_DISTANCE,
     INTERLEAVE,
     GENERATE,
+    SPLIT,
+    PART,
+    BETTER,
 ];
 
 /// What is asked for.
@@ -127,6 +155,9 @@ pub struct Options {
     pub(crate) stats: bool,
     pub(crate) certificate: bool,
     pub(crate) generate: Option<u32>,
+    pub(crate) split: Option<u32>,
+    pub(crate) part: Option<Name>,
+    pub(crate) better: Option<i32>,
     pub(crate) file: Name,
 }
 
@@ -140,7 +171,8 @@ impl Model for Options {
     ghost view = { options_in };
 
     ghost invariant = { λ o. meaning.HasRanges (options_in o)
-        × meaning.SuitsAssets (options_in o) };
+        × meaning.SuitsAssets (options_in o) × meaning.SuitsPart (options_in o)
+        × meaning.SuitsSplit (options_in o) };
 }
 
 impl Options {
@@ -226,6 +258,32 @@ impl Options {
         ensures kept { HasRanges self.now }
     {
         self.generate
+    }
+
+    /// The number of `--split`: the model is split into at most that many parts.
+    pub fn split(&self) -> Option<u32>
+        ensures split { result ≡ self.now.split }
+        ensures kept { HasRanges self.now }
+        ensures suits { SuitsSplit self.now }
+    {
+        self.split
+    }
+
+    /// The text of `--part`: that part of the model is run.
+    pub fn part(&self) -> Option<&Name>
+        ensures part { option_map (λ n. n.now) result ≡ self.now.part }
+        ensures suits { SuitsPart self.now }
+    {
+        self.part.as_ref()
+    }
+
+    /// The number of `--better`: of a part what the solutions are to be better than.
+    pub fn better(&self) -> Option<i32>
+        ensures better { result ≡ self.now.better }
+        ensures kept { HasRanges self.now }
+        ensures suits { SuitsPart self.now }
+    {
+        self.better
     }
 
     /// The name of the text to read; `-` is standard input.

@@ -1,5 +1,5 @@
 //! The words.
-ghost use Rattle.std.specs.Prelude.{◌≡◌, ◌≤◌, IfOk, IfSome, map, option_map, unwrap_or, string_bytes};
+ghost use Rattle.std.specs.Prelude.{◌≡◌, ◌≤◌, ◌≤ℤ◌, pos, negsuc, IfOk, IfSome, map, option_map, unwrap_or, string_bytes};
 ghost use Rattle.clap.specs.Words.{rows_of, found_of};
 ghost use Rattle.fz_cmd.specs.Meaning as meaning;
 ghost use Rattle.fz_cmd.specs.Meaning.{AreInRange};
@@ -7,10 +7,10 @@ ghost use Rattle.fz_cmd.specs.Meaning.{AreInRange};
 use crate::command::parse;
 use crate::name::Name;
 use crate::options::{
-    ADAPTIVE_DISTANCE, ALL, ASSETS, CERTIFICATE, COMMIT_DISTANCE, DISTINCT, GENERATE, INTERLEAVE,
-    LIMIT, Options, STATS, WORKERS,
+    ADAPTIVE_DISTANCE, ALL, ASSETS, BETTER, CERTIFICATE, COMMIT_DISTANCE, DISTINCT, GENERATE,
+    INTERLEAVE, LIMIT, Options, PART, SPLIT, STATS, WORKERS,
 };
-use crate::reading::{is_on, number, text};
+use crate::reading::{is_on, number, signed, text};
 use clap::ArgMatches;
 use clap::error::ErrorKind;
 use std::alloc::{AllocError, Global};
@@ -25,6 +25,8 @@ pub(crate) struct Numbers {
     pub adaptive_distance: u32,
     pub interleave: Option<u64>,
     pub generate: Option<u32>,
+    pub split: Option<u32>,
+    pub better: Option<i32>,
 }
 
 /// The options that the words of a command line give, those after the name of the program; `None` where they are refused.
@@ -69,6 +71,7 @@ fn with_file(
     if are_apart(matches, numbers, file) {
         return Ok(None);
     }
+    let part = named(alloc, part_of(matches))?;
     let file = Name::new(alloc, file.unwrap_or("-"))?;
     Ok(Some(Options {
         all: is_on(matches, ALL.0),
@@ -82,8 +85,28 @@ fn with_file(
         stats: is_on(matches, STATS.0),
         certificate: is_on(matches, CERTIFICATE.0),
         generate: numbers.generate,
+        split: numbers.split,
+        part,
+        better: numbers.better,
         file,
     }))
+}
+
+/// The text of the part that is run.
+fn part_of<'a>(matches: &ArgMatches<'a>) -> Option<&'a str>
+    ensures { option_map (λ s. s.now) result ≡ meaning.part_of (rows_of (found_of matches.now)) }
+{
+    text(matches, PART.0)
+}
+
+/// The name that a text is, if there is one.
+fn named(alloc: Global, text: Option<&str>) -> Result<Option<Name>, AllocError>
+    ensures { IfOk result (λ n. n ≡ option_map (λ s. s.now) text.entry) }
+{
+    match text {
+        Some(text) => Ok(Some(Name::new(alloc, text)?)),
+        None => Ok(None),
+    }
 }
 
 /// Whether options were given that don't go together.
@@ -94,6 +117,37 @@ fn are_apart(matches: &ArgMatches<'_>, numbers: Numbers, file: Option<&str>) -> 
     numbers.generate.is_some() && file.is_some()
         || is_on(matches, CERTIFICATE.0) && suits_no_certificate(matches, numbers)
         || 1 < numbers.assets && suits_no_assets(matches, numbers)
+        || parts_are_apart(matches, numbers)
+}
+
+/// Whether an option was given that a split, a part, or what a part is to be better than can't stand beside.
+fn parts_are_apart(matches: &ArgMatches<'_>, numbers: Numbers) -> bool
+    ensures { result ≡ meaning.parts_are_apart (rows_of (found_of matches.now)) numbers }
+{
+    let (split, part) = (numbers.split.is_some(), part_of(matches).is_some());
+    (split || part) && are_not_plain(matches, numbers)
+        || split && suits_no_split(matches, numbers)
+        || numbers.better.is_some() && !part
+}
+
+/// Whether an option was given that neither a split nor a part can stand beside.
+fn are_not_plain(matches: &ArgMatches<'_>, numbers: Numbers) -> bool
+    ensures { result ≡ meaning.are_not_plain (rows_of (found_of matches.now)) numbers }
+{
+    numbers.limit.is_some()
+        || is_on(matches, DISTINCT.0)
+        || 1 < numbers.assets
+        || numbers.interleave.is_some()
+        || is_on(matches, STATS.0)
+        || is_on(matches, CERTIFICATE.0)
+        || numbers.generate.is_some()
+}
+
+/// Whether an option of a search was given, which a split can't stand beside.
+fn suits_no_split(matches: &ArgMatches<'_>, numbers: Numbers) -> bool
+    ensures { result ≡ meaning.suits_no_split (rows_of (found_of matches.now)) numbers }
+{
+    is_on(matches, ALL.0) || 1 < numbers.workers || part_of(matches).is_some()
 }
 
 /// Whether several assets are more than the workers, or an option was given that they can't stand beside.
@@ -130,6 +184,8 @@ fn numbers_of(matches: &ArgMatches<'_>) -> Option<Numbers>
     let adaptive = number(matches, &ADAPTIVE_DISTANCE)?;
     let interleave = number(matches, &INTERLEAVE)?;
     let generate = number(matches, &GENERATE)?;
+    let split = number(matches, &SPLIT)?;
+    let better = signed(matches, &BETTER)?;
     Some(Numbers {
         limit: short(limit),
         workers: defaulted(workers),
@@ -138,6 +194,8 @@ fn numbers_of(matches: &ArgMatches<'_>) -> Option<Numbers>
         adaptive_distance: defaulted(adaptive),
         interleave,
         generate: short(generate),
+        split: short(split),
+        better: short_signed(better),
     })
 }
 
@@ -148,6 +206,17 @@ fn short(number: Option<u64>) -> Option<u32>
 {
     match number {
         Some(number) => Some(number as u32),
+        None => None,
+    }
+}
+
+/// The same of a number that may be below 0.
+fn short_signed(number: Option<i64>) -> Option<i32>
+    requires { IfSome number (λ n. (negsuc 2147483647 ≤ℤ n) × (n ≤ℤ pos 2147483647)) }
+    ensures { result ≡ number }
+{
+    match number {
+        Some(number) => Some(number as i32),
         None => None,
     }
 }

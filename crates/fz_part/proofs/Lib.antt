@@ -2,3 +2,4 @@ pub mod Wording
 pub mod Reading
 pub mod Meeting
 pub mod Listing
+pub mod Tasks

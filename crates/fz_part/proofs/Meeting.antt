@@ -55,13 +55,13 @@ decided Above x n = (test_of_above x n, above_of_test x n)
 
 -- ---- as a constraint
 
-abbrev relation_of : Comparison → Relation
+abbrev pub relation_of : Comparison → Relation
 relation_of Equal = relations.Equal
 relation_of NotEqual = relations.NotEqual
 relation_of AtMost = relations.AtMost
 relation_of Above = relations.Below
 
-shape_is : (k : Kind) (c : Comparison) → shape_of (name_of k c) ≡ Rel (relation_of c)
+pub shape_is : (k : Kind) (c : Comparison) → shape_of (name_of k c) ≡ Rel (relation_of c)
 unfolding shape_of
 shape_is kinds.Bool Equal = refl
 shape_is kinds.Bool NotEqual = refl
@@ -100,12 +100,12 @@ kind_there [] v k is = cc
 kind_there (u ∷ vs) zero k is = omega arith
 kind_there (u ∷ vs) (suc v) k is = let h = kind_there vs v k is in omega (arith, h)
 
-record HasKind (o : Option Kind) (z : ℤ) : Type 0 where
+pub record HasKind (o : Option Kind) (z : ℤ) : Type 0 where
   pub kind : Kind
   pub is : o ≡ Some kind
   pub number : IsNumberOf kind z
 
-has_kind : (o : Option Kind) (z : ℤ) → MatchOption o ⊥ (λ (kind : Kind). IsNumberOf kind z) → HasKind o z
+pub has_kind : (o : Option Kind) (z : ℤ) → MatchOption o ⊥ (λ (kind : Kind). IsNumberOf kind z) → HasKind o z
 has_kind None z h = absurd h
 has_kind (Some k) z h = record { kind = k; is = refl; number = h }
 

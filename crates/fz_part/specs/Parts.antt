@@ -1,9 +1,11 @@
 -- Parts of a model: lists of decisions. An assignment is in a part where it meets each of them, so `0=3` and `0!=3` are two parts of a
 -- model that has a variable, and the part without a decision is the whole model.
-use Rattle.std.specs.Prelude.{◌≡◌, ℤ, Bool, false, List, [], ◌∷◌, ◌++◌, map, count_by, unwrap_or, MatchOption}
+use Rattle.std.specs.Prelude.{◌≡◌, ℤ, Bool, false, Option, Some, None, List, [], ◌∷◌, ◌++◌, map, count_by, unwrap_or, MatchOption}
 use Rattle.std.specs.List.{AllByRecursion, list_all}
 use Rattle.fz_spec.specs.declared.builtin.Builtin.{Builtin}
 use Rattle.fz_spec.specs.declared.builtin.Builtin.TheVariants.{BoolEq, BoolNot, BoolLe, BoolLt, IntEq, IntNe, IntLe, IntLt}
+use Rattle.fz_spec.specs.declared.goal.Goal.{Goal}
+use Rattle.fz_spec.specs.declared.goal.Goal.TheVariants.{Satisfy, Minimize, Maximize}
 use Rattle.fz_spec.specs.declared.kind.Kind.{Kind}
 use Rattle.fz_spec.specs.declared.kind.Kind.TheVariants as kinds
 use Rattle.fz_spec.specs.declared.term.Term.{Term}
@@ -64,3 +66,27 @@ with_part m p = record {
   outputs = m.outputs;
   search = m.search;
 }
+
+-- that the goal's term has a better value than this: less where the least is sought, greater where the greatest is
+abbrev pub better_than : Goal → ℤ → List Constraint
+better_than Satisfy v = []
+better_than (Minimize term) v = record { name = IntLt; arguments = One term ∷ One (Num v) ∷ []; whole = false } ∷ []
+better_than (Maximize term) v = record { name = IntLt; arguments = One (Num v) ∷ One term ∷ []; whole = false } ∷ []
+
+abbrev pub bounds_of : Goal → Option ℤ → List Constraint
+bounds_of goal None = []
+bounds_of goal (Some v) = better_than goal v
+
+-- the model with that as a constraint behind its own, where there is such a value
+abbrev pub with_bound : Instance → Option ℤ → Instance
+with_bound m bound = record {
+  variables = m.variables;
+  constraints = m.constraints ++ bounds_of m.goal bound;
+  goal = m.goal;
+  outputs = m.outputs;
+  search = m.search;
+}
+
+-- what a machine searches: the part, for something better than this, where there is such a value
+abbrev pub task_of : Instance → List Decision → Option ℤ → Instance
+task_of m p bound = with_bound (with_part m p) bound

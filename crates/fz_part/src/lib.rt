@@ -8,8 +8,10 @@ pub mod part;
 mod print;
 mod read;
 pub mod refusal;
+pub mod task;
 mod word;
 
 pub use fz_tree::decision::{Comparison, Decision};
 pub use part::Part;
 pub use refusal::Refusal;
+pub use task::task_of;

@@ -1,5 +1,5 @@
 -- What ends a run that is begun.
-use Rattle.std.proofs.Common.{◌≡◌, ◌∙◌, ◌<◌, ◌≤◌, ◌-◌, ◌⊎◌, inl, inr, ℕ, zero, suc, List, [], ◌∷◌, ◌++◌, length, take, append_assoc, refl, sym, ap, subst, arith, Bool, true, false, Option, Some, None, length-append}
+use Rattle.std.proofs.Common.{◌≡◌, ◌∙◌, ◌<◌, ◌≤◌, ◌-◌, ◌⊎◌, inl, inr, ℕ, zero, suc, List, [], ◌∷◌, ◌++◌, length, take, append_assoc, append-nil, refl, sym, ap, subst, arith, Bool, true, false, Option, Some, None, length-append}
 use Rattle.std.specs.Prelude.{ℤ}
 use Rattle.std.specs.List.{AllByRecursion}
 use Rattle.std.proofs.lemmas.Bool.{cases_lt}
@@ -57,16 +57,19 @@ blocks_some m (suc n) (a ∷ l) within some = let h = block_some m a in omega (a
 
 -- ---- whole runs
 
--- what is shown, and the bytes of it that stand after the first blocks
-record Shows (o : Options) (m : Instance) (goal : Goal) (l : List (List ℤ)) : Type 0 where
-  listed : List (List ℤ)
-  rest : List ℕ
-  prints : PrintsFor goal o m listed (blocks m l ++ rest)
-  some : IsShort goal o (length l) → 0 < length rest
+-- what may be shown after the first blocks, and what ends it
+pub record Shows (o : Options) (m : Instance) (goal : Goal) (l : List (List ℤ)) : Type 0 where
+  pub later : List (List ℤ)
+  pub ending : List ℕ
+  pub prints : PrintsFor goal o m (l ++ later) (blocks m l ++ (blocks m later ++ ending))
+  pub some : IsShort goal o (length l) → 0 < length (blocks m later ++ ending)
 
 -- all of them, and the closing line
 all_text : (m : Instance) (l more : List (List ℤ)) → blocks m (l ++ more) ++ closing (l ++ more) ≡ blocks m l ++ (blocks m more ++ closing (l ++ more))
 all_text m l more = ap (λ u. u ++ closing (l ++ more)) (flat_map-append (block m) l more) ∙ append_assoc (blocks m l) (blocks m more) (closing (l ++ more))
+
+front_some : (front end : List ℕ) → 0 < length front → 0 < length (front ++ end)
+front_some front end h = omega (arith, h, length-append front end)
 
 end_some : (front end : List ℕ) → 0 < length end → 0 < length (front ++ end)
 end_some front end h = omega (arith, h, length-append front end)
@@ -86,30 +89,30 @@ some_of d m n l whole few many =
 
 shows_some : (o : Options) (m : Instance) (n : ℕ) (l : List (List ℤ)) (whole : ListsAll o.distinct m l) → wanted o ≡ Some n → length l ≤ n → (length (l ++ whole.more) < n) ⊎ (n ≤ length (l ++ whole.more)) → Shows o m Satisfy l
 shows_some o m n l whole asked few (inl less) = record {
-  listed = l ++ whole.more;
-  rest = blocks m whole.more ++ closing (l ++ whole.more);
+  later = whole.more;
+  ending = closing (l ++ whole.more);
   prints = subst (λ (w : Option ℕ). PrintsWanted o.distinct w m (l ++ whole.more) (blocks m l ++ (blocks m whole.more ++ closing (l ++ whole.more)))) (sym asked) (inr (less, all_of o.distinct m l whole));
   some = λ _. end_some (blocks m whole.more) (closing (l ++ whole.more)) (closing_some (l ++ whole.more));
 }
 shows_some o m n l whole asked few (inr many) =
     let k = n - length l in
     record {
-      listed = l ++ take k whole.more;
-      rest = blocks m (take k whole.more);
-      prints = subst (λ (w : Option ℕ). PrintsWanted o.distinct w m (l ++ take k whole.more) (blocks m l ++ blocks m (take k whole.more))) (sym asked)
-          (inl (record { are = some_of o.distinct m n l whole few many; text = sym (flat_map-append (block m) l (take k whole.more)) }));
+      later = take k whole.more;
+      ending = [];
+      prints = subst (λ (w : Option ℕ). PrintsWanted o.distinct w m (l ++ take k whole.more) (blocks m l ++ (blocks m (take k whole.more) ++ []))) (sym asked)
+          (inl (record { are = some_of o.distinct m n l whole few many; text = ap (λ u. blocks m l ++ u) (append-nil (blocks m (take k whole.more))) ∙ sym (flat_map-append (block m) l (take k whole.more)) }));
       some = λ short.
           let below : length l < n = subst (λ (w : Option ℕ). IsBelow w (length l)) asked short in
           let size = length-append l whole.more in
-          blocks_some m k whole.more (omega (arith, size, many)) (omega (arith, below));
+          front_some (blocks m (take k whole.more)) [] (blocks_some m k whole.more (omega (arith, size, many)) (omega (arith, below)));
     }
 
 shows_wanted : (o : Options) (m : Instance) (w : Option ℕ) (l : List (List ℤ)) → wanted o ≡ w → AreFound o.distinct m w l → Shows o m Satisfy l
 shows_wanted o m None l asked found =
     let whole = lists_all o.distinct m l found.sound (λ a s. (let few = found.different a s in omega (arith, few, times_are o.distinct m a l))) in
     record {
-      listed = l ++ whole.more;
-      rest = blocks m whole.more ++ closing (l ++ whole.more);
+      later = whole.more;
+      ending = closing (l ++ whole.more);
       prints = subst (λ (v : Option ℕ). PrintsWanted o.distinct v m (l ++ whole.more) (blocks m l ++ (blocks m whole.more ++ closing (l ++ whole.more)))) (sym asked) (all_of o.distinct m l whole);
       some = λ _. end_some (blocks m whole.more) (closing (l ++ whole.more)) (closing_some (l ++ whole.more));
     }
@@ -127,43 +130,42 @@ best_by None true t m l up read shows = record {
 best_by None false t m l up read shows = absurd (cc shows)
 best_by (Some items) all t m l up read shows = absurd (cc read)
 
-shows : (o : Options) (m : Instance) (goal : Goal) (l : List (List ℤ)) → AreBegun goal o m l → Shows o m goal l
+pub shows : (o : Options) (m : Instance) (goal : Goal) (l : List (List ℤ)) → AreBegun goal o m l → Shows o m goal l
 shows o m Satisfy l begun = shows_wanted o m (wanted o) l refl begun
 shows o m (Minimize t) l begun =
     let up = goes_up_from m l begun.sound begun.improving in
     record {
-      listed = l ++ up.more;
-      rest = blocks m up.more ++ closing (l ++ up.more);
+      later = up.more;
+      ending = closing (l ++ up.more);
       prints = best_by o.generate o.all t m l up begun.read begun.all;
       some = λ _. end_some (blocks m up.more) (closing (l ++ up.more)) (closing_some (l ++ up.more));
     }
 shows o m (Maximize t) l begun =
     let up = goes_up_from m l begun.sound begun.improving in
     record {
-      listed = l ++ up.more;
-      rest = blocks m up.more ++ closing (l ++ up.more);
+      later = up.more;
+      ending = closing (l ++ up.more);
       prints = best_by o.generate o.all t m l up begun.read begun.all;
       some = λ _. end_some (blocks m up.more) (closing (l ++ up.more)) (closing_some (l ++ up.more));
     }
 
-front_some : (front end : List ℕ) → 0 < length front → 0 < length (front ++ end)
-front_some front end h = omega (arith, h, length-append front end)
-
 pub can_end : (o : Options) (m : Instance) (l : List (List ℤ)) → IsModel m → AreBegun m.goal o m l → CanEnd o m l
 can_end o m l is begun =
     let s = shows o m m.goal l begun in
-    let behind = statistics_text (counted o.stats s.listed) in
-    let certificate = certificate_exists m (certified o.certificate m.goal s.listed) is (certifiable m o s.listed (blocks m l ++ s.rest) s.prints) in
-    let parted : (blocks m l ++ s.rest) ++ behind ≡ blocks m l ++ (s.rest ++ behind) = append_assoc (blocks m l) s.rest behind in
+    let listed = l ++ s.later in
+    let rest = blocks m s.later ++ s.ending in
+    let behind = statistics_text (counted o.stats listed) in
+    let certificate = certificate_exists m (certified o.certificate m.goal listed) is (certifiable m o listed (blocks m l ++ rest) s.prints) in
+    let parted : (blocks m l ++ rest) ++ behind ≡ blocks m l ++ (rest ++ behind) = append_assoc (blocks m l) rest behind in
     record {
-      listed = s.listed;
-      more = (s.rest ++ behind) ++ certificate.0;
+      listed = listed;
+      more = (rest ++ behind) ++ certificate.0;
       run = record {
-        shown = blocks m l ++ s.rest;
+        shown = blocks m l ++ rest;
         prints = s.prints;
         certificate = certificate.0;
         certifies = certificate.1;
-        text = sym (append_assoc (blocks m l) (s.rest ++ behind) certificate.0) ∙ ap (λ u. u ++ certificate.0) (sym parted);
+        text = sym (append_assoc (blocks m l) (rest ++ behind) certificate.0) ∙ ap (λ u. u ++ certificate.0) (sym parted);
       };
-      some = λ short. front_some (s.rest ++ behind) certificate.0 (front_some s.rest behind (s.some short));
+      some = λ short. front_some (rest ++ behind) certificate.0 (front_some rest behind (s.some short));
     }

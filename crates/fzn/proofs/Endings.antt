@@ -18,9 +18,9 @@ use Rattle.fz_runs.specs.Modes.{mode_for}
 use Rattle.fzn.specs.Begun.{IsCertifiable}
 use Rattle.fzn.proofs.Certifying.{certifiable, certificate_exists}
 use Rattle.fz_io.specs.Outside.{with_more, with_more-none, with_more-with_more}
-use Rattle.fz_printing.specs.declared.printer.Stop.{Stop}
-use Rattle.fz_printing.specs.Texts.{TakesFront, best_text, end_text, ending, listing_text, run_text, shown_text}
-use Rattle.fz_printing.proofs.Fronts.{front_after, front_more}
+use Rattle.fz_printer.specs.declared.printing.Stop.{Stop}
+use Rattle.fz_printer.specs.Texts.{TakesFront, best_text, end_text, ending, listing_text, run_text, shown_text}
+use Rattle.fz_printer.proofs.Fronts.{front_after, front_more}
 use Rattle.fz_maker.specs.Taken.{TakesOne, TakesFrontOfOne}
 use Rattle.fz_printer.specs.declared.printer.Printer.{Printer}
 use Rattle.fz_printer.specs.Printed.{as_found_of, book_of, due_among, due_of, printed_of, stopped_of, wanted_of, HasPrinted, HasPrintedAt}
@@ -28,7 +28,7 @@ use Rattle.fz_search.specs.Searched.{enough_for, first_shown, shows_found, HasEn
 use Rattle.fz_search.proofs.Searches.{all_due}
 use Rattle.fzn.specs.declared.status.Status.{Status}
 use Rattle.fzn.specs.declared.status.Status.TheVariants.{Done, SinkFault, NoMemory}
-use Rattle.fzn.specs.Steps.{Flushes, IsEnded, PrintsModel, ShowsFront, ShowsWhole, certified_after}
+use Rattle.fzn.specs.Steps.{AskForWhole, Flushes, IsEnded, PrintsModel, ShowsFront, ShowsWhole, certified_after}
 use Rattle.fzn.proofs.Outcomes.{prints_front, prints_whole}
 use Rattle.fzn.proofs.Printed.{shown_prints}
 use Rattle.fzn.proofs.Stops.{asks_all}
@@ -52,7 +52,7 @@ printed_whole o p before middle e h =
 
 -- ---- where solutions were printed as they were found
 
-best_listed : (generate : Option ℕ) (t : Term) (m : Instance) (l : List (List ℤ)) (complete : Bool) → generate ≡ None → best_text generate t m l complete ≡ listing_text m l complete
+pub best_listed : (generate : Option ℕ) (t : Term) (m : Instance) (l : List (List ℤ)) (complete : Bool) → generate ≡ None → best_text generate t m l complete ≡ listing_text m l complete
 best_listed None t m l complete read = refl
 best_listed (Some items) t m l complete read = absurd (cc read)
 
@@ -71,11 +71,11 @@ abbrev pub IsFirst : Options → Printer → List (List ℤ) → Type 0
 IsFirst o p l = shows_found (book_of p).model.goal o ≡ true → l ≡ take (due_among true (enough_for (book_of p).model.goal o) (length (book_of p).recorded)) (book_of p).recorded
 
 -- what is listed is printed, and the text of the run is that and what stands after it
-record Listed (o : Options) (p : Printer) (l : List (List ℤ)) (complete : Bool) (before middle : Option (List ℕ)) : Type 0 where
-  printed : middle ≡ with_more before (blocks (book_of p).model l)
-  parted : run_text o (book_of p).model l complete ≡ blocks (book_of p).model l ++ end_text o l complete
+pub record Listed (o : Options) (p : Printer) (l : List (List ℤ)) (complete : Bool) (before middle : Option (List ℕ)) : Type 0 where
+  pub printed : middle ≡ with_more before (blocks (book_of p).model l)
+  pub parted : run_text o (book_of p).model l complete ≡ blocks (book_of p).model l ++ end_text o l complete
 
-listed : (o : Options) (p : Printer) (l : List (List ℤ)) (complete : Bool) (before middle : Option (List ℕ)) → IsEnded o p → as_found_of p ≡ true → IsFirst o p l → HasPrinted p before middle → Listed o p l complete before middle
+pub listed : (o : Options) (p : Printer) (l : List (List ℤ)) (complete : Bool) (before middle : Option (List ℕ)) → IsEnded o p → as_found_of p ≡ true → IsFirst o p l → HasPrinted p before middle → Listed o p l complete before middle
 listed o p l complete before middle e is first h =
     let b = book_of p in
     elim e.prints [
@@ -188,16 +188,16 @@ head_listed o p b m goal l last head same of is best made =
 
 -- ---- and what is answered
 
-pub concluded : (s : Status) (m : Instance) (o : Options) (before middle after : Option (List ℕ)) (flushed c d : ℕ) → ShowsWhole m o before middle → after ≡ middle → Flushes Done s after flushed c d → PrintsModel s m o before after
-concluded s m o before middle after flushed c d h same cases text reads =
-    prints_whole s text m o before after reads (subst (λ (t : Option (List ℕ)). ShowsWhole m o before t) (sym same) h) (elim cases [ inl done ↦ inl done.0 | inr fault ↦ inr fault.0 ])
+pub concluded : (s : Status) (m : Instance) (o : Options) (before middle after : Option (List ℕ)) (flushed c d : ℕ) → AskForWhole o → ShowsWhole m o before middle → after ≡ middle → Flushes Done s after flushed c d → PrintsModel s m o before after
+concluded s m o before middle after flushed c d asked h same cases text reads =
+    prints_whole s text m o before after asked reads (subst (λ (t : Option (List ℕ)). ShowsWhole m o before t) (sym same) h) (elim cases [ inl done ↦ inl done.0 | inr fault ↦ inr fault.0 ])
 
-pub refused : (s : Status) (m : Instance) (o : Options) (before middle after : Option (List ℕ)) (flushed c d : ℕ) → ShowsFront m o before middle → after ≡ middle → Flushes NoMemory s after flushed c d → PrintsModel s m o before after
-refused s m o before middle after flushed c d h same cases text reads =
-    prints_front s text m o before after reads (subst (λ (t : Option (List ℕ)). ShowsFront m o before t) (sym same) h) (elim cases [ inl short ↦ inr short.0 | inr fault ↦ inl fault.0 ])
+pub refused : (s : Status) (m : Instance) (o : Options) (before middle after : Option (List ℕ)) (flushed c d : ℕ) → AskForWhole o → ShowsFront m o before middle → after ≡ middle → Flushes NoMemory s after flushed c d → PrintsModel s m o before after
+refused s m o before middle after flushed c d asked h same cases text reads =
+    prints_front s text m o before after asked reads (subst (λ (t : Option (List ℕ)). ShowsFront m o before t) (sym same) h) (elim cases [ inl short ↦ inr short.0 | inr fault ↦ inl fault.0 ])
 
-pub failed : (m : Instance) (o : Options) (before after : Option (List ℕ)) → ShowsFront m o before after → PrintsModel SinkFault m o before after
-failed m o before after h text reads = prints_front SinkFault text m o before after reads h (inl refl)
+pub failed : (m : Instance) (o : Options) (before after : Option (List ℕ)) → AskForWhole o → ShowsFront m o before after → PrintsModel SinkFault m o before after
+failed m o before after asked h text reads = prints_front SinkFault text m o before after asked reads h (inl refl)
 
 -- ---- what is gone is printed
 

@@ -10,3 +10,5 @@ pub mod BegunEndings
 pub mod Recorded
 pub mod Whole
 pub mod Blocks
+pub mod Parting
+pub mod Asking

@@ -9,7 +9,7 @@ use Rattle.fz_spec.specs.declared.goal.Goal.TheVariants as goals
 use Rattle.fz_cmd.specs.Meaning.{Options}
 use Rattle.fz_runs.specs.Runs.{AreBest, PrintsWanted, PrintsBest, PrintsGoal, PrintsFor, wanted}
 use Rattle.fz_search.specs.Searched.{IsListing, IsShown, shows_all}
-use Rattle.fz_printing.specs.Texts.{best_text, listing_text, shown_text}
+use Rattle.fz_printer.specs.Texts.{best_text, listing_text, shown_text}
 
 listing_prints : (d : Bool) (m : Instance) (w : Option ℕ) (l : List (List ℤ)) (complete : Bool) → IsListing d m w l complete → PrintsWanted d w m l (listing_text m l complete)
 listing_prints d m None l true h = record { lists = h; text = refl }

@@ -5,7 +5,10 @@ use Rattle.fz_cmd.specs.declared.options.TheConstants.{OPTIONS}
 use Rattle.fz_print.specs.declared.refusal.Refusal.{Refusal}
 use Rattle.fzn.specs.declared.complaint.TheConstants.{FAULTS}
 use Rattle.fzn.specs.declared.status.Status.{Status}
-use Rattle.fzn.specs.declared.status.Status.TheVariants.{Done, Refused, Usage, SourceFault, SinkFault, NoMemory}
+use Rattle.fzn.specs.declared.status.Status.TheVariants.{Done, Refused, Usage, SourceFault, SinkFault, NoMemory, NoTask}
+use Rattle.fzn.specs.declared.status.Misfit.{Misfit}
+use Rattle.fzn.specs.declared.status.Misfit.TheVariants.{NoPart, NoGoal, TooMany}
+use Rattle.fz_part.specs.declared.refusal.Refusal.TheVariants.{NotAPart, NoVariable, OutOfRange}
 
 -- the file by its name, or standard input
 abbrev pub shown_name : List ℕ → List ℕ
@@ -30,6 +33,14 @@ with_usage text line = ((text ++ codes "  ") ++ line) ++ codes "\n"
 abbrev pub usage : List ℕ
 usage = fold with_usage (codes "usage: fzn [options] [FILE]\n") (map (λ r. r.3.now) OPTIONS) ++ codes "  FILE                   the text; - is standard input, as is no FILE"
 
+-- why the model has no such part
+abbrev pub misfit_text : Misfit → List ℕ
+misfit_text (NoPart NotAPart) = codes "--part: not of the form 0=3,5!=2,5<=7,9>4"
+misfit_text (NoPart NoVariable) = codes "--part: a variable that the model lacks"
+misfit_text (NoPart OutOfRange) = codes "--part: a value that its variable cannot have"
+misfit_text NoGoal = codes "--better: the model has no goal"
+misfit_text TooMany = codes "--part: too many decisions"
+
 abbrev pub complaint_text : List ℕ → Status → Option (List ℕ)
 complaint_text name Done = None
 complaint_text name (Refused r) = Some (refusal_line name r)
@@ -37,6 +48,7 @@ complaint_text name Usage = Some usage
 complaint_text name SourceFault = Some (name ++ codes ": cannot be opened or read")
 complaint_text name SinkFault = Some (codes "standard output: a write failed")
 complaint_text name NoMemory = Some (codes "fzn: out of memory")
+complaint_text name (NoTask misfit) = Some (misfit_text misfit)
 
 -- the complaint of a run of these words
 abbrev pub complaint_of : List (List ℕ) → Status → Option (List ℕ)

@@ -1,3 +1,4 @@
+pub mod Asked
 pub mod Promises
 pub mod Steps
 pub mod Complaints

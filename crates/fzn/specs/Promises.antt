@@ -5,14 +5,15 @@ use Rattle.fz_spec.specs.Codes.{code_number}
 use Rattle.fz_spec.specs.Instance.{Instance}
 use Rattle.fz_spec.specs.Run.{refusal_text}
 use Rattle.fz_cmd.specs.Meaning.{Options}
-use Rattle.fz_runs.specs.Runs.{IsRunText}
 use Rattle.fz_language.specs.Reads.{Reads, Accepted}
 use Rattle.fz_language.specs.Reads as reads
 use Rattle.fz_gen.specs.Knapsack.{knapsack}
 use Rattle.fz_io.specs.Outside.{one_more, with_more, AllFlushed}
 use Rattle.fz_print.specs.declared.refusal.Refusal.{Refusal}
 use Rattle.fzn.specs.declared.status.Status.{Status}
-use Rattle.fzn.specs.declared.status.Status.TheVariants.{Done, Refused, Usage, SourceFault, SinkFault, NoMemory}
+use Rattle.fzn.specs.declared.status.Status.TheVariants.{Done, Refused, Usage, SourceFault, SinkFault, NoMemory, NoTask}
+use Rattle.fzn.specs.declared.status.Misfit.{Misfit}
+use Rattle.fzn.specs.Asked.{HasTask, LacksTask, PrintsAsked}
 
 -- the exit status of each answer
 abbrev pub code_of : Status → ℕ
@@ -22,13 +23,13 @@ code_of Usage = 2
 code_of SourceFault = 3
 code_of SinkFault = 4
 code_of NoMemory = 5
+code_of (NoTask misfit) = 6
 
--- the run of an accepted text: its model, the assignments listed, and what is printed
+-- the run of an accepted text: its model, and what is printed of it
 pub record IsRun (text : List ℕ) (o : Options) (printed : List ℕ) : Type 0 where
   pub model : Instance
-  pub listed : List (List ℤ)
   pub accepted : Reads text (Accepted model)
-  pub run : IsRunText model o listed printed
+  pub run : PrintsAsked o.part o.split model o printed
 
 -- a text that is refused so, and what is printed of that
 pub record IsRefusedRun (text : List ℕ) (r : Refusal) (printed : List ℕ) : Type 0 where
@@ -36,6 +37,14 @@ pub record IsRefusedRun (text : List ℕ) (r : Refusal) (printed : List ℕ) : T
   pub number : r.code ≡ code_number code
   pub reads : Reads text (reads.Refused code r.line r.column)
   pub is : printed ≡ refusal_text code r.line r.column
+
+-- an accepted text, whose model has no such part as is asked for
+pub record HasNoTask (text : List ℕ) (misfit : Misfit) (o : Options) : Type 0 where
+  pub model : Instance
+  pub accepted : Reads text (Accepted model)
+  pub part : List ℕ
+  pub asked : o.part ≡ Some part
+  pub lacks : LacksTask misfit model part o.better
 
 -- what the run of this text may print as a whole
 abbrev pub IsWholeRun : List ℕ → Options → List ℕ → Type 0
@@ -57,6 +66,7 @@ Prints Usage text o printed = printed ≡ []
 Prints SourceFault text o printed = printed ≡ []
 Prints SinkFault text o printed = IsFront text o printed
 Prints NoMemory text o printed = IsStrictFront text o printed
+Prints (NoTask misfit) text o printed = (printed ≡ []) × HasNoTask text misfit o
 
 -- the text that is run: a generated one, or the file's, where the source tells it
 abbrev pub generated_or : Option ℕ → Option (List ℕ) → Option (List ℕ)
@@ -82,6 +92,7 @@ HasItsCause Usage a b c d = (b ≡ a) × (d ≡ c)
 HasItsCause SourceFault a b c d = (a < b) × (d ≡ c)
 HasItsCause SinkFault a b c d = (b ≡ a) × (c < d)
 HasItsCause NoMemory a b c d = (b ≡ a) × (d ≡ c)
+HasItsCause (NoTask misfit) a b c d = (b ≡ a) × (d ≡ c)
 
 -- At Done and at Refused all that was taken is flushed; where memory was refused, that or nothing was taken.
 abbrev pub IsFlushed : Status → Option (List ℕ) → Option (List ℕ) → ℕ → Type 0
@@ -91,6 +102,7 @@ IsFlushed Usage before after flushed = after ≡ before
 IsFlushed SourceFault before after flushed = after ≡ before
 IsFlushed SinkFault before after flushed = Unit {0}
 IsFlushed NoMemory before after flushed = AllFlushed after flushed ⊎ (after ≡ before)
+IsFlushed (NoTask misfit) before after flushed = after ≡ before
 
 -- One text is selected, once: none at Usage, and none where there was no memory for the words.
 abbrev pub SelectsOnce : Status → ℕ → ℕ → Type 0
@@ -100,6 +112,7 @@ SelectsOnce Usage before after = after ≡ before
 SelectsOnce SourceFault before after = after ≡ one_more before
 SelectsOnce SinkFault before after = after ≡ one_more before
 SelectsOnce NoMemory before after = (after ≡ one_more before) ⊎ (after ≡ before)
+SelectsOnce (NoTask misfit) before after = after ≡ one_more before
 
 -- the file is the one that is selected, unless nothing was selected or the source failed
 abbrev pub HasSelected : Status → ℕ → ℕ → Bool → Type 0
@@ -109,10 +122,16 @@ HasSelected Usage before after selected = Unit {0}
 HasSelected SourceFault before after selected = Unit {0}
 HasSelected SinkFault before after selected = IsTrue selected
 HasSelected NoMemory before after selected = IsTrue selected ⊎ (after ≡ before)
+HasSelected (NoTask misfit) before after selected = IsTrue selected
 
--- at Done nothing is left of the text
+-- where it has its model nothing is left of the text
+abbrev pub IsAtEnd : Option (List ℕ) → Type 0
+IsAtEnd left = IfSome left (λ rest. rest ≡ [])
+
 abbrev pub HasReadAll : Status → Option (List ℕ) → Type 0
-HasReadAll status left = status ≡ Done → IfSome left (λ rest. rest ≡ [])
+HasReadAll Done left = IsAtEnd left
+HasReadAll (NoTask misfit) left = IsAtEnd left
+HasReadAll status left = Unit {0}
 
 -- an accepted text is done, unless memory is refused
 abbrev pub IsDoneOrShort : Status → Type 0
@@ -129,6 +148,15 @@ IsUnrefused status = (status ≡ Done) ⊎ ((status ≡ SinkFault) ⊎ (status �
 -- each accepted text of the file is done, unless memory is refused
 abbrev pub AnswersAccepted : Status → Option (List ℕ) → Type 0
 AnswersAccepted status file = (text : List ℕ) (m : Instance) → file ≡ Some text → Reads text (Accepted m) → IsDoneOrShort status
+
+-- there is no such part, or there was no memory
+abbrev pub LacksTaskOrShort : Status → Type 0
+LacksTaskOrShort status = ((misfit : Misfit) × (status ≡ NoTask misfit)) ⊎ (status ≡ NoMemory)
+
+-- a part of an accepted text is done exactly where the model has it, unless memory is refused
+abbrev pub AnswersPart : Status → List ℕ → Option ℤ → Option (List ℕ) → Type 0
+AnswersPart status part better file = (text : List ℕ) (m : Instance) → file ≡ Some text → Reads text (Accepted m)
+    → (HasTask m part better → IsDoneOrShort status) × ((HasTask m part better → ⊥) → LacksTaskOrShort status)
 
 -- and each refused one is answered by its refusal
 abbrev pub AnswersRefused : Status → Option (List ℕ) → Type 0

@@ -4,7 +4,7 @@ ghost use Rattle.fz_cmd.specs.Meaning.{options_of};
 ghost use Rattle.fzn.specs.Complaints as complaints;
 ghost use Rattle.fzn.specs.declared.status.Status.TheVariants.{Done};
 
-use crate::status::Status;
+use crate::status::{Misfit, Status};
 use fz_cmd::Options;
 use fz_cmd::options::{OPTIONS, Row};
 use fz_cmd::words::options;
@@ -57,6 +57,7 @@ fn complaint_about(alloc: Global, name: &str, status: &Status) -> Result<Option<
         Status::SourceFault => format!(in alloc; "{name}: cannot be opened or read")?,
         Status::SinkFault => String::from_str(alloc, "standard output: a write failed")?,
         Status::NoMemory => String::from_str(alloc, "fzn: out of memory")?,
+        Status::NoTask(misfit) => String::from_str(alloc, misfit_text(*misfit))?,
     };
     Ok(Some(line))
 }
@@ -119,5 +120,19 @@ fn fault_text(code: u8) -> &'static str
     match FAULTS.get(code as usize) {
         Some(text) => text,
         None => "",
+    }
+}
+
+/// Why the model has no such part.
+fn misfit_text(misfit: Misfit) -> &'static str
+    ensures { result.now ≡ complaints.misfit_text misfit }
+{
+    match misfit {
+        Misfit::NoPart(fz_part::Refusal::NotAPart) => "--part: not of the form 0=3,5!=2,5<=7,9>4",
+        Misfit::NoPart(fz_part::Refusal::NoVariable) => "--part: a variable that the model lacks",
+        Misfit::NoPart(fz_part::Refusal::OutOfRange) =>
+            "--part: a value that its variable cannot have",
+        Misfit::NoGoal => "--better: the model has no goal",
+        Misfit::TooMany => "--part: too many decisions",
     }
 }

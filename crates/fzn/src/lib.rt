@@ -6,12 +6,16 @@
 
 pub mod command;
 pub mod complaint;
+mod frame;
 pub mod laws;
+mod part;
 pub mod run;
+mod split;
 pub mod status;
+mod steps;
 
 pub use command::program;
 pub use complaint::complaint_of;
 pub use fz_reader::model_of;
 pub use run::{alone, fzn};
-pub use status::Status;
+pub use status::{Misfit, Status};

@@ -7,15 +7,18 @@ ghost use Rattle.fz_reader.specs.Refusals.{IsRefusal};
 ghost use Rattle.fz_print.specs.Refusal.{text_of};
 ghost use Rattle.fz_cmd.specs.Meaning.{options_of};
 ghost use Rattle.fz_gen.specs.Knapsack as texts;
-ghost use Rattle.fzn.specs.Promises.{AnswersAccepted, AnswersRefused, HasItsCause, HasReadAll, HasSelected, IsDoneOrShort, IsFlushed, IsUnrefused, Runs, SelectsOnce, text_for};
-ghost use Rattle.fzn.specs.Steps.{Answers, Flushes, HasSearched, HasSinkCause, IsEnded, IsReadOf, LeavesNothing, PrintsModel, PrintsOf, SelectsAt, ShowsFront, ShowsWhole, certified_after};
+ghost use Rattle.fzn.specs.Promises.{AnswersAccepted, AnswersPart, AnswersRefused, HasItsCause, HasReadAll, HasSelected, IsDoneOrShort, IsFlushed, IsUnrefused, Runs, SelectsOnce, text_for};
+ghost use Rattle.fzn.specs.Steps.{Answers, AskForWhole, HasSearchCause, HasSearched, HasSinkCause, IsEnded, IsReadOf, LeavesNothing, PrintsModel, PrintsOf, SelectsAt, ShowsFront, ShowsWhole, certified_after};
 ghost use Rattle.fz_printer.specs.Printed.{as_found_of, book_of, HasPrinted};
 ghost use Rattle.fzn.specs.Begun.{IsCertifiable};
 ghost use Rattle.fz_maker.specs.Taken.{TakesOne, TakesFrontOfOne};
 ghost use Rattle.fz_runs.specs.Runs.{IsCertificate};
-ghost use Rattle.fz_printing.specs.Texts.{HasStopCause};
+ghost use Rattle.fz_printer.specs.Texts.{HasStopCause};
 
+use crate::part::run_part;
+use crate::split::run_split;
 use crate::status::Status;
+use crate::steps::{flush, searched};
 use fz_cmd::Options;
 use fz_cmd::words::options;
 use fz_gen::knapsack;
@@ -27,8 +30,7 @@ use fz_maker::print_certificate;
 use fz_model::assignment::Assignment;
 use fz_model::model::Model;
 use fz_print::refusal::Refusal;
-use fz_printer::Printer;
-use fz_printing::{Stop, print_end, print_refusal, print_run};
+use fz_printer::{Printer, Stop, print_end, print_refusal, print_run};
 use fz_reader::model_of;
 use fz_search::{listing_of, search, search_in_threads, tally_of};
 use fz_space::Space;
@@ -46,13 +48,15 @@ use std::thread::Threads;
 /// middle; `-p N` for a search by that many workers (1 where it isn't given); `--assets N` for a search in that many ways side by
 /// side; `--interleave SEED` for workers that take turns on one thread by a schedule which the seed begins; `-s` for statistics;
 /// `--certificate` for a certificate; `--generate N` for a model that is generated, a knapsack of N
-/// items, in place of one that is read; and FILE. The text is that of FILE; no FILE is `-`, standard input. A text may have
+/// items, in place of one that is read; `--split N` for N parts of the model, or fewer; `--part P` for the run of such a part, and
+/// with it `--better V` for what is better than V; and FILE. The text is that of FILE; no FILE is `-`, standard input. A text may have
 /// 67,108,864 bytes. Printed is a block for each satisfying assignment, in any order, and
 /// `==========`; of `-n N` N blocks of different assignments alone, where that many satisfy; with
 /// `--distinct` each block of values once in place of each assignment; of a model with a goal the block of a best assignment
 /// and `==========`, with `-a` maybe after others, each better than the one before it; of a generated model `items=N best=V` in
 /// place of both; where none satisfies, `=====UNSATISFIABLE=====` alone; of a text that is refused, the place, the code and
-/// `=====ERROR=====`. After all but a refusal `-s` prints how many assignments were listed; after `==========` of a model with a
+/// `=====ERROR=====`. A split prints a line for each part; the run of a part begins with `%%%part P`, and after its blocks come the
+/// last one's value and the ending, each behind `%%%`. After all but a refusal `-s` prints how many assignments were listed; after `==========` of a model with a
 /// goal, and where none satisfies, `--certificate` prints the certificate of that. Each block, each last line, the two lines of
 /// statistics, each line of a certificate and each refusal is one piece for the sink, and one flush comes last, whenever something was written.
 /// Each block is handed to the sink as the solution is found, and handed on where that is due; workers that take turns hand on theirs
@@ -109,11 +113,16 @@ pub fn fzn<T: Threads + Wait + Sync, R: Source, S: Sink + Send, G: Gate + Sync>(
     ensures cause { HasItsCause result (R.faults source.old) (R.faults source.new)
         (S.faults sink.old) (S.faults sink.new) }
 
-    // Where no count rose, an accepted text is Done and a refused one is Refused, unless memory is refused.
+    // Where no count rose, an accepted text is Done and a refused one is Refused, unless memory is refused. A part of an accepted
+    // one is Done exactly where its model has that part.
     ensures accepted { R.faults source.new ≡ R.faults source.old
         → S.faults sink.new ≡ S.faults sink.old
-        → IfSome (options_of (map string_bytes words.now)) (λ o.
-        AnswersAccepted result (text_for o (R.texts source.old o.file))) }
+        → IfSome (options_of (map string_bytes words.now)) (λ o. o.part ≡ None
+        → AnswersAccepted result (text_for o (R.texts source.old o.file))) }
+    ensures parted { R.faults source.new ≡ R.faults source.old
+        → S.faults sink.new ≡ S.faults sink.old
+        → IfSome (options_of (map string_bytes words.now)) (λ o. IfSome o.part (λ part.
+        AnswersPart result part o.better (text_for o (R.texts source.old o.file)))) }
     ensures refused { R.faults source.new ≡ R.faults source.old
         → S.faults sink.new ≡ S.faults sink.old
         → IfSome (options_of (map string_bytes words.now)) (λ o.
@@ -240,6 +249,7 @@ fn run_options<F: Fn(Arc<Model>, &mut S) -> Result<Printer, AllocError>, R: Sour
         (S.faults sink.old) (S.faults sink.new) }
     ensures used { result ≢ Status.Usage }
 {
+    let _ = options.part();
     match options.generate() {
         Some(items) => run_generated(alloc, search_by, items, options, sink),
         None => run_file(alloc, search_by, options, source, sink),
@@ -260,6 +270,7 @@ fn run_generated<F: Fn(Arc<Model>, &mut S) -> Result<Printer, AllocError>, S: Si
         (S.taken s.now) (S.taken t.now) (S.faults s.now) (S.faults t.now) }
     requires least { ITEMS_LEAST ≤ items }
     requires most { items ≤ ITEMS_MOST }
+    requires part { options.now.part ≡ None }
     requires faults { S.faults sink.old < 2 ^ 64 - 1 }
     ensures unrefused { IsUnrefused result }
     ensures made { S.faults sink.new ≡ S.faults sink.old → IsDoneOrShort result }
@@ -380,7 +391,7 @@ fn read_model(alloc: Global, text: Vec<u8>) -> Result<Result<Model, Refusal>, Al
     model_of(alloc, &text)
 }
 
-/// Searches a model, and prints what is asked for.
+/// Prints what is asked for of a model.
 fn run_model<F: Fn(Arc<Model>, &mut S) -> Result<Printer, AllocError>, S: Sink>(
     alloc: Global,
     search_by: &F,
@@ -397,6 +408,34 @@ fn run_model<F: Fn(Arc<Model>, &mut S) -> Result<Printer, AllocError>, S: Sink>(
     ensures flushed { IsFlushed result (S.taken sink.old) (S.taken sink.new) (S.flushed sink.new) }
     ensures cause { HasSinkCause result (S.faults sink.old) (S.faults sink.new) }
 {
+    if let Some(part) = options.part() {
+        let text = part.as_str().as_bytes();
+        return run_part(alloc, search_by, model, text, options, sink);
+    }
+    match options.split() {
+        Some(most) => run_split(alloc, model, most, options, sink),
+        None => run_whole(alloc, search_by, model, options, sink),
+    }
+}
+
+/// Searches a model, and prints its run.
+fn run_whole<F: Fn(Arc<Model>, &mut S) -> Result<Printer, AllocError>, S: Sink>(
+    alloc: Global,
+    search_by: &F,
+    model: Model,
+    options: &Options,
+    sink: &mut S,
+) -> Status
+    requires callable { (m : _) (s : _) → S.faults s.now < 2 ^ 64 - 1 → F.pre search_by.now m s }
+    requires searches { (m : _) (s : _) (r : _) (t : _) → F.post search_by.now m s r t
+        → HasSearched (arc_value m) options.now r
+        (S.taken s.now) (S.taken t.now) (S.faults s.now) (S.faults t.now) }
+    requires asked { AskForWhole options.now }
+    requires faults { S.faults sink.old < 2 ^ 64 - 1 }
+    ensures printed { PrintsModel result model options.now (S.taken sink.old) (S.taken sink.new) }
+    ensures flushed { IsFlushed result (S.taken sink.old) (S.taken sink.new) (S.flushed sink.new) }
+    ensures cause { HasSinkCause result (S.faults sink.old) (S.faults sink.new) }
+{
     let _ = model.goal();
     let Ok(printer) = searched(alloc, search_by, model, options, sink) else {
         return Status::NoMemory;
@@ -408,37 +447,16 @@ fn run_model<F: Fn(Arc<Model>, &mut S) -> Result<Printer, AllocError>, S: Sink>(
     }
 }
 
-/// The printer of a model's search.
-fn searched<F: Fn(Arc<Model>, &mut S) -> Result<Printer, AllocError>, S: Sink>(
-    alloc: Global,
-    search_by: &F,
-    model: Model,
-    options: &Options,
-    sink: &mut S,
-) -> Result<Printer, AllocError>
-    requires callable { (m : _) (s : _) → S.faults s.now < 2 ^ 64 - 1 → F.pre search_by.now m s }
-    requires searches { (m : _) (s : _) (r : _) (t : _) → F.post search_by.now m s r t
-        → HasSearched (arc_value m) options.now r
-        (S.taken s.now) (S.taken t.now) (S.faults s.now) (S.faults t.now) }
-    requires faults { S.faults sink.old < 2 ^ 64 - 1 }
-    ensures { HasSearched model options.now result
-        (S.taken sink.old) (S.taken sink.new) (S.faults sink.old) (S.faults sink.new) }
-{
-    match Arc::new(alloc, model) {
-        Ok(model) => search_by(model, sink),
-        Err(_) => Err(AllocError),
-    }
-}
-
 /// Prints what isn't printed yet of a search that has ended, and flushes.
 fn conclude<S: Sink>(alloc: Global, printer: &Printer, options: &Options, sink: &mut S) -> Status
+    requires asked { AskForWhole options.now }
     requires ended { IsEnded options.now printer.now }
     requires faults { S.faults sink.old < 2 ^ 64 - 1 }
     ensures printed { (before : Option (List ℕ)) → HasPrinted printer.now before (S.taken sink.old)
         → PrintsModel result (book_of printer.now).model options.now before (S.taken sink.new) }
     ensures flushed { result ≢ Status.SinkFault
         → AllFlushed (S.taken sink.new) (S.flushed sink.new) }
-    ensures cause { HasSinkCause result (S.faults sink.old) (S.faults sink.new) }
+    ensures cause { HasSearchCause result (S.faults sink.old) (S.faults sink.new) }
 {
     match print_rest(alloc, printer, options, sink) {
         Ok(()) => flush(sink, Status::Done),
@@ -573,18 +591,5 @@ fn refuse<S: Sink>(alloc: Global, refused: Refusal, sink: &mut S) -> Status
         Ok(()) => flush(sink, Status::Refused(refused)),
         Err(Stop::Memory) => flush(sink, Status::NoMemory),
         Err(Stop::Fault) => Status::SinkFault,
-    }
-}
-
-/// Flushes what was printed, and answers so.
-fn flush<S: Sink>(sink: &mut S, status: Status) -> Status
-    requires { S.faults sink.old < 2 ^ 64 - 1 }
-    ensures taken { S.taken sink.new ≡ S.taken sink.old }
-    ensures cases { Flushes status result (S.taken sink.new) (S.flushed sink.new)
-        (S.faults sink.old) (S.faults sink.new) }
-{
-    match sink.flush() {
-        Ok(()) => status,
-        Err(_) => Status::SinkFault,
     }
 }

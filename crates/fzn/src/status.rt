@@ -4,6 +4,17 @@ ghost use Rattle.fzn.specs.Promises.{code_of};
 
 use fz_print::refusal::Refusal;
 
+/// Why a model has no such part as is asked for.
+#[derive(Clone, Copy, Debug, PartialEq, Eq)]
+pub enum Misfit {
+    /// No part of the model has the text.
+    NoPart(fz_part::Refusal),
+    /// Something better than a value is sought, and the model has no goal.
+    NoGoal,
+    /// With the part's decisions there are more constraints than a model may have.
+    TooMany,
+}
+
 /// How a run ends.
 #[derive(Clone, Copy, Debug, PartialEq, Eq)]
 pub enum Status {
@@ -19,6 +30,8 @@ pub enum Status {
     SinkFault,
     /// Memory was refused. The sink took a prefix of what was to be printed.
     NoMemory,
+    /// The model has no such part. Nothing was printed.
+    NoTask(Misfit),
 }
 
 impl Status {
@@ -33,6 +46,7 @@ impl Status {
             Status::SourceFault => 3,
             Status::SinkFault => 4,
             Status::NoMemory => 5,
+            Status::NoTask(_) => 6,
         }
     }
 }

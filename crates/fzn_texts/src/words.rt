@@ -47,5 +47,14 @@ fn push_numbers(alloc: Global, text: &mut String, options: &Options) -> Result<(
     if let Some(items) = options.generate() {
         text.push_str(&format!(in alloc; " generate={items}")?)?;
     }
+    if let Some(parts) = options.split() {
+        text.push_str(&format!(in alloc; " split={parts}")?)?;
+    }
+    if let Some(part) = options.part() {
+        text.push_str(&format!(in alloc; " part={}", part.as_str())?)?;
+    }
+    if let Some(value) = options.better() {
+        text.push_str(&format!(in alloc; " better={value}")?)?;
+    }
     Ok(())
 }

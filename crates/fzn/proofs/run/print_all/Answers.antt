@@ -2,10 +2,10 @@ use Rattle.std.proofs.Common.{◌≡◌, ◌∙◌, List, Option, ℕ, refl, sym
 use Rattle.std.specs.Prelude.{ℤ, option_map, option_copied}
 use Rattle.std.proofs.lemmas.Result.{on_err_weaker, on_ok_weaker}
 use Rattle.fz_io.specs.Outside.{with_more}
-use Rattle.fz_printing.specs.Texts.{TakesFront, run_text}
+use Rattle.fz_printer.specs.Texts.{TakesFront, run_text}
 use Rattle.fz_printer.specs.Printed.{book_of}
 use Rattle.fz_search.proofs.Searches.{shown_declared}
-use Rattle.fz_printing.proofs.Fronts.{whenever}
+use Rattle.fz_printer.proofs.Fronts.{whenever}
 use Rattle.fzn.proofs.Endings.{cut_short, cut_within, head_listed, none_gone, shown_certifiable, untaken, whole_run}
 use Rattle.fzn.proofs.run.print_all.Goals as goal
 

@@ -8,7 +8,7 @@ use Rattle.fz_printer.specs.Printed.{book_of}
 use Rattle.fz_search.specs.Searched.{first_shown, IsShown}
 use Rattle.fz_runs.specs.Runs.{certified}
 use Rattle.fzn.specs.Begun.{IsCertifiable}
-use Rattle.fz_printing.proofs.Fronts.{whenever}
+use Rattle.fz_printer.proofs.Fronts.{whenever}
 use Rattle.fz_maker.specs.Taken.{TakesOne, TakesFrontOfOne}
 use Rattle.fz_runs.specs.Runs.{IsCertificate}
 use Rattle.fzn.proofs.Endings.{all_shown, cut_short, cut_within, front_behind, head_found, shown_certifiable, whole_behind, whole_run}

@@ -1,6 +1,14 @@
 use Rattle.std.proofs.Common.{◌≡◌, None, Some}
+use Rattle.fzn.proofs.Asking.{no_part}
 use Rattle.fzn.proofs.Outcomes.{its_cause, not_usage, runs_generated, runs_read}
 use Rattle.fzn.proofs.run.run_options.Goals as goal
+
+pub run_generated-requires-clause-part : goal.run_generated-requires-clause-part
+run_generated-requires-clause-part g c =
+    let told = c.generate.ensures.generate in
+    let is = c.in-Some.is in
+    let asked : c.args.options.now.generate ≡ Some c.in-Some.items = cc in
+    no_part c.args.options.now c.in-Some.items c.part.ensures.suits asked
 
 pub returns-in-Some-clause-printed : goal.returns-in-Some-clause-printed
 returns-in-Some-clause-printed g c =

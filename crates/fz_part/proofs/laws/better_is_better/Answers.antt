@@ -1,0 +1,5 @@
+use Rattle.fz_part.proofs.Tasks.{better_is}
+use Rattle.fz_part.proofs.laws.better_is_better.Goals as goal
+
+pub returns : goal.returns
+returns c = better_is
