@@ -12,9 +12,9 @@ INTRODUCTION = (
     "# Beside fzn-gecode\n\n"
     "`bench/search --write` runs both programs in turn on texts that it makes, with one search annotation for both, and writes "
     "these tables. It compares what both print: how many blocks, the number of the goal, the closing line. Times are the "
-    "processor's seconds of whole runs, reading included; a ratio is fzn's time over `fzn-gecode`'s, and a bar has ten `#` where "
-    "both take as long. Nodes are those that each program looks at: fzn makes fewer or more where its propagators are stronger or "
-    "weaker. `bench/goals.py` and `bench/growth.py` say where they are.\n"
+    "processor's seconds of whole runs, reading included; a ratio is fzn's time over `fzn-gecode`'s. Nodes are those that each "
+    "program looks at: fzn makes fewer or more where its propagators are stronger or weaker. `bench/goals.py` and "
+    "`bench/growth.py` say where they are.\n"
 )
 
 
@@ -71,7 +71,8 @@ def row(name, ours, theirs, by_node):
     cells += [run.nodes if run and run.nodes else "" for run in (ours, theirs)]
     if by_node:
         cells += [round(1e9 * run.seconds / run.nodes) if run and run.nodes else "" for run in (ours, theirs)]
-    cells.append(f"`{bar(number)}`" + (" different" if differs(ours, theirs) else "") if number else "")
+    if differs(ours, theirs):
+        cells[3] += " (different)"
     return "| " + " | ".join(str(cell) for cell in cells) + " |"
 
 
@@ -79,7 +80,7 @@ def table(title, rows):
     by_node = title in BY_NODE
     heads = ["model", "fzn", "fzn-gecode", "ratio", "fzn, nodes", "fzn-gecode, nodes"]
     heads += ["fzn, ns a node", "fzn-gecode, ns a node"] if by_node else []
-    lines = ["| " + " | ".join(heads) + " | |", "|---" + "|---:" * (len(heads) - 1) + "|---|"]
+    lines = ["| " + " | ".join(heads) + " |", "|---" + "|---:" * (len(heads) - 1) + "|"]
     lines += [row(name, *pair, by_node) for name, pair in rows.items()]
     return f"## {title}\n\n" + "\n".join(lines) + f"\n\n{mean_of(rows)}\n"
 

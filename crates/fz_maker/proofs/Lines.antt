@@ -3,8 +3,8 @@ use Rattle.std.proofs.Common.{◌≡◌, ◌≢◌, ◌∙◌, ℕ, ◌<◌, Lis
 use Rattle.std.specs.Prelude.{ℤ, Some, IfSome}
 use Rattle.fz_spec.specs.Instance.{Instance}
 use Rattle.fz_io.specs.Outside.{with_more, with_more-none, with_more-with_more}
-use Rattle.fz_printing.specs.Texts.{TakesFront}
-use Rattle.fz_printing.proofs.Fronts.{front_after, front_more, front_of_nothing, some_behind}
+use Rattle.fz_printer.specs.Texts.{TakesFront}
+use Rattle.fz_printer.proofs.Fronts.{front_after, front_more, front_of_nothing, some_behind}
 use Rattle.fz_model.specs.Kept.{IsModel}
 use Rattle.fz_refutes.specs.Trees.{Line}
 use Rattle.fz_refutes.specs.Texts.{IsCert, IsHead, comment, lines_text}

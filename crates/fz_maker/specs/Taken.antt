@@ -1,7 +1,7 @@
 -- What a sink took of some text.
 use Rattle.std.specs.Prelude.{◌≡◌, ℕ, ◌<◌, List, Option, length}
 use Rattle.fz_io.specs.Outside.{with_more}
-use Rattle.fz_printing.specs.Texts.{TakesFront}
+use Rattle.fz_printer.specs.Texts.{TakesFront}
 use Rattle.fz_maker.specs.Making.{IsAhead, Making}
 
 -- a text with a property, whole

@@ -4,14 +4,14 @@ ghost use Rattle.fz_refutes.specs.Texts.{IsHead, IsCert};
 ghost use Rattle.fz_refutes.specs.Makers.{HasNoBetter};
 ghost use Rattle.fz_maker.specs.Making.{HasRest, IsAhead, IsEnded, IsWritten};
 ghost use Rattle.fz_maker.specs.declared.maker.Stage.TheVariants as stages;
-ghost use Rattle.fz_printing.specs.Texts.{HasStopCause};
+ghost use Rattle.fz_printer.specs.Texts.{HasStopCause};
 ghost use Rattle.fz_maker.specs.Taken.{HasMore, TakesOne, TakesFrontOfOne};
 
 use crate::maker::Maker;
 use fz_io::outside::Sink;
 use fz_model::Assignment;
 use fz_model::model::Model;
-use fz_printing::{Stop, put};
+use fz_printer::{Stop, put};
 use std::alloc::Global;
 
 /// Prints the certificate of a model whose assignment is best, or that none satisfies. Each line is one piece.

@@ -10,8 +10,8 @@ use crate::annotations::{
     OUTPUT_ARRAY, annotation_of, element_count, output_array_at, output_var_at, seventh_range_at,
 };
 use crate::names::Names;
-use fz_room::floats::{first_float, first_float_of_elements};
-use fz_room::types::{bad_parameter_type, bad_variable_type};
+use fz_syntax::floats::{first_float, first_float_of_elements};
+use fz_syntax::types::{bad_parameter_type, bad_variable_type};
 use fz_syntax::{Annotation, ArrayItem, Basic, Name, ParameterItem, ValueType, VariableItem};
 
 /// The first of two places that there is.

@@ -23,10 +23,10 @@ use Rattle.fz_runs.specs.Runs.{AreSome, EndsBest, AreBest, ListsEach, wanted}
 use Rattle.fz_runs.specs.Modes.{mode_of, mode_for}
 use Rattle.fz_path.specs.Paths.{Pathed, idle_path}
 use Rattle.fz_solo.specs.Searches.{Searches}
-use Rattle.fz_core.specs.Cores.{Core, starting}
+use Rattle.fz_machine.specs.Cores.{Core, starting}
 use Rattle.fz_machine.specs.Schedule.{HasGone}
 use Rattle.fz_io.specs.Outside.{with_more, with_more-none}
-use Rattle.fz_printing.specs.declared.printer.Stop.{Stop}
+use Rattle.fz_printer.specs.declared.printing.Stop.{Stop}
 use Rattle.fz_printer.specs.declared.printer.Printer.{Printer}
 use Rattle.fz_printer.specs.Printed.{as_found_of, book_of, printed_of, stopped_of, wanted_of, due_among, due_of, CountsMark, HasPrinted, HasPrintedAt, IsReady}
 use Rattle.fz_printer.specs.Gathered.{Gathers, IsFilled, IsFilledFor}

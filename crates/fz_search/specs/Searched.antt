@@ -11,7 +11,7 @@ use Rattle.fz_path.specs.Paths.{Pathed, Walked, bare, idle_path, idle_with}
 use Rattle.fz_solo.specs.Searches.{Searches}
 use Rattle.fz_printer.specs.declared.printer.Printer.{Printer}
 use Rattle.fz_printer.specs.Printed.{book_of, as_found_of, wanted_of, printed_of, stopped_of, due_among, due_of, HasPrinted, IsReady}
-use Rattle.fz_core.specs.Cores.{Core, starting}
+use Rattle.fz_machine.specs.Cores.{Core, starting}
 use Rattle.fz_machine.specs.Schedule.{HasGone}
 use Rattle.fz_cmd.specs.Meaning.{Options}
 use Rattle.fz_runs.specs.Runs.{AreSome, AreBest, ListsEach, wanted}

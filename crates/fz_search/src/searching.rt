@@ -4,12 +4,12 @@ ghost use Rattle.std.specs.Arc.{arc_value};
 ghost use Rattle.fz_tree.specs.declared.mode.Mode.TheVariants as modes;
 ghost use Rattle.fz_tree.specs.Better.{IsModeOf};
 ghost use Rattle.fz_tree.specs.Book.{opening};
-ghost use Rattle.fz_core.specs.Cores.{starting};
+ghost use Rattle.fz_machine.specs.Cores.{starting};
 ghost use Rattle.fz_runs.specs.Modes.{mode_for, mode_of};
 ghost use Rattle.fz_runs.specs.Runs as runs;
 ghost use Rattle.fz_runs.specs.Runs.{AreBest};
 ghost use Rattle.fz_search.specs.Searched as searched;
-ghost use Rattle.fz_printing.specs.declared.printer.Stop.TheVariants as stops;
+ghost use Rattle.fz_printer.specs.declared.printing.Stop.TheVariants as stops;
 ghost use Rattle.fz_printer.specs.Printed.{book_of, stopped_of, CountsMark};
 ghost use Rattle.fz_search.specs.Searched.{enough_for, first_shown, IsAlone, IsByTurns, IsPrinted, IsSearched, IsSearchedBy, IsListing, IsShown, IsTally};
 

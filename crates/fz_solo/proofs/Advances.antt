@@ -6,7 +6,7 @@ use Rattle.fz_tree.specs.Account.{Account, rest_begun}
 use Rattle.fz_tree.specs.Book.{Book, Takes}
 use Rattle.fz_book.specs.Reports.{IsReportable}
 use Rattle.fz_path.specs.Paths.{Pathed, held_behind, is_spent, with_held}
-use Rattle.fz_printing.specs.declared.printer.Stop.TheVariants.{Memory}
+use Rattle.fz_printer.specs.declared.printing.Stop.TheVariants.{Memory}
 use Rattle.fz_printer.specs.declared.printer.Printer.{Printer}
 use Rattle.fz_printer.specs.Printed.{as_found_of, book_of, stopped_of}
 use Rattle.fz_solo.specs.declared.stretches.Halt.{Halt}

@@ -4,12 +4,12 @@ use Rattle.fz_tree.specs.Account.{Account}
 use Rattle.fz_tree.specs.Book.{Book}
 use Rattle.fz_book.specs.Reports.{IsReportable}
 use Rattle.fz_path.specs.Paths.{Pathed}
-use Rattle.fz_printing.specs.declared.printer.Stop.{Stop}
-use Rattle.fz_printing.specs.declared.printer.Stop.TheVariants.{Memory}
+use Rattle.fz_printer.specs.declared.printing.Stop.{Stop}
+use Rattle.fz_printer.specs.declared.printing.Stop.TheVariants.{Memory}
 use Rattle.fz_printer.specs.declared.printer.Printer.{Printer}
 use Rattle.fz_printer.specs.Printed.{book_of, wanted_of, as_found_of, printed_of, stopped_of, Grew, IsReady, KeepsPrinting, MarksMemory}
 use Rattle.fz_printer.specs.Gathered.{IsFilled, IsFilledFor}
-use Rattle.fz_printer.proofs.Printing.{printed_on, marked, within_due}
+use Rattle.fz_printer.proofs.PrintLaws.{printed_on, marked, within_due}
 use Rattle.fz_printer.specs.Gatherings.{both_keep}
 use Rattle.fz_printer.proofs.Gathering.{is_below, still_within}
 use Rattle.fz_solo.specs.Searches.{Searches, Begins, Starts, Steps, Finds, Reports}

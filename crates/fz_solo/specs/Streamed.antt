@@ -5,7 +5,7 @@ use Rattle.fz_tree.specs.Account.{Account}
 use Rattle.fz_tree.specs.Book.{Book, IsOpen}
 use Rattle.fz_book.specs.Reports.{IsReportable}
 use Rattle.fz_path.specs.Paths.{Pathed, started}
-use Rattle.fz_printing.specs.declared.printer.Stop.TheVariants.{Memory}
+use Rattle.fz_printer.specs.declared.printing.Stop.TheVariants.{Memory}
 use Rattle.fz_printer.specs.declared.printer.Printer.{Printer}
 use Rattle.fz_printer.specs.Printed.{book_of, as_found_of, printed_of, stopped_of, due_of, HasPrinted, KeepsPrinting, MarksMemory}
 use Rattle.fz_solo.specs.declared.stretches.Halt.{Halt}

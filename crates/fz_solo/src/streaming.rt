@@ -4,7 +4,7 @@ ghost use Rattle.fz_tree.specs.declared.mode.Mode.TheVariants as modes;
 ghost use Rattle.fz_tree.specs.Book.{Takes};
 ghost use Rattle.fz_book.specs.Reports.{IsReportable};
 ghost use Rattle.fz_path.specs.Paths.{bare, held_behind, with_held};
-ghost use Rattle.fz_printing.specs.declared.printer.Stop.TheVariants as stops;
+ghost use Rattle.fz_printer.specs.declared.printing.Stop.TheVariants as stops;
 ghost use Rattle.fz_printer.specs.Printed.{as_found_of, book_of, printed_of, stopped_of, CountsMark, Grew, IsReady, KeepsPrinting};
 ghost use Rattle.fz_solo.specs.declared.stretches.Halt.TheVariants as halts;
 ghost use Rattle.fz_solo.specs.declared.stretches.Pause.TheVariants as pauses;

@@ -1,8 +1,8 @@
 use Rattle.std.proofs.Common.{◌∙◌, ap, refl, subst, rules, List}
 use Rattle.std.specs.Prelude.{ℕ}
 use Rattle.fz_io.specs.Outside.{with_more}
-use Rattle.fz_printing.specs.Texts.{TakesFront}
-use Rattle.fz_printing.proofs.Fronts.{whenever}
+use Rattle.fz_printer.specs.Texts.{TakesFront}
+use Rattle.fz_printer.proofs.Fronts.{whenever}
 use Rattle.fz_maker.specs.Making.{HasRest, IsEnded, IsWritten}
 use Rattle.fz_maker.proofs.Lines.{of_some, under_way, further, ended, stopped, failed}
 use Rattle.fz_maker.proofs.certify.put_lines.Goals as goal

@@ -2,7 +2,7 @@ use Rattle.std.proofs.Common.{◌∙◌, sym}
 use Rattle.std.specs.Prelude.{bytes_eq}
 use Rattle.fz_language.specs.Trees.{Annotation}
 use Rattle.fz_syntax.specs.Trees as trees
-use Rattle.fz_room.proofs.Firsts.{passes_not, passes_first, passes_none}
+use Rattle.fz_syntax.proofs.Firsts.{passes_not, passes_first, passes_none}
 use Rattle.fz_resolve.proofs.annotations.annotation_of.Goals as goal
 
 pub returns-then-is_named : goal.returns-then-is_named

@@ -3,7 +3,7 @@ use Rattle.std.specs.Prelude.{bytes_eq, length, ◌==◌, ◌&&◌}
 use Rattle.fz_language.specs.Trees.{Annotation}
 use Rattle.fz_language.specs.Annotations.{arguments_of}
 use Rattle.fz_syntax.specs.Trees as trees
-use Rattle.fz_room.proofs.Firsts.{passes_not, passes_first, passes_none}
+use Rattle.fz_syntax.proofs.Firsts.{passes_not, passes_first, passes_none}
 use Rattle.fz_resolve.proofs.annotations.plain_annotation_of.Goals as goal
 
 pub returns-then-is_plain : goal.returns-then-is_plain

@@ -1,5 +1,5 @@
 use Rattle.std.proofs.Common.{◌≡◌, take}
-use Rattle.fz_room.proofs.Integers.{terms_of}
+use Rattle.fz_syntax.proofs.Integers.{terms_of}
 use Rattle.fz_resolve.proofs.resolve.integer_terms.Given as goal
 
 -- those so far

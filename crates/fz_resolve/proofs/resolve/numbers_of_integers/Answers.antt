@@ -1,7 +1,7 @@
 use Rattle.std.proofs.Common.{ℤ, List, Ok, map, false, ap, sym, ◌∙◌}
 use Rattle.fz_language.specs.Entries.{with_value, number_of}
 use Rattle.fz_spec.specs.declared.asked.Element.{Element}
-use Rattle.fz_room.proofs.Integers.{unasked, asked, values_are}
+use Rattle.fz_syntax.proofs.Integers.{unasked, asked, values_are}
 use Rattle.fz_resolve.proofs.resolve.numbers_of_integers.Goals as goal
 
 pub returns-in-Some : goal.returns-in-Some

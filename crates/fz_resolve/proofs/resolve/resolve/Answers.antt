@@ -1,5 +1,5 @@
 use Rattle.fz_resolve.specs.Meant.{environment_of}
-use Rattle.fz_room.proofs.Integers.{whatever}
+use Rattle.fz_syntax.proofs.Integers.{whatever}
 use Rattle.fz_resolve.proofs.resolve.resolve.Goals as goal
 
 pub returns-in-List-Integers : goal.returns-in-List-Integers

@@ -1,5 +1,5 @@
 use Rattle.std.proofs.Common.{Ok, ap, ◌∙◌}
-use Rattle.fz_room.proofs.Integers.{unasked, asked}
+use Rattle.fz_syntax.proofs.Integers.{unasked, asked}
 use Rattle.fz_resolve.proofs.resolve.terms_of_integers.Goals as goal
 
 pub returns-in-Some : goal.returns-in-Some

@@ -1,7 +1,7 @@
 use Rattle.fz_language.specs.Rules.{unknown_of}
 use Rattle.fz_syntax.specs.Trees.{expression_of}
 use Rattle.fz_resolve.specs.Meant.{environment_of}
-use Rattle.fz_room.proofs.Firsts.{found_item, none_item, none_found}
+use Rattle.fz_syntax.proofs.Firsts.{found_item, none_item, none_found}
 use Rattle.fz_resolve.proofs.names.Names.unknown_argument.Goals as goal
 
 pub returns-in-Some : goal.returns-in-Some

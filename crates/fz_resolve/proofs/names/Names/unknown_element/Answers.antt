@@ -1,7 +1,7 @@
 use Rattle.std.proofs.Common.{ap, sym}
 use Rattle.std.specs.Prelude.{slice_get}
 use Rattle.fz_resolve.specs.Meant.{environment_of}
-use Rattle.fz_room.proofs.Integers.{all_known}
+use Rattle.fz_syntax.proofs.Integers.{all_known}
 use Rattle.fz_resolve.proofs.names.Names.unknown_element.Goals as goal
 
 pub returns-in-Integers : goal.returns-in-Integers
