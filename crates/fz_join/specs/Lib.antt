@@ -1,0 +1,6 @@
+pub mod Joins
+pub mod Joining
+pub mod Parting
+pub mod Machine
+pub mod Tallies
+pub mod After
