@@ -1,7 +1,7 @@
 -- What a join says at its end.
-use Rattle.std.proofs.Common.{◌≡◌, ◌≢◌, ◌∙◌, ◌⊎◌, ◌↔◌, inl, inr, ℕ, Bool, true, false, Option, Some, None, Ok, Err, List, [], ◌∷◌, ◌++◌, refl, sym, ap, subst, append-nil}
+use Rattle.std.proofs.Common.{◌≡◌, ◌≢◌, ◌∙◌, ◌⊎◌, ◌↔◌, inl, inr, ℕ, Bool, true, false, Option, Some, None, Ok, Err, List, [], ◌∷◌, ◌++◌, refl, sym, ap, subst, append_assoc, append-nil}
 use Rattle.std.proofs.lemmas.Bool.{false≢true}
-use Rattle.std.specs.Prelude.{IfSome, IsSomeAnd, slice_get}
+use Rattle.std.specs.Prelude.{ℤ, IfSome, IsSomeAnd, slice_get}
 use Rattle.std.specs.List.{AllByRecursion}
 use Rattle.fz_spec.specs.declared.goal.Goal.{Goal}
 use Rattle.fz_spec.specs.declared.goal.Goal.TheVariants.{Satisfy, Minimize, Maximize}
@@ -10,13 +10,16 @@ use Rattle.fz_tree.specs.declared.decision.Decision.{Decision}
 use Rattle.fz_model.specs.Kept.{IsModel}
 use Rattle.fz_part.specs.Parts.{AreParts}
 use Rattle.fz_part.specs.Texts.{part_text}
-use Rattle.fz_join.specs.declared.lack.Lack.TheVariants.{CutOff, Part, Bound}
+use Rattle.fz_shown.specs.Shown.{IsSolutionText, ShowsAll}
+use Rattle.fz_join.specs.declared.lack.Lack.TheVariants.{CutOff, Part, Bound, NoSolution}
 use Rattle.fz_join.specs.Joins.{AreNamed, ArePartsOf, AreRuns, IsFound, IsJoined, Ran, times_run}
-use Rattle.fz_join.specs.Joining.{AreBlocks, Ends, HaveRun, Joining}
-use Rattle.fz_join.specs.Machine.{IsWhole, Reading, State, begun, ending_text, is_enough, is_reached, read_text}
+use Rattle.fz_join.specs.Joining.{AreBlocks, AreClosed, AreSolutions, Ends, HaveRun, IsClosing, Joining}
+use Rattle.fz_join.specs.Checking.{HasFalse, IsFalseBest}
+use Rattle.fz_join.specs.Machine.{IsWhole, Reading, State, begun, best_text, closing_text, ending_text, is_enough, is_reached, read_text}
 use Rattle.fz_join.specs.After.{after_run, after_runs}
 use Rattle.fz_join.specs.Tallies.{IsShown}
-use Rattle.fz_join.proofs.Passed.{passed}
+use Rattle.fz_join.proofs.Matching.{best_is_one, none_false}
+use Rattle.fz_join.proofs.Passed.{one_more_solution}
 use Rattle.fz_join.proofs.Reading.{read_runs}
 use Rattle.fz_join.proofs.Whole.{all_joined, best_joined, bound_lacks, found_joined, found_shown, times_known}
 
@@ -25,15 +28,19 @@ pub record IsRead (j : Joining) (x : Reading) : Type 0 where
   pub model : IsModel j.model
   pub named : AreNamed j.model
   pub is : read_text j.model j.all (begun j.parts) j.read ≡ x
-  pub printed : j.printed ≡ x.printed
+  pub blocks : AreBlocks j.model j.printed
+  pub sound : ShowsAll j.model → AreSolutions j.model j.printed
 
 -- texts of runs are known so
 runs_known : (j : Joining) (x : Reading) (rs : List Ran) → IsRead j x → HaveRun j rs → x ≡ after_runs j.model j.all (begun j.parts) rs
 runs_known j x rs known run = sym known.is ∙ read_runs j.model j.all j.parts rs j.read known.model known.named run.of_model run.runs
 
--- blocks alone were printed
-blocks_printed : (j : Joining) (x : Reading) → IsRead j x → AreBlocks j.model j.printed
-blocks_printed j x known = subst (AreBlocks j.model) (sym (known.printed ∙ ap (λ (y : Reading). y.printed) (sym known.is))) (passed j.model j.all j.parts j.read)
+-- nothing more is printed, or a closing line alone
+quiet_sound : (m : Instance) (printed : List ℕ) → AreSolutions m printed → AreSolutions m (printed ++ [])
+quiet_sound m printed are = subst (AreSolutions m) (sym (append-nil printed)) are
+
+closed_sound : (m : Instance) (printed closing : List ℕ) → IsClosing closing → AreSolutions m printed → AreClosed m (printed ++ closing)
+closed_sound m printed closing is are = record { solutions = printed; are = are; closing = closing; is_closing = is; is = refl }
 
 -- ---- a text is cut off
 
@@ -51,8 +58,31 @@ cut_off j x text known lacks = record {
   more = [];
   text = sym (append-nil text);
   quiet = refl;
-  blocks = blocks_printed j x known;
+  blocks = known.blocks;
+  sound = λ shows. quiet_sound j.model j.printed (known.sound shows);
   answers = λ rs run. let ended : IsEnded x = subst IsEnded (sym (runs_known j x rs known run)) (runs_end j.model j.all (begun j.parts) rs (record { whole = record { right = refl; ended = refl }; partial = refl })) in lacks (ended.whole, ended.partial);
+}
+
+-- ---- a block is of no solution
+
+pub false_block : (j : Joining) (x : Reading) (text : List ℕ) → IsRead j x → HasFalse j.model x.printed j.printed → Ends (Err NoSolution) j text text
+false_block j x text known wrong = record {
+  more = [];
+  text = sym (append-nil text);
+  quiet = refl;
+  blocks = known.blocks;
+  sound = λ shows. quiet_sound j.model j.printed (known.sound shows);
+  answers = λ rs run. none_false j.model j.all j.parts rs j.read x.printed j.printed known.named run.of_model run.runs (ap (λ (y : Reading). y.printed) (runs_known j x rs known run)) known.blocks wrong;
+}
+
+pub false_best : (j : Joining) (x : Reading) (text : List ℕ) → IsRead j x → IsFalseBest j.model x.state.best → Ends (Err NoSolution) j text text
+false_best j x text known wrong = record {
+  more = [];
+  text = sym (append-nil text);
+  quiet = refl;
+  blocks = known.blocks;
+  sound = λ shows. quiet_sound j.model j.printed (known.sound shows);
+  answers = λ rs run. best_is_one j.model j.all j.parts rs j.read run.of_model run.runs (subst (λ (y : Reading). IsFalseBest j.model y.state.best) (runs_known j x rs known run) wrong);
 }
 
 -- ---- one is found
@@ -61,14 +91,15 @@ joined_found : (m : Instance) (all : Bool) (ps : List (List Decision)) (rs : Lis
 joined_found m true ps rs text parts runs shown = absurd (false≢true (sym shown.one))
 joined_found m false ps rs text parts runs shown = found_joined m ps rs text parts runs shown.satisfy shown.shown
 
-pub found : (j : Joining) (x : Reading) (text : List ℕ) → IsRead j x → IsShown j.model.goal j.all x.state → Ends (Ok tt) j text text
-found j x text known shown = record {
+pub found : (j : Joining) (x : Reading) (text : List ℕ) → IsRead j x → j.printed ≡ x.printed → IsShown j.model.goal j.all x.state → Ends (Ok tt) j text text
+found j x text known printed shown = record {
   more = [];
   text = sym (append-nil text);
   quiet = tt;
-  blocks = blocks_printed j x known;
+  blocks = known.blocks;
+  sound = λ shows. closed_sound j.model j.printed [] (inl refl) (known.sound shows);
   answers = λ rs run are. let is : x ≡ after_runs j.model j.all (begun j.parts) rs = runs_known j x rs known run in
-      subst (IsJoined j.model j.all) (sym (append-nil j.printed ∙ known.printed ∙ ap (λ (y : Reading). y.printed) is))
+      subst (IsJoined j.model j.all) (sym (append-nil j.printed ∙ printed ∙ ap (λ (y : Reading). y.printed) is))
       (joined_found j.model j.all j.parts rs j.read run.of_model run.runs (subst (λ (y : Reading). IsShown j.model.goal j.all y.state) is shown));
 }
 
@@ -88,7 +119,8 @@ part_lacks j x text place known other lacks = record {
   more = [];
   text = sym (append-nil text);
   quiet = refl;
-  blocks = blocks_printed j x known;
+  blocks = known.blocks;
+  sound = λ shows. quiet_sound j.model j.printed (known.sound shows);
   answers = λ rs run. record {
     times = at_place (slice_get j.parts place) rs (runs_known j x rs known run) (times_known j.model j.all j.parts rs place) lacks;
     needed = λ is. other (shows_found j x rs known run is);
@@ -113,7 +145,8 @@ bound_lacking j x text known lacks = record {
   more = [];
   text = sym (append-nil text);
   quiet = refl;
-  blocks = blocks_printed j x known;
+  blocks = known.blocks;
+  sound = λ shows. quiet_sound j.model j.printed (known.sound shows);
   answers = λ rs run. let lacked : (j.model.goal ≢ Satisfy) × (is_reached (after_runs j.model j.all (begun j.parts) rs).state.bound (after_runs j.model j.all (begun j.parts) rs).state.best ≡ false)
       = lacks_bound j.model.goal (after_runs j.model j.all (begun j.parts) rs).state (subst (λ (y : Reading). is_enough j.model.goal y.state ≡ false) (runs_known j x rs known run) lacks) in
       bound_lacks j.model j.all j.parts rs j.read run.runs lacked.0 lacked.1;
@@ -147,14 +180,36 @@ runs_joined j rs run are other all_ran enough = by_goal j.model.goal refl enough
     by_goal (Maximize term) goal reached = subst (λ g. IsJoined j.model j.all ((after_runs j.model j.all (begun j.parts) rs).printed ++ ending_text g (after_runs j.model j.all (begun j.parts) rs).state)) (sym goal)
         (best_joined j.model j.all j.parts rs j.read run.of_model run.runs are (λ same. let bad : Maximize term ≡ Satisfy = sym goal ∙ same in cc) all_ran reached)
 
-pub whole : (j : Joining) (x : Reading) (text after : List ℕ) → IsRead j x → (IsShown j.model.goal j.all x.state → ⊥)
+-- what is printed at the end is a closing line, maybe behind a block of a solution
+closing_line : (shown : Bool) → IsClosing (closing_text shown)
+closing_line true = inr (inl refl)
+closing_line false = inr (inr refl)
+
+best_sound : (m : Instance) (printed : List ℕ) (best : Option (ℤ × List ℕ)) → IfSome best (λ (b : ℤ × List ℕ). IsSolutionText m b.1) → AreSolutions m printed → AreClosed m (printed ++ best_text best)
+best_sound m printed None solution are = closed_sound m printed (closing_text false) (closing_line false) are
+best_sound m printed (Some best) solution are = record {
+  solutions = printed ++ best.1;
+  are = one_more_solution m printed best.1 are solution;
+  closing = closing_text true;
+  is_closing = closing_line true;
+  is = sym (append_assoc printed best.1 (closing_text true));
+}
+
+ending_sound : (m : Instance) (g : Goal) (s : State) (printed : List ℕ) → (g ≢ Satisfy → IfSome s.best (λ (b : ℤ × List ℕ). IsSolutionText m b.1)) → AreSolutions m printed → AreClosed m (printed ++ ending_text g s)
+ending_sound m Satisfy s printed best are = closed_sound m printed (closing_text s.shown) (closing_line s.shown) are
+ending_sound m (Minimize term) s printed best are = best_sound m printed s.best (best (λ same. let bad : Minimize term ≡ Satisfy = same in cc)) are
+ending_sound m (Maximize term) s printed best are = best_sound m printed s.best (best (λ same. let bad : Maximize term ≡ Satisfy = same in cc)) are
+
+pub whole : (j : Joining) (x : Reading) (text after : List ℕ) → IsRead j x → j.printed ≡ x.printed → (IsShown j.model.goal j.all x.state → ⊥)
     → AllByRecursion (λ p. x.state.times (part_text p) ≡ Some 1) j.parts → is_enough j.model.goal x.state ≡ true
+    → (j.model.goal ≢ Satisfy → ShowsAll j.model → IfSome x.state.best (λ (b : ℤ × List ℕ). IsSolutionText j.model b.1))
     → after ≡ text ++ ending_text j.model.goal x.state → Ends (Ok tt) j text after
-whole j x text after known other all_ran enough is = record {
+whole j x text after known printed other all_ran enough best is = record {
   more = ending_text j.model.goal x.state;
   text = is;
   quiet = tt;
-  blocks = blocks_printed j x known;
-  answers = λ rs run are. subst (λ printed. IsJoined j.model j.all (printed ++ ending_text j.model.goal x.state)) (sym known.printed)
+  blocks = known.blocks;
+  sound = λ shows. ending_sound j.model j.model.goal x.state j.printed (λ goal. best goal shows) (known.sound shows);
+  answers = λ rs run are. subst (λ (s : List ℕ). IsJoined j.model j.all (s ++ ending_text j.model.goal x.state)) (sym printed)
       (subst (IsWholeBy j) (sym (runs_known j x rs known run)) (runs_joined j rs run are) other all_ran enough);
 }

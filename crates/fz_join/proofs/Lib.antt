@@ -18,6 +18,8 @@ pub mod Names
 pub mod WholeBest
 pub mod WholeSolutions
 pub mod Passed
+pub mod Matching
+pub mod Checked
 pub mod Prefixes
 pub mod Pieces
 pub mod Finishing

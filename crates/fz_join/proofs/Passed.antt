@@ -1,28 +1,24 @@
--- What is passed on while texts are read is blocks, whatever the texts are.
-use Rattle.std.proofs.Common.{◌≡◌, ◌≢◌, ℕ, zero, suc, Bool, true, false, ◌&&◌, ◌||◌, ◌⊎◌, nat_eq, Option, Some, None, List, [], ◌∷◌, ◌++◌, refl, sym, ap, subst, ◌∙◌, append_assoc, append-nil, arith, inl, inr}
+-- What is read between two lines, and the blocks that are passed on, whatever the texts are.
+use Rattle.std.proofs.Common.{◌≡◌, ◌≢◌, ℕ, zero, suc, Bool, true, false, ◌&&◌, ◌||◌, nat_eq, Option, Some, None, List, [], ◌∷◌, ◌++◌, refl, sym, ap, subst, ◌∙◌, append_assoc, append-nil, arith, inl, inr}
 use Rattle.std.proofs.lemmas.Bool.{false≢true}
 use Rattle.std.specs.Prelude.{ℤ, codes, bytes_eq, is_some, slice_get, flat_map, not, unwrap_or, if◌then◌else◌}
 use Rattle.fz_spec.specs.declared.goal.Goal.{Goal}
 use Rattle.fz_spec.specs.declared.goal.Goal.TheVariants.{Satisfy, Minimize, Maximize}
 use Rattle.fz_spec.specs.Instance.{Instance, Output}
-use Rattle.fz_tree.specs.declared.decision.Decision.{Decision}
 use Rattle.fz_sets.proofs.Lists.{all_both}
-use Rattle.fz_join.specs.Joining.{AreBlocks, BeginsWith, HasItems, IsLine}
-use Rattle.fz_join.specs.Machine.{Reading, Section, State, after, begin_known, begin_part, begun, block_line, bound_of, comment, comment_of, end_block, end_line, end_part, fresh, is_ending, line_in, number_of, read_text, section_line, show, spoilt, take_line, tell_value, with_byte, with_line, with_section, word_of}
+use Rattle.fz_shown.specs.Shown.{IsSolutionText}
+use Rattle.fz_join.specs.Checking.{AreLines, HoldsLines, IsBetween, IsOut}
+use Rattle.fz_join.specs.Joining.{AreBlocks, AreSolutions, HasItems, IsLine}
+use Rattle.fz_join.specs.Machine.{Reading, Section, State, after, begin_known, begin_part, block_line, bound_of, comment, comment_of, end_block, end_line, end_part, fresh, is_ending, line_in, number_of, section_line, show, spoilt, take_line, tell_value, with_line, with_section, word_of}
+use Rattle.fz_join.proofs.Pieces.{with_part}
 
 -- ---- lines of a block
-
--- the lines of the first items
-abbrev AreLines : List Output → ℕ → List ℕ → Type 0
-AreLines os zero text = text ≡ []
-AreLines [] (suc n) text = ⊥
-AreLines (o ∷ os) (suc n) text = BeginsWith o (AreLines os n) text
 
 -- a line with its end, of an item
 abbrev ended : Output → List ℕ → List ℕ
 ended o value = (o.name ++ codes " = ") ++ (value ++ 10 ∷ [])
 
-joined : (a b c d : List ℕ) → (a ++ (b ++ 10 ∷ c)) ++ d ≡ a ++ (b ++ 10 ∷ (c ++ d))
+pub joined : (a b c d : List ℕ) → (a ++ (b ++ 10 ∷ c)) ++ d ≡ a ++ (b ++ 10 ∷ (c ++ d))
 joined a b c d = append_assoc a (b ++ 10 ∷ c) d ∙ ap (λ t. a ++ t) (append_assoc b (10 ∷ c) d)
 
 -- one more, where there is such an item
@@ -79,24 +75,16 @@ bytes_are (x ∷ xs) (y ∷ ys) same = both (nat_eq x y) refl same (bytes_are xs
     both true first later behind = let here : x ≡ y = grind arith in ap (λ z. z ∷ xs) here ∙ ap (λ zs. y ∷ zs) (behind later)
     both false first later behind = absurd (false≢true later)
 
-line_rest : (prefix rest : List ℕ) → IsLine (prefix ++ rest) → IsLine rest
+pub line_rest : (prefix rest : List ℕ) → IsLine (prefix ++ rest) → IsLine rest
 line_rest [] rest line = line
 line_rest (b ∷ bs) rest line = line_rest bs rest line.1
 
 -- ---- the state
 
--- what is read of a part is lines of its block
-abbrev HoldsLines : Instance → Option Section → Type 0
-HoldsLines m None = Unit {0}
-HoldsLines m (Some x) = AreLines m.outputs x.items x.block
-
--- nothing or a block
-abbrev IsOut : Instance → List ℕ → Type 0
-IsOut m out = (out ≡ []) ⊎ HasItems m.outputs out
-
-record Keeps (m : Instance) (s : State) : Type 0 where
-  section : HoldsLines m s.section
-  out : IsOut m s.out
+-- of what a line makes
+pub record Keeps (m : Instance) (s : State) : Type 0 where
+  pub section : HoldsLines m s.section
+  pub out : IsOut m s.out
 
 fresh_keeps : (m : Instance) (s : State) (last : List ℕ) → s.out ≡ [] → Keeps m (with_section (Some (fresh last)) s)
 fresh_keeps m s last out = record { section = refl; out = inl out }
@@ -160,56 +148,67 @@ line_in_keeps : (m : Instance) (all : Bool) (s : State) (x : Option Section) (li
 line_in_keeps m all s None line out lines is_line = begin_keeps m s (after (codes "%%%part ") line) out
 line_in_keeps m all s (Some x) line out lines is_line = section_keeps m all s x line (comment_of x.block line) out lines is_line
 
-take_keeps : (m : Instance) (all : Bool) (s : State) (line : List ℕ) → s.out ≡ [] → HoldsLines m s.section → IsLine line → Keeps m (take_line m all s line)
+pub take_keeps : (m : Instance) (all : Bool) (s : State) (line : List ℕ) → s.out ≡ [] → HoldsLines m s.section → IsLine line → Keeps m (take_line m all s line)
 take_keeps m all s line out lines is_line = right s.wrong
   where
     right : (e : Bool) → Keeps m (if e then s else line_in m all s s.section line)
     right true = record { section = lines; out = inl out }
     right false = line_in_keeps m all s s.section line out lines is_line
 
+-- ---- blocks are not empty
+
+pub left_none : (a b : List ℕ) → a ++ b ≡ [] → a ≡ []
+left_none [] b none = refl
+left_none (x ∷ a) b none = absurd (cc none)
+
+right_none : (a b : List ℕ) → a ++ b ≡ [] → b ≡ []
+right_none [] b none = none
+right_none (x ∷ a) b none = absurd (cc none)
+
+pub items_some : (os : List Output) (text : List ℕ) → HasItems os text → text ≢ []
+items_some [] text items none = let bad : codes "----------\n" ≡ [] = sym items ∙ none in cc bad
+items_some (o ∷ os) text items none =
+    let bad : codes " = " ≡ [] = right_none o.name (codes " = ") (left_none (o.name ++ codes " = ") (items.value ++ 10 ∷ items.rest) (sym items.is ∙ none)) in cc bad
+
 -- ---- a text
 
-record HoldsBlocks (m : Instance) (x : Reading) : Type 0 where
-  out : x.state.out ≡ []
-  section : HoldsLines m x.state.section
-  partial : IsLine x.partial
-  printed : AreBlocks m x.printed
+-- more of a line that isn't ended
+pub part_between : (m : Instance) (x : Reading) (part : List ℕ) → IsLine part → IsBetween m x → IsBetween m (with_part x part)
+part_between m x part line between = record {
+  out = between.out;
+  section = between.section;
+  partial = all_both (λ byte. byte ≢ 10) x.partial part between.partial line;
+}
 
-one_more_block : (m : Instance) (printed out : List ℕ) → AreBlocks m printed → IsOut m out → AreBlocks m (printed ++ out)
+-- what the line makes that ends here
+pub line_made : (m : Instance) (all : Bool) (x : Reading) → IsBetween m x → Keeps m (take_line m all x.state x.partial)
+line_made m all x between = take_keeps m all x.state x.partial between.out between.section between.partial
+
+pub line_between : (m : Instance) (all : Bool) (x : Reading) → IsBetween m x → IsBetween m (end_line m all x)
+line_between m all x between = record { out = refl; section = (line_made m all x between).section; partial = tt }
+
+-- ---- one block more
+
+one_behind : (bs : List (List ℕ)) (out : List ℕ) → flat_map (λ b. b) bs ++ out ≡ flat_map (λ b. b) (bs ++ out ∷ [])
+one_behind [] out = sym (append-nil out)
+one_behind (b ∷ bs) out = append_assoc b (flat_map (λ c. c) bs) out ∙ ap (λ t. b ++ t) (one_behind bs out)
+
+pub one_more_block : (m : Instance) (printed out : List ℕ) → AreBlocks m printed → IsOut m out → AreBlocks m (printed ++ out)
 one_more_block m printed out are (inl none) = subst (AreBlocks m) (sym (ap (λ t. printed ++ t) none ∙ append-nil printed)) are
 one_more_block m printed out are (inr block) = record {
   blocks = are.blocks ++ out ∷ [];
   each = all_both (HasItems m.outputs) are.blocks (out ∷ []) are.each (block, tt);
-  is = ap (λ t. t ++ out) are.is ∙ one_behind are.blocks;
-}
-  where
-    one_behind : (bs : List (List ℕ)) → flat_map (λ b. b) bs ++ out ≡ flat_map (λ b. b) (bs ++ out ∷ [])
-    one_behind [] = sym (append-nil out)
-    one_behind (b ∷ bs) = append_assoc b (flat_map (λ c. c) bs) out ∙ ap (λ t. b ++ t) (one_behind bs)
-
-line_ends : (m : Instance) (all : Bool) (x : Reading) → HoldsBlocks m x → HoldsBlocks m (end_line m all x)
-line_ends m all x holds = let keeps : Keeps m (take_line m all x.state x.partial) = take_keeps m all x.state x.partial holds.out holds.section holds.partial in record {
-  out = refl;
-  section = keeps.section;
-  partial = tt;
-  printed = one_more_block m x.printed (take_line m all x.state x.partial).out holds.printed keeps.out;
+  is = ap (λ t. t ++ out) are.is ∙ one_behind are.blocks out;
 }
 
-byte_holds : (m : Instance) (x : Reading) (b : ℕ) → nat_eq b 10 ≡ false → HoldsBlocks m x → HoldsBlocks m (with_byte x b)
-byte_holds m x b other holds = record {
-  out = holds.out;
-  section = holds.section;
-  partial = all_both (λ byte. byte ≢ 10) x.partial (b ∷ []) holds.partial ((λ is. let bad : ⊥ = grind arith in bad), tt);
-  printed = holds.printed;
+pub one_more_solution : (m : Instance) (printed out : List ℕ) → AreSolutions m printed → IsSolutionText m out → AreSolutions m (printed ++ out)
+one_more_solution m printed out are solution = record {
+  blocks = are.blocks ++ out ∷ [];
+  each = all_both (IsSolutionText m) are.blocks (out ∷ []) are.each (solution, tt);
+  is = ap (λ t. t ++ out) are.is ∙ one_behind are.blocks out;
 }
 
-text_holds : (m : Instance) (all : Bool) (x : Reading) (text : List ℕ) → HoldsBlocks m x → HoldsBlocks m (read_text m all x text)
-text_holds m all x [] holds = holds
-text_holds m all x (b ∷ bs) holds = ends (nat_eq b 10) refl (λ y. text_holds m all y bs)
-  where
-    ends : (e : Bool) → nat_eq b 10 ≡ e → ((y : Reading) → HoldsBlocks m y → HoldsBlocks m (read_text m all y bs)) → HoldsBlocks m (if e then read_text m all (end_line m all x) bs else read_text m all (with_byte x b) bs)
-    ends true is later = later (end_line m all x) (line_ends m all x holds)
-    ends false is later = later (with_byte x b) (byte_holds m x b is holds)
-
-pub passed : (m : Instance) (all : Bool) (ps : List (List Decision)) (text : List ℕ) → AreBlocks m (read_text m all (begun ps) text).printed
-passed m all ps text = (text_holds m all (begun ps) text (record { out = refl; section = tt; partial = tt; printed = record { blocks = []; each = tt; is = refl } })).printed
+-- nothing more, or a block of a solution
+pub some_more_solution : (m : Instance) (printed out : List ℕ) → AreSolutions m printed → IsOut m out → (out ≢ [] → IsSolutionText m out) → AreSolutions m (printed ++ out)
+some_more_solution m printed out are (inl none) solution = subst (AreSolutions m) (sym (ap (λ t. printed ++ t) none ∙ append-nil printed)) are
+some_more_solution m printed out are (inr block) solution = one_more_solution m printed out are (solution (items_some m.outputs out block))

@@ -26,7 +26,7 @@ state_of s = record {
 }
 
 abbrev pub reading_of : Reader → machine.Reading
-reading_of r = record { state = state_of r.state; partial = r.partial.items; printed = r.printed.bytes }
+reading_of r = record { state = state_of r.state; partial = r.partial.items; printed = r.found.bytes }
 
 -- what is appended to a text is what is told as printed
 pub record IsAppended (printed_before printed_after text_before text_after : List ℕ) : Type 0 where

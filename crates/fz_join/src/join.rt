@@ -14,10 +14,12 @@ use crate::tally::Tally;
 use crate::told::Told;
 use fz_model::{Goal, Model};
 use fz_part::Part;
+use fz_shown::shows_all;
 use std::alloc::{AllocError, Global};
 
-/// A join of what runs of parts of a model printed. It holds one block, and for a goal the best one. Contracts see it as the model,
-/// whether all solutions are asked for, the parts, what was read, and what is printed.
+/// A join of what runs of parts of a model printed. It holds one block, and for a goal the best one. Where each variable is shown,
+/// a block is printed only if it is of a solution. Contracts see it as the model, whether all solutions are asked for, the parts,
+/// what was read, and what is printed.
 #[derive(Drop)]
 pub struct Join {
     model: Model,
@@ -31,6 +33,7 @@ pub struct Join {
 
 impl std::marker::Model for Join {
     ghost use Rattle.std.specs.Prelude.{◌≡◌, false};
+    ghost use Rattle.fz_join.specs.Checking.{Knows};
     ghost use Rattle.fz_join.specs.Joining.{Joining};
     ghost use Rattle.fz_join.specs.Machine.{begun, read_text};
     ghost use Rattle.fz_join.specs.Tallies.{reading_of};
@@ -47,7 +50,7 @@ impl std::marker::Model for Join {
 
     // What it knows is what is read of a join that began.
     ghost invariant = { λ j. j.is_broken ≡ false
-        → read_text j.model j.all (begun j.parts.items) j.read.bytes ≡ reading_of j.reader };
+        → (read_text j.model j.all (begun j.parts.items) j.read.bytes ≡ reading_of j.reader) × Knows j.model j.reader };
 }
 
 impl Join {
@@ -75,11 +78,12 @@ impl Join {
         let Some(tally) = Tally::new(alloc, &parts)? else {
             return Ok(None);
         };
+        let is_checked = shows_all(alloc, &model)?;
         Ok(Some(Join {
             model,
             all,
             parts,
-            reader: Reader::new(alloc, tally),
+            reader: Reader::new(alloc, tally, is_checked),
             is_broken: false,
             read: Told::new(),
         }))
@@ -123,6 +127,9 @@ impl Join {
         }
         let goal = self.model.goal();
         let state = &self.reader.state;
+        if self.reader.is_false {
+            return Ok(Err(Lack::NoSolution));
+        }
         if !self.reader.is_whole() {
             return Ok(Err(Lack::CutOff));
         }
@@ -134,6 +141,9 @@ impl Join {
         }
         if !is_reached(goal, state) {
             return Ok(Err(Lack::Bound));
+        }
+        if self.reader.has_false_best(&self.model)? {
+            return Ok(Err(Lack::NoSolution));
         }
         print_ending(goal, state, text)?;
         Ok(Ok(()))

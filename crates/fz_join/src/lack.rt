@@ -9,4 +9,6 @@ pub enum Lack {
     Part(usize),
     /// A run was to better a value that no run shows.
     Bound,
+    /// A block is of no solution, though each variable is shown.
+    NoSolution,
 }

@@ -296,8 +296,15 @@ impl State {
         ensures drained { OnOk result (state_of self.new ≡ drained (state_of self.old)) }
     {
         text.extend_from_slice(&self.out)?;
-        self.out.clear();
+        self.discard();
         Ok(())
+    }
+
+    /// Drops the block that was to be printed now.
+    pub(crate) fn discard(&mut self)
+        ensures { state_of self.new ≡ drained (state_of self.old) }
+    {
+        self.out.clear();
     }
 
     /// Whether each line was of a run, and each part that began is ended.

@@ -4,13 +4,14 @@ use Rattle.std.proofs.lemmas.List.{take_all}
 use Rattle.fz_spec.specs.Instance.{Instance}
 use Rattle.fz_io.specs.Whole.{AllRead}
 use Rattle.fz_io.specs.Outside.{with_more, AllFlushed, with_more-with_more, with_more-none}
+use Rattle.fz_shown.specs.Shown.{ShowsAll}
 use Rattle.fz_join.specs.Joins.{ArePartsOf, Ran, parts_text}
 use Rattle.fz_join.specs.Joining.{AreBlocks, Joining, HaveRun}
 use Rattle.fz_join.specs.Joining as joining
 use Rattle.fz_join.specs.declared.lack.Lack.{Lack}
 use Rattle.fz_join.specs.declared.lack.Lack.TheVariants as lack
 use Rattle.fzjoin.specs.declared.status.JoinStatus.{JoinStatus}
-use Rattle.fzjoin.specs.declared.status.JoinStatus.TheVariants.{Done, Usage, SourceFault, SinkFault, Refused, NoMemory, NoParts, SameParts, CutOff, Part, Bound}
+use Rattle.fzjoin.specs.declared.status.JoinStatus.TheVariants.{Done, Usage, SourceFault, SinkFault, Refused, NoMemory, NoParts, SameParts, CutOff, Part, Bound, NoSolution}
 use Rattle.fzjoin.specs.Answers.{Files, AreRead, Answers, HasItsCause, IsCutShort, IsEnded, IsFlushed, IsReadOf, TakesMore}
 use Rattle.fzjoin.specs.Steps.{Ends, Finishes, HasSourceCause, IsBroken, IsCut, IsPassed, IsQuiet, IsReady, IsTold, IsUnready, ended_as}
 
@@ -76,6 +77,7 @@ told SameParts result all f before after flushed a b c d unready source is =
 told CutOff result all f before after flushed a b c d unready source is = absurd source
 told (Part place) result all f before after flushed a b c d unready source is = absurd source
 told Bound result all f before after flushed a b c d unready source is = absurd source
+told NoSolution result all f before after flushed a b c d unready source is = absurd source
 
 -- ---- a join breaks off
 
@@ -91,6 +93,7 @@ broken SameParts all f before after flushed a b c d more is = absurd is
 broken CutOff all f before after flushed a b c d more is = absurd is
 broken (Part place) all f before after flushed a b c d more is = absurd is
 broken Bound all f before after flushed a b c d more is = absurd is
+broken NoSolution all f before after flushed a b c d more is = absurd is
 
 -- ---- a join ends
 
@@ -100,6 +103,7 @@ ended (Ok done) all f before after flushed a b c d is whole source sink = record
 ended (Err lack.CutOff) all f before after flushed a b c d is whole source sink = record { answers = is; whole = whole; cause = (source, sink) }
 ended (Err (lack.Part place)) all f before after flushed a b c d is whole source sink = record { answers = is; whole = whole; cause = (source, sink) }
 ended (Err lack.Bound) all f before after flushed a b c d is whole source sink = record { answers = is; whole = whole; cause = (source, sink) }
+ended (Err lack.NoSolution) all f before after flushed a b c d is whole source sink = record { answers = is; whole = whole; cause = (source, sink) }
 
 cut_short : (answer : Result (Unit {0}) Lack) (m : Instance) (printed more : List ℕ) → joining.IsQuiet answer more → AreBlocks m printed → IsCutShort answer m (printed ++ more)
 cut_short (Ok done) m printed more quiet blocks = tt
@@ -107,8 +111,8 @@ cut_short (Err lack) m printed more quiet blocks = subst (AreBlocks m) (sym (ap 
 
 -- what a join says that began, read the texts, and ended so
 whole_join : (answer : Result (Unit {0}) Lack) (all : Bool) (f : Files) (old new : Joining) (before between after : Option (List ℕ)) (more : List ℕ) → IsReady all f old → IsPassed old new f.texts before between → after ≡ with_more between more
-    → joining.IsQuiet answer more → AreBlocks new.model new.printed → ((rs : List Ran) → HaveRun new rs → joining.Answers answer new (new.printed ++ more) rs) → IsEnded answer all f before after
-whole_join answer all f old new before between after more ready passed taken quiet blocks answers = record {
+    → joining.IsQuiet answer more → AreBlocks new.model new.printed → (ShowsAll new.model → joining.IsSound answer new.model (new.printed ++ more)) → ((rs : List Ran) → HaveRun new rs → joining.Answers answer new (new.printed ++ more) rs) → IsEnded answer all f before after
+whole_join answer all f old new before between after more ready passed taken quiet blocks sound answers = record {
   join = new;
   asked = ap (λ (j : Joining). j.all) passed.is ∙ ready.asked;
   read = subst (λ (j : Joining). AreRead f j.model (parts_text j.parts)) (sym passed.is) ready.read;
@@ -117,6 +121,7 @@ whole_join answer all f old new before between after more ready passed taken qui
   printed = new.printed ++ more;
   taken = taken ∙ ap (λ t. with_more t more) passed.taken ∙ with_more-with_more before new.printed more;
   blocks = cut_short answer new.model new.printed more quiet blocks;
+  sound = sound;
   answers = answers;
 }
 
@@ -124,7 +129,7 @@ pub finished : (result : JoinStatus) (all : Bool) (f : Files) (old new : Joining
     → Finishes new result between after flushed m d → Ends result all f before after flushed a b c d
 finished result all f old new before between after flushed a b c m d ready passed source sink (inl is) = elim is.put [
   | inl put ↦ at_status result (ended_as is.answer) all f before after flushed a b c d put.status
-      (ended is.answer all f before after flushed a b c d (whole_join is.answer all f old new before between after is.more ready passed put.taken is.quiet is.blocks is.answers) put.whole source (put.counts ∙ sink))
+      (ended is.answer all f before after flushed a b c d (whole_join is.answer all f old new before between after is.more ready passed put.taken is.quiet is.blocks is.sound is.answers) put.whole source (put.counts ∙ sink))
   | inr lost ↦ cut result all f before after flushed a b c d source
       (record { status = lost.status; more = more_still before between after (new.printed, passed.taken) lost.more; counts = omega (arith, sink, lost.counts) })
 ]

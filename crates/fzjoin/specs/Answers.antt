@@ -10,6 +10,7 @@ use Rattle.fz_part.specs.Parts.{IsPartOf}
 use Rattle.fz_print.specs.declared.refusal.Refusal.{Refusal}
 use Rattle.fz_print.specs.Refusal.{text_of}
 use Rattle.fz_reader.specs.Refusals.{IsRefusal}
+use Rattle.fz_shown.specs.Shown.{ShowsAll}
 use Rattle.fz_join.specs.Joins.{ArePartsOf, Ran, parts_text}
 use Rattle.fz_join.specs.Joining.{AreBlocks, Joining, HaveRun}
 use Rattle.fz_join.specs.Joining as joining
@@ -18,7 +19,7 @@ use Rattle.fz_join.specs.declared.lack.Lack.{Lack}
 use Rattle.fz_join.specs.declared.lack.Lack.TheVariants as lack
 use Rattle.fzjoin.specs.declared.prepare.TheConstants.{PARTS_LIMIT}
 use Rattle.fzjoin.specs.declared.status.JoinStatus.{JoinStatus}
-use Rattle.fzjoin.specs.declared.status.JoinStatus.TheVariants.{Done, Usage, SourceFault, SinkFault, Refused, NoMemory, NoParts, SameParts, CutOff, Part, Bound}
+use Rattle.fzjoin.specs.declared.status.JoinStatus.TheVariants.{Done, Usage, SourceFault, SinkFault, Refused, NoMemory, NoParts, SameParts, CutOff, Part, Bound, NoSolution}
 
 -- the exit status of each answer
 abbrev pub code_of : JoinStatus → ℕ
@@ -33,6 +34,7 @@ code_of SameParts = 8
 code_of CutOff = 9
 code_of (Part place) = 10
 code_of Bound = 11
+code_of NoSolution = 12
 
 -- ---- words
 
@@ -115,7 +117,7 @@ IsCutShort (Ok done) m printed = Unit {0}
 IsCutShort (Err lack) m printed = AreBlocks m printed
 
 -- The texts are read whole, where they are told, and the sink took what is printed of them: what a run of the whole model prints, or
--- the blocks that come before something lacks.
+-- the blocks that come before something lacks. Where each variable is shown, these are blocks of assignments that satisfy the model.
 pub record IsEnded (answer : Result (Unit {0}) Lack) (all : Bool) (f : Files) (before after : Option (List ℕ)) : Type 0 where
   pub join : Joining
   pub asked : join.all ≡ all
@@ -125,6 +127,7 @@ pub record IsEnded (answer : Result (Unit {0}) Lack) (all : Bool) (f : Files) (b
   pub printed : List ℕ
   pub taken : after ≡ with_more before printed
   pub blocks : IsCutShort answer join.model printed
+  pub sound : ShowsAll join.model → joining.IsSound answer join.model printed
   pub answers : (rs : List Ran) → HaveRun join rs → joining.Answers answer join printed rs
 
 -- the sink took some text
@@ -144,6 +147,7 @@ Answers SameParts all f before after = AreSameParts f × (after ≡ before)
 Answers CutOff all f before after = IsEnded (Err lack.CutOff) all f before after
 Answers (Part place) all f before after = IsEnded (Err (lack.Part place)) all f before after
 Answers Bound all f before after = IsEnded (Err lack.Bound) all f before after
+Answers NoSolution all f before after = IsEnded (Err lack.NoSolution) all f before after
 
 -- all of it is flushed
 abbrev pub IsFlushed : JoinStatus → Option (List ℕ) → ℕ → Type 0
@@ -158,6 +162,7 @@ IsFlushed SameParts after flushed = Unit {0}
 IsFlushed CutOff after flushed = AllFlushed after flushed
 IsFlushed (Part place) after flushed = AllFlushed after flushed
 IsFlushed Bound after flushed = AllFlushed after flushed
+IsFlushed NoSolution after flushed = AllFlushed after flushed
 
 -- each answer's cause, by the counts of faults of the source and of the sink before and after
 abbrev pub HasItsCause : JoinStatus → ℕ → ℕ → ℕ → ℕ → Type 0
@@ -172,3 +177,4 @@ HasItsCause SameParts a b c d = (b ≡ a) × (d ≡ c)
 HasItsCause CutOff a b c d = (b ≡ a) × (d ≡ c)
 HasItsCause (Part place) a b c d = (b ≡ a) × (d ≡ c)
 HasItsCause Bound a b c d = (b ≡ a) × (d ≡ c)
+HasItsCause NoSolution a b c d = (b ≡ a) × (d ≡ c)

@@ -2,6 +2,7 @@
 use Rattle.std.specs.Prelude.{◌≡◌, ◌⊎◌, ℕ, ◌<◌, Bool, Option, IfSome, Result, Ok, Err, MatchResult, List, [], ◌++◌, option_map}
 use Rattle.fz_io.specs.Outside.{with_more, AllFlushed}
 use Rattle.fz_print.specs.Refusal.{text_of}
+use Rattle.fz_shown.specs.Shown.{ShowsAll}
 use Rattle.fz_join.specs.Joins.{ArePartsOf, Ran, parts_text}
 use Rattle.fz_join.specs.Joining.{AreBlocks, Joining, HaveRun}
 use Rattle.fz_join.specs.Joining as joining
@@ -10,7 +11,7 @@ use Rattle.fz_join.specs.declared.lack.Lack.TheVariants as lack
 use Rattle.fzjoin.specs.declared.prepare.Stop.{Stop}
 use Rattle.fzjoin.specs.declared.prepare.Stop.TheVariants.{Memory, Fault}
 use Rattle.fzjoin.specs.declared.status.JoinStatus.{JoinStatus}
-use Rattle.fzjoin.specs.declared.status.JoinStatus.TheVariants.{Done, Usage, SourceFault, SinkFault, Refused, NoMemory, NoParts, SameParts, CutOff, Part, Bound}
+use Rattle.fzjoin.specs.declared.status.JoinStatus.TheVariants.{Done, Usage, SourceFault, SinkFault, Refused, NoMemory, NoParts, SameParts, CutOff, Part, Bound, NoSolution}
 use Rattle.fzjoin.specs.Answers.{Files, AreRead, AreNoParts, AreSameParts, Answers, HasItsCause, IsFlushed, IsRefusedText, TakesMore}
 
 -- ---- what is read before the texts
@@ -44,6 +45,7 @@ IsUnready SameParts f = AreSameParts f
 IsUnready CutOff f = ⊥
 IsUnready (Part place) f = ⊥
 IsUnready Bound f = ⊥
+IsUnready NoSolution f = ⊥
 
 abbrev pub IsPrepared : Result Joining JoinStatus → Bool → Files → Type 0
 IsPrepared (Ok j) all f = IsReady all f j
@@ -62,6 +64,7 @@ HasSourceCause SameParts a b = b ≡ a
 HasSourceCause CutOff a b = ⊥
 HasSourceCause (Part place) a b = ⊥
 HasSourceCause Bound a b = ⊥
+HasSourceCause NoSolution a b = ⊥
 
 abbrev pub HasReadyCause : ℕ → ℕ → Result Joining JoinStatus → Type 0
 HasReadyCause a b (Ok j) = b ≡ a
@@ -104,6 +107,7 @@ IsTold SameParts result before after flushed c d = IsQuiet SameParts result befo
 IsTold CutOff result before after flushed c d = IsQuiet CutOff result before after c d
 IsTold (Part place) result before after flushed c d = IsQuiet (Part place) result before after c d
 IsTold Bound result before after flushed c d = IsQuiet Bound result before after c d
+IsTold NoSolution result before after flushed c d = IsQuiet NoSolution result before after c d
 
 -- ---- the texts
 
@@ -140,6 +144,7 @@ IsBroken SameParts a b c d = ⊥
 IsBroken CutOff a b c d = ⊥
 IsBroken (Part place) a b c d = ⊥
 IsBroken Bound a b c d = ⊥
+IsBroken NoSolution a b c d = ⊥
 
 abbrev pub HasTextCause : Result (Unit {0}) JoinStatus → ℕ → ℕ → ℕ → ℕ → Type 0
 HasTextCause (Ok done) a b c d = (b ≡ a) × (d ≡ c)
@@ -152,6 +157,7 @@ ended_as (Ok done) = Done
 ended_as (Err lack.CutOff) = CutOff
 ended_as (Err (lack.Part place)) = Part place
 ended_as (Err lack.Bound) = Bound
+ended_as (Err lack.NoSolution) = NoSolution
 
 -- what is left is put, and what is printed in all is as the answer says
 pub record IsFinal (j : Joining) (result : JoinStatus) (before after : Option (List ℕ)) (flushed c d : ℕ) : Type 0 where
@@ -159,6 +165,7 @@ pub record IsFinal (j : Joining) (result : JoinStatus) (before after : Option (L
   pub more : List ℕ
   pub quiet : joining.IsQuiet answer more
   pub blocks : AreBlocks j.model j.printed
+  pub sound : ShowsAll j.model → joining.IsSound answer j.model (j.printed ++ more)
   pub answers : (rs : List Ran) → HaveRun j rs → joining.Answers answer j (j.printed ++ more) rs
   pub put : Puts (ended_as answer) result more before after flushed c d
 

@@ -75,5 +75,6 @@ fn complain<R: Eprint + AllocGlobal>(rt: &R, status: JoinStatus) {
         JoinStatus::Bound => {
             eprintln!(rt; "fzjoin: a run was to better a value that no run shows")
         }
+        JoinStatus::NoSolution => eprintln!(rt; "fzjoin: a block is of no solution"),
     };
 }

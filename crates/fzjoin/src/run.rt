@@ -14,7 +14,8 @@ use std::alloc::Global;
 /// `words` are the names of the model's FlatZinc text and of the text of its parts, as `fzn --split` prints them; before them `-a`
 /// where the runs asked for all solutions. Standard input, `-`, has the texts that the runs printed, one after another in any order.
 /// Blocks are printed as they come. Of a model's text that is refused the place, the code and `=====ERROR=====` are printed, as
-/// `fzn` prints them. The text of the parts may have 1,073,741,824 bytes.
+/// `fzn` prints them. The text of the parts may have 1,073,741,824 bytes. Where each variable is shown, each that is printed
+/// is checked again.
 pub fn fzjoin<R: Source, S: Sink>(
     alloc: Global,
     words: &[String],

@@ -29,6 +29,8 @@ pub enum JoinStatus {
     Part(usize),
     /// A run was to better a value that no run shows.
     Bound,
+    /// A block is of no solution, though each variable is shown. It and those behind it are not printed.
+    NoSolution,
 }
 
 impl JoinStatus {
@@ -48,6 +50,7 @@ impl JoinStatus {
             JoinStatus::CutOff => 9,
             JoinStatus::Part(_) => 10,
             JoinStatus::Bound => 11,
+            JoinStatus::NoSolution => 12,
         }
     }
 }

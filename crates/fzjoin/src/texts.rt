@@ -135,6 +135,7 @@ fn status_of(answer: Result<(), Lack>) -> JoinStatus
         Err(Lack::CutOff) => JoinStatus::CutOff,
         Err(Lack::Part(place)) => JoinStatus::Part(place),
         Err(Lack::Bound) => JoinStatus::Bound,
+        Err(Lack::NoSolution) => JoinStatus::NoSolution,
     }
 }
 

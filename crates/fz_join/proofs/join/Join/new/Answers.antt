@@ -1,5 +1,5 @@
 use Rattle.std.proofs.Common.{◌≡◌, ◌∙◌, [], sym, ap}
-use Rattle.fz_join.specs.Machine.{Reading, begun, read_text}
+use Rattle.fz_join.specs.Machine.{begun, read_text}
 use Rattle.fz_join.proofs.join.Join.new.Goals as goal
 
 pub returns-in_default-clause-same : goal.returns-in_default-clause-same
@@ -8,13 +8,12 @@ returns-in_default-clause-same c = λ are. (rw (c.in_default.is, c.deref.ensures
 pub invariant_of-result : goal.invariant_of-result
 invariant_of-result c = λ used.
     let ran = rw (c.in-Some.is, c.deref.ensures.value) at c.in_ok-tally.ensures.none_ran in
-    ap (read_text c.args.model c.args.all (begun c.args.parts.items)) c.new-3.ensures ∙ sym (c.new-2.ensures c.args.parts.items ran)
+    (ap (read_text c.args.model c.args.all (begun c.args.parts.items)) c.new-3.ensures ∙ sym (c.new-2.ensures.reading c.args.parts.items ran), c.new-2.ensures.knows c.args.model c.in_ok-is_checked.ensures)
 
 pub returns-clause-join : goal.returns-clause-join
 returns-clause-join c =
-    let ran = rw (c.in-Some.is, c.deref.ensures.value) at c.in_ok-tally.ensures.none_ran in
     let read : c.new-3.result.bytes ≡ [] = c.new-3.ensures in
-    let printed : c.new-2.result.printed.bytes ≡ [] = ap (λ (x : Reading). x.printed) (c.new-2.ensures c.args.parts.items ran) in
+    let printed : c.new-2.result.printed.bytes ≡ [] = c.new-2.ensures.printed in
     cc
 
 pub returns-clause-parts : goal.returns-clause-parts
